@@ -1,14 +1,12 @@
 -- What is about subjects, one text and one value at a time.
-use Rattle.std.proofs.Common.{◌≡◌, refl, sym, ◌∙◌, ap, ℕ, ◌<◌, ◌≤◌, ◌==◌, inl, inr, Bool, true, false, ◌||◌, Decides}
+use Rattle.std.proofs.Common.{◌≡◌, refl, sym, ◌∙◌, ap, ℕ, ◌<◌, ◌≤◌, ◌==◌, inl, inr, Bool, true, false, ◌||◌}
 use Rattle.std.proofs.Common.{List, [], ◌∷◌, ◌++◌, length, map, take, drop, length-append, codes, string_bytes, arith}
 use Rattle.std.proofs.Math.Seq.{drop-append_seam, take-append_seam}
 use Rattle.std.proofs.lemmas.Bool.{cases_lt, eqb-true, false_from_ne_true, false≢true, or_left}
 use Rattle.std.proofs.lemmas.Bool.Decides.{same_from_decides}
 use Rattle.std.proofs.lemmas.List.Folds.{list_any-append}
-use Rattle.std.specs.Cmp.Lexicographic.{slice_cmp, bytes_decides, texts_ties}
 use Rattle.std.specs.Fmt.{decimal}
 use Rattle.std.specs.List.{list_any}
-use Rattle.std.specs.Ordering.{is_eq, nat_cmp}
 use Rattle.dns_name.specs.Name.{IsLabel, IsWire, bytes_text, folded, label_text, labels_of, name_text}
 use Rattle.dns_name.proofs.FormLemmas.{IsForm-after, IsForm-last, labels_of-after, labels_of-form, length-after}
 use Rattle.mdns_message.specs.TextData.{strings_of}
@@ -16,12 +14,13 @@ use Rattle.mdns_message.specs.declared.body.RecordData.TheVariants.{Srv, Txt}
 use Rattle.mdns_message.specs.declared.resource.Resource.{Resource}
 use Rattle.people_text.specs.Shown.{name_shown, shown}
 use Rattle.mdns_browse.specs.About.{is_first_label, is_in_data, is_name, is_one_of, is_record_about, is_rest, is_said}
-use Rattle.mdns_browse.specs.About.{is_text_about, is_text_in_local, is_type_about, keeps, same_text}
+use Rattle.mdns_browse.specs.About.{is_text_about, is_text_in_local, is_type_about, keeps}
 use Rattle.mdns_browse.specs.Said.{front, labels_said}
 use Rattle.mdns_browse.specs.Shown.{shown_string, shown_strings}
 use Rattle.mdns_browse.specs.Text.{string_words, text_words}
 use Rattle.mdns_browse.specs.declared.about.Subject.{Subject}
-use Rattle.mdns_browse.proofs.NameLemmas.{folded-append, length-folded}
+use Rattle.mdns_browse.specs.Services.{same_text}
+use Rattle.mdns_browse.proofs.NameLemmas.{folded-append, length-folded, same_text-decides}
 use Rattle.mdns_browse.proofs.ShownLemmas.{strings-cons}
 use Rattle.mdns_browse.proofs.TextLemmas.{text_words-cons}
 
@@ -70,19 +69,6 @@ any-map p f [] = refl
 any-map p f (x ∷ xs) = ap (λ b. p (f x) || b) (any-map p f xs)
 
 -- THE SAME TEXT
-
-same_list : (xs ys : List ℕ) → Decides (is_eq (slice_cmp nat_cmp xs ys)) (xs ≡ ys)
-same_list xs ys = (
-  λ tied. (bytes_decides xs ys).0 (texts_ties xs ys ∙ tied),
-  λ same. sym (texts_ties xs ys) ∙ (bytes_decides xs ys).1 same,
-)
-
-pub same_text-decides : (a b : List ℕ) → Decides (same_text a b) (folded a ≡ folded b)
-unfolding same_text
-same_text-decides a b = same_list (folded a) (folded b)
-
-pub text_test : (a b : List ℕ) (r : Bool) → Decides r (folded a ≡ folded b) → r ≡ same_text a b
-text_test a b r decides = same_from_decides r (same_text a b) decides (same_text-decides a b)
 
 -- what is before and after the same place
 same_length : (a b x y : List ℕ) → length x ≡ length y → a ++ x ≡ b ++ y → length a ≡ length b

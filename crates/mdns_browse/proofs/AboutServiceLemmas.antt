@@ -11,9 +11,9 @@ use Rattle.mdns_message.specs.declared.hearing.Hearing.{Hearing}
 use Rattle.mdns_message.specs.declared.body.RecordData.TheVariants.{A, Aaaa, Ptr, Txt, Srv}
 use Rattle.mdns_join.specs.declared.latest.Latest.{Latest}
 use Rattle.mdns_cache.specs.Live.{AreLiveRows}
-use Rattle.mdns_browse.specs.About.{data_of_set, is_heard_about, is_heard_server_about, is_in_data, is_instance_about, is_name}
+use Rattle.mdns_browse.specs.About.{is_heard_about, is_heard_server_about, is_in_data, is_instance_about, is_name}
 use Rattle.mdns_browse.specs.About.{is_rest, is_server_about, is_type_about, keeps_heard, keeps_instance}
-use Rattle.mdns_browse.specs.Services.{AreEach, AreServers, Holds, IsAddressOf, IsServerAt, IsServerOf, body_of, rows_of_set}
+use Rattle.mdns_browse.specs.Services.{AreEach, AreServers, Holds, IsAddressOf, IsServerAt, IsServerOf, body_of, data_of_set, rows_of_set}
 use Rattle.mdns_browse.specs.declared.about.Subject.{Subject}
 use Rattle.mdns_browse.specs.declared.instance.Instance.{Instance}
 use Rattle.mdns_browse.specs.declared.instance.Server.{Server}

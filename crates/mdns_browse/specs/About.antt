@@ -1,5 +1,5 @@
 -- What is about a subject: a name, a word of data or an address for which somebody asks.
-use Rattle.std.specs.Prelude.{◌≡◌, ℕ, Bool, true, false, ◌||◌, List, [], ◌∷◌, ◌++◌, map, Option, Some, None, codes, string_bytes}
+use Rattle.std.specs.Prelude.{◌≡◌, ℕ, Bool, true, false, ◌||◌, List, [], ◌∷◌, ◌++◌, Option, Some, None, codes, string_bytes}
 use Rattle.std.specs.Cmp.Lexicographic.{slice_cmp}
 use Rattle.std.specs.Fmt.{decimal}
 use Rattle.std.specs.List.{filter, list_any}
@@ -7,7 +7,7 @@ use Rattle.std.specs.Net.Addr.{ipv4_octets, ipv6_octets}
 use Rattle.std.specs.Ordering.{is_eq, nat_cmp}
 use Rattle.std.specs.declared.net.ip_addr.IpAddr.{IpAddr}
 use Rattle.std.specs.declared.net.ip_addr.IpAddr.TheVariants.{V4, V6}
-use Rattle.dns_name.specs.Name.{folded, labels_of, label_text, name_text, wire_of}
+use Rattle.dns_name.specs.Name.{labels_of, label_text, name_text, wire_of}
 use Rattle.mdns_message.specs.Resource.{Body, type_number}
 use Rattle.mdns_message.specs.declared.body.RecordData.TheVariants as body
 use Rattle.mdns_message.specs.declared.record_type.RecordType.TheVariants as kind
@@ -18,13 +18,9 @@ use Rattle.mdns_browse.specs.declared.about.Subject.{Subject}
 use Rattle.mdns_browse.specs.declared.instance.Instance.{Instance}
 use Rattle.mdns_browse.specs.declared.instance.Server.{Server}
 use Rattle.mdns_browse.specs.Said.{front, labels_said}
-use Rattle.mdns_browse.specs.Services.{body_of, rows_of_set}
+use Rattle.mdns_browse.specs.Services.{data_of_set, same_text}
 use Rattle.mdns_browse.specs.Shown.{shown_strings}
 use Rattle.mdns_browse.specs.Text.{text_words}
-
--- the texts are the same but for the case of ASCII letters
-unfoldable pub same_text : List ℕ → List ℕ → Bool
-same_text a b = is_eq (slice_cmp nat_cmp (folded a) (folded b))
 
 -- the word is one of the texts
 abbrev pub is_one_of : List ℕ → List (List ℕ) → Bool
@@ -98,10 +94,6 @@ is_instance_about instance subject =
     is_name (string_bytes subject.text) instance.name
     || (is_rest (string_bytes subject.text) (labels_of instance.name)
     || list_any (λ server. is_server_about server subject) instance.servers)
-
--- the data of the rows of a name's record set
-abbrev pub data_of_set : List Latest → List ℕ → ℕ → List Body
-data_of_set rows name number = map body_of (rows_of_set rows name number)
 
 -- SRV data is about the subject by rows that were heard: its target is the subject, or an address of the target in the rows
 abbrev pub is_heard_server_about : List Latest → Body → Subject → Bool

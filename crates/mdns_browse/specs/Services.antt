@@ -1,20 +1,24 @@
 -- Services: which live records give them (RFC 6763, sections 4, 5 and 9). Names are compared folded (RFC 6762,
 -- section 16), and each is spelled as in the record that gives it.
-use Rattle.std.specs.Prelude.{◌≡◌, ◌⊎◌, ◌↔◌, ℕ, List, [], ◌∷◌, ◌++◌, length, map, codes, Contains, Option, None, Some}
-use Rattle.std.specs.List.{filter}
+use Rattle.std.specs.Prelude.{◌≡◌, ◌⊎◌, ◌↔◌, ℕ, Bool, false, not, ◌&&◌, ◌||◌, nat_le, min, if◌then◌else◌, List, [], ◌∷◌, ◌++◌}
+use Rattle.std.specs.Prelude.{length, map, drop, codes, Contains, Option, None, Some, option_map}
+use Rattle.std.specs.Cmp.Lexicographic.{slice_cmp}
+use Rattle.std.specs.List.{filter, filter_map}
 use Rattle.std.specs.List.Sorted.{IsStrictlySortedBy}
-use Rattle.std.specs.Ordering.{is_eq}
+use Rattle.std.specs.Ordering.{is_eq, nat_cmp}
 use Rattle.mdns_message.specs.declared.hearing.Hearing.{Hearing}
 use Rattle.mdns_message.specs.RecordSet.{RecordSet}
 use Rattle.mdns_message.specs.Resource.{Body, type_number, number_of, key_cmp, set_key_cmp}
 use Rattle.mdns_message.specs.declared.body.RecordData.TheVariants as body
 use Rattle.mdns_message.specs.declared.record_type.RecordType.TheVariants as kind
-use Rattle.dns_name.specs.Name.{IsLabel, folded, wire_of}
+use Rattle.dns_name.specs.Name.{IsLabel, folded, longest_label, wire_of}
 use Rattle.mdns_join.specs.declared.latest.Latest.{Latest}
 use Rattle.mdns_cache.specs.Live.{IsEnd, IsLive, record_of}
 use Rattle.mdns_lives.specs.Since.{IsLiveSince}
 use Rattle.mdns_browse.specs.declared.instance.Instance.{Instance}
 use Rattle.mdns_browse.specs.declared.instance.Server.{Server}
+
+-- ---- names
 
 -- a service name: any label, then `_tcp` or `_udp`, then `local` (sections 4.1.2 and 7)
 pub record IsServiceName (name : List ℕ) : Type 0 where
@@ -30,9 +34,26 @@ pub record IsInstanceOf (service name : List ℕ) : Type 0 where
   pub sized : IsLabel label
   pub spelled : folded name ≡ length label ∷ (label ++ folded service)
 
+-- the texts are the same but for the case of ASCII letters
+unfoldable pub same_text : List ℕ → List ℕ → Bool
+same_text a b = is_eq (slice_cmp nat_cmp (folded a) (folded b))
+
+-- the tests of both, by the bytes of a name: the length octet of a label, the label, and the bytes after it
+unfoldable pub is_instance_of : List ℕ → List ℕ → Bool
+is_instance_of service [] = false
+is_instance_of service (count ∷ bytes) =
+    (nat_le 1 count && nat_le count (min longest_label (length bytes))) && same_text (drop count bytes) service
+
+unfoldable pub is_service_name : List ℕ → Bool
+is_service_name name =
+    is_instance_of (wire_of (codes "_tcp" ∷ codes "local" ∷ [])) name
+    || is_instance_of (wire_of (codes "_udp" ∷ codes "local" ∷ [])) name
+
 -- the owner of the records that list the service types: `_services._dns-sd._udp.local` (section 9)
 abbrev pub types_owner : List ℕ
 types_owner = wire_of (codes "_services" ∷ codes "_dns-sd" ∷ codes "_udp" ∷ codes "local" ∷ [])
+
+-- ---- what a record gives
 
 -- the data of a last hearing's record
 abbrev pub body_of : Latest → Body
@@ -60,6 +81,78 @@ pub record GivesOther (last : Latest) : Type 0 where
   pub service : IsServiceName last.resource.owner
   pub other : IsInstanceOf last.resource.owner name → ⊥
 
+-- the name to which data points
+abbrev pub pointer_of : Body → Option (List ℕ)
+pointer_of (body.Ptr name) = Some name
+pointer_of _ = None
+
+-- the name, if the test holds of it
+abbrev pub name_if : (List ℕ → Bool) → Option (List ℕ) → Option (List ℕ)
+name_if test None = None
+name_if test (Some name) = if test name then Some name else None
+
+-- the name of the service type, of the service instance and of what is no instance, that a record gives
+unfoldable pub type_given : Latest → Option (List ℕ)
+type_given row = name_if (λ name. same_text row.resource.owner types_owner && is_service_name name) (pointer_of (body_of row))
+
+unfoldable pub instance_given : Latest → Option (List ℕ)
+instance_given row =
+    name_if (λ name. is_service_name row.resource.owner && is_instance_of row.resource.owner name) (pointer_of (body_of row))
+
+unfoldable pub other_given : Latest → Option (List ℕ)
+other_given row =
+    name_if (λ name. is_service_name row.resource.owner && not (is_instance_of row.resource.owner name)) (pointer_of (body_of row))
+
+-- ---- what rows give: last hearings of records, each record once, in key order
+
+-- the record set of an owner and a type number
+abbrev pub set_for : List ℕ → ℕ → RecordSet
+set_for owner number = record { owner = folded owner; number = number }
+
+-- of rows those of the name's records with that type number, in their order
+abbrev pub rows_of_set : List Latest → List ℕ → ℕ → List Latest
+rows_of_set rows name number = filter (λ row. is_eq (set_key_cmp (record_of row).set (set_for name number))) rows
+
+-- the data of these
+abbrev pub data_of_set : List Latest → List ℕ → ℕ → List Body
+data_of_set rows name number = map body_of (rows_of_set rows name number)
+
+-- the addresses of a name: those of its A records, and then those of its AAAA records
+abbrev pub addresses_in : List Latest → List ℕ → List Body
+addresses_in rows name = data_of_set rows name (type_number kind.A) ++ data_of_set rows name (type_number kind.Aaaa)
+
+-- the server of SRV data, with the addresses of its target (RFC 2782)
+abbrev pub server_in : List Latest → Body → Option Server
+server_in rows (body.Srv priority weight port target) =
+    Some record { priority = priority; weight = weight; port = port; target = target; addresses = addresses_in rows target }
+server_in rows _ = None
+
+-- the servers of a name, by its SRV records: where an instance is served (section 5)
+abbrev pub servers_in : List Latest → List ℕ → List Server
+servers_in rows name = filter_map (server_in rows) (data_of_set rows name (type_number kind.Srv))
+
+abbrev pub text_in : Body → Option (List ℕ)
+text_in (body.Txt text) = Some text
+text_in _ = None
+
+-- the data of the TXT records of a name: an instance's attributes (section 6)
+abbrev pub texts_in : List Latest → List ℕ → List (List ℕ)
+texts_in rows name = filter_map text_in (data_of_set rows name (type_number kind.Txt))
+
+-- the instance of a name, with its servers and its texts
+abbrev pub instance_in : List Latest → List ℕ → Instance
+instance_in rows name = record { name = name; servers = servers_in rows name; texts = texts_in rows name }
+
+-- the names of the service types
+abbrev pub types_in : List Latest → List (List ℕ)
+types_in rows = filter_map type_given rows
+
+-- the service instances
+abbrev pub instances_in : List Latest → List Instance
+instances_in rows = filter_map (λ row. option_map (instance_in rows) (instance_given row)) rows
+
+-- ---- what hearings give
+
 -- the live records that point from a service to such a name, by their last hearings and ends, each record once, in key order
 pub record AreOthers (heard : List Hearing) (now : ℕ) (rows : List (Latest × ℕ)) : Type 0 where
   pub ascending : IsStrictlySortedBy key_cmp (map (λ (row : Latest × ℕ). record_of row.0) rows)
@@ -70,14 +163,6 @@ pub record AreOthers (heard : List Hearing) (now : ℕ) (rows : List (Latest × 
 pub record IsOfSet (name : List ℕ) (number : ℕ) (last : Latest) : Type 0 where
   pub owner : folded last.resource.owner ≡ folded name
   pub number_is : number_of (body_of last) ≡ number
-
--- the record set of an owner and a type number
-abbrev pub set_for : List ℕ → ℕ → RecordSet
-set_for owner number = record { owner = folded owner; number = number }
-
--- of rows those of the name's records with that type number, in their order
-abbrev pub rows_of_set : List Latest → List ℕ → ℕ → List Latest
-rows_of_set rows name number = filter (λ row. is_eq (set_key_cmp (record_of row).set (set_for name number))) rows
 
 -- an SRV record of the name: where an instance is served (section 5)
 abbrev pub IsServerOf : List ℕ → Latest → Type 0

@@ -19,7 +19,8 @@ pub struct Subject {
 }
 
 impl Subject {
-    ghost use Rattle.mdns_browse.specs.About.{is_address, same_text};
+    ghost use Rattle.mdns_browse.specs.About.{is_address};
+    ghost use Rattle.mdns_browse.specs.Services.{same_text};
 
     /// Makes the subject of a word, which is an address where it reads as one.
     pub fn new(text: String) -> Subject

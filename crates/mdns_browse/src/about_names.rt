@@ -5,7 +5,8 @@ ghost use Rattle.std.specs.Fmt.{decimal};
 ghost use Rattle.std.specs.List.{list_any};
 ghost use Rattle.dns_name.specs.Name.{bytes_text, labels_of};
 ghost use Rattle.people_text.specs.Shown.{shown};
-ghost use Rattle.mdns_browse.specs.About.{is_rest, is_said, is_text_about, is_text_in_local, is_type_about, same_text};
+ghost use Rattle.mdns_browse.specs.About.{is_rest, is_said, is_text_about, is_text_in_local, is_type_about};
+ghost use Rattle.mdns_browse.specs.Services.{same_text};
 
 use crate::about::Subject;
 use crate::said::{push_front, push_further};

@@ -6,8 +6,8 @@ ghost use Rattle.std.specs.List.Sorted.{IsStrictlySortedBy};
 ghost use Rattle.mdns_message.specs.Resource.{key_cmp, type_number};
 ghost use Rattle.mdns_cache.specs.Live.{record_of};
 ghost use Rattle.mdns_cache.specs.Rows.{last_lent};
-ghost use Rattle.mdns_browse.specs.About.{data_of_set, is_heard_about, is_heard_server_about, is_in_data};
-ghost use Rattle.mdns_browse.specs.Services.{body_of};
+ghost use Rattle.mdns_browse.specs.About.{is_heard_about, is_heard_server_about, is_in_data};
+ghost use Rattle.mdns_browse.specs.Services.{body_of, data_of_set};
 
 use crate::about::Subject;
 use crate::about_data::is_in_data;

@@ -1,9 +1,13 @@
 //! Laws of the definitions. Each function does nothing: its contract is the law.
 
-ghost use Rattle.std.specs.Prelude.{◌≡◌, ◌↔◌, [], List, ℕ};
+ghost use Rattle.std.specs.Prelude.{◌≡◌, ◌↔◌, [], List, ℕ, Some, true};
+ghost use Rattle.mdns_message.specs.declared.body.RecordData.TheVariants.{Ptr};
 ghost use Rattle.mdns_message.specs.declared.hearing.Hearing.{Hearing};
+ghost use Rattle.mdns_join.specs.declared.latest.Latest.{Latest};
 ghost use Rattle.mdns_cache.specs.Live.{SameHearings};
 ghost use Rattle.mdns_browse.specs.Report.{IsReport, IsReportIn};
+ghost use Rattle.mdns_browse.specs.Services.{instance_given, is_instance_of, is_service_name, other_given, type_given, body_of};
+ghost use Rattle.mdns_browse.specs.Services.{GivesInstance, GivesOther, GivesType, IsInstanceOf, IsServiceName};
 ghost use Rattle.mdns_browse.specs.declared.report.Ask.{Ask};
 ghost use Rattle.mdns_browse.specs.declared.about.Subject.{Subject};
 ghost use Rattle.mdns_browse.specs.declared.report.Form.{Form};
@@ -40,4 +44,17 @@ pub fn same_report_in()
 pub fn report_about_all()
     ensures { (ask : Ask) (heard : List Hearing) (now : ℕ) (text : List ℕ)
         → IsReportIn [] Lines ask heard now text ↔ IsReport ask heard now text }
+{}
+
+/// What the definitions find out from the bytes of a record is what RFC 6763 says of it by labels: which names are those of
+/// services and of instances, and which name a record gives, if it gives one.
+pub fn given_by_labels()
+    ensures service_name { (name : List ℕ) → (is_service_name name ≡ true) ↔ IsServiceName name }
+    ensures instance_name { (service name : List ℕ) → (is_instance_of service name ≡ true) ↔ IsInstanceOf service name }
+    ensures gives_type { (row : Latest) (name : List ℕ)
+        → (type_given row ≡ Some name) ↔ (GivesType row × (body_of row ≡ Ptr name)) }
+    ensures gives_instance { (row : Latest) (name : List ℕ)
+        → (instance_given row ≡ Some name) ↔ (GivesInstance row × (body_of row ≡ Ptr name)) }
+    ensures gives_other { (row : Latest) (name : List ℕ)
+        → (other_given row ≡ Some name) ↔ (GivesOther row × (body_of row ≡ Ptr name)) }
 {}

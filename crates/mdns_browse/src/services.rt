@@ -1,15 +1,14 @@
 //! Service types and service instances among the live records (RFC 6763, sections 4, 5 and 9).
 
-ghost use Rattle.std.specs.Prelude.{◌≡◌, ◌↔◌, ◌∷◌, ◌++◌, [], ℕ, List, length, map, IsTrue, IfOk, IfSome, IfNone, OnOk};
+ghost use Rattle.std.specs.Prelude.{◌≡◌, ◌++◌, ℕ, List, map, option_map, IfOk, IfSome, IfNone, OnOk};
 ghost use Rattle.mdns_message.specs.declared.hearing.Hearing.{Hearing};
 ghost use Rattle.mdns_message.specs.declared.body.RecordData.TheVariants.{Ptr};
-ghost use Rattle.dns_name.specs.Name.{IsLabel, folded};
 ghost use Rattle.mdns_cache.specs.Live.{NoneLater, AreLiveRows};
 ghost use Rattle.mdns_cache.specs.Contents.{StandsFor};
 ghost use Rattle.mdns_cache.specs.Rows.{last_lent};
-ghost use Rattle.mdns_browse.specs.Services.{IsServiceName, IsInstanceOf, types_owner, body_of, GivesType};
-ghost use Rattle.mdns_browse.specs.Services.{GivesInstance, GivesOther, AreTypes, AreAddresses, AreServers, AreTexts};
-ghost use Rattle.mdns_browse.specs.Services.{AreInstances};
+ghost use Rattle.mdns_browse.specs.Services.{instance_given, is_instance_of, is_service_name, other_given, same_text, type_given};
+ghost use Rattle.mdns_browse.specs.Services.{types_owner, body_of, GivesType, GivesInstance, GivesOther, AreTypes, AreAddresses};
+ghost use Rattle.mdns_browse.specs.Services.{AreServers, AreTexts, AreInstances};
 
 use crate::instance::{Addresses, InOrder, Instance, Server, Servers, Texts};
 use crate::lookup::of_set;
@@ -29,46 +28,35 @@ const TCP_LOCAL: &[u8] = b"\x04_tcp\x05local\x00";
 /// The name after the first label of any other service: `_udp.local` (RFC 6763, section 7).
 const UDP_LOCAL: &[u8] = b"\x04_udp\x05local\x00";
 
-// Returns the name after the first label; `None` for the root.
-fn after_label(name: &Name) -> Option<&[u8]>
-    ensures some { IfSome result (λ rest. (label : List ℕ) × IsLabel label × (name.now ≡ length label ∷ (label ++ rest.now))) }
-    ensures none { IfNone result (name.now ≡ 0 ∷ []) }
-{
-    match split_label(name.wire()) {
-        Some((_, rest)) => Some(rest),
-        None => None,
-    }
-}
-
 // Checks that a name is `_services._dns-sd._udp.local`.
 fn is_types_owner(name: &Name) -> bool
-    ensures { IsTrue result ↔ (folded name.now ≡ types_owner) }
+    ensures { result ≡ same_text name.now types_owner }
 {
     folded_eq(name.wire(), TYPES_OWNER)
 }
 
 // Checks that a name is a label, `_tcp` or `_udp`, and `local`.
+#[tactic(auto, unfolding(crate::specs::Services::is_service_name))]
 fn is_service_name(name: &Name) -> bool
-    ensures { IsTrue result ↔ IsServiceName name.now }
+    ensures { result ≡ is_service_name name.now }
 {
-    match after_label(name) {
-        Some(rest) => folded_eq(rest, TCP_LOCAL) || folded_eq(rest, UDP_LOCAL),
-        None => false,
-    }
+    is_instance_of(TCP_LOCAL, name) || is_instance_of(UDP_LOCAL, name)
 }
 
 // Checks that a name is one label and then the name of the service.
-fn is_instance_of(service: &Name, name: &Name) -> bool
-    ensures { IsTrue result ↔ IsInstanceOf service.now name.now }
+fn is_instance_of(service: &[u8], name: &Name) -> bool
+    ensures { result ≡ is_instance_of service.now name.now }
 {
-    match after_label(name) {
-        Some(rest) => folded_eq(rest, service.wire()),
+    match split_label(name.wire()) {
+        Some((_, rest)) => folded_eq(rest, service),
         None => false,
     }
 }
 
 /// Returns the name of the service type that a record lists, if it lists one.
+#[tactic(auto, unfolding(crate::specs::Services::type_given))]
 pub(crate) fn type_of<'a>(row: &Last<'a>) -> Option<&'a Name>
+    ensures given { option_map (λ name. name.now) result ≡ type_given (last_lent row.now) }
     ensures some { IfSome result (λ name. GivesType (last_lent row.now) × (body_of (last_lent row.now) ≡ Ptr name.now)) }
     ensures none { IfNone result (GivesType (last_lent row.now) → ⊥) }
 {
@@ -82,7 +70,9 @@ pub(crate) fn type_of<'a>(row: &Last<'a>) -> Option<&'a Name>
 }
 
 /// Returns the name of the service instance that a record points to, if it does.
+#[tactic(auto, unfolding(crate::specs::Services::instance_given))]
 pub fn instance_of<'a>(row: &Last<'a>) -> Option<&'a Name>
+    ensures given { option_map (λ name. name.now) result ≡ instance_given (last_lent row.now) }
     ensures some { IfSome result (λ name. GivesInstance (last_lent row.now) × (body_of (last_lent row.now) ≡ Ptr name.now)) }
     ensures none { IfNone result (GivesInstance (last_lent row.now) → ⊥) }
 {
@@ -90,14 +80,16 @@ pub fn instance_of<'a>(row: &Last<'a>) -> Option<&'a Name>
         return None;
     };
     let owner = &row.resource.owner;
-    if is_service_name(owner) && is_instance_of(owner, name) {
+    if is_service_name(owner) && is_instance_of(owner.wire(), name) {
         return Some(name);
     }
     None
 }
 
 /// Returns the name that a record of a service type points to, if it isn't one label and that type's name.
+#[tactic(auto, unfolding(crate::specs::Services::other_given))]
 pub fn other_of<'a>(row: &Last<'a>) -> Option<&'a Name>
+    ensures given { option_map (λ name. name.now) result ≡ other_given (last_lent row.now) }
     ensures some { IfSome result (λ name. GivesOther (last_lent row.now) × (body_of (last_lent row.now) ≡ Ptr name.now)) }
     ensures none { IfNone result (GivesOther (last_lent row.now) → ⊥) }
 {
@@ -105,7 +97,7 @@ pub fn other_of<'a>(row: &Last<'a>) -> Option<&'a Name>
         return None;
     };
     let owner = &row.resource.owner;
-    if is_service_name(owner) && !is_instance_of(owner, name) {
+    if is_service_name(owner) && !is_instance_of(owner.wire(), name) {
         return Some(name);
     }
     None

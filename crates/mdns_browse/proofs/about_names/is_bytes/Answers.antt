@@ -1,7 +1,7 @@
 use Rattle.std.proofs.Common.{refl, sym, ◌∙◌, ap, ◌++◌}
 use Rattle.dns_name.specs.Name.{bytes_text}
 use Rattle.people_text.specs.Shown.{shown}
-use Rattle.mdns_browse.specs.About.{same_text}
+use Rattle.mdns_browse.specs.Services.{same_text}
 use Rattle.mdns_browse.proofs.AboutLemmas.{any-or, or-first, or-rest, text-written}
 use Rattle.mdns_browse.proofs.about_names.is_bytes.Goals as goal
 

@@ -1,7 +1,8 @@
 use Rattle.std.proofs.Common.{◌++◌, ◌∙◌, ap, string_bytes}
 use Rattle.std.specs.List.{list_any}
 use Rattle.dns_name.specs.Name.{labels_of}
-use Rattle.mdns_browse.specs.About.{is_text_in_local, same_text}
+use Rattle.mdns_browse.specs.About.{is_text_in_local}
+use Rattle.mdns_browse.specs.Services.{same_text}
 use Rattle.mdns_browse.specs.Said.{after_front, front, labels_said}
 use Rattle.mdns_browse.proofs.AboutLemmas.{or-first, or-rest, said-alternatives, text-written}
 use Rattle.mdns_browse.proofs.SaidLemmas.{said-written}

@@ -1,6 +1,6 @@
 use Rattle.std.proofs.Common.{◌∙◌, sym, ap}
 use Rattle.dns_name.specs.Name.{folded}
-use Rattle.mdns_browse.proofs.AboutLemmas.{text_test}
+use Rattle.mdns_browse.proofs.NameLemmas.{text_test}
 use Rattle.mdns_browse.proofs.about.Subject.is_text.Goals as goal
 
 pub returns : goal.returns
