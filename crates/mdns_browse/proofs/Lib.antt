@@ -19,7 +19,7 @@ mod ReportLemmas
 mod RowLemmas
 mod SaidLemmas
 pub mod SameLemmas
-mod SearchLemmas
+pub mod SearchLemmas
 mod ServiceLemmas
 mod SharedLemmas
 mod ShownKeptLemmas

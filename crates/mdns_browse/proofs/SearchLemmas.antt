@@ -4,7 +4,7 @@ use Rattle.std.proofs.Common.{false, List, [], ◌∷◌, length, map, take, dro
 use Rattle.std.proofs.lemmas.List.{get_or-drop, length-drop, take_all}
 use Rattle.std.proofs.lemmas.Bool.{false≢true}
 use Rattle.std.proofs.lemmas.Cmp.{tied_itself}
-use Rattle.std.specs.List.{AllByRecursion}
+use Rattle.std.specs.List.{AllByRecursion, filter}
 use Rattle.std.specs.List.Sorted.{IsStrictlySortedBy, IsPartitionPoint, IsPartitionedBy}
 use Rattle.std.specs.Cmp.{IsTotalOrder, alike_right}
 use Rattle.std.specs.Ordering.{is_eq, is_lt, is_le, ordering_then}
@@ -47,6 +47,11 @@ between_is : (o : Ordering) → is_lt o ≡ false → is_le o ≡ true → o ≡
 between_is Less not le = absurd (false≢true (sym not))
 between_is Equal not le = refl
 between_is Greater not le = absurd (false≢true le)
+
+pub eq_is : (o : Ordering) → is_eq o ≡ true → o ≡ Equal
+eq_is Less e = absurd (false≢true e)
+eq_is Equal e = refl
+eq_is Greater e = absurd (false≢true e)
 
 -- a key that isn't above another is below each key that the other is below
 module _ {K : Type 0} (R : K → K → Ordering) (o : IsTotalOrder R) where
@@ -139,6 +144,16 @@ module _ {X : Type 0} (key : X → Key) (set : RecordSet) where
       (picks-set Is xs first count tie untie (subst (λ zs. count ≤ length zs) rest within) below
       (subst (λ zs. IsPartitionPoint (λ x. is_le (against x) ≡ true) (λ x. is_le (against x) ≡ false) zs count) rest upto))
 
+  -- the same as a filter
+  pub filter-rest : (xs ys : List X) (first count : ℕ) → ys ≡ drop first xs → count ≤ length ys
+      → IsPartitionPoint (λ x. is_lt (against x) ≡ true) (λ x. is_lt (against x) ≡ false) xs first
+      → IsPartitionPoint (λ x. is_le (against x) ≡ true) (λ x. is_le (against x) ≡ false) ys count
+      → filter (λ x. is_eq (against x)) xs ≡ take count ys
+  filter-rest xs ys first count rest within below upto =
+      picks-one (λ x. against x ≡ Equal) xs (filter (λ x. is_eq (against x)) xs) (take count ys)
+      (picks-filter (λ x. against x ≡ Equal) (λ x. is_eq (against x)) (λ x tied. eq_is _ tied) (λ x tied. ap is_eq tied) xs)
+      (picks-rest (λ x. against x ≡ Equal) xs ys first count rest (λ x tied. tied) (λ x tied. tied) within below upto)
+
 pub of_set-tie : (owner : List ℕ) (number : ℕ) (l : Latest) → set_key_cmp (record_of l).set (set_for owner number) ≡ Equal
     → IsOfSet owner number l
 of_set-tie owner number l tied =
@@ -150,11 +165,6 @@ pub of_set-untie : (owner : List ℕ) (number : ℕ) (l : Latest) → IsOfSet ow
 of_set-untie owner number l is =
     let same : (record_of l).set ≡ set_for owner number = λ i. record { owner = is.owner i; number = is.number_is i } in
     ap (λ s. set_key_cmp s (set_for owner number)) same ∙ tied_itself set_key_cmp-total (set_for owner number)
-
-eq_is : (o : Ordering) → is_eq o ≡ true → o ≡ Equal
-eq_is Less e = absurd (false≢true e)
-eq_is Equal e = refl
-eq_is Greater e = absurd (false≢true e)
 
 picks-set_rows : (rows : List Latest) (name : List ℕ) (number : ℕ) → Picks (IsOfSet name number) rows (rows_of_set rows name number)
 picks-set_rows rows name number =
