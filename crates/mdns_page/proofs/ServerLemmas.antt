@@ -1,23 +1,17 @@
--- SRV records among rows in key order, and where a binary search finds those of a name.
-use Rattle.std.proofs.Common.{◌≡◌, refl, sym, ◌∙◌, ap, subst, ℕ, zero, suc, ◌+◌, ◌<◌, ◌≤◌, ◌⊎◌, inl, inr, Bool, true}
-use Rattle.std.proofs.Common.{false, cond, List, [], ◌∷◌, ◌++◌, append_assoc, length, map, take, drop, get_or, arith}
+-- SRV records among rows in key order.
+use Rattle.std.proofs.Common.{◌≡◌, refl, sym, ◌∙◌, ap, subst, ℕ, Bool, true, false, cond, List, [], ◌∷◌, ◌++◌, append_assoc, map, arith}
 use Rattle.std.proofs.lemmas.Bool.{cond_both, false≢true}
-use Rattle.std.proofs.lemmas.Cmp.{tied_itself}
-use Rattle.std.proofs.lemmas.List.{append-nil, get_or-drop, length-drop, map-append}
+use Rattle.std.proofs.lemmas.List.{append-nil, map-append}
 use Rattle.std.proofs.lemmas.List.Elements.{All-weaker}
 use Rattle.std.proofs.lemmas.Simd.{map-map}
-use Rattle.std.specs.Cmp.{alike_right}
-use Rattle.std.specs.List.{All, AllByRecursion, AllWithin, filter}
-use Rattle.std.specs.List.Sorted.{IsStrictlySortedBy, IsPartitionPoint, IsPartitionedBy}
-use Rattle.std.specs.Ordering.{is_eq, is_lt, is_le, ordering_then}
+use Rattle.std.specs.List.{All, AllByRecursion, filter}
+use Rattle.std.specs.List.Sorted.{IsStrictlySortedBy}
 use Rattle.std.specs.declared.cmp.Ordering.{Ordering}
-use Rattle.std.specs.declared.cmp.Ordering.TheVariants.{Less, Equal, Greater}
+use Rattle.std.specs.declared.cmp.Ordering.TheVariants.{Less}
 use Rattle.mdns_message.specs.declared.body.RecordData.TheVariants.{A, Aaaa, Ptr, Txt, Srv}
-use Rattle.mdns_message.specs.declared.key.Key.{Key}
 use Rattle.mdns_message.specs.declared.record_type.RecordType.TheVariants as kind
-use Rattle.mdns_message.specs.RecordSet.{RecordSet}
-use Rattle.mdns_message.specs.Resource.{Body, key_cmp, number_of, set_key_cmp, type_number}
-use Rattle.mdns_message.specs.laws.Resource.{set_key_cmp-exact, set_key_cmp-total}
+use Rattle.mdns_message.specs.Resource.{Body, key_cmp, number_of, type_number}
+use Rattle.mdns_message.specs.laws.Resource.{set_key_cmp-exact}
 use Rattle.mdns_join.specs.declared.latest.Latest.{Latest}
 use Rattle.mdns_cache.specs.Live.{record_of}
 use Rattle.mdns_lives.specs.Chronicle.{AreAllLives}
@@ -27,35 +21,12 @@ use Rattle.mdns_lives.specs.declared.record_lives.RecordLives.{RecordLives}
 use Rattle.mdns_message.specs.declared.hearing.Hearing.{Hearing}
 use Rattle.mdns_browse.specs.declared.about.Subject.{Subject}
 use Rattle.mdns_browse.specs.Services.{body_of, set_for}
+use Rattle.mdns_browse.proofs.SearchLemmas.{eq_is}
 use Rattle.mdns_page.specs.Servers.{IsServed, is_server, is_server_of, is_srv, servers_named, servers_of}
 use Rattle.mdns_page.specs.Survey.{DrawsRecord, lasts_of}
 use Rattle.mdns_page.specs.Timeline.{Row, lives_lent}
 
 -- ---- filters
-
-module _ {X : Type 0} (p : X → Bool) where
-  -- none of the first elements passes
-  filter-past : (xs : List X) (first : ℕ) → AllWithin (λ x. p x ≡ false) xs 0 first → filter p xs ≡ filter p (drop first xs)
-  filter-past xs zero none = refl
-  filter-past [] (suc first) none = refl
-  filter-past (x ∷ xs) (suc first) none =
-      ap (λ passes. cond passes (x ∷ filter p xs) (filter p xs)) (none 0 x (omega arith) (omega arith))
-      ∙ filter-past xs first (λ k d low high. none (suc k) d (omega arith) (omega arith))
-
-  -- exactly the first elements pass
-  filter-upto : (xs : List X) (count : ℕ) → count ≤ length xs → AllWithin (λ x. p x ≡ true) xs 0 count
-      → AllWithin (λ x. p x ≡ false) xs count (length xs) → filter p xs ≡ take count xs
-  filter-upto [] zero within all none = refl
-  filter-upto [] (suc count) within all none = absurd (omega (arith, within))
-  filter-upto (x ∷ xs) zero within all none =
-      ap (λ passes. cond passes (x ∷ filter p xs) (filter p xs)) (none 0 x (omega arith) (omega arith))
-      ∙ filter-upto xs zero (omega arith) (λ k d low high. absurd (omega (arith, high)))
-      (λ k d low high. none (suc k) d (omega arith) (omega (arith, high)))
-  filter-upto (x ∷ xs) (suc count) within all none =
-      ap (λ passes. cond passes (x ∷ filter p xs) (filter p xs)) (all 0 x (omega arith) (omega arith))
-      ∙ ap (λ rest. x ∷ rest)
-      (filter-upto xs count (omega (arith, within)) (λ k d low high. all (suc k) d (omega arith) (omega (arith, high)))
-      (λ k d low high. none (suc k) d (omega (arith, low)) (omega (arith, high))))
 
 -- what passes after a function is applied
 filter-map : {X Y : Type 0} (p : Y → Bool) (f : X → Y) (xs : List X) → filter p (map f xs) ≡ map f (filter (λ x. p (f x)) xs)
@@ -97,116 +68,6 @@ module _ {X K : Type 0} (c : K → K → Ordering) (key : X → K) (p : X → Bo
       let rest = sorted-filter xs sorted.1 in
       cond_both (p x) (x ∷ filter p xs) (filter p xs) (λ ys. IsStrictlySortedBy c (map key ys))
       (λ _. (above-filter (λ k. c (key x) k ≡ Less) xs sorted.0, rest)) (λ _. rest)
-
-lt_is : (o : Ordering) → is_lt o ≡ true → o ≡ Less
-lt_is Less e = refl
-lt_is Equal e = absurd (false≢true e)
-lt_is Greater e = absurd (false≢true e)
-
-le_is : (o : Ordering) → is_le o ≡ true → (o ≡ Less) ⊎ (o ≡ Equal)
-le_is Less e = inl refl
-le_is Equal e = inr refl
-le_is Greater e = absurd (false≢true e)
-
-eq-less : (o : Ordering) → is_lt o ≡ true → is_eq o ≡ false
-eq-less Less e = refl
-eq-less Equal e = absurd (false≢true e)
-eq-less Greater e = refl
-
-eq-between : (o : Ordering) → is_lt o ≡ false → is_le o ≡ true → is_eq o ≡ true
-eq-between Less not le = absurd (false≢true (sym not))
-eq-between Equal not le = refl
-eq-between Greater not le = absurd (false≢true le)
-
-eq-above : (o : Ordering) → is_le o ≡ false → is_eq o ≡ false
-eq-above Less e = refl
-eq-above Equal e = absurd (false≢true (sym e))
-eq-above Greater e = refl
-
-eq_is : (o : Ordering) → is_eq o ≡ true → o ≡ Equal
-eq_is Less e = absurd (false≢true e)
-eq_is Equal e = refl
-eq_is Greater e = absurd (false≢true e)
-
-first_part : (o p : Ordering) → ordering_then o p ≡ Less → (o ≡ Less) ⊎ (o ≡ Equal)
-first_part Less p e = inl refl
-first_part Equal p e = inr refl
-first_part Greater p e = absurd (let no : Greater ≡ Less = e in cc)
-
-abbrev NotAbove : RecordSet → RecordSet → Type 0
-NotAbove s t = (set_key_cmp s t ≡ Less) ⊎ (set_key_cmp s t ≡ Equal)
-
--- a set that isn't above another is below each set that the other is below
-below-before : (s t k : RecordSet) → NotAbove s t → is_lt (set_key_cmp t k) ≡ true → is_lt (set_key_cmp s k) ≡ true
-below-before s t k (inl less) below = ap is_lt (set_key_cmp-total.trans s t k less (lt_is (set_key_cmp t k) below))
-below-before s t k (inr same) below = ap is_lt (set_key_cmp-total.congr s t k same) ∙ below
-
-upto-before : (s t k : RecordSet) → NotAbove s t → is_le (set_key_cmp t k) ≡ true → is_le (set_key_cmp s k) ≡ true
-upto-before s t k (inr same) le = ap is_le (set_key_cmp-total.congr s t k same) ∙ le
-upto-before s t k (inl less) le = elim (le_is (set_key_cmp t k) le) [
-  | inl below ↦ ap is_le (set_key_cmp-total.trans s t k less below)
-  | inr tied ↦ ap is_le (sym (alike_right set_key_cmp-total t k s tied) ∙ less)
-]
-
-all_at : {X K : Type 0} (P : K → Type 0) (key : X → K) (xs : List X) (k : ℕ) (d : X) → k < length xs
-    → AllByRecursion P (map key xs) → P (key (get_or xs k d))
-all_at P key [] k d within all = absurd (omega (arith, within))
-all_at P key (x ∷ xs) zero d within all = all.0
-all_at P key (x ∷ xs) (suc k) d within all = all_at P key xs k d (omega (arith, within)) all.1
-
--- ---- a binary search
-
-module _ {X : Type 0} (key : X → Key) (set : RecordSet) where
-  -- how a row's record set compares with the one that is looked for
-  abbrev pub against : X → Ordering
-  against x = set_key_cmp (key x).set set
-
-  -- of two rows in key order the set of the first isn't above that of the second
-  sets-ordered : (xs : List X) (i j : ℕ) (d : X) → i ≤ j → j < length xs → IsStrictlySortedBy key_cmp (map key xs)
-      → NotAbove (key (get_or xs i d)).set (key (get_or xs j d)).set
-  unfolding IsStrictlySortedBy
-  sets-ordered [] i j d le lt sorted = absurd (omega (arith, lt))
-  sets-ordered (x ∷ xs) zero zero d le lt sorted = inr (tied_itself set_key_cmp-total (key x).set)
-  sets-ordered (x ∷ xs) zero (suc j) d le lt sorted =
-      first_part _ _ (all_at (λ k. key_cmp (key x) k ≡ Less) key xs j d (omega (arith, lt)) sorted.0)
-  sets-ordered (x ∷ xs) (suc i) zero d le lt sorted = absurd (omega (arith, le))
-  sets-ordered (x ∷ xs) (suc i) (suc j) d le lt sorted = sets-ordered xs i j d (omega (arith, le)) (omega (arith, lt)) sorted.1
-
-  pub parted-below : (xs : List X) → IsStrictlySortedBy key_cmp (map key xs) → IsPartitionedBy (λ x. is_lt (against x)) xs
-  parted-below xs sorted i j d le lt below =
-      below-before (key (get_or xs i d)).set (key (get_or xs j d)).set set (sets-ordered xs i j d le lt sorted) below
-
-  parted-upto : (xs : List X) → IsStrictlySortedBy key_cmp (map key xs) → IsPartitionedBy (λ x. is_le (against x)) xs
-  parted-upto xs sorted i j d le lt below =
-      upto-before (key (get_or xs i d)).set (key (get_or xs j d)).set set (sets-ordered xs i j d le lt sorted) below
-
-  pub parted-after : (xs ys : List X) (first : ℕ) → ys ≡ drop first xs → IsStrictlySortedBy key_cmp (map key xs)
-      → IsPartitionedBy (λ x. is_le (against x)) ys
-  parted-after xs ys first rest sorted =
-      subst (IsPartitionedBy (λ x. is_le (against x))) (sym rest)
-      (λ i j d le lt below.
-      let within : first + j < length xs = omega (arith, lt, length-drop first xs) in
-      subst (λ x. is_le (against x) ≡ true) (sym (get_or-drop first xs i d))
-      (parted-upto xs sorted (first + i) (first + j) d (omega (arith, le)) within
-      (subst (λ x. is_le (against x) ≡ true) (get_or-drop first xs j d) below)))
-
-  -- the rows of the set are those between the two places that the searches find
-  pub found-between : (xs ys : List X) (first count : ℕ) → ys ≡ drop first xs → count ≤ length ys
-      → IsPartitionPoint (λ x. is_lt (against x) ≡ true) (λ x. is_lt (against x) ≡ false) xs first
-      → IsPartitionPoint (λ x. is_le (against x) ≡ true) (λ x. is_le (against x) ≡ false) ys count
-      → filter (λ x. is_eq (against x)) xs ≡ take count ys
-  found-between xs ys first count rest within below upto =
-      filter-past (λ x. is_eq (against x)) xs first (λ k d low high. eq-less _ (below.0 k d low high))
-      ∙ ap (filter (λ x. is_eq (against x))) (sym rest)
-      ∙ filter-upto (λ x. is_eq (against x)) ys count within
-      (λ k d low high. eq-between _ (not-below k d (omega (arith, high, within))) (upto.0 k d low high))
-      (λ k d low high. eq-above _ (upto.1 k d low high))
-    where
-      not-below : (k : ℕ) (d : X) → k < length ys → is_lt (against (get_or ys k d)) ≡ false
-      not-below k d lt =
-          subst (λ zs. is_lt (against (get_or zs k d)) ≡ false) (sym rest)
-          (subst (λ x. is_lt (against x) ≡ false) (sym (get_or-drop first xs k d))
-          (below.1 (first + k) d (omega arith) (omega (arith, lt, ap length rest, length-drop first xs))))
 
 -- ---- rows
 

@@ -1,5 +1,4 @@
-use Rattle.std.proofs.Common.{◌≡◌, ◌-◌, arith, drop, length, rules, take, length-drop}
-use Rattle.std.proofs.lemmas.List.{take_all}
+use Rattle.std.proofs.Common.{◌-◌, drop, length, rules, take}
 use Rattle.std.proofs.lemmas.List.Sorted.{IsPartitionPoint-from_clause}
 use Rattle.std.specs.Ordering.{is_le, is_lt}
 use Rattle.mdns_message.specs.Resource.{type_number}
@@ -9,7 +8,8 @@ use Rattle.mdns_cache.specs.Rows.{last_lent}
 use Rattle.mdns_lives.specs.Rows.{row_lent}
 use Rattle.mdns_lives.specs.declared.record_lives.RecordLives.{RecordLives}
 use Rattle.mdns_browse.specs.Services.{set_for}
-use Rattle.mdns_page.proofs.ServerLemmas.{against, ascending-lent, found-between, named-lent, parted-after, parted-below}
+use Rattle.mdns_browse.proofs.SearchLemmas.{after_whole, against, filter-rest, parted_after, parted_below}
+use Rattle.mdns_page.proofs.ServerLemmas.{ascending-lent, named-lent}
 use Rattle.mdns_page.proofs.servers.servers_named.Goals as goal
 
 pub returns : goal.returns
@@ -21,12 +21,12 @@ returns c ascending =
     let key = λ (row : RecordLives). record_of (last_lent row.last) in
     let set = set_for c.args.name.now (type_number kind.Srv) in
     let sorted = ascending-lent row_lent rows ascending in
-    let whole : after ≡ drop first rows = take_all (length rows - first) (drop first rows) (omega (arith, length-drop first rows)) in
+    let whole = after_whole rows first in
     let below =
     IsPartitionPoint-from_clause (λ row. is_lt (against key set row)) rows first c.partition_point-first.ensures.partitioned
-    (parted-below key set rows sorted) (λ a r q k. search rules) in
+    (parted_below key set rows sorted) (λ a r q k. search rules) in
     let upto =
     IsPartitionPoint-from_clause (λ row. is_le (against key set row)) after count c.partition_point-count.ensures.partitioned
-    (parted-after key set rows after first whole sorted) (λ a r q k. search rules) in
+    (parted_after key set rows after first whole sorted) (λ a r q k. search rules) in
     named-lent row_lent rows (take count after) c.args.name.now
-    (found-between key set rows after first count whole c.partition_point-count.ensures.bound below upto)
+    (filter-rest key set rows after first count whole c.partition_point-count.ensures.bound below upto)
