@@ -1,7 +1,7 @@
 -- Pages on which names aren't written are equal where they agree but for names.
-use Rattle.std.proofs.Common.{◌≡◌, refl, sym, ◌∙◌, ap, ℕ, ◌+◌, ◌==◌, nat_le, Bool, true, false, not, if◌then◌else◌, Option, None, Some}
+use Rattle.std.proofs.Common.{◌≡◌, refl, sym, ◌∙◌, ap, ℕ, ◌+◌, ◌==◌, nat_le, Bool, true, false, if◌then◌else◌, Option, None, Some}
 use Rattle.std.proofs.Common.{List, [], ◌∷◌, ◌++◌, length, map, arith}
-use Rattle.std.specs.List.{filter, flat_map}
+use Rattle.std.specs.List.{flat_map}
 use Rattle.mdns_message.specs.Resource.{Body}
 use Rattle.mdns_message.specs.TextData.{strings_of}
 use Rattle.mdns_message.specs.declared.body.RecordData.TheVariants.{A, Aaaa, Ptr, Txt, Srv}
@@ -16,17 +16,16 @@ use Rattle.mdns_page.specs.Bare.{BareLive, BareRow, BareServer, bare_address, ba
 use Rattle.mdns_page.specs.Bare.{bare_row, bare_server, bare_text, is_some_filled, unsaid}
 use Rattle.mdns_page.specs.Captures.{Facts, are_many, capture_text, captures_from, captures_group, captures_text}
 use Rattle.mdns_page.specs.Group.{grouped}
-use Rattle.mdns_page.specs.Hosts.{has_address, host_name, is_large}
+use Rattle.mdns_page.specs.Hosts.{host_name, is_large}
 use Rattle.mdns_page.specs.Lanes.{lanes_for}
 use Rattle.mdns_page.specs.Lead.{about_line, cut_warning, ending_warning, has_ended, has_said, lead_text, live_line, other_subject, subjects_line}
 use Rattle.mdns_page.specs.Live.{address_text, addresses_html, left_words, live_group, live_row, live_text, paragraph, server_html}
 use Rattle.mdns_page.specs.Live.{servers_html, text_html}
 use Rattle.mdns_page.specs.Live.{owner_of as type_of}
 use Rattle.mdns_page.specs.Page.{Shown, page}
-use Rattle.mdns_page.specs.Timeline.{Row, are_titled, group_text, is_live, is_of, is_open, lives_in, look_of, others_group}
-use Rattle.mdns_page.specs.Timeline.{others_text, owner_of, record_name, row_text, timeline}
+use Rattle.mdns_page.specs.Timeline.{Row, are_titled, group_text, is_live, is_open, lives_in, look_of, others_group}
+use Rattle.mdns_page.specs.Timeline.{owner_of, record_name, row_text, timeline}
 use Rattle.mdns_page.specs.declared.look.Look.{Look}
-use Rattle.mdns_page.proofs.FilterLemmas.{filter-same}
 use Rattle.mdns_page.proofs.GroupLemmas.{grouped-all}
 use Rattle.mdns_page.proofs.SameLists.{append-same, count-same, flat_map-alike, flat_map-same, groups-same, length-same, map-same}
 
@@ -150,26 +149,6 @@ group-same look opened rows others same =
       flat_map-same bare_row (row_text unsaid false look) (row-same false look) rows others same,
     ) refl
 
-is_bare_address : Option Body → Bool
-is_bare_address None = false
-is_bare_address (Some address) = true
-
-has_address-bare : (body : Body) → has_address body ≡ is_bare_address (bare_address body)
-unfolding is_bare_address
-has_address-bare (A octets) = refl
-has_address-bare (Aaaa octets) = refl
-has_address-bare (Ptr target) = refl
-has_address-bare (Txt bytes) = refl
-has_address-bare (Srv priority weight port target) = refl
-
-is_of-same : (names : Bool) (row other : Row) → bare_row row ≡ bare_row other → is_of names row ≡ is_of names other
-unfolding is_of
-is_of-same names row other same =
-    let address : has_address row.last.resource.body ≡ has_address other.last.resource.body =
-    has_address-bare row.last.resource.body ∙ ap (λ (bare : BareRow). is_bare_address bare.address) same
-    ∙ sym (has_address-bare other.last.resource.body) in
-    ap (λ (is : Bool). if names then not is else is) address
-
 others_group-same : (look : Look) (opened names : Bool) (rows others : List Row) → map bare_row rows ≡ map bare_row others
     → others_group unsaid look opened names rows ≡ others_group unsaid look opened names others
 unfolding others_group
@@ -180,34 +159,27 @@ others_group-same look opened names rows others same =
       flat_map-same bare_row (row_text unsaid true look) (row-same true look) rows others same,
     ) refl
 
-others-same : (look : Look) (opened names : Bool) (rows others : List Row) → map bare_row rows ≡ map bare_row others
-    → others_text unsaid look opened names rows ≡ others_text unsaid look opened names others
-others-same look opened names [] [] same = refl
-others-same look opened names [] (other ∷ others) same = cc
-others-same look opened names (row ∷ rows) [] same = cc
-others-same look opened names (row ∷ rows) (other ∷ others) same =
-    others_group-same look opened names (row ∷ rows) (other ∷ others) same
-
-timeline-same : (axis : Axis) (lanes : ℕ) (rows drawn others apart : List Row) → bare_groups rows ≡ bare_groups drawn
-    → map bare_row others ≡ map bare_row apart → timeline unsaid axis lanes rows others ≡ timeline unsaid axis lanes drawn apart
-timeline-same axis lanes rows drawn others apart same_groups same_others =
+timeline-same : (axis : Axis) (lanes : ℕ) (rows drawn addresses hosts names apart : List Row) → bare_groups rows ≡ bare_groups drawn
+    → map bare_row addresses ≡ map bare_row hosts → map bare_row names ≡ map bare_row apart
+    → timeline unsaid axis lanes rows addresses names ≡ timeline unsaid axis lanes drawn hosts apart
+timeline-same axis lanes rows drawn addresses hosts names apart same_groups same_addresses same_names =
     let same_rows = rows-same rows drawn same_groups in
-    let all_same = append-same bare_row rows drawn others apart same_rows same_others in
-    let are_titled-same : are_titled (rows ++ others) ≡ are_titled (drawn ++ apart) =
+    let all_same = append-same bare_row (rows ++ addresses) (drawn ++ hosts) names apart
+    (append-same bare_row rows drawn addresses hosts same_rows same_addresses) same_names in
+    let are_titled-same : are_titled (rows ++ addresses ++ names) ≡ are_titled (drawn ++ hosts ++ apart) =
     ap (λ (lives : List Life). nat_le (length lives) 1000)
-    (flat_map-same bare_row lives_in lives-same (rows ++ others) (drawn ++ apart) all_same) in
-    let look = look_of axis (are_titled (drawn ++ apart)) lanes in
-    let opened = is_open (length drawn + length apart) in
-    let addresses = filter-same bare_row (is_of false) (is_of-same false) others apart same_others in
-    let names = filter-same bare_row (is_of true) (is_of-same true) others apart same_others in
+    (flat_map-same bare_row lives_in lives-same (rows ++ addresses ++ names) (drawn ++ hosts ++ apart) all_same) in
+    let look = look_of axis (are_titled (drawn ++ hosts ++ apart)) lanes in
+    let opened = is_open (length drawn + length hosts + length apart) in
     rw (
       are_titled-same,
       length-same bare_row rows drawn same_rows,
-      length-same bare_row others apart same_others,
+      length-same bare_row addresses hosts same_addresses,
+      length-same bare_row names apart same_names,
       flat_map-same (map bare_row) (group_text unsaid look opened) (group-same look opened) (grouped owner_of rows) (grouped owner_of drawn)
           same_groups,
-      others-same look opened false (filter (is_of false) others) (filter (is_of false) apart) addresses,
-      others-same look opened true (filter (is_of true) others) (filter (is_of true) apart) names,
+      others_group-same look opened false addresses hosts same_addresses,
+      others_group-same look opened true names apart same_names,
     ) refl
 
 -- ---- instances
@@ -316,10 +288,10 @@ live-same axis opened rows others same =
 pub page-same : (a b : Shown) (opened : Bool) (live now : List InstanceRow) → a.axis ≡ b.axis → a.lost ≡ b.lost
     → a.nothing ≡ b.nothing → a.live ≡ live_text unsaid a.axis opened live → b.live ≡ live_text unsaid b.axis opened now
     → length a.about ≡ length b.about → map bare_capture a.captures ≡ map bare_capture b.captures
-    → bare_groups a.rows ≡ bare_groups b.rows → map bare_row a.others ≡ map bare_row b.others
-    → bare_instances live ≡ bare_instances now → page unsaid a ≡ page unsaid b
-page-same a b opened live now same_axis same_lost same_nothing written written_too same_about same_captures same_rows same_others
-    same_live =
+    → bare_groups a.rows ≡ bare_groups b.rows → map bare_row a.addresses ≡ map bare_row b.addresses
+    → map bare_row a.names ≡ map bare_row b.names → bare_instances live ≡ bare_instances now → page unsaid a ≡ page unsaid b
+page-same a b opened live now same_axis same_lost same_nothing written written_too same_about same_captures same_rows same_addresses
+    same_names same_live =
     let lanes = lanes_for (is_large (length a.rows)) (length a.captures) in
     let rows = rows-same a.rows b.rows same_rows in
     rw (
@@ -330,7 +302,7 @@ page-same a b opened live now same_axis same_lost same_nothing written written_t
       same_nothing,
       lead-same b.axis a.about b.about a.rows b.rows a.captures b.captures b.lost same_about rows same_captures,
       captures-same b.axis a.captures b.captures same_captures,
-      timeline-same b.axis lanes a.rows b.rows a.others b.others same_rows same_others,
+      timeline-same b.axis lanes a.rows b.rows a.addresses b.addresses a.names b.names same_rows same_addresses same_names,
       live-same b.axis opened live now same_live,
       length-same bare_row a.rows b.rows rows,
       length-same bare_capture a.captures b.captures same_captures,

@@ -83,17 +83,6 @@ row-more Is rows row more pushed all is =
     (ap (map counted_lent) pushed ∙ map-append counted_lent rows (row ∷ []))
     (All-append Is (map counted_lent rows) (counted_lent row ∷ []) all (All-cons Is (counted_lent row) [] is (All-nil Is)))
 
-pub record-more : (records : List RecordLives) (i : ℕ) (lent : RecordLives) (rows : List CountedRow) (row : CountedRow)
-    (more : List CountedRow) → i < length records → lent ≡ get_or records i lent → more ≡ rows ++ row ∷ []
-    → map record_in (map counted_lent rows) ≡ map row_lent (take i records) → record_in (counted_lent row) ≡ row_lent lent
-    → map record_in (map counted_lent more) ≡ map row_lent (take (i + 1) records)
-record-more records i lent rows row more within at pushed so_far same =
-    let taken = take_more records i lent within ∙ ap (λ (r : RecordLives). take i records ++ r ∷ []) (sym at) in
-    ap (λ found. map record_in (map counted_lent found)) pushed ∙ ap (map record_in) (map-append counted_lent rows (row ∷ []))
-    ∙ map-append record_in (map counted_lent rows) (counted_lent row ∷ [])
-    ∙ ap (λ before. before ++ record_in (counted_lent row) ∷ []) so_far ∙ ap (λ one. map row_lent (take i records) ++ one ∷ []) same
-    ∙ sym (map-append row_lent (take i records) (lent ∷ [])) ∙ ap (map row_lent) (sym taken)
-
 -- a row that has the seconds counts the captures
 pub row-counted : (captures : List Accounts) (row : Row) → row.captures ≡ length captures
     → ((each : List (List Hearing)) → AreEach Chronicles captures each

@@ -1,11 +1,9 @@
-mod AboutLemmas
 mod BareLemmas
 pub mod CountLemmas
 mod CountedLemmas
-mod FilterLemmas
 mod GroupLemmas
-pub mod HostLemmas
 pub mod HtmlLemmas
+mod KeptLemmas
 mod LaneLemmas
 pub mod LiveLemmas
 pub mod LiveWordLemmas

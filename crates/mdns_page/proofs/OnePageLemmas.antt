@@ -43,14 +43,16 @@ use Rattle.mdns_survey.proofs.OutcomeLemmas.{OnePayload, OneReading, OneTelling}
 use Rattle.mdns_survey.proofs.TextLemmas.{one_outcomes}
 use Rattle.mdns_page.specs.Axis.{dates_of}
 use Rattle.mdns_page.specs.declared.axis.Axis.{Axis}
+use Rattle.mdns_page.specs.declared.kept.Kind.{Kind}
+use Rattle.mdns_page.specs.declared.kept.Kind.TheVariants.{Addresses, Instances, Names}
 use Rattle.mdns_page.specs.Counted.{AreHeardBy, IsCounted, shown_seconds}
 use Rattle.mdns_page.specs.Hosts.{is_large}
 use Rattle.mdns_page.specs.Html.{isolated}
 use Rattle.mdns_page.specs.Live.{live_text}
 use Rattle.mdns_page.specs.Page.{page}
 use Rattle.mdns_page.specs.Servers.{IsServed, servers_of}
-use Rattle.mdns_page.specs.Survey.{AreOthers, ArePicked, IsDrawn, IsOther, SurveysPage, WritesLive, WritesPage, is_given_about}
-use Rattle.mdns_page.specs.Survey.{lasts_of, selected_each}
+use Rattle.mdns_page.specs.Kept.{AreRows, is_drawn, kept_of, looked_up}
+use Rattle.mdns_page.specs.Survey.{SurveysPage, WritesLive, WritesPage, selected_each}
 use Rattle.mdns_page.specs.Timeline.{Row, is_open, record_in}
 use Rattle.mdns_page.proofs.OneCaptureLemmas.{IsAlike, are-alike, facts-alike, lost-alike, nothing-alike, one-each, one-packets}
 
@@ -181,19 +183,6 @@ module _ (now : ℕ) where
 
 -- ---- the records of the timeline
 
-one-picked : {X : Type 0} (Is : X → Type 0) (xs ys zs : List X) → ArePicked Is xs ys → ArePicked Is xs zs → ys ≡ zs
-one-picked Is [] ys zs are too = are ∙ sym too
-one-picked {X} Is (x ∷ xs) ys zs (inl are) (inl too) =
-    are.2 ∙ ap (λ (rest : List X). x ∷ rest) (one-picked Is xs are.0 too.0 are.3 too.3) ∙ sym too.2
-one-picked Is (x ∷ xs) ys zs (inl are) (inr too) = absurd (too.0 are.1)
-one-picked Is (x ∷ xs) ys zs (inr are) (inl too) = absurd (are.0 too.1)
-one-picked Is (x ∷ xs) ys zs (inr are) (inr too) = one-picked Is xs ys zs are.1 too.1
-
-one-others : (large : Bool) (about : List Subject) (rows xs ys : List (Latest × List Life)) → AreOthers large about rows xs
-    → AreOthers large about rows ys → xs ≡ ys
-one-others true about rows xs ys are too = are ∙ sym too
-one-others false about rows xs ys are too = one-picked (IsOther about) rows xs ys are too
-
 module _ (each : List (List Hearing)) (rows : List (Latest × List Life)) where
   -- a row is decided by its record
   one-row : (a b : Row) → record_in a ≡ record_in b → IsCounted each a → IsCounted each b → IsServed rows a → IsServed rows b → a ≡ b
@@ -226,17 +215,22 @@ module _ (each : List (List Hearing)) (rows : List (Latest × List Life)) where
       (All-tail (IsServed rows) x xs served) (All-tail (IsServed rows) y ys other) in
       λ i. row i ∷ rest i
 
+one-rows : (kind : Kind) (large : Bool) (each : List (List Hearing)) (kept : List (Latest × List Life)) (xs ys : List Row)
+    → AreRows kind large each kept xs → AreRows kind large each kept ys → xs ≡ ys
+one-rows kind large each kept xs ys are too =
+    one-drawn each kept xs ys (are.are ∙ sym too.are) are.counted too.counted are.served too.served
+
 -- ---- the page by the hearings
 
 module _ (one_lives : OneLives) (ends_same : EndsSame) (same_lives : SameLives) where
-  one-live : (about : List Subject) (lasts : List Latest) (heard : List Hearing) (axis : Axis) (opened : Bool) (text other : List ℕ)
-      → WritesLive about lasts heard axis opened text → WritesLive about lasts heard axis opened other → text ≡ other
-  one-live about lasts heard axis opened text other first second =
+  one-live : (about : List Subject) (looked : List Latest) (heard : List Hearing) (axis : Axis) (opened : Bool) (text other : List ℕ)
+      → WritesLive about looked heard axis opened text → WritesLive about looked heard axis opened other → text ≡ other
+  one-live about looked heard axis opened text other first second =
       let values = one_instance_rows ends_same (IsSinceKnown heard axis.end.nanos)
       (known-same axis.end.nanos same_lives heard) heard axis.end.nanos first.are_live.values second.are_live.values
       first.are_live.right second.are_live.right in
       let live : first.live ≡ second.live =
-      first.are_live.are ∙ ap (filter (λ (row : InstanceRow). is_given_about about lasts row.given)) values ∙ sym second.are_live.are in
+      first.are_live.are ∙ ap (filter (λ (row : InstanceRow). is_drawn about looked row.given.last)) values ∙ sym second.are_live.are in
       first.written ∙ ap (live_text isolated axis opened) live ∙ sym second.written
 
   one-written : (about : List Subject) (names : List (List ℕ)) (readings more : List Reading) (each : List (List Hearing))
@@ -244,38 +238,35 @@ module _ (one_lives : OneLives) (ends_same : EndsSame) (same_lives : SameLives) 
       → WritesPage about names readings each heard axis text → WritesPage about names more each heard axis other → text ≡ other
   one-written about names readings more each heard axis text other alike first second =
       let rows : second.rows ≡ first.rows = one_lives heard heard second.rows first.rows (same_itself heard) second.lives first.lives in
-      let drawn : first.drawn ≡ second.drawn = one-drawn each first.rows first.drawn second.drawn
-      (one-picked (IsDrawn about (lasts_of first.rows)) first.rows (map record_in first.drawn) (map record_in second.drawn)
-      first.are_drawn
-      (subst (λ (rs : List (Latest × List Life)). ArePicked (IsDrawn about (lasts_of rs)) rs (map record_in second.drawn)) rows
-      second.are_drawn))
-      first.are_counted second.are_counted first.are_served
-      (subst (λ (rs : List (Latest × List Life)). All (IsServed rs) second.drawn) rows second.are_served) in
-      let others : first.others ≡ second.others = one-drawn each first.rows first.others second.others
-      (one-others (is_large (length first.drawn)) about first.rows (map record_in first.others) (map record_in second.others)
-      first.are_others
-      (subst (λ (ds : List Row). AreOthers (is_large (length ds)) about first.rows (map record_in second.others)) (sym drawn)
-      (subst (λ (rs : List (Latest × List Life)). AreOthers (is_large (length second.drawn)) about rs (map record_in second.others)) rows
-      second.are_others)))
-      first.others_counted second.others_counted first.others_served
-      (subst (λ (rs : List (Latest × List Life)). All (IsServed rs) second.others) rows second.others_served) in
-      let live : first.live ≡ second.live = one-live about (lasts_of first.rows) heard axis
-      (is_open (length first.drawn + length first.others)) first.live second.live first.writes_live
-      (subst (λ (ds : List Row). WritesLive about (lasts_of first.rows) heard axis (is_open (length ds + length first.others)) second.live)
-      (sym drawn)
-      (subst (λ (os : List Row). WritesLive about (lasts_of first.rows) heard axis (is_open (length second.drawn + length os)) second.live)
-      (sym others)
-      (subst (λ (rs : List (Latest × List Life)).
-      WritesLive about (lasts_of rs) heard axis (is_open (length second.drawn + length second.others)) second.live) rows
-      second.writes_live))) in
+      let own = λ (kind : Kind) (large was : Bool) (xs ys : List Row) (same : was ≡ large)
+      (are : AreRows kind large each (kept_of about first.rows) xs) (too : AreRows kind was each (kept_of about second.rows) ys).
+      one-rows kind large each (kept_of about first.rows) xs ys are
+      (subst (λ (l : Bool). AreRows kind l each (kept_of about first.rows) ys) same
+      (subst (λ (rs : List (Latest × List Life)). AreRows kind was each (kept_of about rs) ys) rows too)) in
+      let instances : first.instances ≡ second.instances =
+      own Instances false false first.instances second.instances refl first.are_instances second.are_instances in
+      let large : is_large (length second.instances) ≡ is_large (length first.instances) =
+      ap (λ (rs : List Row). is_large (length rs)) (sym instances) in
+      let addresses : first.addresses ≡ second.addresses =
+      own Addresses _ _ first.addresses second.addresses large first.are_addresses second.are_addresses in
+      let others : first.others ≡ second.others = own Names _ _ first.others second.others large first.are_others second.are_others in
+      let opened : is_open (length second.instances + length second.addresses + length second.others)
+      ≡ is_open (length first.instances + length first.addresses + length first.others) =
+      λ i. is_open (length (sym instances i) + length (sym addresses i) + length (sym others i)) in
+      let live : first.live ≡ second.live = one-live about (looked_up about first.rows) heard axis
+      (is_open (length first.instances + length first.addresses + length first.others)) first.live second.live first.writes_live
+      (subst (λ (o : Bool). WritesLive about (looked_up about first.rows) heard axis o second.live) opened
+      (subst (λ (rs : List (Latest × List Life)). WritesLive about (looked_up about rs) heard axis
+      (is_open (length second.instances + length second.addresses + length second.others)) second.live) rows second.writes_live)) in
       first.written
       ∙ ap (page isolated) (λ i. record {
         axis = axis;
         about = about;
         captures = facts-alike names readings more alike i;
         lost = lost-alike readings more alike i;
-        rows = drawn i;
-        others = others i;
+        rows = instances i;
+        addresses = addresses i;
+        names = others i;
         live = live i;
         nothing = nothing-alike readings more alike i;
       })

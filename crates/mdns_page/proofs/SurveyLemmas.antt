@@ -24,61 +24,10 @@ use Rattle.mdns_survey.specs.Request.{selected}
 use Rattle.mdns_survey.specs.Surveys.{AllLeft, all_hearings}
 use Rattle.mdns_page.specs.Axis.{IsAxis}
 use Rattle.mdns_page.specs.declared.axis.Axis.{Axis}
-use Rattle.mdns_page.specs.Survey.{ArePicked, WritesLive, WritesPage, asked_page, is_given_about, selected_each}
+use Rattle.mdns_page.specs.Kept.{is_drawn}
+use Rattle.mdns_page.specs.Survey.{WritesLive, WritesPage, asked_page, selected_each}
 use Rattle.mdns_page.specs.Html.{isolated}
 use Rattle.mdns_page.specs.Live.{live_text}
-
-module _ {X : Type 0} (Is : X → Type 0) where
-  -- a value more, for which the fact holds, or for which it doesn't
-  pub picked-more : (xs picked : List X) (x : X) → Is x → ArePicked Is xs picked → ArePicked Is (xs ++ x ∷ []) (picked ++ x ∷ [])
-  picked-more [] picked x is none = inl ([], is, ap (λ (ys : List X). ys ++ x ∷ []) none, refl)
-  picked-more (y ∷ ys) picked x is (inl taken) =
-      inl (taken.0 ++ x ∷ [], taken.1, ap (λ (zs : List X). zs ++ x ∷ []) taken.2, picked-more ys taken.0 x is taken.3)
-  picked-more (y ∷ ys) picked x is (inr left) = inr (left.0, picked-more ys picked x is left.1)
-
-  pub picked-less : (xs picked : List X) (x : X) → (Is x → ⊥) → ArePicked Is xs picked → ArePicked Is (xs ++ x ∷ []) picked
-  picked-less [] picked x isnt none = inr (isnt, none)
-  picked-less (y ∷ ys) picked x isnt (inl taken) = inl (taken.0, taken.1, taken.2, picked-less ys taken.0 x isnt taken.3)
-  picked-less (y ∷ ys) picked x isnt (inr left) = inr (left.0, picked-less ys picked x isnt left.1)
-
--- of rows some were taken, of which these were picked, and the others are left
-pub record PickedSoFar {X : Type 0} (Is : X → Type 0) (rows left picked : List X) : Type 0 where
-  pub taken : List X
-  pub parts : rows ≡ taken ++ left
-  pub are : ArePicked Is taken picked
-
-module _ {X : Type 0} (Is : X → Type 0) where
-  pub picked-next : (rows left : List X) (row : X) (more picked new : List X) → PickedSoFar Is rows left picked → left ≡ row ∷ more
-      → ((taken : List X) → ArePicked Is taken picked → ArePicked Is (taken ++ row ∷ []) new) → PickedSoFar Is rows more new
-  picked-next rows left row more picked new far first next = record {
-    taken = far.taken ++ row ∷ [];
-    parts = far.parts ∙ ap (λ (xs : List X). far.taken ++ xs) first ∙ sym (append_assoc far.taken (row ∷ []) more);
-    are = next far.taken far.are;
-  }
-
-  -- nothing is left
-  pub picked-end : (rows picked : List X) → PickedSoFar Is rows [] picked → ArePicked Is rows picked
-  picked-end rows picked far =
-      subst (λ (xs : List X). ArePicked Is xs picked) (sym (far.parts ∙ append-nil far.taken)) far.are
-
--- ---- the records that are kept of those that give an instance
-
-module _ {X Y : Type 0} (keep : Y → Bool) (f : X → Y) where
-  -- of one element more
-  pub kept-more : (xs : List X) (i : ℕ) (x : X) (kept : List Y) → i < length xs → x ≡ get_or xs i x
-      → kept ≡ filter keep (map f (take i xs)) → filter keep (map f (take (i + 1) xs)) ≡ kept ++ filter keep (f x ∷ [])
-  kept-more xs i x kept within at are =
-      ap (λ (ys : List X). filter keep (map f ys)) (take_more xs i x within)
-      ∙ ap (filter keep) (map-append f (take i xs) (get_or xs i x ∷ []))
-      ∙ filter-append keep (map f (take i xs)) (f (get_or xs i x) ∷ [])
-      ∙ ap (λ (z : X). filter keep (map f (take i xs)) ++ filter keep (f z ∷ [])) (sym at)
-      ∙ ap (λ (ys : List Y). ys ++ filter keep (f x ∷ [])) (sym are)
-
-  -- of all elements
-  pub kept-all : (xs rows : List X) (i : ℕ) (kept : List Y) → length xs ≤ i → xs ≡ rows → kept ≡ filter keep (map f (take i xs))
-      → kept ≡ filter keep (map f rows)
-  kept-all xs rows i kept enough same are =
-      are ∙ ap (λ (ys : List X). filter keep (map f ys)) (take_all i xs enough ∙ same)
 
 -- ---- what was live
 
@@ -117,11 +66,11 @@ module _ (heard : List Hearing) (now : ℕ) (keep : GivenRow → Bool) where
 pub writes-live : (about : List Subject) (lasts : List Latest) (heard : List Hearing) (axis : Axis) (opened : Bool)
     (given : List GivenRow) (text : List ℕ)
     → (gives : GiveRows (AreInstanceRowsAbout [] (IsSinceKnown heard axis.end.nanos) heard axis.end.nanos) heard axis.end.nanos given)
-    → ((shown : List InstanceRow) → AreEach (IsShownAt heard axis.end.nanos) (filter (is_given_about about lasts) given) shown
+    → ((shown : List InstanceRow) → AreEach (IsShownAt heard axis.end.nanos) (filter (λ (row : GivenRow). is_drawn about lasts row.last) given) shown
     → text ≡ live_text isolated axis opened shown)
     → WritesLive about lasts heard axis opened text
 writes-live about lasts heard axis opened given text gives written = record {
-  live = filter (λ (row : InstanceRow). is_given_about about lasts row.given) gives.rows;
+  live = filter (λ (row : InstanceRow). is_drawn about lasts row.given.last) gives.rows;
   are_live = record {
     values = gives.rows;
     right = subst (AreInstanceRowsSince heard axis.end.nanos)
@@ -130,7 +79,7 @@ writes-live about lasts heard axis opened given text gives written = record {
         gives.right.right;
     are = refl;
   };
-  written = written _ (shown-kept heard axis.end.nanos (is_given_about about lasts) given gives.rows gives.each);
+  written = written _ (shown-kept heard axis.end.nanos (λ (row : GivenRow). is_drawn about lasts row.last) given gives.rows gives.each);
 }
 
 -- ---- the page on captures

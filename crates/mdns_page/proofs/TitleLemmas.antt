@@ -43,30 +43,25 @@ pub less-parts : (count own more all : ℕ) (left : Option ℕ) → own ≤ coun
 less-parts count own more all None few parts is = omega (arith, few, parts, is)
 less-parts count own more all (Some rest) few parts is = omega (arith, few, parts, is)
 
--- ---- the rows of two lists
+-- ---- the rows of several lists
 
-lives-both : (rows others : List Row) → length (lives_of (rows ++ others)) ≡ length (lives_of rows) + length (lives_of others)
-lives-both rows others = ap length (flat_map-append lives_in rows others) ∙ length-append (lives_of rows) (lives_of others)
+-- what is left after the rows of a list more
+pub less-more : (rows others : List Row) (count left : ℕ) (rest : Option ℕ) → IsLess count (length (lives_of rows)) (Some left)
+    → IsLess left (length (lives_of others)) rest → IsLess count (length (lives_of (rows ++ others))) rest
+less-more rows others count left rest first second =
+    let both = ap length (flat_map-append lives_in rows others) ∙ length-append (lives_of rows) (lives_of others) in
+    let counted : left + length (lives_of rows) ≡ count = first in
+    less-parts count (length (lives_of rows)) (length (lives_of others)) (length (lives_of (rows ++ others))) rest
+    (omega (arith, counted)) both
+    (subst (λ n. IsLess n (length (lives_of others)) rest) (omega (arith, counted)) second)
 
-is-few : (n : ℕ) → n ≤ 1000 → true ≡ nat_le n 1000
-is-few n few = grind (arith, nat_tests, few)
+-- nothing is left after the rows of a list more, where nothing was left before
+pub less-none : (rows others : List Row) (count : ℕ) → IsLess count (length (lives_of rows)) None
+    → IsLess count (length (lives_of (rows ++ others))) None
+less-none rows others count few =
+    omega (arith, few, ap length (flat_map-append lives_in rows others), length-append (lives_of rows) (lives_of others))
 
-is-more : (n : ℕ) → 1000 < n → false ≡ nat_le n 1000
-is-more n more = grind (arith, nat_tests, more)
-
--- the first has few, and the others no more than are left, or more
-pub titled-by : (rows others : List Row) (left : ℕ) → left + length (lives_of rows) ≡ 1000 → (rest : Option ℕ)
-    → IsLess left (length (lives_of others)) rest → (few : Bool) → few ≡ is_some rest → few ≡ are_titled (rows ++ others)
-titled-by rows others left one (Some rest) less few is =
-    let both = lives-both rows others in
-    let counted : rest + length (lives_of others) ≡ left = less in
-    is ∙ is-few (length (lives_of (rows ++ others))) (omega (arith, both, one, counted))
-titled-by rows others left one None less few is =
-    let both = lives-both rows others in
-    let more : left < length (lives_of others) = less in
-    is ∙ is-more (length (lives_of (rows ++ others))) (omega (arith, both, one, more))
-
--- the first alone has more
-pub titled-first : (rows others : List Row) → 1000 < length (lives_of rows) → false ≡ are_titled (rows ++ others)
-titled-first rows others more =
-    let both = lives-both rows others in is-more (length (lives_of (rows ++ others))) (omega (arith, both, more))
+-- all have few lives, if some count is left
+pub few-by : (n : ℕ) (left : Option ℕ) (is : Bool) → is ≡ is_some left → IsLess 1000 n left → is ≡ nat_le n 1000
+few-by n (Some rest) is same less = let counted : rest + n ≡ 1000 = less in same ∙ grind (arith, nat_tests, counted)
+few-by n None is same less = let more : 1000 < n = less in same ∙ grind (arith, nat_tests, more)

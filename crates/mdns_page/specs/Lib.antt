@@ -7,6 +7,7 @@ pub mod Group
 pub mod Heard
 pub mod Hosts
 pub mod Html
+pub mod Kept
 pub mod Key
 pub mod Lanes
 pub mod Lead

@@ -52,14 +52,15 @@ page_end = codes "</main></body></html>\n"
 -- ---- the whole
 
 -- what a page shows: captures, of whose packets `lost` lost what they said, the rows of all instances heard that are about the
--- subjects, those of addresses and of other names, what was live at the end, and the packets that told nothing
+-- subjects, those of addresses and of names that aren't one label and the type, what was live at the end, and the packets that told nothing
 pub record Shown : Type 0 where
   pub axis : Axis
   pub about : List Subject
   pub captures : List Facts
   pub lost : ℕ
   pub rows : List Row
-  pub others : List Row
+  pub addresses : List Row
+  pub names : List Row
   pub live : List ℕ
   pub nothing : List ℕ
 
@@ -70,7 +71,8 @@ parts_lent parts = record {
   captures = map facts_lent parts.captures.now;
   lost = parts.lost;
   rows = map counted_lent parts.rows.now;
-  others = map counted_lent parts.others.now;
+  addresses = map counted_lent parts.addresses.now;
+  names = map counted_lent parts.names.now;
   live = parts.live.now;
   nothing = parts.nothing.now;
 }
@@ -82,4 +84,4 @@ page say shown =
     let lanes = lanes_for (is_large (length shown.rows)) (length shown.captures) in
     head axis lanes ++ body_begin axis lanes (spans_of shown.captures)
     ++ lead_text say axis shown.about shown.rows shown.captures shown.lost ++ links ++ captures_text say axis shown.captures
-    ++ timeline say axis lanes shown.rows shown.others ++ shown.live ++ shown.nothing ++ page_end
+    ++ timeline say axis lanes shown.rows shown.addresses shown.names ++ shown.live ++ shown.nothing ++ page_end

@@ -19,10 +19,6 @@ is_srv (body.Ptr target) = false
 is_srv (body.Txt strings) = false
 is_srv (body.Srv priority weight port target) = true
 
--- the record is an SRV record
-abbrev pub is_server : Latest × List Life → Bool
-is_server row = is_srv (body_of row.0)
-
 -- the record is an SRV record of the name
 abbrev pub is_server_of : List ℕ → Latest × List Life → Bool
 is_server_of name row = is_eq (set_key_cmp (record_of row.0).set (set_for name (type_number kind.Srv)))

@@ -1,5 +1,5 @@
 -- The timeline.
-use Rattle.std.specs.Prelude.{ℕ, ◌+◌, ◌-◌, nat_le, Bool, true, false, not, if◌then◌else◌, Option, None, Some}
+use Rattle.std.specs.Prelude.{ℕ, ◌+◌, ◌-◌, ◌==◌, nat_le, Bool, true, false, not, if◌then◌else◌, Option, None, Some}
 use Rattle.std.specs.Prelude.{List, [], ◌∷◌, ◌++◌, codes, length, map, slice_get}
 use Rattle.std.specs.Global.{Vec}
 use Rattle.std.specs.List.{count_by, filter, flat_map}
@@ -106,10 +106,6 @@ group_text say look opened rows =
     (live_count_text (length rows) (count_by (λ row. is_live look.axis row.lives) rows) (codes "instance") (codes "instances"))
     (flat_map (row_text say false look) rows)
 
--- of the rows that aren't of instances, the row is of a name, or it is of an address
-unfoldable pub is_of : (names : Bool) → Row → Bool
-is_of names row = if names then not (has_address row.last.resource.body) else has_address row.last.resource.body
-
 -- the names that aren't one label and the type, or the addresses of all hosts
 unfoldable pub others_group : (List ℕ → List ℕ) → Look → (opened names : Bool) → List Row → List ℕ
 others_group say look opened names rows =
@@ -118,8 +114,7 @@ others_group say look opened names rows =
 
 -- the same; nothing where there are none
 abbrev pub others_text : (List ℕ → List ℕ) → Look → (opened names : Bool) → List Row → List ℕ
-others_text say look opened names [] = []
-others_text say look opened names (row ∷ rows) = others_group say look opened names (row ∷ rows)
+others_text say look opened names rows = if length rows == 0 then [] else others_group say look opened names rows
 
 -- so few rows that they all show at first
 abbrev pub is_open : ℕ → Bool
@@ -152,11 +147,10 @@ timeline_begin titled large lanes =
 
 -- the timeline of some instances, and of some addresses and other names, all in key order, with so many lanes; `say` is how text of the
 -- network is written
-abbrev pub timeline : (List ℕ → List ℕ) → Axis → (lanes : ℕ) → (rows others : List Row) → List ℕ
-timeline say axis lanes rows others =
-    let titled = are_titled (rows ++ others) in
+abbrev pub timeline : (List ℕ → List ℕ) → Axis → (lanes : ℕ) → (rows addresses names : List Row) → List ℕ
+timeline say axis lanes rows addresses names =
+    let titled = are_titled (rows ++ addresses ++ names) in
     let look = look_of axis titled lanes in
-    let opened = is_open (length rows + length others) in
+    let opened = is_open (length rows + length addresses + length names) in
     timeline_begin titled (is_large (length rows)) lanes ++ flat_map (group_text say look opened) (grouped owner_of rows)
-    ++ others_text say look opened false (filter (is_of false) others)
-    ++ others_text say look opened true (filter (is_of true) others) ++ codes "</div>\n"
+    ++ others_text say look opened false addresses ++ others_text say look opened true names ++ codes "</div>\n"

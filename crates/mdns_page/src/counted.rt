@@ -1,7 +1,7 @@
 //! The rows of the timeline: records with their lives, those of their servers, and the seconds in which captures heard them.
 
 ghost use Rattle.std.specs.Prelude.{◌≡◌, ◌++◌, ◌∷◌, [], List, IfOk, OnOk, length, map, nat_lt};
-ghost use Rattle.std.specs.List.{All};
+ghost use Rattle.std.specs.List.{All, filter};
 ghost use Rattle.std.specs.List.Sorted.{IsStrictlySortedBy};
 ghost use Rattle.mdns_message.specs.Resource.{key_cmp, key_of};
 ghost use Rattle.mdns_message.specs.declared.hearing.Hearing.{Hearing};
@@ -10,11 +10,12 @@ ghost use Rattle.mdns_browse.specs.Services.{AreEach};
 ghost use Rattle.mdns_lives.specs.Chronicle.{Chronicles};
 ghost use Rattle.mdns_lives.specs.Rows.{row_lent};
 ghost use Rattle.mdns_page.specs.Counted.{AreShownBy, IsCounted, shown_seconds};
+ghost use Rattle.mdns_page.specs.Kept.{is_of, lasts_of};
 ghost use Rattle.mdns_page.specs.Servers.{IsServed};
-ghost use Rattle.mdns_page.specs.Survey.{lasts_of};
 ghost use Rattle.mdns_page.specs.Timeline.{counted_lent, record_in, seconds_lent};
 
 use crate::captures::CIRCLED;
+use crate::kept::{Kind, is_of};
 use crate::servers::servers_of;
 use mdns_lives::{Lives, RecordLives, SecondHeard};
 use mdns_message::{Resource, Want};
@@ -33,14 +34,16 @@ pub(crate) struct CountedRow<'a> {
     pub(crate) heard: Vec<Vec<SecondHeard>>,
 }
 
-/// Makes a row of each of some records, with its servers, by the hearings of each capture.
+/// Makes the rows of a part of the timeline, of some records, each with its servers, by the hearings of each capture.
 pub(crate) fn counted_rows<'a>(
     alloc: Global,
+    kind: Kind,
     records: &'a [RecordLives<'a>],
     servers: &'a [RecordLives<'a>],
     captures: &[Lives],
 ) -> Result<Vec<CountedRow<'a>>, Want>
-    ensures records { IfOk result (λ rows. map record_in (map counted_lent rows.items) ≡ map row_lent records.now) }
+    ensures records { IfOk result (λ rows.
+        map record_in (map counted_lent rows.items) ≡ filter (λ row. is_of kind row.0) (map row_lent records.now)) }
     ensures heard { IfOk result (λ rows. (each : List (List Hearing)) → AreEach Chronicles captures.now each
         → All (IsCounted each) (map counted_lent rows.items)) }
     ensures servers { IfOk result (λ rows. IsStrictlySortedBy key_cmp (map record_of (lasts_of (map row_lent servers.now)))
@@ -48,6 +51,9 @@ pub(crate) fn counted_rows<'a>(
 {
     let mut rows = Vec::new(alloc);
     for record in records {
+        if !is_of(kind, &record.last) {
+            continue;
+        }
         rows.push(counted_row(alloc, record, servers, captures)?)?;
     }
     Ok(rows)

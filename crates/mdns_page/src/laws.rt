@@ -101,6 +101,6 @@ pub fn names()
         → a.nothing ≡ b.nothing → a.live ≡ live_text unsaid a.axis opened live
         → b.live ≡ live_text unsaid b.axis opened now → length a.about ≡ length b.about
         → map bare_capture a.captures ≡ map bare_capture b.captures → bare_groups a.rows ≡ bare_groups b.rows
-        → map bare_row a.others ≡ map bare_row b.others → bare_instances live ≡ bare_instances now
-        → page unsaid a ≡ page unsaid b }
+        → map bare_row a.addresses ≡ map bare_row b.addresses → map bare_row a.names ≡ map bare_row b.names
+        → bare_instances live ≡ bare_instances now → page unsaid a ≡ page unsaid b }
 {}

@@ -30,8 +30,10 @@ pub(crate) struct Parts<'a> {
     pub(crate) lost: u128,
     /// The rows of PTR records that give an instance about the subjects, in key order.
     pub(crate) rows: &'a [CountedRow<'a>],
-    /// The rows of addresses, and of names that aren't one label and their type.
-    pub(crate) others: &'a [CountedRow<'a>],
+    /// The rows of addresses.
+    pub(crate) addresses: &'a [CountedRow<'a>],
+    /// The rows of names that aren't one label and their type.
+    pub(crate) names: &'a [CountedRow<'a>],
     /// The section on what was live at the end, which is appended as it is.
     pub(crate) live: &'a str,
     /// That on the packets that told nothing, too.
@@ -56,7 +58,7 @@ pub(crate) fn push_page(to: &mut String, parts: &Parts<'_>) -> Result<(), Want>
     )?;
     push_links(to)?;
     push_captures(to, axis, parts.captures)?;
-    push_timeline(to, axis, lanes, parts.rows, parts.others)?;
+    push_timeline(to, axis, lanes, parts.rows, parts.addresses, parts.names)?;
     to.push_str(parts.live)?;
     to.push_str(parts.nothing)?;
     push_end(to)

@@ -1,18 +1,18 @@
 //! The rows of the timeline: which of them are live, and their texts.
 
-ghost use Rattle.std.specs.Prelude.{◌≡◌, ◌++◌, [], ◌&&◌, if◌then◌else◌, map, true, false, OnOk};
+ghost use Rattle.std.specs.Prelude.{◌≡◌, ◌++◌, map, OnOk};
 ghost use Rattle.std.specs.List.{count_by, flat_map};
 ghost use Rattle.std.specs.String.{string_bytes};
 ghost use Rattle.mdns_browse.specs.Shown.{shown_instance};
 ghost use Rattle.mdns_page.specs.Html.{isolated};
-ghost use Rattle.mdns_page.specs.Timeline.{counted_lent, is_live, is_of, owner_of, record_name, row_name, row_text};
+ghost use Rattle.mdns_page.specs.Timeline.{counted_lent, is_live, owner_of, record_name, row_name, row_text};
 ghost use Rattle.mdns_page.specs.Timeline.{target_shown};
 
 use crate::axis::Axis;
 use crate::counted::CountedRow;
 use crate::group::{push_item_begin, push_item_end, push_item_last, push_item_middle};
 use crate::heard::push_heard;
-use crate::hosts::{has_address, push_host_name, push_whole_name};
+use crate::hosts::{push_host_name, push_whole_name};
 use crate::html::push_isolated;
 use crate::look::Look;
 use crate::owners::Owned;
@@ -53,92 +53,20 @@ pub(crate) fn is_live(axis: Axis, lives: &[Life]) -> bool
     }
 }
 
-// Checks that a row is of a name, or that it is of an address.
-#[tactic(auto, unfolding(crate::specs::Timeline::is_of))]
-fn is_of(names: bool, row: &CountedRow<'_>) -> bool
-    ensures { result ≡ is_of names (counted_lent row.now) }
-{
-    let record = row.record;
-    let address = has_address(&record.last.resource.body);
-    if names { !address } else { address }
-}
-
-/// Returns how many rows are of names, or of addresses.
-pub(crate) fn other_rows(names: bool, rows: &[CountedRow<'_>]) -> usize
-    ensures { result ≡ count_by (is_of names) (map counted_lent rows.now) }
-{
-    let mut count = 0;
-    for row in rows {
-        count += usize::from(is_of(names, row));
-    }
-    count
-}
-
-/// Returns how many of them are live at the end of the captures.
-pub(crate) fn live_others(axis: Axis, names: bool, rows: &[CountedRow<'_>]) -> usize
-    ensures { result ≡ count_by (λ row. is_of names row && is_live axis row.lives) (map counted_lent rows.now) }
-{
-    let mut count = 0;
-    for row in rows {
-        count += usize::from(is_live_of(axis, names, row));
-    }
-    count
-}
-
-// Checks that a row is of a name, or of an address, and that this is live at the end of the captures.
-fn is_live_of(axis: Axis, names: bool, row: &CountedRow<'_>) -> bool
-    ensures { result ≡ (is_of names (counted_lent row.now) && is_live axis (counted_lent row.now).lives) }
-{
-    is_of(names, row) && is_live(axis, row.record.lives.as_slice())
-}
-
-/// Appends each of the rows that are of names, or of addresses, by way of `scratch`. After `Want` a part of it may have been
-/// appended.
-pub(crate) fn push_other_rows(
-    to: &mut String,
-    scratch: &mut String,
-    look: Look,
-    names: bool,
-    rows: &[CountedRow<'_>],
-) -> Result<(), Want>
-    ensures { OnOk result (string_bytes to.new ≡ string_bytes to.old
-        ++ flat_map (λ row. if is_of names row then row_text isolated true look row else []) (map counted_lent rows.now)) }
-{
-    for row in rows {
-        push_row_of(to, scratch, look, names, row)?;
-    }
-    Ok(())
-}
-
-// Appends a row if it is of a name, or of an address, by way of `scratch`.
-fn push_row_of(
-    to: &mut String,
-    scratch: &mut String,
-    look: Look,
-    names: bool,
-    row: &CountedRow<'_>,
-) -> Result<(), Want>
-    ensures { OnOk result (string_bytes to.new ≡ string_bytes to.old
-        ++ (if is_of names (counted_lent row.now) then row_text isolated true look (counted_lent row.now) else [])) }
-{
-    if is_of(names, row) {
-        push_row(to, scratch, true, look, row)?;
-    }
-    Ok(())
-}
-
-/// Appends each of some rows of instances, by way of `scratch`. After `Want` a part of it may have been appended.
+/// Appends each of some rows, whose records name what they point to whole or as instances, by way of `scratch`. After `Want` a
+/// part of it may have been appended.
 pub(crate) fn push_rows(
     to: &mut String,
     scratch: &mut String,
+    whole: bool,
     look: Look,
     rows: &[CountedRow<'_>],
 ) -> Result<(), Want>
     ensures { OnOk result (string_bytes to.new
-        ≡ string_bytes to.old ++ flat_map (row_text isolated false look) (map counted_lent rows.now)) }
+        ≡ string_bytes to.old ++ flat_map (row_text isolated whole look) (map counted_lent rows.now)) }
 {
     for row in rows {
-        push_row(to, scratch, false, look, row)?;
+        push_row(to, scratch, whole, look, row)?;
     }
     Ok(())
 }

@@ -8,8 +8,8 @@ ghost use Rattle.mdns_cache.specs.Live.{record_of};
 ghost use Rattle.mdns_cache.specs.Rows.{last_lent};
 ghost use Rattle.mdns_lives.specs.Rows.{row_lent};
 ghost use Rattle.mdns_browse.specs.Services.{body_of, set_for};
+ghost use Rattle.mdns_page.specs.Kept.{lasts_of};
 ghost use Rattle.mdns_page.specs.Servers.{is_srv, servers_named, servers_of};
-ghost use Rattle.mdns_page.specs.Survey.{lasts_of};
 ghost use Rattle.mdns_page.specs.Timeline.{lives_lent};
 
 use dns_name::fold::folded_cmp;

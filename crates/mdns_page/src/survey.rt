@@ -2,22 +2,24 @@
 
 ghost use Rattle.std.specs.Prelude.{◌≡◌, ◌≤◌, ◌++◌, ◌∷◌, [], Contains, IfOk, List, OnOk, map, string_bytes};
 ghost use Rattle.std.specs.List.{filter};
+ghost use Rattle.std.specs.List.Sorted.{IsStrictlySortedBy};
+ghost use Rattle.mdns_message.specs.Resource.{key_cmp};
 ghost use Rattle.mdns_message.specs.declared.hearing.Hearing.{Hearing};
-ghost use Rattle.mdns_join.specs.declared.latest.Latest.{Latest};
-ghost use Rattle.mdns_cache.specs.Live.{NoneLater};
+ghost use Rattle.mdns_cache.specs.Live.{NoneLater, record_of};
 ghost use Rattle.mdns_cache.specs.Rows.{last_lent};
 ghost use Rattle.mdns_lives.specs.Chronicle.{Chronicles};
 ghost use Rattle.mdns_browse.specs.Given.{given_lent};
 ghost use Rattle.mdns_browse.specs.Services.{AreEach};
 ghost use Rattle.mdns_page.specs.Captures.{facts_lent};
-ghost use Rattle.mdns_page.specs.Survey.{AreLookedUp, WritesLive, WritesPage, facts_of};
-ghost use Rattle.mdns_page.specs.Survey.{is_given_about};
+ghost use Rattle.mdns_page.specs.Kept.{is_drawn};
+ghost use Rattle.mdns_page.specs.Survey.{WritesLive, WritesPage, facts_of};
 
-use crate::about::{heard_rows, is_pointer_about};
+use crate::about::heard_rows;
 use crate::axis::{Axis, axis_of};
 use crate::captures::CaptureFacts;
 use crate::counted::counted_rows;
-use crate::drawn::drawn_rows;
+use crate::hosts::is_large;
+use crate::kept::{Kind, is_drawn, kept_rows, unless_large};
 use crate::live::push_live;
 use crate::nothing::push_nothing;
 use crate::page::{Parts, push_page};
@@ -100,12 +102,14 @@ fn page_of(
         → WritesPage about.now (map string_bytes names.now) readings.now each heard axis (string_bytes text)) }
 {
     let heard = heard_rows(alloc, chronicled.all.walk(), about)?;
-    let records = drawn_rows(alloc, chronicled.all.walk(), heard.as_slice(), about)?;
+    let kept = kept_rows(alloc, chronicled.all.walk(), heard.as_slice(), about)?;
+    let records = kept.as_slice();
     let each = chronicled.captures.as_slice();
-    let servers = records.servers.as_slice();
-    let rows = counted_rows(alloc, records.instances.as_slice(), servers, each)?;
-    let others = counted_rows(alloc, records.others.as_slice(), servers, each)?;
-    let opened = is_open(rows.len(), others.len());
+    let rows = counted_rows(alloc, Kind::Instances, records, records, each)?;
+    let few = unless_large(is_large(rows.len()), records);
+    let addresses = counted_rows(alloc, Kind::Addresses, few, records, each)?;
+    let others = counted_rows(alloc, Kind::Names, few, records, each)?;
+    let opened = is_open(rows.len(), addresses.len(), others.len());
     let live = live_of(
         alloc,
         &chronicled.all,
@@ -124,7 +128,8 @@ fn page_of(
         captures: captures.as_slice(),
         lost: lost_packets(readings),
         rows: rows.as_slice(),
-        others: others.as_slice(),
+        addresses: addresses.as_slice(),
+        names: others.as_slice(),
         live: live.as_str(),
         nothing: nothing.as_str(),
     };
@@ -168,8 +173,8 @@ fn live_of(
 ) -> Result<String, Want>
     requires { NoneLater lives.now.newest axis.end }
     ensures { IfOk result (λ text. (hearings : List Hearing) → Chronicles lives.now hearings
-        → (lasts : List Latest) → AreLookedUp about.now lasts (map last_lent heard.now)
-        → WritesLive about.now lasts hearings axis opened (string_bytes text)) }
+        → IsStrictlySortedBy key_cmp (map record_of (map last_lent heard.now))
+        → WritesLive about.now (map last_lent heard.now) hearings axis opened (string_bytes text)) }
 {
     let live = lives.live_at(axis.end)?;
     let Gathered { rows, given } = given_since(alloc, live.as_slice(), &[])?;
@@ -186,8 +191,9 @@ fn kept_given<'a>(
     heard: &[Last<'_>],
     about: &[Subject],
 ) -> Result<Vec<Given<'a>>, Want>
-    ensures { IfOk result (λ kept. (lasts : List Latest) → AreLookedUp about.now lasts (map last_lent heard.now)
-        → map given_lent kept.items ≡ filter (is_given_about about.now lasts) (map given_lent given.entry.items)) }
+    ensures { IfOk result (λ kept. IsStrictlySortedBy key_cmp (map record_of (map last_lent heard.now))
+        → map given_lent kept.items
+        ≡ filter (λ row. is_drawn about.now (map last_lent heard.now) row.last) (map given_lent given.entry.items)) }
 {
     let mut scratch = String::new(alloc);
     let mut kept = Vec::new(alloc);
@@ -205,11 +211,11 @@ fn push_kept<'a>(
     about: &[Subject],
     scratch: &mut String,
 ) -> Result<(), Want>
-    ensures { OnOk result ((lasts : List Latest) → AreLookedUp about.now lasts (map last_lent heard.now)
-        → map given_lent to.new.items
-        ≡ map given_lent to.old.items ++ filter (is_given_about about.now lasts) (given_lent given.now ∷ [])) }
+    ensures { OnOk result (IsStrictlySortedBy key_cmp (map record_of (map last_lent heard.now))
+        → map given_lent to.new.items ≡ map given_lent to.old.items
+        ++ filter (λ row. is_drawn about.now (map last_lent heard.now) row.last) (given_lent given.now ∷ [])) }
 {
-    if is_pointer_about(&given.row.last, heard, about, scratch)? {
+    if is_drawn(&given.row.last, heard, about, scratch)? {
         to.push(*given)?;
     }
     Ok(())

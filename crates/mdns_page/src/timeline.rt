@@ -2,11 +2,11 @@
 //! name that isn't one label and its type.
 
 ghost use Rattle.std.specs.Prelude.{◌≡◌, ◌+◌, ◌++◌, ◌<◌, length, map, OnOk};
-ghost use Rattle.std.specs.List.{filter, flat_map};
+ghost use Rattle.std.specs.List.{flat_map};
 ghost use Rattle.std.specs.String.{string_bytes};
 ghost use Rattle.mdns_page.specs.Group.{grouped};
 ghost use Rattle.mdns_page.specs.Html.{isolated};
-ghost use Rattle.mdns_page.specs.Timeline.{counted_lent, group_text, is_of, is_open, others_group, others_text, owner_of};
+ghost use Rattle.mdns_page.specs.Timeline.{counted_lent, group_text, is_open, others_group, others_text, owner_of};
 ghost use Rattle.mdns_page.specs.Timeline.{timeline, timeline_begin, titles_note};
 
 use crate::axis::Axis;
@@ -22,7 +22,7 @@ use crate::key::push_key;
 use crate::lanes::push_lanes_note;
 use crate::look::Look;
 use crate::owners::following_len;
-use crate::rows::{live_others, live_rows, other_rows, push_other_rows, push_rows};
+use crate::rows::{live_rows, push_rows};
 use crate::titles::are_titled;
 use mdns_message::Want;
 
@@ -31,38 +31,38 @@ const OPEN_ROWS: usize = 200;
 
 /// Appends the timeline of some rows: what the strokes of the pictures mean, a group for each type with a row for each of
 /// its instances, a group of addresses, and one of names that aren't one label and their type; pictures have `lanes` lanes. All
-/// rows are in key order. The records of `rows` are PTR records that give instances, those of `others` A and AAAA records, and
-/// PTR records that point to such names. After `Want` a part of it may have been appended.
+/// rows are in key order. After `Want` a part of it may have been appended.
 pub(crate) fn push_timeline(
     to: &mut String,
     axis: Axis,
     lanes: u32,
     rows: &[CountedRow<'_>],
-    others: &[CountedRow<'_>],
+    addresses: &[CountedRow<'_>],
+    names: &[CountedRow<'_>],
 ) -> Result<(), Want>
-    ensures { OnOk result (string_bytes to.new
-        ≡ string_bytes to.old ++ timeline isolated axis lanes (map counted_lent rows.now) (map counted_lent others.now)) }
+    ensures { OnOk result (string_bytes to.new ≡ string_bytes to.old
+        ++ timeline isolated axis lanes (map counted_lent rows.now) (map counted_lent addresses.now) (map counted_lent names.now)) }
 {
-    let titled = are_titled(rows, others);
+    let titled = are_titled(rows, addresses, names);
     let look = Look {
         axis,
         titled,
         lanes,
     };
-    let opened = is_open(rows.len(), others.len());
+    let opened = is_open(rows.len(), addresses.len(), names.len());
     push_begin(to, titled, is_large(rows.len()), lanes)?;
     push_groups(to, look, opened, rows)?;
-    push_others(to, look, opened, false, others)?;
-    push_others(to, look, opened, true, others)?;
+    push_others(to, look, opened, false, addresses)?;
+    push_others(to, look, opened, true, names)?;
     to.push_str("</div>\n")?;
     Ok(())
 }
 
-/// Checks that there are so few rows, of instances and others together, that they all show at first.
-pub(crate) fn is_open(rows: usize, others: usize) -> bool
-    ensures { result ≡ is_open (rows + others) }
+/// Checks that there are so few rows, of instances, addresses and names together, that they all show at first.
+pub(crate) fn is_open(rows: usize, addresses: usize, names: usize) -> bool
+    ensures { result ≡ is_open (rows + addresses + names) }
 {
-    rows <= OPEN_ROWS && others <= OPEN_ROWS - rows
+    rows <= OPEN_ROWS && addresses <= OPEN_ROWS - rows && names <= OPEN_ROWS - rows - addresses
 }
 
 // Appends what stands before the groups.
@@ -143,26 +143,25 @@ fn push_group(
         "instances",
     )?;
     push_group_words_end(to)?;
-    push_rows(to, scratch, look, rows)?;
+    push_rows(to, scratch, false, look, rows)?;
     push_group_end(to)
 }
 
-// Appends the group of those rows that are of names, or of those that are of addresses; nothing where there are none.
+// Appends the group of some names, or of some addresses; nothing where there are none.
 fn push_others(
     to: &mut String,
     look: Look,
     opened: bool,
     names: bool,
-    others: &[CountedRow<'_>],
+    rows: &[CountedRow<'_>],
 ) -> Result<(), Want>
-    ensures { OnOk result (string_bytes to.new ≡ string_bytes to.old
-        ++ others_text isolated look opened names (filter (is_of names) (map counted_lent others.now))) }
+    ensures { OnOk result (string_bytes to.new
+        ≡ string_bytes to.old ++ others_text isolated look opened names (map counted_lent rows.now)) }
 {
-    let count = other_rows(names, others);
-    if count == 0 {
+    if rows.is_empty() {
         return Ok(());
     }
-    push_others_group(to, look, opened, names, others)
+    push_others_group(to, look, opened, names, rows)
 }
 
 // Appends the group of some names, or of some addresses.
@@ -172,23 +171,18 @@ fn push_others_group(
     look: Look,
     opened: bool,
     names: bool,
-    others: &[CountedRow<'_>],
+    rows: &[CountedRow<'_>],
 ) -> Result<(), Want>
-    ensures { OnOk result (string_bytes to.new ≡ string_bytes to.old
-        ++ others_group isolated look opened names (filter (is_of names) (map counted_lent others.now))) }
+    ensures { OnOk result (string_bytes to.new
+        ≡ string_bytes to.old ++ others_group isolated look opened names (map counted_lent rows.now)) }
 {
     let mut scratch = String::new(*to.allocator());
     push_group_begin(to, opened)?;
     push_isolated(to, others_heading(names))?;
     push_axis_picture(to)?;
     push_group_words_begin(to)?;
-    push_others_words(
-        to,
-        names,
-        other_rows(names, others),
-        live_others(look.axis, names, others),
-    )?;
+    push_others_words(to, names, rows.len(), live_rows(look.axis, rows))?;
     push_group_words_end(to)?;
-    push_other_rows(to, &mut scratch, look, names, others)?;
+    push_rows(to, &mut scratch, true, look, rows)?;
     push_group_end(to)
 }

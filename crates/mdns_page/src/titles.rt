@@ -16,15 +16,30 @@ use people_text::moments::push_millis;
 /// With more lives, those of all rows together, bars have no titles.
 const TITLED_LIVES: usize = 1000;
 
-/// Checks that all rows together, those of instances and the others, have so few lives, those of servers too, that each bar
-/// has a title.
-pub(crate) fn are_titled(rows: &[CountedRow<'_>], others: &[CountedRow<'_>]) -> bool
-    ensures { result ≡ are_titled (map counted_lent rows.now ++ map counted_lent others.now) }
+/// Checks that all rows together, those of instances, addresses and names, have so few lives, those of servers too, that each
+/// bar has a title.
+pub(crate) fn are_titled(
+    rows: &[CountedRow<'_>],
+    addresses: &[CountedRow<'_>],
+    names: &[CountedRow<'_>],
+) -> bool
+    ensures { result ≡ are_titled (map counted_lent rows.now ++ map counted_lent addresses.now ++ map counted_lent names.now) }
 {
-    match left_after(TITLED_LIVES, rows) {
-        Some(left) => left_after(left, others).is_some(),
-        None => false,
-    }
+    left_after_all(rows, addresses, names).is_some()
+}
+
+// Subtracts the number of lives of all rows from how many may have titles, if there are so many.
+fn left_after_all(
+    rows: &[CountedRow<'_>],
+    addresses: &[CountedRow<'_>],
+    names: &[CountedRow<'_>],
+) -> Option<usize>
+    ensures { IsLess 1000 (length (lives_of (map counted_lent rows.now ++ map counted_lent addresses.now ++ map counted_lent names.now)))
+        result }
+{
+    let left = left_after(TITLED_LIVES, rows)?;
+    let left = left_after(left, addresses)?;
+    left_after(left, names)
 }
 
 // Subtracts the number of lives of some rows, if there are so many.

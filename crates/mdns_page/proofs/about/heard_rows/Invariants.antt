@@ -1,6 +1,6 @@
 use Rattle.std.proofs.Common.{◌≡◌, ◌++◌, length, map}
 use Rattle.mdns_cache.specs.Rows.{last_lent}
-use Rattle.mdns_page.specs.Survey.{lasts_of}
+use Rattle.mdns_page.specs.Kept.{lasts_of}
 use Rattle.mdns_page.proofs.about.heard_rows.Given as goal
 
 -- the last hearings so far were collected, and the others are left

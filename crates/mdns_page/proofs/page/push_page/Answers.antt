@@ -26,12 +26,12 @@ returns c =
     (λ end.
     parts9 (string_bytes c.args.to.now) (head axis lanes) (body_begin axis lanes (spans_of shown.captures))
     (lead_text isolated axis shown.about shown.rows shown.captures shown.lost) links (captures_text isolated axis shown.captures)
-    (timeline isolated axis lanes shown.rows shown.others) shown.live shown.nothing page_end _ _ _ _ _ _ _ _ _
+    (timeline isolated axis lanes shown.rows shown.addresses shown.names) shown.live shown.nothing page_end _ _ _ _ _ _ _ _ _
     (c.in_ok-push_head.ensures ∙ ap (λ (n : ℕ). string_bytes c.args.to.now ++ head axis n) is)
     (c.in_ok-push_body_begin.ensures
     ∙ ap (λ (n : ℕ). string_bytes c.push_head.new.to ++ body_begin axis n (spans_of shown.captures)) is)
     c.in_ok-push_lead.ensures c.in_ok-push_links.ensures c.in_ok-push_captures.ensures
     (c.in_ok-push_timeline.ensures
-    ∙ ap (λ (n : ℕ). string_bytes c.push_captures.new.to ++ timeline isolated axis n shown.rows shown.others) is)
+    ∙ ap (λ (n : ℕ). string_bytes c.push_captures.new.to ++ timeline isolated axis n shown.rows shown.addresses shown.names) is)
     c.in_ok-push_str.ensures.bytes c.in_ok-push_str-2.ensures.bytes end)
     c.push_end.ensures

@@ -1,4 +1,4 @@
-use Rattle.std.proofs.Common.{◌≡◌, ◌++◌, false, map, take}
+use Rattle.std.proofs.Common.{◌≡◌, ◌++◌, map, take}
 use Rattle.std.specs.List.{flat_map}
 use Rattle.std.specs.String.{string_bytes}
 use Rattle.mdns_page.specs.Html.{isolated}
@@ -8,5 +8,5 @@ use Rattle.mdns_page.proofs.rows.push_rows.Given as goal
 -- the rows so far were appended
 abbrev pub invariant-loop-row : goal.invariant-loop-row
 invariant-loop-row l =
-    string_bytes l.to ≡ string_bytes l.initial.to ++ flat_map (row_text isolated false l.look)
+    string_bytes l.to ≡ string_bytes l.initial.to ++ flat_map (row_text isolated l.whole l.look)
     (map counted_lent (take l.row-index l.rows))

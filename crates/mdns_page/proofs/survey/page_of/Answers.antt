@@ -1,7 +1,10 @@
-use Rattle.std.proofs.Common.{◌≡◌, ◌∙◌, ◌⊎◌, ◌+◌, ◌++◌, [], Bool, List, ℕ, ap, length, map, string_bytes, subst, sym}
+use Rattle.std.proofs.Common.{◌≡◌, ◌∙◌, ◌+◌, ◌++◌, [], Bool, if◌then◌else◌, List, ℕ, ap, length, map, string_bytes, subst, sym}
 use Rattle.std.proofs.lemmas.List.{length-map}
+use Rattle.std.specs.List.{filter}
+use Rattle.std.specs.List.Sorted.{IsStrictlySortedBy}
+use Rattle.mdns_message.specs.Resource.{key_cmp}
+use Rattle.mdns_cache.specs.Live.{record_of}
 use Rattle.mdns_cache.specs.Rows.{last_lent}
-use Rattle.mdns_cache.specs.declared.cache.Last.{Last}
 use Rattle.mdns_join.specs.declared.latest.Latest.{Latest}
 use Rattle.mdns_lives.specs.Chronicle.{Accounts, Chronicles}
 use Rattle.mdns_lives.specs.Rows.{row_lent}
@@ -10,87 +13,100 @@ use Rattle.mdns_browse.specs.Services.{AreEach}
 use Rattle.mdns_page.specs.Captures.{facts_lent}
 use Rattle.mdns_page.specs.Hosts.{is_large}
 use Rattle.mdns_page.specs.Html.{isolated}
+use Rattle.mdns_page.specs.Kept.{AreRows, is_kept, is_of, kept_of, lasts_of, looked_up}
 use Rattle.mdns_page.specs.Nothing.{nothing_text}
 use Rattle.mdns_page.specs.Page.{Shown, page}
-use Rattle.mdns_page.specs.Survey.{AreOthers, AreLookedUp, ArePicked, IsDrawn, WritesLive, lasts_of}
-use Rattle.mdns_page.specs.Timeline.{counted_lent, is_open, record_in}
-use Rattle.mdns_page.proofs.AboutLemmas.{looked-up}
-use Rattle.mdns_page.proofs.ServerLemmas.{all-served}
+use Rattle.mdns_page.specs.Survey.{WritesLive}
+use Rattle.mdns_page.specs.Timeline.{Row, counted_lent, is_open}
+use Rattle.mdns_page.specs.declared.kept.Kind.{Kind}
+use Rattle.mdns_page.specs.declared.kept.Kind.TheVariants.{Addresses, Instances, Names}
+use Rattle.mdns_page.proofs.KeptLemmas.{looked_up-sorted, some-sorted}
 use Rattle.mdns_page.proofs.survey.page_of.Goals as goal
 
 pub returns : goal.returns
 returns c = λ each heard chronicled all latest.
     let axis = c.args.axis in
     let about = c.args.about.now in
-    let rows = c.in_ok-rows.rows.items in
-    let others = c.in_ok-others.others.items in
-    let records = c.in_ok-records.records in
-    let live = string_bytes c.in_ok-live.live in
-    let lasts = lasts_of c.walk-2.result in
-    let walked : c.walk.result ≡ c.walk-2.result = c.walk.ensures.left ∙ sym c.walk-2.ensures.left in
-    let found : (map last_lent c.in_ok-heard.heard.items ≡ lasts) ⊎ ((about ≡ []) × (map last_lent c.in_ok-heard.heard.items ≡ [])) =
-    subst (λ (left : List (Latest × List Life)). (map last_lent c.in_ok-heard.heard.items ≡ lasts_of left)
-    ⊎ ((about ≡ []) × (map last_lent c.in_ok-heard.heard.items ≡ []))) walked c.in_ok-heard.ensures in
-    let looked : AreLookedUp about lasts (map last_lent c.in_ok-heard.heard.items) =
-    looked-up about heard c.walk-2.result (c.walk-2.ensures.all heard all) (map last_lent c.in_ok-heard.heard.items) found in
-    let asked : AreLookedUp about lasts (map last_lent c.as_slice.result.now) =
-    subst (λ (lent : List Last). AreLookedUp about lasts (map last_lent lent)) (sym c.as_slice.ensures.value) looked in
-    let asked_live : AreLookedUp about lasts (map last_lent c.as_slice-4.result.now) =
-    subst (λ (lent : List Last). AreLookedUp about lasts (map last_lent lent)) (sym c.as_slice-4.ensures.value) looked in
-    let same : map record_in (map counted_lent rows) ≡ map row_lent records.instances.items =
-    c.in_ok-rows.ensures.records ∙ ap (map row_lent) c.as_slice-2.ensures.value in
-    let same_others : map record_in (map counted_lent others) ≡ map row_lent records.others.items =
-    c.in_ok-others.ensures.records ∙ ap (map row_lent) c.as_slice-3.ensures.value in
-    let count : c.len.result ≡ length (map counted_lent rows) =
-    c.len.ensures ∙ c.in_ok-rows.rows.ok.0 ∙ sym (length-map rows counted_lent) in
-    let other_count : c.len-2.result ≡ length (map counted_lent others) =
-    c.len-2.ensures ∙ c.in_ok-others.others.ok.0 ∙ sym (length-map others counted_lent) in
-    let opened : c.is_open-opened.result ≡ is_open (length (map counted_lent rows) + length (map counted_lent others)) =
-    c.is_open-opened.ensures ∙ ap (λ (n : ℕ). is_open (n + c.len-2.result)) count
-    ∙ ap (λ (n : ℕ). is_open (length (map counted_lent rows) + n)) other_count in
-    let drawn_count : length records.instances.items ≡ length (map counted_lent rows) =
-    sym (length-map records.instances.items row_lent) ∙ ap length (sym same) ∙ length-map (map counted_lent rows) record_in in
-    let captures = subst (λ (captures : List Accounts). AreEach Chronicles captures each) (sym c.as_slice-each.ensures.value) chronicled in
+    let walk = c.walk-2.result in
     let lives = c.walk-2.ensures.all heard all in
-    let written : Shown = record {
+    let rows = map counted_lent c.in_ok-rows.rows.items in
+    let addresses = map counted_lent c.in_ok-addresses.addresses.items in
+    let others = map counted_lent c.in_ok-others.others.items in
+    let found : map last_lent c.in_ok-heard.heard.items ≡ looked_up about walk =
+    c.in_ok-heard.ensures ∙ ap (looked_up about) (c.walk.ensures.left ∙ sym c.walk-2.ensures.left) in
+    let looked : map last_lent c.as_slice.result.now ≡ looked_up about walk = ap (map last_lent) c.as_slice.ensures.value ∙ found in
+    let looked_live : map last_lent c.as_slice-2.result.now ≡ looked_up about walk = ap (map last_lent) c.as_slice-2.ensures.value ∙ found in
+    let Sorted = λ (ls : List Latest). IsStrictlySortedBy key_cmp (map record_of ls) in
+    let sorted = looked_up-sorted heard walk lives about in
+    let records = map row_lent c.as_slice-records.result.now in
+    let kept : records ≡ kept_of about walk =
+    ap (map row_lent) c.as_slice-records.ensures.value ∙ c.in_ok-kept.ensures (subst Sorted (sym looked) sorted)
+    ∙ ap (λ (ls : List Latest). filter (λ (row : Latest × List Life). is_kept about ls row.0) walk) looked in
+    let in_order = subst (λ (rs : List (Latest × List Life)). Sorted (lasts_of rs)) (sym kept)
+    (some-sorted heard walk lives (λ (row : Latest × List Life). is_kept about (looked_up about walk) row.0)) in
+    let captures = subst (λ (captures : List Accounts). AreEach Chronicles captures each) (sym c.as_slice-each.ensures.value) chronicled in
+    let count : c.len.result ≡ length rows = c.len.ensures ∙ c.in_ok-rows.rows.ok.0 ∙ sym (length-map c.in_ok-rows.rows.items counted_lent) in
+    let few : map row_lent c.unless_large-few.result.now ≡ (if is_large (length rows) then [] else records) =
+    c.unless_large-few.ensures
+    ∙ ap (λ (large : Bool). if large then [] else records) (c.is_large.ensures ∙ ap is_large count) in
+    let are = λ (kind : Kind) (large : Bool) (made : List Row) (own : AreRows kind large each records made).
+    subst (λ (rs : List (Latest × List Life)). AreRows kind large each rs made) kept own in
+    let filtered = λ (kind : Kind). ap (filter (λ (row : Latest × List Life). is_of kind row.0)) few in
+    let count_rows : c.len-2.result ≡ length rows =
+    c.len-2.ensures ∙ c.in_ok-rows.rows.ok.0 ∙ sym (length-map c.in_ok-rows.rows.items counted_lent) in
+    let count_addresses : c.len-3.result ≡ length addresses =
+    c.len-3.ensures ∙ c.in_ok-addresses.addresses.ok.0 ∙ sym (length-map c.in_ok-addresses.addresses.items counted_lent) in
+    let count_others : c.len-4.result ≡ length others =
+    c.len-4.ensures ∙ c.in_ok-others.others.ok.0 ∙ sym (length-map c.in_ok-others.others.items counted_lent) in
+    let opened : c.is_open-opened.result ≡ is_open (length rows + length addresses + length others) =
+    c.is_open-opened.ensures ∙ (λ i. is_open (count_rows i + count_addresses i + count_others i)) in
+    let live = string_bytes c.in_ok-live.live in
+    let shown : Shown = record {
       axis = axis;
       about = about;
-      captures = map facts_lent c.as_slice-5.result.now;
+      captures = map facts_lent c.as_slice-3.result.now;
       lost = c.lost_packets.result;
-      rows = map counted_lent c.as_slice-6.result.now;
-      others = map counted_lent c.as_slice-7.result.now;
+      rows = map counted_lent c.as_slice-4.result.now;
+      addresses = map counted_lent c.as_slice-5.result.now;
+      names = map counted_lent c.as_slice-6.result.now;
       live = c.as_str.result.now;
       nothing = c.as_str-2.result.now;
     } in
-    let servers = ap (map row_lent) c.as_slice-servers.ensures.value ∙ c.in_ok-records.ensures.servers in
     record {
       latest = latest;
-      rows = c.walk-2.result;
+      rows = walk;
       lives = lives;
-      drawn = map counted_lent rows;
-      are_drawn = subst (λ (drawn : List (Latest × List Life)). ArePicked (IsDrawn about lasts) c.walk-2.result drawn) (sym same)
-          (c.in_ok-records.ensures.instances lasts asked);
-      are_counted = c.in_ok-rows.ensures.heard each captures;
-      are_served = all-served heard c.walk-2.result (map row_lent c.as_slice-servers.result.now) (map counted_lent rows) lives servers
-          c.in_ok-rows.ensures.servers;
-      others = map counted_lent others;
-      are_others = subst (λ (n : ℕ). AreOthers (is_large n) about c.walk-2.result (map record_in (map counted_lent others))) drawn_count
-          (subst (λ (found : List (Latest × List Life)). AreOthers (is_large (length records.instances.items)) about c.walk-2.result found)
-          (sym same_others) c.in_ok-records.ensures.others);
-      others_counted = c.in_ok-others.ensures.heard each captures;
-      others_served = all-served heard c.walk-2.result (map row_lent c.as_slice-servers.result.now) (map counted_lent others) lives servers
-          c.in_ok-others.ensures.servers;
+      instances = rows;
+      are_instances = are Instances _ rows (record {
+        are = c.in_ok-rows.ensures.records;
+        counted = c.in_ok-rows.ensures.heard each captures;
+        served = c.in_ok-rows.ensures.servers in_order;
+      });
+      addresses = addresses;
+      are_addresses = are Addresses _ addresses (record {
+        are = c.in_ok-addresses.ensures.records ∙ filtered Addresses;
+        counted = c.in_ok-addresses.ensures.heard each captures;
+        served = c.in_ok-addresses.ensures.servers in_order;
+      });
+      others = others;
+      are_others = are Names _ others (record {
+        are = c.in_ok-others.ensures.records ∙ filtered Names;
+        counted = c.in_ok-others.ensures.heard each captures;
+        served = c.in_ok-others.ensures.servers in_order;
+      });
       live = live;
-      writes_live = subst (λ (o : Bool). WritesLive about lasts heard axis o live) opened
-          (c.in_ok-live.ensures heard all lasts asked_live);
-      written = c.in_ok-push_page.ensures ∙ ap (λ (text : List ℕ). text ++ page isolated written) c.new-text.ensures.bytes
+      writes_live = subst (λ (o : Bool). WritesLive about (looked_up about walk) heard axis o live) opened
+          (subst (λ (ls : List Latest). WritesLive about ls heard axis c.is_open-opened.result live) looked_live
+          (c.in_ok-live.ensures heard all (subst Sorted (sym looked_live) sorted)));
+      written = c.in_ok-push_page.ensures ∙ ap (λ (text : List ℕ). text ++ page isolated shown) c.new-text.ensures.bytes
           ∙ ap (page isolated) (λ i. record {
             axis = axis;
             about = about;
-            captures = (ap (map facts_lent) c.as_slice-5.ensures.value ∙ c.in_ok-captures.ensures) i;
+            captures = (ap (map facts_lent) c.as_slice-3.ensures.value ∙ c.in_ok-captures.ensures) i;
             lost = c.lost_packets.ensures.value i;
-            rows = ap (map counted_lent) c.as_slice-6.ensures.value i;
-            others = ap (map counted_lent) c.as_slice-7.ensures.value i;
+            rows = ap (map counted_lent) c.as_slice-4.ensures.value i;
+            addresses = ap (map counted_lent) c.as_slice-5.ensures.value i;
+            names = ap (map counted_lent) c.as_slice-6.ensures.value i;
             live = c.as_str.ensures.value i;
             nothing = (c.as_str-2.ensures.value ∙ c.in_ok-push_nothing.ensures
                 ∙ ap (λ (none : List ℕ). none ++ nothing_text c.args.readings.now) c.new-nothing.ensures.bytes) i;

@@ -1,8 +1,0 @@
-use Rattle.std.proofs.Common.{◌≡◌, ◌&&◌, count_by, map, take}
-use Rattle.mdns_page.specs.Timeline.{counted_lent, is_live, is_of}
-use Rattle.mdns_page.proofs.rows.live_others.Given as goal
-
--- those of the rows so far were counted
-abbrev pub invariant-loop-row : goal.invariant-loop-row
-invariant-loop-row l =
-    l.count ≡ count_by (λ row. is_of l.names row && is_live l.axis row.lives) (map counted_lent (take l.row-index l.rows))
