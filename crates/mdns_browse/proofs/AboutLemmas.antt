@@ -30,7 +30,7 @@ or_false : (b : Bool) → (b || false) ≡ b
 or_false true = refl
 or_false false = refl
 
-false_or : (b : Bool) → (false || b) ≡ b
+pub false_or : (b : Bool) → (false || b) ≡ b
 false_or true = refl
 false_or false = refl
 

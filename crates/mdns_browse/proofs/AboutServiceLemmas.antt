@@ -1,27 +1,19 @@
 -- What service instances are about subjects.
-use Rattle.std.proofs.Common.{◌≡◌, refl, sym, ◌∙◌, ap, subst, ℕ, ◌+◌, ◌<◌, ◌≤◌, Bool, false, true, ◌||◌, List, [], ◌∷◌, ◌++◌}
+use Rattle.std.proofs.Common.{◌≡◌, refl, sym, ◌∙◌, ap, ℕ, ◌+◌, ◌<◌, ◌≤◌, Bool, false, true, ◌||◌, List, [], ◌∷◌}
 use Rattle.std.proofs.Common.{length, map, take, get_or, string_bytes}
 use Rattle.std.proofs.lemmas.Bool.{or_from}
 use Rattle.std.proofs.lemmas.List.{take_all}
 use Rattle.std.proofs.lemmas.List.Folds.{list_any-append, list_any_at, list_any_more}
-use Rattle.std.specs.List.{list_any}
+use Rattle.std.specs.List.{filter_map, list_any}
 use Rattle.dns_name.specs.Name.{labels_of}
 use Rattle.mdns_message.specs.Resource.{Body}
-use Rattle.mdns_message.specs.declared.hearing.Hearing.{Hearing}
 use Rattle.mdns_message.specs.declared.body.RecordData.TheVariants.{A, Aaaa, Ptr, Txt, Srv}
 use Rattle.mdns_join.specs.declared.latest.Latest.{Latest}
-use Rattle.mdns_cache.specs.Live.{AreLiveRows}
 use Rattle.mdns_browse.specs.About.{is_heard_about, is_heard_server_about, is_in_data, is_instance_about, is_name}
 use Rattle.mdns_browse.specs.About.{is_rest, is_server_about, is_type_about, keeps_heard, keeps_instance}
-use Rattle.mdns_browse.specs.Services.{AreEach, AreServers, Holds, IsAddressOf, IsServerAt, IsServerOf, body_of, data_of_set, rows_of_set}
+use Rattle.mdns_browse.specs.Services.{addresses_in, body_of, data_of_set, instance_in, rows_of_set, server_in}
 use Rattle.mdns_browse.specs.declared.about.Subject.{Subject}
-use Rattle.mdns_browse.specs.declared.instance.Instance.{Instance}
-use Rattle.mdns_browse.specs.declared.instance.Server.{Server}
-use Rattle.mdns_browse.proofs.AboutLemmas.{any-map, any-none, any-or, any-same, any-swap, any_rest}
-use Rattle.mdns_browse.proofs.PickLemmas.{map-append}
-use Rattle.mdns_browse.proofs.SameLemmas.{one_given, one_kind}
-use Rattle.mdns_browse.proofs.SearchLemmas.{set-live}
-use Rattle.mdns_browse.proofs.ServiceLemmas.{addresses-given}
+use Rattle.mdns_browse.proofs.AboutLemmas.{any-map, any-none, any-or, any-same, any-swap, any_rest, false_or}
 
 -- one of the values so far, and one more
 module _ {X : Type 0} (p : X → Bool) where
@@ -103,56 +95,35 @@ instance-parts about rows name =
     any-or (is_type_about name) (λ subject. rest subject || served subject) about
     ∙ ap (λ b. list_any (is_type_about name) about || b) (any-or rest served about)
 
--- LIVE ROWS
+-- AMONG ROWS
 
--- what is heard among live rows is what is live
-module _ (heard : List Hearing) (now : ℕ) (rows : List Latest) (live : AreLiveRows heard now rows) where
-  server-live : (subject : Subject) (row : Latest) (server : Server) → IsServerAt heard now row server
-      → is_heard_server_about rows (body_of row) subject ≡ is_server_about server subject
-  server-live subject row server at =
-      let target = server.target in
-      let fours = rows_of_set rows target 1 in
-      let sixes = rows_of_set rows target 28 in
-      let addresses : server.addresses ≡ map body_of (fours ++ sixes) =
-      one_given (IsAddressOf target) (Holds (λ body. body)) (λ row x y is other. sym is ∙ other) heard now server.addresses
-      (map body_of (fours ++ sixes)) at.addresses
-      (addresses-given heard now target fours sixes (set-live heard now rows live target 1) (set-live heard now rows live target 28)) in
-      ap (λ body. is_heard_server_about rows body subject) at.said
-      ∙ ap (λ b. is_name (string_bytes subject.text) target || b)
-      (sym (list_any-append (is_in_data subject) (map body_of fours) (map body_of sixes))
-      ∙ ap (list_any (is_in_data subject)) (sym (map-append body_of fours sixes) ∙ sym addresses))
+module _ (rows : List Latest) where
+  -- a server by its target and its addresses
+  server-in : (subject : Subject) (priority weight port : ℕ) (target : List ℕ)
+      → is_heard_server_about rows (Srv priority weight port target) subject
+      ≡ (is_name (string_bytes subject.text) target || list_any (is_in_data subject) (addresses_in rows target))
+  server-in subject priority weight port target =
+      ap (λ b. is_name (string_bytes subject.text) target || b)
+      (sym (list_any-append (is_in_data subject) (data_of_set rows target 1) (data_of_set rows target 28)))
 
-  servers-each : (subject : Subject) (found : List Latest) (servers : List Server) → AreEach (IsServerAt heard now) found servers
-      → list_any (λ body. is_heard_server_about rows body subject) (map body_of found)
-      ≡ list_any (λ server. is_server_about server subject) servers
-  servers-each subject [] [] each = refl
-  servers-each subject [] (server ∷ servers) each = absurd each
-  servers-each subject (row ∷ found) [] each = absurd each
-  servers-each subject (row ∷ found) (server ∷ servers) each =
-      ap (λ b. b || list_any (λ body. is_heard_server_about rows body subject) (map body_of found))
-      (server-live subject row server each.0)
-      ∙ ap (λ b. is_server_about server subject || b) (servers-each subject found servers each.1)
+  servers-in : (subject : Subject) (bodies : List Body) → list_any (λ body. is_heard_server_about rows body subject) bodies
+      ≡ list_any (λ server. is_server_about server subject) (filter_map (server_in rows) bodies)
+  servers-in subject [] = refl
+  servers-in subject (Srv priority weight port target ∷ bodies) =
+      ap (λ b. b || list_any (λ body. is_heard_server_about rows body subject) bodies) (server-in subject priority weight port target)
+      ∙ ap (λ b. (is_name (string_bytes subject.text) target || list_any (is_in_data subject) (addresses_in rows target)) || b)
+      (servers-in subject bodies)
+  servers-in subject (A octets ∷ bodies) = false_or _ ∙ servers-in subject bodies
+  servers-in subject (Aaaa octets ∷ bodies) = false_or _ ∙ servers-in subject bodies
+  servers-in subject (Ptr target ∷ bodies) = false_or _ ∙ servers-in subject bodies
+  servers-in subject (Txt text ∷ bodies) = false_or _ ∙ servers-in subject bodies
 
-  servers-live : (subject : Subject) (name : List ℕ) (servers : List Server) → AreServers heard now name servers
-      → list_any (λ body. is_heard_server_about rows body subject) (data_of_set rows name 33)
-      ≡ list_any (λ server. is_server_about server subject) servers
-  servers-live subject name servers given =
-      servers-each subject (rows_of_set rows name 33) servers
-      (subst (λ found. AreEach (IsServerAt heard now) found servers)
-      (one_kind (IsServerOf name) heard now given.rows (rows_of_set rows name 33) given.right (set-live heard now rows live name 33))
-      given.each)
-
-  instance-live : (subject : Subject) (instance : Instance) → AreServers heard now instance.name instance.servers
-      → is_heard_about rows instance.name subject ≡ is_instance_about instance subject
-  instance-live subject instance given =
-      ap (λ b. is_name (string_bytes subject.text) instance.name
-      || (is_rest (string_bytes subject.text) (labels_of instance.name) || b))
-      (servers-live subject instance.name instance.servers given)
-
-  pub keeps-live : (about : List Subject) (instance : Instance) → AreServers heard now instance.name instance.servers
-      → keeps_heard about rows instance.name ≡ keeps_instance about instance
+  -- an instance is about the subjects by rows where its servers among the rows are
+  pub keeps-in : (about : List Subject) (name : List ℕ) → keeps_heard about rows name ≡ keeps_instance about (instance_in rows name)
   unfolding keeps_heard keeps_instance
-  keeps-live [] instance given = refl
-  keeps-live (subject ∷ subjects) instance given =
-      any-same (is_heard_about rows instance.name) (is_instance_about instance) (λ asked. instance-live asked instance given)
+  keeps-in [] name = refl
+  keeps-in (subject ∷ subjects) name =
+      any-same (is_heard_about rows name) (is_instance_about (instance_in rows name))
+      (λ asked. ap (λ b. is_name (string_bytes asked.text) name || (is_rest (string_bytes asked.text) (labels_of name) || b))
+      (servers-in asked (data_of_set rows name 33)))
       (subject ∷ subjects)

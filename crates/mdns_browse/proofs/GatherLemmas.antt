@@ -1,7 +1,7 @@
 -- The live records that give instances, as they are gathered.
 use Rattle.std.proofs.Common.{◌≡◌, refl, sym, ◌∙◌, ap, subst, ℕ, ◌+◌, ◌<◌, ◌≤◌, ◌⊎◌, inl, inr}
-use Rattle.std.proofs.Common.{List, [], ◌∷◌, ◌++◌, length, map, take, get_or, arith, Option, None}
-use Rattle.std.proofs.lemmas.List.{append-nil, append_assoc}
+use Rattle.std.proofs.Common.{List, [], ◌∷◌, ◌++◌, length, map, take, get_or, arith, Option}
+use Rattle.std.proofs.lemmas.List.{append-nil}
 use Rattle.std.specs.Prelude.{Contains}
 use Rattle.mdns_message.specs.declared.hearing.Hearing.{Hearing}
 use Rattle.mdns_join.specs.declared.latest.Latest.{Latest}
@@ -12,7 +12,7 @@ use Rattle.mdns_browse.specs.declared.about.Subject.{Subject}
 use Rattle.mdns_browse.specs.Given.{AreInstanceRowsAbout, AreLiveGiven, AreShownKept, GiveInstances, GiveRows, IsShownAt, given_of_since}
 use Rattle.mdns_browse.specs.Given.{last_of, record_given}
 use Rattle.mdns_browse.specs.Services.{AreEach, AreGiven, GivenRow, GivesInstance, InstanceRow, IsGivenAt, IsInstanceAt, IsInstanceRowAt}
-use Rattle.mdns_browse.specs.Services.{IsSinceKnown, IsSinceUnknown}
+use Rattle.mdns_browse.specs.Services.{IsSinceKnown}
 use Rattle.mdns_browse.proofs.PickLemmas.{Picks, map-append, map_more, picked-is, picks-append, picks-map, whole_list}
 use Rattle.mdns_browse.proofs.RowLemmas.{contains-cons, contains-first, contains-after}
 use Rattle.mdns_browse.proofs.SearchLemmas.{rows_of}
@@ -27,23 +27,6 @@ contains-map f (x ∷ xs) y among = elim (contains-cons (f x) (map f xs) y among
       let rest = contains-map f xs y after in
       (rest.0, contains-after x xs rest.0 rest.1, rest.2)
 ]
-
--- a live record, of which it isn't known since when it has been live
-abbrev pub unknown : Latest × ℕ → GivenRow
-unknown row = record { last = row.0; end = row.1; since = None }
-
-records_unknown : (rows : List (Latest × ℕ)) → map record_given (map unknown rows) ≡ rows
-records_unknown [] = refl
-records_unknown (row ∷ rows) = ap (λ rest. row ∷ rest) (records_unknown rows)
-
-live_unknown : (heard : List Hearing) (now : ℕ) (rows : List (Latest × ℕ)) → AreLiveRecords heard now rows
-    → AreLiveGiven IsSinceUnknown heard now (map unknown rows)
-live_unknown heard now rows are = record {
-  records = subst (AreLiveRecords heard now) (sym (records_unknown rows)) are;
-  since = λ row among.
-      let own = contains-map unknown rows row among in
-      subst (λ (given : GivenRow). IsSinceUnknown given.last given.since) own.2 refl;
-}
 
 records_known : (rows : List ((Latest × ℕ) × ℕ)) → map record_given (map given_of_since rows) ≡ map live_row rows
 records_known [] = refl
@@ -134,50 +117,6 @@ module _ (IsSince : Latest → Option ℕ → Type 0) (heard : List Hearing) (no
         let own = (picked-is (λ row. GivesInstance (last_of row)) live given row gathered.picks among).0 in
         record { same = refl; ends = ends_at row own; since = are.since row own });
   }
-
--- ---- along a walk
-
--- what was gathered of the records before the rest
-pub record GathersTo (all rest : List (Latest × ℕ)) (rows : List Latest) (given : List GivenRow) : Type 0 where
-  pub front : List (Latest × ℕ)
-  pub whole : all ≡ front ++ rest
-  pub gathers : Gathers (map unknown front) rows given
-
-pub walk-start : (all rest : List (Latest × ℕ)) (rows : List Latest) (given : List GivenRow) → rest ≡ all → rows ≡ [] → given ≡ []
-    → GathersTo all rest rows given
-walk-start all rest rows given whole no_rows none =
-    record { front = []; whole = sym whole; gathers = gathers-start rows given no_rows none }
-
-pub walk-more : (all rest after : List (Latest × ℕ)) (rows rows_new : List Latest) (given given_new : List GivenRow) (row : Latest × ℕ)
-    → GathersTo all rest rows given → rest ≡ row ∷ after → rows_new ≡ rows ++ row.0 ∷ []
-    → (GivesInstance row.0 × (given_new ≡ given ++ unknown row ∷ [])) ⊎ ((¬ GivesInstance row.0) × (given_new ≡ given))
-    → GathersTo all after rows_new given_new
-walk-more all rest after rows rows_new given given_new row so_far split pushed choice = record {
-  front = so_far.front ++ row ∷ [];
-  whole = so_far.whole ∙ ap (λ rows. so_far.front ++ rows) split ∙ sym (append_assoc so_far.front (row ∷ []) after);
-  gathers =
-      subst (λ live. Gathers live rows_new given_new) (sym (map-append unknown so_far.front (row ∷ [])))
-      (gathers-more (map unknown so_far.front) rows rows_new given given_new (unknown row) so_far.gathers pushed choice);
-}
-
-walk_all : (all rest : List (Latest × ℕ)) (rows : List Latest) (given : List GivenRow) → GathersTo all rest rows given → rest ≡ []
-    → Gathers (map unknown all) rows given
-walk_all all rest rows given so_far none =
-    subst (λ live. Gathers (map unknown live) rows given)
-    (sym (so_far.whole ∙ ap (λ rows. so_far.front ++ rows) none ∙ append-nil so_far.front)) so_far.gathers
-
-pub walk-rows : (all rest : List (Latest × ℕ)) (rows : List Latest) (given : List GivenRow) (heard : List Hearing) (now : ℕ)
-    → GathersTo all rest rows given → rest ≡ [] → AreLiveRecords heard now all → AreLiveRows heard now rows
-walk-rows all rest rows given heard now so_far none are =
-    gathers-rows IsSinceUnknown heard now (map unknown all) (live_unknown heard now all are) rows given
-    (walk_all all rest rows given so_far none)
-
-pub walk-given : (all rest : List (Latest × ℕ)) (rows : List Latest) (given : List GivenRow) (heard : List Hearing) (now : ℕ)
-    → GathersTo all rest rows given → rest ≡ [] → AreLiveRecords heard now all
-    → AreGiven GivesInstance (IsGivenAt IsSinceUnknown heard) heard now given
-walk-given all rest rows given heard now so_far none are =
-    gathers-given IsSinceUnknown heard now (map unknown all) (live_unknown heard now all are) rows given
-    (walk_all all rest rows given so_far none)
 
 -- ---- along a list
 

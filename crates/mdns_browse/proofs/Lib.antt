@@ -6,13 +6,14 @@ mod DigitLemmas
 mod FormLemmas
 mod GatherLemmas
 mod GivenLemmas
+mod InstanceLemmas
 mod JsonLemmas
 mod KeptLemmas
 mod LayoutLemmas
 mod LineLemmas
+mod ListLemmas
 mod NameLemmas
 mod ObjectLemmas
-mod OtherLemmas
 mod PageLemmas
 mod PickLemmas
 mod ReportLemmas
@@ -21,7 +22,7 @@ mod SaidLemmas
 pub mod SameLemmas
 pub mod SearchLemmas
 mod ServiceLemmas
-mod SharedLemmas
 mod ShownKeptLemmas
 mod ShownLemmas
+mod SinceLemmas
 mod TextLemmas

@@ -1,31 +1,29 @@
 -- Instances in readable columns: their lines by the pieces that are written of them.
-use Rattle.std.proofs.Common.{◌≡◌, refl, sym, ◌∙◌, ap, subst, ℕ, suc, ◌+◌, ◌<◌, ◌==◌, false, true, Bool}
-use Rattle.std.proofs.Common.{List, [], ◌∷◌, ◌++◌, if◌then◌else◌, length, map, max, take, get_or, arith, codes}
+use Rattle.std.proofs.Common.{◌≡◌, refl, sym, ◌∙◌, ap, subst, ℕ, ◌==◌, false, true, Bool}
+use Rattle.std.proofs.Common.{List, [], ◌∷◌, ◌++◌, if◌then◌else◌, length, map, max, arith, codes}
 use Rattle.std.proofs.lemmas.Bool.Decides.{nat_tests}
-use Rattle.std.proofs.lemmas.List.{append-nil, append_assoc}
+use Rattle.std.proofs.lemmas.List.{append-nil, append_assoc, length-map}
+use Rattle.std.proofs.lemmas.Simd.{map-map}
 use Rattle.std.proofs.lemmas.Grind.{flat_map-append}
 use Rattle.std.specs.List.{flat_map}
 use Rattle.std.specs.Cmp.Lexicographic.{slice_cmp}
 use Rattle.std.specs.Ordering.{is_eq, nat_cmp}
 use Rattle.dns_name.specs.Name.{folded}
-use Rattle.mdns_message.specs.declared.hearing.Hearing.{Hearing}
 use Rattle.mdns_message.specs.declared.body.RecordData.TheVariants.{Srv}
 use Rattle.mdns_join.specs.declared.latest.Latest.{Latest}
 use Rattle.mdns_browse.specs.declared.instance.Server.{Server}
 use Rattle.mdns_browse.specs.declared.page.Page.{Page}
-use Rattle.mdns_browse.specs.Given.{IsShownAt}
 use Rattle.mdns_browse.specs.Page.{Writes, piece_page, row_pieces, rows_pieces, type_pieces}
 use Rattle.mdns_browse.specs.Pretty.{given_left, heading, instance_row, instance_rows, instances_pretty, left_text, line_of_some}
 use Rattle.mdns_browse.specs.Pretty.{other_row, others_pretty, rows_by_type}
 use Rattle.mdns_browse.specs.Pretty.{server_line, servers_rows, spaces, type_begin, type_row, widest, words_line}
-use Rattle.mdns_browse.specs.Services.{AreEach, GivenRow, InstanceRow}
+use Rattle.mdns_browse.specs.Services.{GivenRow, InstanceRow}
 use Rattle.mdns_browse.specs.Sheet.{server_address, server_end, server_pieces, servers_end, servers_pieces}
 use Rattle.mdns_browse.specs.Sheet.{service_type, instance_end, instance_pieces, instance_text}
 use Rattle.mdns_browse.specs.Shown.{shown_words, spaced_wide}
 use Rattle.mdns_browse.specs.laws.Page.{writes_page-laws}
 use Rattle.mdns_browse.proofs.LineLemmas.{flat_map-map, flat_map-pieces}
-use Rattle.mdns_browse.proofs.PickLemmas.{map_more}
-use Rattle.mdns_browse.proofs.ServiceLemmas.{each-more}
+use Rattle.mdns_browse.proofs.InstanceLemmas.{given_in}
 
 -- ---- instances one after another
 
@@ -33,9 +31,7 @@ abbrev pub last_owner : List ℕ → List InstanceRow → List ℕ
 last_owner before [] = before
 last_owner before (row ∷ rows) = last_owner row.given.last.resource.owner rows
 
-pub record Shows (heard : List Hearing) (now : ℕ) (given : List GivenRow) (before : List ℕ) (old new : Page) : Type 0 where
-  pub rows : List InstanceRow
-  pub each : AreEach (IsShownAt heard now) given rows
+pub record Shows (rows : List InstanceRow) (before : List ℕ) (old new : Page) : Type 0 where
   pub last : before ≡ last_owner [] rows
   pub taken : Writes old (rows_pieces [] rows) new
 
@@ -52,43 +48,19 @@ last_owner-more : (before : List ℕ) (rows : List InstanceRow) (row : InstanceR
 last_owner-more before [] row = refl
 last_owner-more before (first ∷ rows) row = last_owner-more first.given.last.resource.owner rows row
 
-pub shows-start : (heard : List Hearing) (now : ℕ) (page : Page) → Shows heard now [] [] page page
-shows-start heard now page = record { rows = []; each = tt; last = refl; taken = writes_page-laws.nothing page }
+pub shows-start : (page : Page) → Shows [] [] page page
+shows-start page = record { last = refl; taken = writes_page-laws.nothing page }
 
-pub shows-more : {R : Type 0} (f : R → GivenRow) (heard : List Hearing) (now : ℕ) (rs : List R) (i : ℕ) (r : R) (row : InstanceRow)
-    (before after : List ℕ) (old mid new : Page) → i < length rs → r ≡ get_or rs i r
-    → Shows heard now (map f (take i rs)) before old mid → IsShownAt heard now (f r) row → after ≡ (f r).last.resource.owner
-    → Writes mid (row_pieces before row) new → Shows heard now (map f (take (i + 1) rs)) after old new
-shows-more f heard now rs i r row before after old mid new within at so_far is owner taken = record {
-  rows = so_far.rows ++ row ∷ [];
-  each =
-      subst (λ given. AreEach (IsShownAt heard now) given (so_far.rows ++ row ∷ [])) (sym (map_more f rs i r within at))
-      (each-more (IsShownAt heard now) (map f (take i rs)) so_far.rows (f r) row so_far.each is);
-  last = owner ∙ ap (λ (given : GivenRow). given.last.resource.owner) (sym is.same) ∙ sym (last_owner-more [] so_far.rows row);
-  taken =
-      subst (λ pieces. Writes old pieces new) (sym (rows_pieces-more [] so_far.rows row))
-      (writes_page-laws.more old mid new (rows_pieces [] so_far.rows) (row_pieces (last_owner [] so_far.rows) row) so_far.taken
-      (subst (λ name. Writes mid (row_pieces name row) new) so_far.last taken));
-}
-
--- as many instances as records, with the same texts in the first column
-pub shown-count : (heard : List Hearing) (now : ℕ) (given : List GivenRow) (rows : List InstanceRow)
-    → AreEach (IsShownAt heard now) given rows
-    → length given ≡ length rows
-shown-count heard now [] [] each = refl
-shown-count heard now [] (row ∷ rows) each = absurd each
-shown-count heard now (g ∷ given) [] each = absurd each
-shown-count heard now (g ∷ given) (row ∷ rows) each = ap suc (shown-count heard now given rows each.1)
-
-pub shown-left : (heard : List Hearing) (now at : ℕ) (given : List GivenRow) (rows : List InstanceRow)
-    → AreEach (IsShownAt heard now) given rows
-    → map (given_left at) given ≡ map (λ (row : InstanceRow). given_left at row.given) rows
-shown-left heard now at [] [] each = refl
-shown-left heard now at [] (row ∷ rows) each = absurd each
-shown-left heard now at (g ∷ given) [] each = absurd each
-shown-left heard now at (g ∷ given) (row ∷ rows) each =
-    ap (λ (first : GivenRow). given_left at first ∷ map (given_left at) given) (sym each.0.same)
-    ∙ ap (λ rest. given_left at row.given ∷ rest) (shown-left heard now at given rows each.1)
+pub shows-more : {rows more : List InstanceRow} {before after : List ℕ} {old mid new : Page} (row : InstanceRow) → Shows rows before old mid
+    → more ≡ rows ++ row ∷ [] → after ≡ row.given.last.resource.owner → Writes mid (row_pieces before row) new → Shows more after old new
+shows-more {rows} {more} {before} {after} {old} {mid} {new} row so_far whole owner taken =
+    subst (λ rows. Shows rows after old new) (sym whole) record {
+      last = owner ∙ sym (last_owner-more [] rows row);
+      taken =
+          subst (λ pieces. Writes old pieces new) (sym (rows_pieces-more [] rows row))
+          (writes_page-laws.more old mid new (rows_pieces [] rows) (row_pieces (last_owner [] rows) row) so_far.taken
+          (subst (λ name. Writes mid (row_pieces name row) new) so_far.last taken));
+    }
 
 -- ---- lines by pieces
 
@@ -178,15 +150,16 @@ module _ (width now : ℕ) where
       ∙ ap (λ text. type_begin before owner ++ instance_rows width now row ++ text) (rows_text owner rows)
 
 -- a page by what was found: the number of records, and the width of the first column
-pub page_by_parts : (heard : List Hearing) (at now width count : ℕ) (given : List GivenRow) (rows : List InstanceRow)
-    (others : List (Latest × ℕ)) (old a b new : List ℕ) → AreEach (IsShownAt heard at) given rows → old ≡ [] → count ≡ length given
+pub page_by_parts : (now width count : ℕ) (given : List GivenRow) (rows : List InstanceRow)
+    (others : List (Latest × ℕ)) (old a b new : List ℕ) → given ≡ given_in rows → old ≡ [] → count ≡ length given
     → width ≡ max (widest (map (given_left now) given)) (widest (map (left_text now) others))
     → a ≡ old ++ heading count (codes "instance") (codes "instances") now
     → b ≡ a ++ flat_map (piece_page width now) (rows_pieces [] rows) → new ≡ b ++ others_pretty width now others
     → new ≡ instances_pretty now rows others
-page_by_parts heard at now width count given rows others old a b new each none counts wide head written after =
-    let many = counts ∙ shown-count heard at given rows each in
-    let left = wide ∙ ap (λ texts. max (widest texts) (widest (map (left_text now) others))) (shown-left heard at now given rows each) in
+page_by_parts now width count given rows others old a b new shown none counts wide head written after =
+    let many = counts ∙ ap length shown ∙ length-map rows (λ (row : InstanceRow). row.given) in
+    let left = wide ∙ ap (λ texts. max (widest texts) (widest (map (left_text now) others)))
+    (ap (map (given_left now)) shown ∙ map-map (given_left now) (λ (row : InstanceRow). row.given) rows) in
     let whole = heading (length rows) (codes "instance") (codes "instances") now in
     let first : a ≡ whole
     = head ∙ ap (λ text. text ++ heading count (codes "instance") (codes "instances") now) none

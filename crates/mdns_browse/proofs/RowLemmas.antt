@@ -1,5 +1,5 @@
--- Rows in key order are decided by which rows there are.
-use Rattle.std.proofs.Common.{◌≡◌, refl, sym, ◌∙◌, ap, subst, ℕ, zero, suc, ◌<◌, ◌⊎◌, inl, inr, ◌↔◌, List, [], ◌∷◌, length, map, arith}
+-- Rows in key order are decided by which rows there are, and so is what is a function of them.
+use Rattle.std.proofs.Common.{◌≡◌, refl, sym, ◌∙◌, ap, subst, ℕ, zero, suc, ◌<◌, ◌⊎◌, inl, inr, List, [], ◌∷◌, length, map, arith}
 use Rattle.std.specs.Prelude.{Contains, slice_index_or}
 use Rattle.std.specs.List.{AllByRecursion}
 use Rattle.std.specs.List.Sorted.{IsStrictlySortedBy}
@@ -7,12 +7,16 @@ use Rattle.std.specs.Cmp.{IsTotalOrder}
 use Rattle.std.specs.Ordering.{ordering_reverse}
 use Rattle.std.specs.declared.cmp.Ordering.{Ordering}
 use Rattle.std.specs.declared.cmp.Ordering.TheVariants.{Less, Greater}
+use Rattle.std.proofs.lemmas.Simd.{map-map}
 use Rattle.mdns_message.specs.declared.hearing.Hearing.{Hearing}
+use Rattle.mdns_message.specs.declared.key.Key.{Key}
 use Rattle.mdns_message.specs.Resource.{key_cmp}
 use Rattle.mdns_message.specs.laws.Resource.{key_cmp-total}
 use Rattle.mdns_join.specs.declared.latest.Latest.{Latest}
-use Rattle.mdns_cache.specs.Live.{record_of, AreLiveRecords, IsEnd, IsLive}
-use Rattle.mdns_browse.specs.Services.{AreOthers, GivesOther}
+use Rattle.mdns_cache.specs.Live.{record_of, AreLiveRecords, IsEnd, IsLive, SameHearings}
+use Rattle.mdns_cache.proofs.EndLemmas.{end_among}
+use Rattle.mdns_cache.proofs.StandsPartLemmas.{IsLast-among, same-back}
+use Rattle.mdns_browse.specs.Services.{AreAscending, IsOfLive, lasts_in}
 
 contains_at-cons : {X : Type 0} (x : X) (xs : List X) (z : X) (k : ℕ) → k < length (x ∷ xs)
     → slice_index_or (x ∷ xs) k z ≡ z → (z ≡ x) ⊎ Contains xs z
@@ -82,27 +86,65 @@ same_rows {X} cmp o key (x ∷ xs) (y ∷ ys) sx sy into back =
       | inr after ↦ after
     ]
 
--- rows that are those of one property, in key order, are one list
-one_rows : (Is : Latest → ℕ → Type 0) (rows other_rows : List (Latest × ℕ))
-    → IsStrictlySortedBy key_cmp (map (λ (row : Latest × ℕ). record_of row.0) rows)
-    → IsStrictlySortedBy key_cmp (map (λ (row : Latest × ℕ). record_of row.0) other_rows)
-    → ((l : Latest) (end : ℕ) → Contains rows (l, end) ↔ Is l end) → ((l : Latest) (end : ℕ) → Contains other_rows (l, end) ↔ Is l end)
-    → rows ≡ other_rows
-one_rows Is rows other_rows ascending others_ascending exactly others_exactly =
-    same_rows key_cmp key_cmp-total (λ (row : Latest × ℕ). record_of row.0) rows other_rows ascending others_ascending
-    (λ row among. (others_exactly row.0 row.1).1 ((exactly row.0 row.1).0 among))
-    (λ row among. (exactly row.0 row.1).1 ((others_exactly row.0 row.1).0 among))
+-- ---- the live records
 
--- the live records of hearings, with their ends, are one list of rows
-pub one_live_records : (heard : List Hearing) (now : ℕ) (rows other_rows : List (Latest × ℕ))
+-- a record that is live among some hearings is live among the same ones
+live_among : (heard others : List Hearing) (now : ℕ) (key : Key) (l : Latest) → SameHearings heard others
+    → IsLive heard now key l → IsLive others now key l
+live_among heard others now key l same live = record {
+  last = IsLast-among heard others same key l live.last;
+  running = live.running;
+  unstruck = λ struck. live.unstruck record {
+    flush = struck.flush;
+    strikes = record {
+      among = same.back struck.flush struck.strikes.among;
+      of_set = struck.strikes.of_set;
+      later = struck.strikes.later;
+    };
+    old = struck.old;
+  };
+}
+
+row_among : (heard others : List Hearing) (now : ℕ) (l : Latest) (end : ℕ) → SameHearings heard others
+    → IsLive heard now (record_of l) l × IsEnd heard (record_of l) end → IsLive others now (record_of l) l × IsEnd others (record_of l) end
+row_among heard others now l end same own =
+    (live_among heard others now (record_of l) l same own.0, end_among heard others (record_of l) end same own.1)
+
+shared_records : (heard others : List Hearing) (now : ℕ) (rows : List (Latest × ℕ)) → SameHearings heard others
+    → AreLiveRecords heard now rows → AreLiveRecords others now rows
+shared_records heard others now rows same are = record {
+  ascending = are.ascending;
+  exactly = λ l end. (
+    λ among. row_among heard others now l end same ((are.exactly l end).0 among),
+    λ own. (are.exactly l end).1 (row_among others heard now l end (same-back heard others same) own),
+  );
+}
+
+pub one_records : (heard : List Hearing) (now : ℕ) (rows other_rows : List (Latest × ℕ))
     → AreLiveRecords heard now rows → AreLiveRecords heard now other_rows → rows ≡ other_rows
-one_live_records heard now rows other_rows are others_are =
-    one_rows (λ l end. IsLive heard now (record_of l) l × IsEnd heard (record_of l) end) rows other_rows are.ascending
-    others_are.ascending are.exactly others_are.exactly
+one_records heard now rows other_rows are others_are =
+    same_rows key_cmp key_cmp-total (λ (row : Latest × ℕ). record_of row.0) rows other_rows are.ascending others_are.ascending
+    (λ row among. (others_are.exactly row.0 row.1).1 ((are.exactly row.0 row.1).0 among))
+    (λ row among. (are.exactly row.0 row.1).1 ((others_are.exactly row.0 row.1).0 among))
 
--- and so are those that point to no instance's name
-pub one_others : (heard : List Hearing) (now : ℕ) (rows other_rows : List (Latest × ℕ))
-    → AreOthers heard now rows → AreOthers heard now other_rows → rows ≡ other_rows
-one_others heard now rows other_rows are others_are =
-    one_rows (λ l end. IsLive heard now (record_of l) l × IsEnd heard (record_of l) end × GivesOther l) rows other_rows are.ascending
-    others_are.ascending are.exactly others_are.exactly
+-- the last hearings of live records are each of another record, in key order
+pub ascending_lasts : (heard : List Hearing) (now : ℕ) (rows : List (Latest × ℕ)) → AreLiveRecords heard now rows
+    → AreAscending (lasts_in rows)
+ascending_lasts heard now rows are =
+    subst (IsStrictlySortedBy key_cmp) (sym (map-map record_of (λ (row : Latest × ℕ). row.0) rows)) are.ascending
+
+-- ---- whatever is a function of the live records
+
+module _ {X : Type 0} (value_in : List (Latest × ℕ) → X) (heard others : List Hearing) (now : ℕ) (same : SameHearings heard others) where
+  pub shared_value : (x : X) → IsOfLive value_in heard now x → IsOfLive value_in others now x
+  shared_value x is = record { rows = is.rows; are = shared_records heard others now is.rows same is.are; is = is.is }
+
+  pub one_value : (x y : X) → IsOfLive value_in heard now x → IsOfLive value_in others now y → x ≡ y
+  one_value x y one two =
+      one.is ∙ ap value_in (one_records others now one.rows two.rows (shared_records heard others now one.rows same one.are) two.are)
+      ∙ sym two.is
+
+-- a value of the same rows
+pub like_value : {X : Type 0} {value_in other_in : List (Latest × ℕ) → X} (heard : List Hearing) (now : ℕ) (x : X)
+    → ((rows : List (Latest × ℕ)) → value_in rows ≡ other_in rows) → IsOfLive value_in heard now x → IsOfLive other_in heard now x
+like_value heard now x like is = record { rows = is.rows; are = is.are; is = is.is ∙ like is.rows }

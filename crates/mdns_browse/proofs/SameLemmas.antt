@@ -7,9 +7,9 @@ use Rattle.mdns_message.specs.laws.Resource.{key_cmp-total}
 use Rattle.mdns_join.specs.declared.latest.Latest.{Latest}
 use Rattle.mdns_cache.specs.Live.{IsEnd, record_of}
 use Rattle.mdns_message.specs.declared.key.Key.{Key}
-use Rattle.mdns_browse.specs.Services.{AreRowsOf, AreEach, AreGiven, Holds, IsServerOf, IsTextOf, IsAddressOf, GivesType}
-use Rattle.mdns_browse.specs.Services.{GivesInstance, AreTypes, AreAddresses, IsServerAt, AreServers, AreTexts}
-use Rattle.mdns_browse.specs.Services.{IsInstanceAt, AreInstances, AreInstanceRowsBy, InstanceRow, IsInstanceRowAt}
+use Rattle.mdns_browse.specs.Services.{AreRowsOf, AreEach, AreGiven, Holds, IsServerOf, IsTextOf, IsAddressOf}
+use Rattle.mdns_browse.specs.Services.{GivesInstance, AreAddresses, IsServerAt, AreServers, AreTexts}
+use Rattle.mdns_browse.specs.Services.{IsInstanceAt, AreInstanceRowsBy, InstanceRow, IsInstanceRowAt}
 use Rattle.mdns_browse.specs.declared.instance.Instance.{Instance}
 use Rattle.mdns_browse.specs.declared.instance.Server.{Server}
 use Rattle.mdns_browse.proofs.RowLemmas.{same_rows}
@@ -72,14 +72,6 @@ one_instance heard now row instance other one two =
     one_given (IsTextOf instance.name) (Holds Txt) one_text heard now instance.texts other.texts one.texts
     (subst (λ name. AreTexts heard now name other.texts) (sym name) two.texts) in
     λ i. record { name = name i; servers = servers i; texts = texts i }
-
-pub one_types : (heard : List Hearing) (now : ℕ) (names others : List (List ℕ))
-    → AreTypes heard now names → AreTypes heard now others → names ≡ others
-one_types = one_given GivesType (Holds Ptr) one_pointer
-
-pub one_instances : (heard : List Hearing) (now : ℕ) (instances others : List Instance)
-    → AreInstances heard now instances → AreInstances heard now others → instances ≡ others
-one_instances heard now = one_given GivesInstance (IsInstanceAt heard now) (one_instance heard now) heard now
 
 -- a record has one end
 abbrev pub EndsSame : Type 0

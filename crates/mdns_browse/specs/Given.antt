@@ -1,6 +1,6 @@
 -- Instances by the live records that give them, as these are lent.
 use Rattle.std.specs.Prelude.{◌≡◌, ℕ, List, map, Contains, Option, Some, option_map}
-use Rattle.std.specs.List.{filter}
+use Rattle.std.specs.List.{filter, filter_map}
 use Rattle.mdns_capture.specs.declared.moment.Moment.{Moment}
 use Rattle.mdns_message.specs.declared.hearing.Hearing.{Hearing}
 use Rattle.mdns_join.specs.declared.latest.Latest.{Latest}
@@ -9,7 +9,7 @@ use Rattle.mdns_cache.specs.Rows.{last_lent}
 use Rattle.mdns_browse.specs.About.{AreKept, keeps_instance}
 use Rattle.mdns_browse.specs.declared.about.Subject.{Subject}
 use Rattle.mdns_browse.specs.declared.sheet.Given.{Given}
-use Rattle.mdns_browse.specs.Services.{AreEach, AreInstanceRowsBy, GivenRow, GivesInstance, InstanceRow, IsInstanceAt}
+use Rattle.mdns_browse.specs.Services.{AreEach, AreInstanceRowsBy, GivenRow, GivesInstance, InstanceRow, IsInstanceAt, instance_row_in}
 
 -- a moment in nanoseconds, where there is one
 abbrev pub nanos_in : Option Moment → Option ℕ
@@ -18,6 +18,13 @@ nanos_in since = option_map (λ (moment : Moment). moment.nanos) since
 -- the value of a lent record that gives an instance
 abbrev pub given_lent : Given → GivenRow
 given_lent given = record { last = last_lent given.row.last; end = given.row.end; since = nanos_in given.since }
+
+-- of records that point to instances those whose instance is about one of the subjects
+abbrev pub kept_given : List Subject → List Latest → List GivenRow → List GivenRow
+kept_given about rows given =
+    map (λ (row : InstanceRow). row.given) (filter (λ row. keeps_instance about row.instance) (filter_map (instance_row_in rows) given))
+
+-- ---- instances of pages, by relations
 
 -- a live record with its end and since when it has been live, as one that may give an instance
 abbrev pub given_of_since : (Latest × ℕ) × ℕ → GivenRow

@@ -1,6 +1,6 @@
 -- Reports in readable columns, for people. Each column but the last has ASCII alone and is padded with spaces, so that the
 -- columns stand straight whatever the widths of other characters.
-use Rattle.std.specs.Prelude.{◌≡◌, ℕ, zero, suc, ◌+◌, ◌-◌, ◌==◌, max, nat_lt, if◌then◌else◌}
+use Rattle.std.specs.Prelude.{ℕ, zero, suc, ◌+◌, ◌-◌, ◌==◌, max, nat_lt, if◌then◌else◌}
 use Rattle.std.specs.Prelude.{List, [], ◌∷◌, ◌++◌, length, map, codes}
 use Rattle.std.specs.Fmt.{decimal}
 use Rattle.std.specs.List.{flat_map}
@@ -172,11 +172,3 @@ instances_pretty now rows others =
     let width = instances_width now rows others in
     heading (length rows) (codes "instance") (codes "instances") now
     ++ rows_by_type width now [] rows ++ others_pretty width now others
-
--- ---- reports
-
--- the text of the values that are right, and nothing else
-pub record IsPageOf {X : Type 0} (Are : X → Type 0) (page : X → List ℕ) (text : List ℕ) : Type 0 where
-  pub values : X
-  pub right : Are values
-  pub written : text ≡ page values

@@ -1,18 +1,15 @@
 -- The text of a report.
-use Rattle.std.specs.Prelude.{◌≡◌, ℕ, List}
-use Rattle.std.specs.List.{flat_map}
+use Rattle.std.specs.Prelude.{ℕ, List, map}
+use Rattle.std.specs.List.{filter, flat_map}
 use Rattle.mdns_capture.specs.declared.moment.Moment.{Moment}
 use Rattle.mdns_message.specs.declared.hearing.Hearing.{Hearing}
 use Rattle.mdns_join.specs.declared.latest.Latest.{Latest}
-use Rattle.mdns_cache.specs.Live.{AreLiveRecords}
-use Rattle.mdns_browse.specs.About.{AreKept, keeps_instance, keeps_record, keeps_type}
-use Rattle.mdns_browse.specs.Given.{AreInstanceRowsAbout}
+use Rattle.mdns_browse.specs.About.{keeps_instance, keeps_record, keeps_type}
 use Rattle.mdns_browse.specs.declared.about.Subject.{Subject}
-use Rattle.mdns_browse.specs.declared.instance.Instance.{Instance}
 use Rattle.mdns_browse.specs.Text.{record_line, type_line, instance_lines}
 use Rattle.mdns_browse.specs.Json.{record_json, type_json, instance_json}
-use Rattle.mdns_browse.specs.Pretty.{IsPageOf, instances_pretty, records_pretty, types_pretty}
-use Rattle.mdns_browse.specs.Services.{AreTypes, AreInstances, AreOthers, InstanceRow, IsSinceUnknown}
+use Rattle.mdns_browse.specs.Pretty.{instances_pretty, records_pretty, types_pretty}
+use Rattle.mdns_browse.specs.Services.{InstanceRow, IsOfLive, given_of, instance_rows_in, instances_in, lasts_in, others_in, types_in}
 use Rattle.mdns_browse.specs.declared.report.Ask.{Ask}
 use Rattle.mdns_browse.specs.declared.report.Ask.TheVariants.{Records, Types, Instances}
 use Rattle.mdns_browse.specs.declared.report.Form.{Form}
@@ -20,60 +17,58 @@ use Rattle.mdns_browse.specs.declared.report.Form.TheVariants.{Lines, Json, Pret
 use Rattle.mdns_browse.specs.declared.report.ReportFault.{ReportFault}
 use Rattle.mdns_browse.specs.declared.report.ReportFault.TheVariants.{Early, Memory}
 
--- lines of each of the values that are right, in their order, and nothing else
-pub record IsLinesOf {X : Type 0} (Are : List X → Type 0) (line : X → List ℕ) (text : List ℕ) : Type 0 where
-  pub values : List X
-  pub right : Are values
-  pub lines : text ≡ flat_map line values
+-- the lines of words that answer the question of live records with their ends: a line for each record, for each service type,
+-- or the lines of each service instance, in key order
+abbrev pub lines_in : Ask → List (Latest × ℕ) → List ℕ
+lines_in Records rows = flat_map record_line rows
+lines_in Types rows = flat_map type_line (types_in (lasts_in rows))
+lines_in Instances rows = flat_map instance_lines (instances_in (lasts_in rows))
 
--- the text answers the question over all hearings, as of `now` nanoseconds, with lines of words: a line for each live
--- record with its end, a line for each service type, or the lines of each service instance, in key order
+-- the text answers the question over all hearings, as of `now` nanoseconds
 abbrev pub IsReport : Ask → List Hearing → ℕ → List ℕ → Type 0
-IsReport Records heard now text = IsLinesOf (AreLiveRecords heard now) record_line text
-IsReport Types heard now text = IsLinesOf (AreTypes heard now) type_line text
-IsReport Instances heard now text = IsLinesOf (AreInstances heard now) instance_lines text
+IsReport ask = IsOfLive (lines_in ask)
 
 -- what a report about some subjects lists: of the live records, service types or service instances those that are about one
 -- of them; where there are no subjects, all
-abbrev pub AreRecordsAbout : List Subject → List Hearing → ℕ → List (Latest × ℕ) → Type 0
-AreRecordsAbout about heard now = AreKept (λ row. keeps_record about row.0.resource) (AreLiveRecords heard now)
+abbrev pub records_about : List Subject → List (Latest × ℕ) → List (Latest × ℕ)
+records_about about rows = filter (λ row. keeps_record about row.0.resource) rows
 
-abbrev pub AreTypesAbout : List Subject → List Hearing → ℕ → List (List ℕ) → Type 0
-AreTypesAbout about heard now = AreKept (keeps_type about) (AreTypes heard now)
+abbrev pub types_about : List Subject → List (Latest × ℕ) → List (List ℕ)
+types_about about rows = filter (keeps_type about) (types_in (lasts_in rows))
 
-abbrev pub AreInstancesAbout : List Subject → List Hearing → ℕ → List Instance → Type 0
-AreInstancesAbout about heard now = AreKept (keeps_instance about) (AreInstances heard now)
+-- the instances, each with the live record that gives it
+abbrev pub instances_about : List Subject → List (Latest × ℕ) → List InstanceRow
+instances_about about rows =
+    filter (λ row. keeps_instance about row.instance) (instance_rows_in (lasts_in rows) (map given_of rows))
 
--- the service instances about these subjects, and the live records about them that point from a service to another name
-abbrev pub AreNamesAbout : List Subject → List Hearing → ℕ → List InstanceRow × List (Latest × ℕ) → Type 0
-AreNamesAbout about heard now names =
-    AreInstanceRowsAbout about IsSinceUnknown heard now names.0
-    × AreKept (λ row. keeps_record about row.0.resource) (AreOthers heard now) names.1
+-- the lines of words of these
+abbrev pub lines_about : List Subject → Ask → List (Latest × ℕ) → List ℕ
+lines_about about Records rows = flat_map record_line (records_about about rows)
+lines_about about Types rows = flat_map type_line (types_about about rows)
+lines_about about Instances rows = flat_map (λ row. instance_lines row.instance) (instances_about about rows)
 
--- the text answers the question about these subjects with lines of words, as `IsReport`
-abbrev pub IsLinesReport : List Subject → Ask → List Hearing → ℕ → List ℕ → Type 0
-IsLinesReport about Records heard now text = IsLinesOf (AreRecordsAbout about heard now) record_line text
-IsLinesReport about Types heard now text = IsLinesOf (AreTypesAbout about heard now) type_line text
-IsLinesReport about Instances heard now text = IsLinesOf (AreInstancesAbout about heard now) instance_lines text
+-- one JSON object a line, an instance's with what it says of the record that gives it
+abbrev pub json_about : List Subject → Ask → List (Latest × ℕ) → List ℕ
+json_about about Records rows = flat_map record_json (records_about about rows)
+json_about about Types rows = flat_map type_json (types_about about rows)
+json_about about Instances rows = flat_map instance_json (instances_about about rows)
 
--- the same with one JSON object a line, an instance's with what it says of the record that gives it
-abbrev pub IsJsonReport : List Subject → Ask → List Hearing → ℕ → List ℕ → Type 0
-IsJsonReport about Records heard now text = IsLinesOf (AreRecordsAbout about heard now) record_json text
-IsJsonReport about Types heard now text = IsLinesOf (AreTypesAbout about heard now) type_json text
-IsJsonReport about Instances heard now text = IsLinesOf (AreInstanceRowsAbout about IsSinceUnknown heard now) instance_json text
+-- readable columns, as of `now` nanoseconds: how many there are, and each of them; after the instances the live records that
+-- point from a service to another name
+abbrev pub pretty_about : List Subject → ℕ → Ask → List (Latest × ℕ) → List ℕ
+pretty_about about now Records rows = records_pretty now (records_about about rows)
+pretty_about about now Types rows = types_pretty now (types_about about rows)
+pretty_about about now Instances rows = instances_pretty now (instances_about about rows) (records_about about (others_in rows))
 
--- the same in readable columns: how many there are, and each of them, in key order; after the instances the other names
-abbrev pub IsPrettyReport : List Subject → Ask → List Hearing → ℕ → List ℕ → Type 0
-IsPrettyReport about Records heard now text = IsPageOf (AreRecordsAbout about heard now) (records_pretty now) text
-IsPrettyReport about Types heard now text = IsPageOf (AreTypesAbout about heard now) (types_pretty now) text
-IsPrettyReport about Instances heard now text =
-    IsPageOf (AreNamesAbout about heard now) (λ names. instances_pretty now names.0 names.1) text
+-- the text of a report in that form
+abbrev pub text_about : List Subject → Form → ℕ → Ask → List (Latest × ℕ) → List ℕ
+text_about about Lines now = lines_about about
+text_about about Json now = json_about about
+text_about about Pretty now = pretty_about about now
 
 -- the text answers the question about these subjects in that form
 abbrev pub IsReportIn : List Subject → Form → Ask → List Hearing → ℕ → List ℕ → Type 0
-IsReportIn about Lines = IsLinesReport about
-IsReportIn about Json = IsJsonReport about
-IsReportIn about Pretty = IsPrettyReport about
+IsReportIn about form ask heard now = IsOfLive (text_about about form now ask) heard now
 
 -- a fact of the moment that an `Early` carries
 abbrev pub IfEarly : ReportFault → (Moment → Type 0) → Type 0

@@ -1,7 +1,7 @@
 -- Services: which live records give them (RFC 6763, sections 4, 5 and 9). Names are compared folded (RFC 6762,
 -- section 16), and each is spelled as in the record that gives it.
 use Rattle.std.specs.Prelude.{◌≡◌, ◌⊎◌, ◌↔◌, ℕ, Bool, false, not, ◌&&◌, ◌||◌, nat_le, min, if◌then◌else◌, List, [], ◌∷◌, ◌++◌}
-use Rattle.std.specs.Prelude.{length, map, drop, codes, Contains, Option, None, Some, option_map}
+use Rattle.std.specs.Prelude.{length, map, drop, codes, Contains, Option, None, Some, is_some, option_map}
 use Rattle.std.specs.Cmp.Lexicographic.{slice_cmp}
 use Rattle.std.specs.List.{filter, filter_map}
 use Rattle.std.specs.List.Sorted.{IsStrictlySortedBy}
@@ -13,12 +13,12 @@ use Rattle.mdns_message.specs.declared.body.RecordData.TheVariants as body
 use Rattle.mdns_message.specs.declared.record_type.RecordType.TheVariants as kind
 use Rattle.dns_name.specs.Name.{IsLabel, folded, longest_label, wire_of}
 use Rattle.mdns_join.specs.declared.latest.Latest.{Latest}
-use Rattle.mdns_cache.specs.Live.{IsEnd, IsLive, record_of}
+use Rattle.mdns_cache.specs.Live.{AreLiveRecords, IsEnd, IsLive, record_of}
 use Rattle.mdns_lives.specs.Since.{IsLiveSince}
 use Rattle.mdns_browse.specs.declared.instance.Instance.{Instance}
 use Rattle.mdns_browse.specs.declared.instance.Server.{Server}
 
--- ---- names
+-- ---- names by their labels
 
 -- a service name: any label, then `_tcp` or `_udp`, then `local` (sections 4.1.2 and 7)
 pub record IsServiceName (name : List ℕ) : Type 0 where
@@ -34,16 +34,19 @@ pub record IsInstanceOf (service name : List ℕ) : Type 0 where
   pub sized : IsLabel label
   pub spelled : folded name ≡ length label ∷ (label ++ folded service)
 
+-- ---- names by their bytes
+
 -- the texts are the same but for the case of ASCII letters
 unfoldable pub same_text : List ℕ → List ℕ → Bool
 same_text a b = is_eq (slice_cmp nat_cmp (folded a) (folded b))
 
--- the tests of both, by the bytes of a name: the length octet of a label, the label, and the bytes after it
+-- the name is one label, with its length octet, followed by the other name: an instance of that service (section 4.1)
 unfoldable pub is_instance_of : List ℕ → List ℕ → Bool
 is_instance_of service [] = false
 is_instance_of service (count ∷ bytes) =
     (nat_le 1 count && nat_le count (min longest_label (length bytes))) && same_text (drop count bytes) service
 
+-- a service name: any label, then `_tcp` or `_udp`, then `local` (sections 4.1.2 and 7)
 unfoldable pub is_service_name : List ℕ → Bool
 is_service_name name =
     is_instance_of (wire_of (codes "_tcp" ∷ codes "local" ∷ [])) name
@@ -91,7 +94,8 @@ abbrev pub name_if : (List ℕ → Bool) → Option (List ℕ) → Option (List 
 name_if test None = None
 name_if test (Some name) = if test name then Some name else None
 
--- the name of the service type, of the service instance and of what is no instance, that a record gives
+-- the name of the service type that a record gives (section 9), of the service instance (section 4.1), and the name that is no
+-- instance's of a record that stands where those do that give instances
 unfoldable pub type_given : Latest → Option (List ℕ)
 type_given row = name_if (λ name. same_text row.resource.owner types_owner && is_service_name name) (pointer_of (body_of row))
 
@@ -104,6 +108,10 @@ other_given row =
     name_if (λ name. is_service_name row.resource.owner && not (is_instance_of row.resource.owner name)) (pointer_of (body_of row))
 
 -- ---- what rows give: last hearings of records, each record once, in key order
+
+-- each record once, in key order
+abbrev pub AreAscending : List Latest → Type 0
+AreAscending rows = IsStrictlySortedBy key_cmp (map record_of rows)
 
 -- the record set of an owner and a type number
 abbrev pub set_for : List ℕ → ℕ → RecordSet
@@ -149,15 +157,68 @@ types_in rows = filter_map type_given rows
 
 -- the service instances
 abbrev pub instances_in : List Latest → List Instance
-instances_in rows = filter_map (λ row. option_map (instance_in rows) (instance_given row)) rows
+instances_in rows = map (instance_in rows) (filter_map instance_given rows)
+
+-- the PTR record that gives an instance: its last hearing, its end, and since when it has been live, where that is known
+pub record GivenRow : Type 0 where
+  pub last : Latest
+  pub end : ℕ
+  pub since : Option ℕ
+
+-- an instance, with the record that gives it
+pub record InstanceRow : Type 0 where
+  pub given : GivenRow
+  pub instance : Instance
+
+-- the instance to whose name a record points, with its servers and its texts among the rows
+abbrev pub instance_row_in : List Latest → GivenRow → Option InstanceRow
+instance_row_in rows given =
+    option_map (λ name. record { given = given; instance = instance_in rows name }) (pointer_of (body_of given.last))
+
+abbrev pub gives_instance : GivenRow → Bool
+gives_instance given = is_some (instance_given given.last)
+
+-- the instances of those records that give one
+abbrev pub instance_rows_in : List Latest → List GivenRow → List InstanceRow
+instance_rows_in rows given = filter_map (instance_row_in rows) (filter gives_instance given)
+
+-- ---- what live records give, by their last hearings and ends in key order
+
+-- the last hearings
+abbrev pub lasts_in : List (Latest × ℕ) → List Latest
+lasts_in rows = map (λ (row : Latest × ℕ). row.0) rows
+
+-- a live record as one that may give an instance; it isn't known since when it has been live
+abbrev pub given_of : Latest × ℕ → GivenRow
+given_of row = record { last = row.0; end = row.1; since = None }
+
+-- those that point from a service to a name that is no instance's
+abbrev pub others_in : List (Latest × ℕ) → List (Latest × ℕ)
+others_in rows = filter (λ row. is_some (other_given row.0)) rows
 
 -- ---- what hearings give
 
--- the live records that point from a service to such a name, by their last hearings and ends, each record once, in key order
-pub record AreOthers (heard : List Hearing) (now : ℕ) (rows : List (Latest × ℕ)) : Type 0 where
-  pub ascending : IsStrictlySortedBy key_cmp (map (λ (row : Latest × ℕ). record_of row.0) rows)
-  pub exactly : (l : Latest) (end : ℕ) → Contains rows (l, end)
-      ↔ (IsLive heard now (record_of l) l × IsEnd heard (record_of l) end × GivesOther l)
+-- the value is that of the live records
+pub record IsOfLive {X : Type 0} (value_in : List (Latest × ℕ) → X) (heard : List Hearing) (now : ℕ) (value : X) : Type 0 where
+  pub rows : List (Latest × ℕ)
+  pub are : AreLiveRecords heard now rows
+  pub is : value ≡ value_in rows
+
+-- the names of the service types
+abbrev pub AreTypes : List Hearing → ℕ → List (List ℕ) → Type 0
+AreTypes = IsOfLive (λ rows. types_in (lasts_in rows))
+
+-- the service instances
+abbrev pub AreInstances : List Hearing → ℕ → List Instance → Type 0
+AreInstances = IsOfLive (λ rows. instances_in (lasts_in rows))
+
+-- each item belongs to the row at its place, and there are as many
+abbrev pub AreEach : {X Y : Type 0} → (X → Y → Type 0) → List X → List Y → Type 0
+AreEach Is [] [] = Unit {0}
+AreEach Is (x ∷ xs) (y ∷ ys) = Is x y × AreEach Is xs ys
+AreEach Is _ _ = ⊥
+
+-- ---- instances of pages, by relations
 
 -- a record of the name with that type number
 pub record IsOfSet (name : List ℕ) (number : ℕ) (last : Latest) : Type 0 where
@@ -181,12 +242,6 @@ pub record AreRowsOf (Is : Latest → Type 0) (heard : List Hearing) (now : ℕ)
   pub ascending : IsStrictlySortedBy key_cmp (map record_of rows)
   pub exactly : (l : Latest) → Contains rows l ↔ (IsLive heard now (record_of l) l × Is l)
 
--- each item belongs to the row at its place, and there are as many
-abbrev pub AreEach : {X Y : Type 0} → (X → Y → Type 0) → List X → List Y → Type 0
-AreEach Is [] [] = Unit {0}
-AreEach Is (x ∷ xs) (y ∷ ys) = Is x y × AreEach Is xs ys
-AreEach Is _ _ = ⊥
-
 -- the row's data is that of a value
 abbrev pub Holds : {X : Type 0} → (X → Body) → Latest → X → Type 0
 Holds data_with row value = body_of row ≡ data_with value
@@ -197,10 +252,6 @@ pub record AreGiven {X : Type 0} (Gives : Latest → Type 0) (Is : Latest → X 
   pub rows : List Latest
   pub right : AreRowsOf Gives heard now rows
   pub each : AreEach Is rows values
-
--- the names of the service types
-abbrev pub AreTypes : List Hearing → ℕ → List (List ℕ) → Type 0
-AreTypes = AreGiven GivesType (Holds body.Ptr)
 
 -- the addresses of a name
 abbrev pub AreAddresses : List Hearing → ℕ → List ℕ → List Body → Type 0
@@ -225,35 +276,16 @@ pub record IsInstanceAt (heard : List Hearing) (now : ℕ) (row : Latest) (insta
   pub servers : AreServers heard now instance.name instance.servers
   pub texts : AreTexts heard now instance.name instance.texts
 
--- the service instances
-abbrev pub AreInstances : List Hearing → ℕ → List Instance → Type 0
-AreInstances heard now = AreGiven GivesInstance (IsInstanceAt heard now) heard now
-
 -- ---- instances, each with the live record that gives it
-
--- the PTR record that gives an instance: its last hearing, its end, and since when it has been live, where that is known
-pub record GivenRow : Type 0 where
-  pub last : Latest
-  pub end : ℕ
-  pub since : Option ℕ
 
 pub record IsGivenAt (IsSince : Latest → Option ℕ → Type 0) (heard : List Hearing) (last : Latest) (given : GivenRow) : Type 0 where
   pub same : given.last ≡ last
   pub ends : IsEnd heard (record_of last) given.end
   pub since : IsSince last given.since
 
--- the hearings alone don't say since when a record has been live
-abbrev pub IsSinceUnknown : Latest → Option ℕ → Type 0
-IsSinceUnknown last since = since ≡ None
-
 -- the record has been live since then
 abbrev pub IsSinceKnown : List Hearing → ℕ → Latest → Option ℕ → Type 0
 IsSinceKnown heard now last since = (from : ℕ) × (since ≡ Some from) × IsLiveSince heard now (record_of last) from
-
--- an instance, with the record that gives it
-pub record InstanceRow : Type 0 where
-  pub given : GivenRow
-  pub instance : Instance
 
 pub record IsInstanceRowAt (IsSince : Latest → Option ℕ → Type 0) (heard : List Hearing) (now : ℕ) (last : Latest) (row : InstanceRow)
     : Type 0 where
@@ -264,9 +296,6 @@ pub record IsInstanceRowAt (IsSince : Latest → Option ℕ → Type 0) (heard :
 abbrev pub AreInstanceRowsBy : (Latest → Option ℕ → Type 0) → List Hearing → ℕ → List InstanceRow → Type 0
 AreInstanceRowsBy IsSince heard now = AreGiven GivesInstance (IsInstanceRowAt IsSince heard now) heard now
 
--- the same, where nothing is known of since when the records have been live, and where it is known of each
-abbrev pub AreInstanceRows : List Hearing → ℕ → List InstanceRow → Type 0
-AreInstanceRows heard = AreInstanceRowsBy IsSinceUnknown heard
-
+-- the same, where it is known since when each record has been live
 abbrev pub AreInstanceRowsSince : List Hearing → ℕ → List InstanceRow → Type 0
 AreInstanceRowsSince heard now = AreInstanceRowsBy (IsSinceKnown heard now) heard now

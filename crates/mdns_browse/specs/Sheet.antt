@@ -2,16 +2,14 @@
 use Rattle.std.specs.Prelude.{◌≡◌, ℕ, Bool, ◌==◌, List, [], ◌∷◌, ◌++◌, length, map, string_bytes}
 use Rattle.std.specs.declared.string.String.{String}
 use Rattle.std.specs.List.{flat_map}
-use Rattle.mdns_message.specs.declared.hearing.Hearing.{Hearing}
 use Rattle.mdns_message.specs.Resource.{Body}
 use Rattle.mdns_join.specs.declared.latest.Latest.{Latest}
 use Rattle.mdns_browse.specs.declared.about.Subject.{Subject}
 use Rattle.mdns_browse.specs.declared.instance.Server.{Server}
 use Rattle.mdns_browse.specs.declared.report.Ask.{Ask}
 use Rattle.mdns_browse.specs.declared.report.Ask.TheVariants.{Records, Types, Instances}
-use Rattle.mdns_browse.specs.Given.{AreInstanceRowsAbout}
-use Rattle.mdns_browse.specs.Report.{AreRecordsAbout, AreTypesAbout}
-use Rattle.mdns_browse.specs.Services.{GivenRow, InstanceRow, IsSinceUnknown}
+use Rattle.mdns_browse.specs.Report.{instances_about, records_about, types_about}
+use Rattle.mdns_browse.specs.Services.{GivenRow, InstanceRow}
 
 -- a piece of a report
 pub data Piece : Type 0 where
@@ -64,9 +62,8 @@ pub record AddsPieces {S P X : Type 0} (takes : S → List P → S → Type 0) (
   pub right : Is value
   pub taken : takes old (pieces value) new
 
--- a sheet has taken the pieces of the answer to a question about some subjects over all hearings, as of `now` nanoseconds
-abbrev pub AddsReport : {S : Type 0} → (S → List Piece → S → Type 0) → List Subject → Ask → List Hearing → ℕ → S → S → Type 0
-AddsReport takes about Records heard now = AddsPieces takes (AreRecordsAbout about heard now) (map live_record)
-AddsReport takes about Types heard now = AddsPieces takes (AreTypesAbout about heard now) (map service_type)
-AddsReport takes about Instances heard now =
-    AddsPieces takes (AreInstanceRowsAbout about IsSinceUnknown heard now) (flat_map instance_pieces)
+-- the pieces of the answer to a question about some subjects, of the live records
+abbrev pub report_pieces : List Subject → Ask → List (Latest × ℕ) → List Piece
+report_pieces about Records rows = map live_record (records_about about rows)
+report_pieces about Types rows = map service_type (types_about about rows)
+report_pieces about Instances rows = flat_map instance_pieces (instances_about about rows)

@@ -3,8 +3,8 @@
 ghost use Rattle.std.specs.Prelude.{◌≡◌, string_bytes, MatchOption};
 ghost use Rattle.std.specs.Net.Grammar.{IsIpText};
 
+pub(crate) use crate::keeps::keeps_type;
 pub use crate::keeps::{keeps_heard_instance, keeps_record};
-pub(crate) use crate::keeps::{keeps_instance, keeps_type};
 use dns_name::fold::folded_eq;
 use std::net::IpAddr;
 

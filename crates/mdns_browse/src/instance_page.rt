@@ -1,18 +1,19 @@
 //! Service instances in readable columns, for people.
 
-ghost use Rattle.std.specs.Prelude.{◌≡◌, List, ℕ, [], map, max, IfOk, OnOk};
+ghost use Rattle.std.specs.Prelude.{◌≡◌, List, [], map, max, IfOk, OnOk};
+ghost use Rattle.std.specs.List.{filter_map};
 ghost use Rattle.std.specs.String.{string_bytes};
 ghost use Rattle.mdns_message.specs.declared.hearing.Hearing.{Hearing};
-ghost use Rattle.mdns_message.specs.declared.body.RecordData.TheVariants.{Ptr};
 ghost use Rattle.mdns_cache.specs.Contents.{StandsFor};
-ghost use Rattle.mdns_cache.specs.Live.{NoneLater, AreLiveRows};
+ghost use Rattle.mdns_cache.specs.Live.{NoneLater};
 ghost use Rattle.mdns_cache.specs.Rows.{last_lent, live_record_lent};
-ghost use Rattle.mdns_browse.specs.Given.{IsShownAt, given_lent};
+ghost use Rattle.mdns_browse.specs.Given.{given_lent};
 ghost use Rattle.mdns_browse.specs.Page.{Writes, row_pieces, rows_pieces, type_pieces};
-ghost use Rattle.mdns_browse.specs.Pretty.{IsPageOf, given_left, instances_pretty, left_text, widest};
-ghost use Rattle.mdns_browse.specs.Report.{AreNamesAbout};
-ghost use Rattle.mdns_browse.specs.Services.{AreEach, InstanceRow, body_of};
-ghost use Rattle.mdns_browse.specs.Sheet.{AddsPieces};
+ghost use Rattle.mdns_browse.specs.Pretty.{given_left, left_text, widest};
+ghost use Rattle.mdns_browse.specs.Report.{IsReportIn};
+ghost use Rattle.mdns_browse.specs.Services.{AreAscending, instance_in, instance_row_in};
+ghost use Rattle.mdns_browse.specs.declared.report.Ask.TheVariants.{Instances};
+ghost use Rattle.mdns_browse.specs.declared.report.Form.TheVariants.{Pretty};
 
 use crate::about::Subject;
 use crate::columns::{left_len, left_width, push_heading, wider};
@@ -37,8 +38,7 @@ pub(crate) fn instances_page(
 ) -> Result<String, Want>
     requires { NoneLater cache.now.newest now }
     ensures { IfOk result (λ text. (heard : List Hearing) → StandsFor cache.now heard
-        → IsPageOf (AreNamesAbout about.now heard now.nanos) (λ names. instances_pretty now.nanos names.0 names.1)
-        (string_bytes text)) }
+        → IsReportIn about.now Pretty Instances heard now.nanos (string_bytes text)) }
 {
     let gathered = given_in(alloc, cache.walk_live(now), about)?;
     let listed = gathered.given.as_slice();
@@ -80,9 +80,8 @@ fn given_width(alloc: Global, now: Moment, given: &[Given<'_>]) -> Result<usize,
 
 // Appends each instance, and before the first of a type the type's name. The servers and texts are looked up in the rows.
 fn push_instances(page: &mut Page, rows: &[Last<'_>], given: &[Given<'_>]) -> Result<(), Want>
-    ensures { OnOk result ((heard : List Hearing) (now : ℕ) (shown : List InstanceRow)
-        → AreLiveRows heard now (map last_lent rows.now) → AreEach (IsShownAt heard now) (map given_lent given.now) shown
-        → Writes page.old (rows_pieces [] shown) page.new) }
+    ensures { OnOk result (AreAscending (map last_lent rows.now) → Writes page.old
+        (rows_pieces [] (filter_map (instance_row_in (map last_lent rows.now)) (map given_lent given.now))) page.new) }
 {
     let mut before: &[u8] = b"";
     for row in given {
@@ -104,9 +103,10 @@ fn push_instance(
     name: &Name,
     before: &[u8],
 ) -> Result<(), Want>
-    ensures { OnOk result ((heard : List Hearing) (now : ℕ) → AreLiveRows heard now (map last_lent rows.now)
-        → body_of (last_lent given.now.row.last) ≡ Ptr name.now
-        → AddsPieces Writes (IsShownAt heard now (given_lent given.now)) (row_pieces before.now) page.old page.new) }
+    ensures { OnOk result (AreAscending (map last_lent rows.now) → Writes page.old (row_pieces before.now (record {
+      given = given_lent given.now;
+      instance = instance_in (map last_lent rows.now) name.now;
+    })) page.new) }
 {
     push_type(page, before, &given.row.last.resource.owner)?;
     walk_instance(page, rows, given, name)

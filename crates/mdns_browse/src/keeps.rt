@@ -1,17 +1,10 @@
 //! Which records, service types and instances are about a subject.
 
-ghost use Rattle.std.specs.Prelude.{◌≡◌, ℕ, IfOk, List, map};
-ghost use Rattle.std.specs.List.Sorted.{IsStrictlySortedBy};
+ghost use Rattle.std.specs.Prelude.{◌≡◌, IfOk, map};
 ghost use Rattle.mdns_message.specs.Borrowed.{resource_lent};
-ghost use Rattle.mdns_message.specs.Resource.{key_cmp};
-ghost use Rattle.mdns_message.specs.declared.hearing.Hearing.{Hearing};
-ghost use Rattle.mdns_message.specs.declared.body.RecordData.TheVariants.{Ptr};
-ghost use Rattle.mdns_join.specs.declared.latest.Latest.{Latest};
-ghost use Rattle.mdns_cache.specs.Live.{AreLiveRows, record_of};
 ghost use Rattle.mdns_cache.specs.Rows.{last_lent};
-ghost use Rattle.mdns_browse.specs.About.{keeps_heard, keeps_instance, keeps_record, keeps_type};
-ghost use Rattle.mdns_browse.specs.Services.{IsInstanceAt, body_of};
-ghost use Rattle.mdns_browse.specs.declared.instance.Instance.{Instance};
+ghost use Rattle.mdns_browse.specs.About.{keeps_heard, keeps_record, keeps_type};
+ghost use Rattle.mdns_browse.specs.Services.{AreAscending};
 
 use crate::about::Subject;
 use crate::about_data::is_in_data;
@@ -55,26 +48,11 @@ pub fn keeps_heard_instance(
     name: &Name,
     scratch: &mut String,
 ) -> Result<bool, Want>
-    ensures { IfOk result (λ keeps. IsStrictlySortedBy key_cmp (map record_of (map last_lent rows.now))
+    ensures { IfOk result (λ keeps. AreAscending (map last_lent rows.now)
         → keeps ≡ keeps_heard about.now (map last_lent rows.now) name.now) }
 {
     if about.is_empty() {
         return Ok(true);
     }
     is_in_instance(about, rows, name, scratch)
-}
-
-/// Returns whether an instance is about one of the subjects: whether its name is one, its type, a server or an address
-/// of one; `true` where there are no subjects. The servers are looked up in the rows, which are the live records.
-pub(crate) fn keeps_instance(
-    about: &[Subject],
-    rows: &[Last<'_>],
-    name: &Name,
-    scratch: &mut String,
-) -> Result<bool, Want>
-    ensures { IfOk result (λ keeps. (heard : List Hearing) (now : ℕ) → AreLiveRows heard now (map last_lent rows.now)
-        → (row : Latest) → body_of row ≡ Ptr name.now → (instance : Instance) → IsInstanceAt heard now row instance
-        → keeps ≡ keeps_instance about.now instance) }
-{
-    keeps_heard_instance(about, rows, name, scratch)
 }

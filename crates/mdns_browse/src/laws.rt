@@ -13,7 +13,6 @@ ghost use Rattle.mdns_browse.specs.declared.about.Subject.{Subject};
 ghost use Rattle.mdns_browse.specs.declared.report.Form.{Form};
 ghost use Rattle.mdns_browse.specs.declared.report.Form.TheVariants.{Lines};
 
-use mdns_cache::laws::one_end;
 pub use mdns_message::laws::strings_of_text;
 
 /// The same hearings, in whatever order and however often, have the same report as of a moment: a report on one list of
@@ -36,9 +35,7 @@ pub fn same_report_in()
     ensures same { (about : List Subject) (form : Form) (ask : Ask) (heard others : List Hearing) (now : ℕ)
         (text other : List ℕ) → SameHearings heard others → IsReportIn about form ask heard now text
         → IsReportIn about form ask others now other → text ≡ other }
-{
-    one_end();
-}
+{}
 
 /// A report about no subjects lists all, so in lines of words it is the report.
 pub fn report_about_all()

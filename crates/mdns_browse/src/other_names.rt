@@ -1,14 +1,12 @@
 //! Names that live records of a service give, and that no instance has, in readable columns.
 
-ghost use Rattle.std.specs.Prelude.{◌≡◌, ◌++◌, ℕ, List, map, IfOk, OnOk};
+ghost use Rattle.std.specs.Prelude.{◌≡◌, ◌++◌, map, IfOk, OnOk};
 ghost use Rattle.std.specs.List.{flat_map};
 ghost use Rattle.std.specs.String.{string_bytes};
-ghost use Rattle.mdns_message.specs.declared.hearing.Hearing.{Hearing};
-ghost use Rattle.mdns_cache.specs.Live.{AreLiveRecords};
 ghost use Rattle.mdns_cache.specs.Rows.{live_record_lent};
-ghost use Rattle.mdns_browse.specs.About.{AreKept, keeps_record};
 ghost use Rattle.mdns_browse.specs.Pretty.{other_row, others_pretty};
-ghost use Rattle.mdns_browse.specs.Services.{AreOthers};
+ghost use Rattle.mdns_browse.specs.Report.{records_about};
+ghost use Rattle.mdns_browse.specs.Services.{others_in};
 
 use crate::about::Subject;
 use crate::columns::push_padded_left;
@@ -26,8 +24,7 @@ pub(crate) fn kept_others<'a>(
     about: &[Subject],
     walk: LiveWalk<'a>,
 ) -> Result<Vec<LiveRecord<'a>>, Want>
-    ensures { IfOk result (λ rows. (heard : List Hearing) (now : ℕ) → AreLiveRecords heard now walk.entry
-        → AreKept (λ row. keeps_record about.now row.0.resource) (AreOthers heard now) (map live_record_lent rows.items)) }
+    ensures { IfOk result (λ rows. map live_record_lent rows.items ≡ records_about about.now (others_in walk.entry)) }
 {
     let mut scratch = String::new(alloc);
     let mut rows = Vec::new(alloc);

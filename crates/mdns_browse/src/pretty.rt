@@ -1,23 +1,24 @@
 //! Reports in readable columns, for people.
 
-ghost use Rattle.std.specs.Prelude.{◌≡◌, ◌<◌, ◌++◌, ◌∷◌, [], ℕ, List, length, map, IfOk, OnOk};
+ghost use Rattle.std.specs.Prelude.{◌≡◌, ◌<◌, ◌++◌, ◌∷◌, [], List, length, map, IfOk, OnOk};
 ghost use Rattle.std.specs.List.{filter, flat_map};
 ghost use Rattle.std.specs.String.{string_bytes};
 ghost use Rattle.mdns_message.specs.declared.hearing.Hearing.{Hearing};
 ghost use Rattle.mdns_cache.specs.Contents.{StandsFor};
-ghost use Rattle.mdns_cache.specs.Live.{NoneLater, AreLiveRows};
-ghost use Rattle.mdns_cache.specs.Rows.{last_lent, live_record_lent};
-ghost use Rattle.mdns_browse.specs.About.{keeps_record, keeps_type};
-ghost use Rattle.mdns_browse.specs.Pretty.{IsPageOf, record_heads, record_row, record_table, records_pretty};
-ghost use Rattle.mdns_browse.specs.Pretty.{type_row, types_pretty};
-ghost use Rattle.mdns_browse.specs.Report.{AreRecordsAbout, AreTypesAbout};
+ghost use Rattle.mdns_cache.specs.Live.{NoneLater};
+ghost use Rattle.mdns_cache.specs.Rows.{live_record_lent};
+ghost use Rattle.mdns_browse.specs.About.{keeps_type};
+ghost use Rattle.mdns_browse.specs.Pretty.{record_heads, record_row, record_table, records_pretty, type_row, types_pretty};
+ghost use Rattle.mdns_browse.specs.Report.{IsReportIn, records_about, types_about};
+ghost use Rattle.mdns_browse.specs.declared.report.Ask.TheVariants.{Records, Types};
+ghost use Rattle.mdns_browse.specs.declared.report.Form.TheVariants.{Pretty};
 
 use crate::about::{Subject, keeps_record, keeps_type};
 use crate::columns::{left_width, push_heading, push_padded, push_padded_left, wider};
 use crate::report::Ask;
 use crate::services::type_of;
 use crate::shown::push_shown_record;
-use mdns_cache::{Cache, Last, LiveRecord, LiveWalk};
+use mdns_cache::{Cache, LiveRecord, LiveWalk};
 use mdns_capture::Moment;
 use mdns_message::{Name, Want};
 use people_text::moments::push_seconds;
@@ -33,7 +34,7 @@ pub(crate) fn records_page(
 ) -> Result<String, Want>
     requires { NoneLater cache.now.newest now }
     ensures { IfOk result (λ text. (heard : List Hearing) → StandsFor cache.now heard
-        → IsPageOf (AreRecordsAbout about.now heard now.nanos) (records_pretty now.nanos) (string_bytes text)) }
+        → IsReportIn about.now Pretty Records heard now.nanos (string_bytes text)) }
 {
     let rows = kept_records(alloc, about, cache.walk_live(now))?;
     let mut text = String::new(alloc);
@@ -47,8 +48,7 @@ fn kept_records<'a>(
     about: &[Subject],
     walk: LiveWalk<'a>,
 ) -> Result<Vec<LiveRecord<'a>>, Want>
-    ensures { IfOk result (λ rows. map live_record_lent rows.items
-        ≡ filter (λ row. keeps_record about.now row.0.resource) walk.entry) }
+    ensures { IfOk result (λ rows. map live_record_lent rows.items ≡ records_about about.now walk.entry) }
 {
     let mut scratch = String::new(alloc);
     let mut rows = Vec::new(alloc);
@@ -66,7 +66,7 @@ pub(crate) fn push_kept_record<'a>(
     scratch: &mut String,
 ) -> Result<(), Want>
     ensures { OnOk result (map live_record_lent to.new.items ≡ map live_record_lent to.old.items
-        ++ filter (λ row. keeps_record about.now row.0.resource) (live_record_lent row.entry ∷ [])) }
+        ++ records_about about.now (live_record_lent row.entry ∷ [])) }
 {
     if keeps_record(about, &row.last.resource.borrowed(), scratch)? {
         to.push(row)?;
@@ -152,28 +152,26 @@ pub(crate) fn types_page(
 ) -> Result<String, Want>
     requires { NoneLater cache.now.newest now }
     ensures { IfOk result (λ text. (heard : List Hearing) → StandsFor cache.now heard
-        → IsPageOf (AreTypesAbout about.now heard now.nanos) (types_pretty now.nanos) (string_bytes text)) }
+        → IsReportIn about.now Pretty Types heard now.nanos (string_bytes text)) }
 {
-    let rows = cache.live(alloc, now)?;
-    let names = type_names(alloc, about, rows.as_slice())?;
+    let names = type_names(alloc, about, cache.walk_live(now))?;
     let mut text = String::new(alloc);
     push_types(&mut text, now, names.as_slice())?;
     Ok(text)
 }
 
-// Collects the names of the service types among the rows that are about the subjects.
+// Collects the names of the service types that are about the subjects.
 fn type_names<'a>(
     alloc: Global,
     about: &[Subject],
-    rows: &[Last<'a>],
+    walk: LiveWalk<'a>,
 ) -> Result<Vec<&'a Name>, Want>
-    ensures { IfOk result (λ names. (heard : List Hearing) (now : ℕ) → AreLiveRows heard now (map last_lent rows.now)
-        → AreTypesAbout about.now heard now (map (λ name. name.now) names.items)) }
+    ensures { IfOk result (λ names. map (λ name. name.now) names.items ≡ types_about about.now walk.entry) }
 {
     let mut scratch = String::new(alloc);
     let mut names = Vec::new(alloc);
-    for row in rows {
-        let Some(name) = type_of(row) else {
+    for row in walk {
+        let Some(name) = type_of(&row.last) else {
             continue;
         };
         push_kept_name(&mut names, about, name, &mut scratch)?;

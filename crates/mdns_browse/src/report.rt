@@ -5,7 +5,8 @@ ghost use Rattle.std.specs.String.{string_bytes};
 ghost use Rattle.mdns_message.specs.declared.hearing.Hearing.{Hearing};
 ghost use Rattle.mdns_cache.specs.Live.{NoneLater};
 ghost use Rattle.mdns_cache.specs.Contents.{StandsFor};
-ghost use Rattle.mdns_browse.specs.Report.{IsReport, IsReportIn, IsLinesReport, IsJsonReport, IsPrettyReport, IfEarly};
+ghost use Rattle.mdns_browse.specs.Report.{IsReport, IsReportIn, IfEarly};
+ghost use Rattle.mdns_browse.specs.declared.report.Form.TheVariants.{Json, Lines, Pretty};
 
 use crate::about::Subject;
 use crate::instance_page::instances_page;
@@ -128,7 +129,7 @@ fn lines_of(
 ) -> Result<String, Want>
     requires { NoneLater cache.now.newest now }
     ensures { IfOk result (λ text. (heard : List Hearing) → StandsFor cache.now heard
-        → IsLinesReport about.now ask heard now.nanos (string_bytes text)) }
+        → IsReportIn about.now Lines ask heard now.nanos (string_bytes text)) }
 {
     let mut text = String::new(alloc);
     walk(&mut text, alloc, cache, ask, about, now)?;
@@ -145,7 +146,7 @@ fn objects_of(
 ) -> Result<String, Want>
     requires { NoneLater cache.now.newest now }
     ensures { IfOk result (λ text. (heard : List Hearing) → StandsFor cache.now heard
-        → IsJsonReport about.now ask heard now.nanos (string_bytes text)) }
+        → IsReportIn about.now Json ask heard now.nanos (string_bytes text)) }
 {
     let mut objects = Objects::new(alloc);
     walk(&mut objects, alloc, cache, ask, about, now)?;
@@ -162,7 +163,7 @@ fn page_of(
 ) -> Result<String, Want>
     requires { NoneLater cache.now.newest now }
     ensures { IfOk result (λ text. (heard : List Hearing) → StandsFor cache.now heard
-        → IsPrettyReport about.now ask heard now.nanos (string_bytes text)) }
+        → IsReportIn about.now Pretty ask heard now.nanos (string_bytes text)) }
 {
     match ask {
         Ask::Records => records_page(alloc, cache, about, now),

@@ -1,20 +1,24 @@
 //! Service types and service instances among the live records (RFC 6763, sections 4, 5 and 9).
 
-ghost use Rattle.std.specs.Prelude.{◌≡◌, ◌++◌, ℕ, List, map, option_map, IfOk, IfSome, IfNone, OnOk};
+ghost use Rattle.std.specs.Prelude.{◌≡◌, ◌++◌, List, map, option_map, IfOk, IfSome, IfNone, OnOk};
+ghost use Rattle.std.specs.List.{filter_map};
 ghost use Rattle.mdns_message.specs.declared.hearing.Hearing.{Hearing};
 ghost use Rattle.mdns_message.specs.declared.body.RecordData.TheVariants.{Ptr};
-ghost use Rattle.mdns_cache.specs.Live.{NoneLater, AreLiveRows};
+ghost use Rattle.mdns_cache.specs.Live.{NoneLater};
 ghost use Rattle.mdns_cache.specs.Contents.{StandsFor};
 ghost use Rattle.mdns_cache.specs.Rows.{last_lent};
-ghost use Rattle.mdns_browse.specs.Services.{instance_given, is_instance_of, is_service_name, other_given, same_text, type_given};
-ghost use Rattle.mdns_browse.specs.Services.{types_owner, body_of, GivesType, GivesInstance, GivesOther, AreTypes, AreAddresses};
-ghost use Rattle.mdns_browse.specs.Services.{AreServers, AreTexts, AreInstances};
+ghost use Rattle.mdns_browse.specs.Given.{given_lent};
+ghost use Rattle.mdns_browse.specs.Services.{AreAscending, AreInstances, AreTypes, GivesInstance, GivesOther, InstanceRow};
+ghost use Rattle.mdns_browse.specs.Services.{addresses_in, body_of, instance_given, instance_in, instance_row_in, is_instance_of, lasts_in};
+ghost use Rattle.mdns_browse.specs.Services.{is_service_name, other_given, same_text, servers_in, texts_in, type_given, types_in, types_owner};
 
+use crate::given::gather;
 use crate::instance::{Addresses, InOrder, Instance, Server, Servers, Texts};
 use crate::lookup::of_set;
+use crate::sheet::Given;
 use dns_name::fold::folded_eq;
 use dns_name::name::split_label;
-use mdns_cache::{Cache, Last};
+use mdns_cache::{Cache, Last, LiveWalk};
 use mdns_capture::Moment;
 use mdns_message::{Body, Name, RecordType, Want};
 use std::alloc::Global;
@@ -56,9 +60,7 @@ fn is_instance_of(service: &[u8], name: &Name) -> bool
 /// Returns the name of the service type that a record lists, if it lists one.
 #[tactic(auto, unfolding(crate::specs::Services::type_given))]
 pub(crate) fn type_of<'a>(row: &Last<'a>) -> Option<&'a Name>
-    ensures given { option_map (λ name. name.now) result ≡ type_given (last_lent row.now) }
-    ensures some { IfSome result (λ name. GivesType (last_lent row.now) × (body_of (last_lent row.now) ≡ Ptr name.now)) }
-    ensures none { IfNone result (GivesType (last_lent row.now) → ⊥) }
+    ensures { option_map (λ name. name.now) result ≡ type_given (last_lent row.now) }
 {
     let Body::Ptr(name) = &row.resource.body else {
         return None;
@@ -105,8 +107,8 @@ pub fn other_of<'a>(row: &Last<'a>) -> Option<&'a Name>
 
 // Collects the addresses of a name: its A records, and then its AAAA records, which have the greater type number.
 fn addresses(alloc: Global, rows: &[Last<'_>], name: &Name) -> Result<Addresses, Want>
-    ensures { IfOk result (λ addresses. (heard : List Hearing) (now : ℕ) → AreLiveRows heard now (map last_lent rows.now)
-        → AreAddresses heard now name.now addresses) }
+    ensures { IfOk result (λ addresses. AreAscending (map last_lent rows.now)
+        → addresses ≡ addresses_in (map last_lent rows.now) name.now) }
 {
     let mut found = Vec::new(alloc);
     push_bodies(&mut found, alloc, of_set(rows, name, RecordType::A))?;
@@ -126,8 +128,8 @@ fn push_bodies(to: &mut Vec<Body>, alloc: Global, rows: &[Last<'_>]) -> Result<(
 
 // Collects the servers of a name, each with the addresses of its target.
 fn servers(alloc: Global, rows: &[Last<'_>], name: &Name) -> Result<Servers, Want>
-    ensures { IfOk result (λ servers. (heard : List Hearing) (now : ℕ) → AreLiveRows heard now (map last_lent rows.now)
-        → AreServers heard now name.now servers) }
+    ensures { IfOk result (λ servers. AreAscending (map last_lent rows.now)
+        → servers ≡ servers_in (map last_lent rows.now) name.now) }
 {
     let mut servers = Vec::new(alloc);
     for row in of_set(rows, name, RecordType::Srv) {
@@ -154,8 +156,8 @@ fn servers(alloc: Global, rows: &[Last<'_>], name: &Name) -> Result<Servers, Wan
 
 // Collects the texts of a name.
 fn texts(alloc: Global, rows: &[Last<'_>], name: &Name) -> Result<Texts, Want>
-    ensures { IfOk result (λ texts. (heard : List Hearing) (now : ℕ) → AreLiveRows heard now (map last_lent rows.now)
-        → AreTexts heard now name.now texts) }
+    ensures { IfOk result (λ texts. AreAscending (map last_lent rows.now)
+        → texts ≡ texts_in (map last_lent rows.now) name.now) }
 {
     let mut texts = Vec::new(alloc);
     for row in of_set(rows, name, RecordType::Txt) {
@@ -170,11 +172,8 @@ fn texts(alloc: Global, rows: &[Last<'_>], name: &Name) -> Result<Texts, Want>
 
 // Makes the instance of a name, with its servers and texts among the rows.
 fn instance(alloc: Global, rows: &[Last<'_>], name: &Name) -> Result<Instance, Want>
-    ensures named { IfOk result (λ instance. instance.name ≡ name.now) }
-    ensures servers { IfOk result (λ instance. (heard : List Hearing) (now : ℕ) → AreLiveRows heard now (map last_lent rows.now)
-        → AreServers heard now name.now instance.servers) }
-    ensures texts { IfOk result (λ instance. (heard : List Hearing) (now : ℕ) → AreLiveRows heard now (map last_lent rows.now)
-        → AreTexts heard now name.now instance.texts) }
+    ensures { IfOk result (λ instance. AreAscending (map last_lent rows.now)
+        → instance ≡ instance_in (map last_lent rows.now) name.now) }
 {
     Ok(Instance {
         name: name.copy(alloc)?,
@@ -190,10 +189,16 @@ pub fn types(alloc: Global, cache: &Cache, now: Moment) -> Result<Vec<Name>, Wan
     ensures { IfOk result (λ names. (heard : List Hearing) → StandsFor cache.now heard
         → AreTypes heard now.nanos names.items) }
 {
-    let rows = cache.live(alloc, now)?;
+    names_of(alloc, cache.walk_live(now))
+}
+
+// Collects the name of each service type.
+fn names_of(alloc: Global, records: LiveWalk<'_>) -> Result<Vec<Name>, Want>
+    ensures { IfOk result (λ names. names.items ≡ types_in (lasts_in records.entry)) }
+{
     let mut names = Vec::new(alloc);
-    for row in &rows {
-        let Some(name) = type_of(row) else {
+    for record in records {
+        let Some(name) = type_of(&record.last) else {
             continue;
         };
         names.push(name.copy(alloc)?)?;
@@ -209,13 +214,26 @@ pub fn instances(alloc: Global, cache: &Cache, now: Moment) -> Result<Vec<Instan
     ensures { IfOk result (λ instances. (heard : List Hearing) → StandsFor cache.now heard
         → AreInstances heard now.nanos instances.items) }
 {
-    let rows = cache.live(alloc, now)?;
+    let gathered = gather(alloc, cache.walk_live(now))?;
+    instances_of(alloc, gathered.rows.as_slice(), gathered.given.as_slice())
+}
+
+// Makes the instance of each record, with its servers and texts among the rows.
+fn instances_of(
+    alloc: Global,
+    rows: &[Last<'_>],
+    given: &[Given<'_>],
+) -> Result<Vec<Instance>, Want>
+    ensures { IfOk result (λ instances. AreAscending (map last_lent rows.now) → instances.items
+        ≡ map (λ row. row.instance) (filter_map (instance_row_in (map last_lent rows.now)) (map given_lent given.now))) }
+{
     let mut instances = Vec::new(alloc);
-    for row in &rows {
-        let Some(name) = instance_of(row) else {
+    for row in given {
+        // Each has the name of an instance: only PTR records give one.
+        let Body::Ptr(name) = &row.row.last.resource.body else {
             continue;
         };
-        instances.push(instance(alloc, rows.as_slice(), name)?)?;
+        instances.push(instance(alloc, rows, name)?)?;
     }
     Ok(instances)
 }

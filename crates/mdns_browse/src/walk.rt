@@ -1,19 +1,18 @@
 //! The walk over live records and services, which hands what it finds to a sheet.
 
-ghost use Rattle.std.specs.Prelude.{◌≡◌, ◌∷◌, [], ℕ, List, map, OnOk};
-ghost use Rattle.std.specs.List.{filter, flat_map};
+ghost use Rattle.std.specs.Prelude.{◌∷◌, [], List, map, OnOk};
+ghost use Rattle.std.specs.List.{filter, filter_map, flat_map};
 ghost use Rattle.mdns_message.specs.declared.hearing.Hearing.{Hearing};
-ghost use Rattle.mdns_message.specs.declared.body.RecordData.TheVariants.{Ptr};
-ghost use Rattle.mdns_message.specs.Resource.{type_number, number_of};
 ghost use Rattle.mdns_cache.specs.Contents.{StandsFor};
-ghost use Rattle.mdns_cache.specs.Live.{NoneLater, AreLiveRecords, AreLiveRows};
+ghost use Rattle.mdns_cache.specs.Live.{NoneLater, AreLiveRecords};
 ghost use Rattle.mdns_cache.specs.Rows.{last_lent, live_record_lent};
-ghost use Rattle.mdns_browse.specs.About.{keeps_record, keeps_type};
-ghost use Rattle.mdns_browse.specs.Given.{AreInstanceRowsAbout, IsShownAt, given_lent};
-ghost use Rattle.mdns_browse.specs.Report.{AreTypesAbout};
-ghost use Rattle.mdns_browse.specs.Services.{body_of, IsServerAt, AreEach, AreServers, AreTexts, InstanceRow, IsSinceUnknown};
-ghost use Rattle.mdns_browse.specs.Sheet.{AddsPieces, AddsReport, live_record, service_type, server_address};
-ghost use Rattle.mdns_browse.specs.Sheet.{instance_text, server_pieces, servers_pieces, instance_pieces};
+ghost use Rattle.mdns_browse.specs.About.{keeps_type};
+ghost use Rattle.mdns_browse.specs.Given.{given_lent};
+ghost use Rattle.mdns_browse.specs.Report.{instances_about, records_about, types_about};
+ghost use Rattle.mdns_browse.specs.Services.{AreAscending, body_of, instance_in, instance_row_in, lasts_in, server_in, servers_in};
+ghost use Rattle.mdns_browse.specs.Services.{texts_in};
+ghost use Rattle.mdns_browse.specs.Sheet.{AddsPieces, instance_pieces, instance_text, live_record, report_pieces, server_address};
+ghost use Rattle.mdns_browse.specs.Sheet.{server_pieces, servers_pieces, service_type};
 
 use crate::about::{Subject, keeps_record, keeps_type};
 use crate::given::given_in;
@@ -37,20 +36,14 @@ pub(crate) fn walk<S: Sheet>(
 ) -> Result<(), Want>
     requires { NoneLater cache.now.newest now }
     ensures { OnOk result ((heard : List Hearing) → StandsFor cache.now heard
-        → AddsReport S.takes about.now ask heard now.nanos sheet.old sheet.new) }
+        → AddsPieces S.takes (AreLiveRecords heard now.nanos) (report_pieces about.now ask) sheet.old sheet.new) }
 {
     let mut scratch = String::new(alloc);
+    let records = cache.walk_live(now);
     match ask {
-        Ask::Records => walk_records(sheet, about, cache.walk_live(now), &mut scratch),
-        Ask::Types => {
-            walk_types(
-                sheet,
-                about,
-                cache.live(alloc, now)?.as_slice(),
-                &mut scratch,
-            )
-        }
-        Ask::Instances => walk_instances(sheet, alloc, about, cache.walk_live(now)),
+        Ask::Records => walk_records(sheet, about, records, &mut scratch),
+        Ask::Types => walk_types(sheet, about, records, &mut scratch),
+        Ask::Instances => walk_instances(sheet, alloc, about, records),
     }
 }
 
@@ -61,8 +54,7 @@ fn walk_records<S: Sheet>(
     records: LiveWalk<'_>,
     scratch: &mut String,
 ) -> Result<(), Want>
-    ensures { OnOk result (S.takes sheet.old
-        (map live_record (filter (λ row. keeps_record about.now row.0.resource) records.entry)) sheet.new) }
+    ensures { OnOk result (S.takes sheet.old (map live_record (records_about about.now records.entry)) sheet.new) }
 {
     for record in records {
         walk_record(sheet, about, &record, scratch)?;
@@ -77,8 +69,7 @@ fn walk_record<S: Sheet>(
     row: &LiveRecord<'_>,
     scratch: &mut String,
 ) -> Result<(), Want>
-    ensures { OnOk result (S.takes sheet.old
-        (map live_record (filter (λ row. keeps_record about.now row.0.resource) (live_record_lent row.now ∷ []))) sheet.new) }
+    ensures { OnOk result (S.takes sheet.old (map live_record (records_about about.now (live_record_lent row.now ∷ []))) sheet.new) }
 {
     if keeps_record(about, &row.last.resource.borrowed(), scratch)? {
         return sheet.live_record(row);
@@ -86,18 +77,17 @@ fn walk_record<S: Sheet>(
     Ok(())
 }
 
-// Hands over each service type among the live rows that is about the subjects, in order.
+// Hands over each service type that is about the subjects, in order.
 fn walk_types<S: Sheet>(
     sheet: &mut S,
     about: &[Subject],
-    rows: &[Last<'_>],
+    records: LiveWalk<'_>,
     scratch: &mut String,
 ) -> Result<(), Want>
-    ensures { OnOk result ((heard : List Hearing) (now : ℕ) → AreLiveRows heard now (map last_lent rows.now)
-        → AddsPieces S.takes (AreTypesAbout about.now heard now) (map service_type) sheet.old sheet.new) }
+    ensures { OnOk result (S.takes sheet.old (map service_type (types_about about.now records.entry)) sheet.new) }
 {
-    for row in rows {
-        let Some(name) = type_of(row) else {
+    for record in records {
+        let Some(name) = type_of(&record.last) else {
             continue;
         };
         walk_type(sheet, about, name, scratch)?;
@@ -127,23 +117,22 @@ fn walk_instances<S: Sheet>(
     about: &[Subject],
     records: LiveWalk<'_>,
 ) -> Result<(), Want>
-    ensures { OnOk result ((heard : List Hearing) (now : ℕ) → AreLiveRecords heard now records.entry
-        → AddsPieces S.takes (AreInstanceRowsAbout about.now IsSinceUnknown heard now) (flat_map instance_pieces) sheet.old sheet.new) }
+    ensures { OnOk result (AreAscending (lasts_in records.entry)
+        → S.takes sheet.old (flat_map instance_pieces (instances_about about.now records.entry)) sheet.new) }
 {
     let gathered = given_in(alloc, records, about)?;
     walk_given(sheet, gathered.rows.as_slice(), gathered.given.as_slice())
 }
 
 /// Hands over to a sheet the instance of each of the records that give one, in order. The servers and texts are looked up in
-/// `rows`, the last hearings of all live records in key order.
+/// `rows`, last hearings of records, each record once, in key order.
 pub fn walk_given<S: Sheet>(
     sheet: &mut S,
     rows: &[Last<'_>],
     given: &[Given<'_>],
 ) -> Result<(), Want>
-    ensures { OnOk result ((heard : List Hearing) (now : ℕ) (shown : List InstanceRow)
-        → AreLiveRows heard now (map last_lent rows.now) → AreEach (IsShownAt heard now) (map given_lent given.now) shown
-        → S.takes sheet.old (flat_map instance_pieces shown) sheet.new) }
+    ensures { OnOk result (AreAscending (map last_lent rows.now) → S.takes sheet.old
+        (flat_map instance_pieces (filter_map (instance_row_in (map last_lent rows.now)) (map given_lent given.now))) sheet.new) }
 {
     for row in given {
         // Each has the name of an instance: only PTR records give one.
@@ -162,9 +151,10 @@ pub(crate) fn walk_instance<S: Sheet>(
     given: &Given<'_>,
     name: &Name,
 ) -> Result<(), Want>
-    ensures { OnOk result ((heard : List Hearing) (now : ℕ) → AreLiveRows heard now (map last_lent rows.now)
-        → body_of (last_lent given.now.row.last) ≡ Ptr name.now
-        → AddsPieces S.takes (IsShownAt heard now (given_lent given.now)) instance_pieces sheet.old sheet.new) }
+    ensures { OnOk result (AreAscending (map last_lent rows.now) → S.takes sheet.old (instance_pieces (record {
+      given = given_lent given.now;
+      instance = instance_in (map last_lent rows.now) name.now;
+    })) sheet.new) }
 {
     sheet.instance_begin(given, name)?;
     walk_servers(sheet, rows, name)?;
@@ -174,8 +164,8 @@ pub(crate) fn walk_instance<S: Sheet>(
 
 // Hands over the servers of an instance, and their end.
 fn walk_servers<S: Sheet>(sheet: &mut S, rows: &[Last<'_>], name: &Name) -> Result<(), Want>
-    ensures { OnOk result ((heard : List Hearing) (now : ℕ) → AreLiveRows heard now (map last_lent rows.now)
-        → AddsPieces S.takes (AreServers heard now name.now) servers_pieces sheet.old sheet.new) }
+    ensures { OnOk result (AreAscending (map last_lent rows.now)
+        → S.takes sheet.old (servers_pieces (servers_in (map last_lent rows.now) name.now)) sheet.new) }
 {
     let servers = of_set(rows, name, RecordType::Srv);
     for row in servers {
@@ -186,11 +176,10 @@ fn walk_servers<S: Sheet>(sheet: &mut S, rows: &[Last<'_>], name: &Name) -> Resu
 
 // Hands over an SRV record's server, and the addresses of its target, which are looked up in the rows.
 fn walk_server<S: Sheet>(sheet: &mut S, rows: &[Last<'_>], row: &Last<'_>) -> Result<(), Want>
-    ensures { OnOk result ((heard : List Hearing) (now : ℕ) → AreLiveRows heard now (map last_lent rows.now)
-        → number_of (body_of (last_lent row.now)) ≡ type_number RecordType.Srv
-        → AddsPieces S.takes (IsServerAt heard now (last_lent row.now)) server_pieces sheet.old sheet.new) }
+    ensures { OnOk result (AreAscending (map last_lent rows.now) → S.takes sheet.old
+        (flat_map server_pieces (filter_map (server_in (map last_lent rows.now)) (body_of (last_lent row.now) ∷ []))) sheet.new) }
 {
-    // No other data has the number of SRV.
+    // Each is an SRV record: no other data has its number.
     let Body::Srv {
         priority,
         weight,
@@ -206,8 +195,8 @@ fn walk_server<S: Sheet>(sheet: &mut S, rows: &[Last<'_>], row: &Last<'_>) -> Re
     sheet.server_end()
 }
 
-// Hands over the address of each row.
-fn walk_addresses<S: Sheet>(sheet: &mut S, rows: &[Last<'_>]) -> Result<(), Want>
+/// Hands over the address of each row.
+pub(crate) fn walk_addresses<S: Sheet>(sheet: &mut S, rows: &[Last<'_>]) -> Result<(), Want>
     ensures { OnOk result (S.takes sheet.old (map server_address (map body_of (map last_lent rows.now))) sheet.new) }
 {
     for row in rows {
@@ -218,8 +207,8 @@ fn walk_addresses<S: Sheet>(sheet: &mut S, rows: &[Last<'_>]) -> Result<(), Want
 
 // Hands over the texts of an instance.
 fn walk_texts<S: Sheet>(sheet: &mut S, rows: &[Last<'_>], name: &Name) -> Result<(), Want>
-    ensures { OnOk result ((heard : List Hearing) (now : ℕ) → AreLiveRows heard now (map last_lent rows.now)
-        → AddsPieces S.takes (AreTexts heard now name.now) (map instance_text) sheet.old sheet.new) }
+    ensures { OnOk result (AreAscending (map last_lent rows.now)
+        → S.takes sheet.old (map instance_text (texts_in (map last_lent rows.now) name.now)) sheet.new) }
 {
     for row in of_set(rows, name, RecordType::Txt) {
         // Every row is a TXT record: no other data has this type number.

@@ -1,33 +1,42 @@
-use Rattle.std.proofs.Common.{refl, subst, [], map, arith}
-use Rattle.mdns_browse.specs.Given.{IsShownAt, given_lent}
+use Rattle.std.proofs.Common.{refl, sym, ap, subst, [], ◌++◌, map, take, arith}
+use Rattle.std.proofs.lemmas.List.Elements.{filter_map-append}
+use Rattle.mdns_cache.specs.Rows.{last_lent}
+use Rattle.mdns_browse.specs.Given.{given_lent}
 use Rattle.mdns_browse.specs.Page.{Writes, rows_pieces}
-use Rattle.mdns_browse.specs.Services.{AreEach}
-use Rattle.mdns_browse.proofs.PageLemmas.{shows-more, shows-start}
-use Rattle.mdns_browse.proofs.PickLemmas.{whole_list}
-use Rattle.mdns_browse.proofs.ShownKeptLemmas.{one_shown_each, shown-at}
+use Rattle.mdns_browse.specs.Services.{instance_row_in}
+use Rattle.mdns_browse.proofs.InstanceLemmas.{row_named, shown-none, shown-one, shown_in}
+use Rattle.mdns_browse.proofs.ListLemmas.{made_all, made_more, made_same}
+use Rattle.mdns_browse.proofs.PageLemmas.{Shows, shows-more, shows-start}
 use Rattle.mdns_browse.proofs.instance_page.push_instances.Goals as goal
 
 pub loop-row-init : goal.loop-row-init
-loop-row-init c heard now shown live each = shows-start heard now c.args.page.now
+loop-row-init c ascending = shows-start c.args.page.now
 
 pub loop-row-preserved-in_default : goal.loop-row-preserved-in_default
-loop-row-preserved-in_default c heard now shown live each =
-    let found =
-    shown-at given_lent heard now c.args.given.now shown c.loop-row.row-index c.row-item.result (omega arith) c.row-item.is each in
-    absurd (c.in_default.not-Ptr found.0.instance.name found.1.instance.named)
+loop-row-preserved-in_default c ascending =
+    let rows = map last_lent c.args.rows.now in
+    let row = c.row-item.result in
+    subst (λ shown. Shows shown c.loop-row.before.now c.args.page.now c.loop-row.page)
+    (made_same (shown_in rows) (filter_map-append (instance_row_in rows)) given_lent c.args.given.now c.loop-row.row-index row (omega arith)
+    c.row-item.is refl (shown-none rows (given_lent row) c.in_default.not-Ptr))
+    (c.loop-row.invariant ascending)
 
 pub loop-row-preserved : goal.loop-row-preserved
-loop-row-preserved c heard now shown live each =
-    let one = c.in_ok-push_instance.ensures heard now live c.in-Ptr.is in
-    shows-more given_lent heard now c.args.given.now c.loop-row.row-index c.row-item.result one.value _ _ _ _ _ (omega arith)
-    c.row-item.is (c.loop-row.invariant heard now shown live each) one.right c.wire-before.ensures.bytes one.taken
+loop-row-preserved c ascending =
+    let rows = map last_lent c.args.rows.now in
+    let row = c.row-item.result in
+    let given = given_lent row in
+    let so_far = shown_in rows (map given_lent (take c.loop-row.row-index c.args.given.now)) in
+    shows-more (row_named rows given c.in-Ptr.name) (c.loop-row.invariant ascending)
+    (sym
+    (made_more (shown_in rows) (filter_map-append (instance_row_in rows)) given_lent c.args.given.now c.loop-row.row-index row (omega arith)
+    c.row-item.is refl (ap (λ shown. so_far ++ shown) (sym (shown-one rows given c.in-Ptr.name c.in-Ptr.is)))))
+    c.wire-before.ensures.bytes (c.in_ok-push_instance.ensures ascending)
 
 pub returns : goal.returns
-returns c heard now shown live each =
-    let shows = c.loop-row.invariant heard now shown live each in
-    let given = c.args.given.now in
-    let whole =
-    whole_list (λ given. AreEach (IsShownAt heard now) given shows.rows) given_lent given given c.loop-row.row-index (omega arith) refl
-    shows.each in
-    subst (λ rows. Writes c.args.page.now (rows_pieces [] rows) c.loop-row.page)
-    (one_shown_each heard now (map given_lent given) shows.rows shown whole each) shows.taken
+returns c ascending =
+    let rows = map last_lent c.args.rows.now in
+    let shows = c.loop-row.invariant ascending in
+    subst (λ shown. Writes c.args.page.now (rows_pieces [] shown) c.loop-row.page)
+    (made_all (shown_in rows) (filter_map-append (instance_row_in rows)) given_lent c.args.given.now c.loop-row.row-index (omega arith) refl)
+    shows.taken

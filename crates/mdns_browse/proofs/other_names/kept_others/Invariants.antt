@@ -1,10 +1,9 @@
-use Rattle.std.proofs.Common.{ℕ, map}
-use Rattle.mdns_join.specs.declared.latest.Latest.{Latest}
+use Rattle.std.proofs.Common.{◌≡◌, ◌++◌, map}
 use Rattle.mdns_cache.specs.Rows.{live_record_lent}
-use Rattle.mdns_browse.specs.About.{keeps_record}
-use Rattle.mdns_browse.proofs.OtherLemmas.{KeepsOthers}
+use Rattle.mdns_browse.specs.Report.{records_about}
+use Rattle.mdns_browse.specs.Services.{others_in}
 use Rattle.mdns_browse.proofs.other_names.kept_others.Given as goal
 
 abbrev pub invariant-loop-row : goal.invariant-loop-row
 invariant-loop-row l =
-    KeepsOthers (λ (row : Latest × ℕ). keeps_record l.about row.0.resource) l.fn.walk l.row-iterator (map live_record_lent l.rows.items)
+    map live_record_lent l.rows.items ++ records_about l.about (others_in l.row-iterator) ≡ records_about l.about (others_in l.fn.walk)

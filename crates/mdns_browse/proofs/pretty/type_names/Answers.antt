@@ -1,38 +1,36 @@
-use Rattle.std.proofs.Common.{refl, ap, ℕ, List, [], map, arith}
+use Rattle.std.proofs.Common.{rules, refl, ◌≡◌, ◌∙◌, ap, sym, ℕ, List, ◌++◌, map, []}
 use Rattle.std.specs.Borrow.{Bor}
-use Rattle.mdns_message.specs.declared.body.RecordData.TheVariants.{Ptr}
-use Rattle.mdns_cache.specs.Rows.{last_lent}
+use Rattle.std.specs.List.{cons_option, filter}
+use Rattle.mdns_cache.specs.Rows.{live_record_lent}
 use Rattle.mdns_browse.specs.About.{keeps_type}
-use Rattle.mdns_browse.specs.Services.{GivesType, Holds}
-use Rattle.mdns_browse.proofs.AddLemmas.{picks_each-given, picks_each-left, picks_each-taken}
-use Rattle.mdns_browse.proofs.KeptLemmas.{kept-more, kept-weaker}
+use Rattle.mdns_browse.specs.Report.{types_about}
+use Rattle.mdns_browse.proofs.KeptLemmas.{types_about-append}
+use Rattle.mdns_browse.proofs.ListLemmas.{left_all, left_more, left_same}
 use Rattle.mdns_browse.proofs.pretty.type_names.Goals as goal
 
 pub loop-row-init : goal.loop-row-init
-loop-row-init c = record {
-  values = [];
-  right = record { picked = []; picks = tt; each = tt };
-  are = ap (map (λ (name : Bor (List ℕ)). name.now)) c.new-names.ensures.items;
-}
+loop-row-init c =
+    let whole : c.into_iter-row-iterator.result ≡ c.args.walk = search rules in
+    ap (λ names. map (λ (name : Bor (List ℕ)). name.now) names ++ types_about c.args.about.now c.into_iter-row-iterator.result)
+    c.new-names.ensures.items
+    ∙ ap (types_about c.args.about.now) whole
 
 pub loop-row-preserved-in_default : goal.loop-row-preserved-in_default
 loop-row-preserved-in_default c =
-    kept-weaker
-    (picks_each-left last_lent GivesType (Holds Ptr) c.args.rows.now c.loop-row.row-index c.row-item.result (omega arith)
-    c.row-item.is c.in_default.ensures.none)
-    _ c.loop-row.invariant
+    let about = c.args.about.now in
+    left_same (types_about about) (types_about-append about) (live_record_lent c.in-Some.row) _ _ _ _ c.in-Some.ensures.steps
+    (ap (λ o. filter (keeps_type about) (cons_option o [])) (sym c.in_default.ensures)) c.loop-row.invariant
 
 pub loop-row-preserved : goal.loop-row-preserved
 loop-row-preserved c =
-    let gives = c.in-Some.ensures.some in
-    let name = c.in-Some.name.now in
-    kept-more (keeps_type c.args.about.now) _ _ name _ _
-    (picks_each-taken last_lent GivesType (Holds Ptr) c.args.rows.now c.loop-row.row-index c.row-item.result name (omega arith)
-    c.row-item.is gives.0 gives.1)
-    c.loop-row.invariant c.in_ok-push_kept_name.ensures
+    let about = c.args.about.now in
+    left_more (types_about about) (types_about-append about) (live_record_lent c.in-Some.row) _ _ _ _ _ c.in-Some.ensures.steps
+    (c.in_ok-push_kept_name.ensures
+    ∙ ap (λ o. map (λ (name : Bor (List ℕ)). name.now) c.loop-row.names.items ++ filter (keeps_type about) (cons_option o []))
+    c.in-Some-type_of.ensures)
+    c.loop-row.invariant
 
 pub returns : goal.returns
-returns c heard now are =
-    kept-weaker
-    (picks_each-given last_lent GivesType (Holds Ptr) c.args.rows.now c.loop-row.row-index c.args.rows.now (omega arith) refl heard now are)
-    _ c.loop-row.invariant
+returns c =
+    let about = c.args.about.now in
+    left_all (types_about about) (types_about-append about) _ _ _ c.in-None.ensures.steps.0 refl c.loop-row.invariant

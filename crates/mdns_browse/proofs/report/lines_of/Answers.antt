@@ -1,7 +1,12 @@
 use Rattle.std.proofs.Common.{rules}
-use Rattle.mdns_browse.proofs.FormLemmas.{lines_report}
+use Rattle.mdns_browse.proofs.FormLemmas.{lines_written}
 use Rattle.mdns_browse.proofs.report.lines_of.Goals as goal
 
 pub returns : goal.returns
-returns c heard stands = lines_report c.args.about.now c.args.ask heard c.args.now.nanos c.new-text.result c.walk.new.sheet (search rules)
-    (c.in_ok-walk.ensures heard stands)
+returns c heard stands =
+    let added = c.in_ok-walk.ensures heard stands in
+    record {
+      rows = added.value;
+      are = added.right;
+      is = lines_written c.args.about.now c.args.ask added.value c.new-text.result c.walk.new.sheet (search rules) added.taken;
+    }

@@ -1,12 +1,10 @@
-use Rattle.std.proofs.Common.{ℕ, List, map, take}
-use Rattle.mdns_message.specs.declared.hearing.Hearing.{Hearing}
-use Rattle.mdns_cache.specs.Live.{AreLiveRows}
+use Rattle.std.proofs.Common.{◌≡◌, map, take}
+use Rattle.std.specs.List.{filter_map}
 use Rattle.mdns_cache.specs.Rows.{last_lent}
-use Rattle.mdns_browse.specs.Services.{AreRowsOf, AreEach, IsServerOf, IsServerAt}
+use Rattle.mdns_browse.specs.Services.{AreAscending, body_of, server_in}
 use Rattle.mdns_browse.proofs.services.servers.Given as goal
 
 abbrev pub invariant-loop-row : goal.invariant-loop-row
 invariant-loop-row l =
-    (heard : List Hearing) (now : ℕ) → AreLiveRows heard now (map last_lent l.rows)
-    → AreRowsOf (IsServerOf l.name) heard now (map last_lent l.row-items)
-    → AreEach (IsServerAt heard now) (map last_lent (take l.row-index l.row-items)) l.servers.items
+    AreAscending (map last_lent l.rows)
+    → l.servers.items ≡ filter_map (server_in (map last_lent l.rows)) (map body_of (map last_lent (take l.row-index l.row-items)))

@@ -1,11 +1,8 @@
-use Rattle.std.proofs.Common.{ℕ, List, map, take}
-use Rattle.mdns_message.specs.declared.hearing.Hearing.{Hearing}
-use Rattle.mdns_message.specs.declared.body.RecordData.TheVariants.{Txt}
+use Rattle.std.proofs.Common.{◌≡◌, map, take}
+use Rattle.std.specs.List.{filter_map}
 use Rattle.mdns_cache.specs.Rows.{last_lent}
-use Rattle.mdns_browse.specs.Services.{AreRowsOf, AreEach, IsTextOf, Holds}
+use Rattle.mdns_browse.specs.Services.{body_of, text_in}
 use Rattle.mdns_browse.proofs.services.texts.Given as goal
 
 abbrev pub invariant-loop-row : goal.invariant-loop-row
-invariant-loop-row l =
-    (heard : List Hearing) (now : ℕ) → AreRowsOf (IsTextOf l.name) heard now (map last_lent l.row-items)
-    → AreEach (Holds Txt) (map last_lent (take l.row-index l.row-items)) l.texts.items
+invariant-loop-row l = l.texts.items ≡ filter_map text_in (map body_of (map last_lent (take l.row-index l.row-items)))

@@ -1,38 +1,46 @@
-use Rattle.std.proofs.Common.{refl, subst, [], map, arith}
+use Rattle.std.proofs.Common.{◌≡◌, sym, ◌∙◌, ap, subst, List, map, ◌++◌, arith}
+use Rattle.std.proofs.lemmas.Grind.{flat_map-append}
+use Rattle.std.proofs.lemmas.List.{append-nil}
+use Rattle.std.proofs.lemmas.List.Elements.{filter_map-append}
 use Rattle.std.specs.List.{flat_map}
-use Rattle.mdns_browse.specs.Given.{IsShownAt, given_lent}
-use Rattle.mdns_browse.specs.Services.{AreEach}
-use Rattle.mdns_browse.specs.Sheet.{instance_pieces}
-use Rattle.mdns_browse.proofs.AddLemmas.{adds-more, flat_map-more}
-use Rattle.mdns_browse.proofs.PickLemmas.{whole_list}
-use Rattle.mdns_browse.proofs.ServiceLemmas.{each-taken}
-use Rattle.mdns_browse.proofs.ShownKeptLemmas.{one_shown_each, shown-at}
+use Rattle.mdns_join.specs.declared.latest.Latest.{Latest}
+use Rattle.mdns_cache.specs.Rows.{last_lent}
+use Rattle.mdns_browse.specs.Given.{given_lent}
+use Rattle.mdns_browse.specs.Services.{GivenRow, instance_row_in}
+use Rattle.mdns_browse.specs.Sheet.{Piece, instance_pieces}
+use Rattle.mdns_browse.proofs.InstanceLemmas.{row_named, shown-none, shown-one, shown_in}
+use Rattle.mdns_browse.proofs.ListLemmas.{takes_all, takes_more, takes_same, through-append}
 use Rattle.mdns_browse.proofs.walk.walk_given.Goals as goal
 
+abbrev pieces : List Latest → List GivenRow → List Piece
+pieces rows given = flat_map instance_pieces (shown_in rows given)
+
+append : (rows : List Latest) (xs ys : List GivenRow) → pieces rows (xs ++ ys) ≡ pieces rows xs ++ pieces rows ys
+append rows = through-append (flat_map instance_pieces) (shown_in rows) (flat_map-append instance_pieces) (filter_map-append (instance_row_in rows))
+
 pub loop-row-init : goal.loop-row-init
-loop-row-init g c heard now shown live each = record { value = []; right = tt; taken = g.met.S.Sheet.laws.nothing _ }
+loop-row-init g c ascending = g.met.S.Sheet.laws.nothing _
 
 pub loop-row-preserved-in_default : goal.loop-row-preserved-in_default
-loop-row-preserved-in_default g c heard now shown live each =
-    let found =
-    shown-at given_lent heard now c.args.given.now shown c.loop-row.row-index c.row-item.result (omega arith) c.row-item.is each in
-    absurd (c.in_default.not-Ptr found.0.instance.name found.1.instance.named)
+loop-row-preserved-in_default g c ascending =
+    let rows = map last_lent c.args.rows.now in
+    let row = c.row-item.result in
+    takes_same (pieces rows) (append rows) g.met.S.Sheet.laws given_lent c.args.given.now c.loop-row.row-index row (omega arith)
+    c.row-item.is (c.loop-row.invariant ascending) (ap (flat_map instance_pieces) (shown-none rows (given_lent row) c.in_default.not-Ptr))
 
 pub loop-row-preserved : goal.loop-row-preserved
-loop-row-preserved g c heard now shown live each =
-    let one = c.in_ok-walk_instance.ensures heard now live c.in-Ptr.is in
-    adds-more g.met.S.Sheet.laws _ _ (flat_map instance_pieces) (instance_pieces one.value) one.value _ _ _
-    (λ rows. flat_map-more instance_pieces rows one.value)
-    (λ rows so_far. each-taken given_lent (IsShownAt heard now) c.args.given.now c.loop-row.row-index c.row-item.result rows one.value
-    (omega arith) c.row-item.is so_far one.right)
-    (c.loop-row.invariant heard now shown live each) one.taken
+loop-row-preserved g c ascending =
+    let rows = map last_lent c.args.rows.now in
+    let row = c.row-item.result in
+    takes_more (pieces rows) (append rows) g.met.S.Sheet.laws given_lent c.args.given.now c.loop-row.row-index row (omega arith)
+    c.row-item.is (c.loop-row.invariant ascending)
+    (subst (λ ps. g.S.Sheet.takes c.loop-row.sheet ps c.walk_instance.new.sheet)
+    (sym (append-nil (instance_pieces (row_named rows (given_lent row) c.in-Ptr.name)))
+    ∙ ap (flat_map instance_pieces) (sym (shown-one rows (given_lent row) c.in-Ptr.name c.in-Ptr.is)))
+    (c.in_ok-walk_instance.ensures ascending))
 
 pub returns : goal.returns
-returns g c heard now shown live each =
-    let so_far = c.loop-row.invariant heard now shown live each in
-    let given = c.args.given.now in
-    let whole =
-    whole_list (λ given. AreEach (IsShownAt heard now) given so_far.value) given_lent given given c.loop-row.row-index (omega arith) refl
-    so_far.right in
-    subst (λ rows. g.S.Sheet.takes c.args.sheet.now (flat_map instance_pieces rows) c.loop-row.sheet)
-    (one_shown_each heard now (map given_lent given) so_far.value shown whole each) so_far.taken
+returns g c ascending =
+    let rows = map last_lent c.args.rows.now in
+    takes_all (pieces rows) (append rows) g.S.Sheet.takes given_lent c.args.given.now c.loop-row.row-index (omega arith)
+    (c.loop-row.invariant ascending)

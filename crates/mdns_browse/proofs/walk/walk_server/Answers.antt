@@ -1,48 +1,48 @@
-use Rattle.std.proofs.Common.{◌≡◌, sym, ◌∙◌, ap, subst, List, ◌++◌, [], ◌∷◌, map}
+use Rattle.std.proofs.Common.{sym, ◌∙◌, ap, subst, ◌++◌, [], ◌∷◌, map}
+use Rattle.std.proofs.lemmas.List.{append-nil, map-append}
 use Rattle.std.proofs.lemmas.Result.{on_ok_weaker}
-use Rattle.mdns_join.specs.declared.latest.Latest.{Latest}
+use Rattle.std.specs.List.{cons_option, filter_map, flat_map}
 use Rattle.mdns_cache.specs.Rows.{last_lent}
-use Rattle.mdns_browse.specs.Services.{body_of}
-use Rattle.mdns_browse.specs.Sheet.{server_begin, server_address, server_end}
-use Rattle.mdns_browse.proofs.PickLemmas.{map-append}
-use Rattle.mdns_browse.proofs.ServiceLemmas.{addresses-given, server_body}
+use Rattle.mdns_browse.specs.Services.{body_of, data_of_set, server_in}
+use Rattle.mdns_browse.specs.Sheet.{server_begin, server_address, server_end, server_pieces}
+use Rattle.mdns_browse.specs.declared.instance.Server.{Server}
+use Rattle.mdns_browse.proofs.InstanceLemmas.{server-none}
 use Rattle.mdns_browse.proofs.walk.walk_server.Goals as goal
 
-addresses_pieces : (fours sixes : List Latest)
-    → map server_address (map body_of (fours ++ sixes)) ≡ map server_address (map body_of fours) ++ map server_address (map body_of sixes)
-addresses_pieces fours sixes =
-    ap (map server_address) (map-append body_of fours sixes) ∙ map-append server_address (map body_of fours) (map body_of sixes)
-
 pub returns-in_default : goal.returns-in_default
-returns-in_default g c heard now live number = absurd (server_body (body_of (last_lent c.args.row.now)) number c.in_default.not-Srv)
+returns-in_default g c ascending =
+    let none = server-none (map last_lent c.args.rows.now) (body_of (last_lent c.args.row.now)) c.in_default.not-Srv in
+    subst (λ o. g.S.Sheet.takes c.args.sheet.now (flat_map server_pieces (cons_option o [])) c.args.sheet.now) (sym none)
+    (g.met.S.Sheet.laws.nothing c.args.sheet.now)
 
 pub returns : goal.returns
 returns g c =
     let laws = g.met.S.Sheet.laws in
-    let fours = map last_lent c.of_set.result.now in
-    let sixes = map last_lent c.of_set-2.result.now in
+    let rows = map last_lent c.args.rows.now in
+    let fours = data_of_set rows c.in-Srv.target 1 in
+    let sixes = data_of_set rows c.in-Srv.target 28 in
+    let begin = server_begin c.in-Srv.priority c.in-Srv.weight c.in-Srv.port c.in-Srv.target in
+    let server : Server = record {
+      priority = c.in-Srv.priority;
+      weight = c.in-Srv.weight;
+      port = c.in-Srv.port;
+      target = c.in-Srv.target;
+      addresses = fours ++ sixes;
+    } in
     on_ok_weaker c.server_end.result
-    (λ end heard now live number. record {
-      value = record {
-        priority = c.in-Srv.priority;
-        weight = c.in-Srv.weight;
-        port = c.in-Srv.port;
-        target = c.in-Srv.target;
-        addresses = map body_of (fours ++ sixes);
-      };
-      right = record {
-        said = c.in-Srv.is;
-        addresses = addresses-given heard now c.in-Srv.target fours sixes (c.of_set.ensures.live heard now live)
-            (c.of_set-2.ensures.live heard now live);
-      };
-      taken =
-          let begin = server_begin c.in-Srv.priority c.in-Srv.weight c.in-Srv.port c.in-Srv.target in
-          let both = addresses_pieces fours sixes in
-          laws.more _ _ _ (begin ∷ []) (map server_address (map body_of (fours ++ sixes)) ++ server_end ∷ []) c.in_ok-server_begin.ensures
-          (laws.more _ _ _ (map server_address (map body_of (fours ++ sixes))) (server_end ∷ [])
-          (subst (λ ps. g.S.Sheet.takes c.server_begin.new.self ps c.walk_addresses-2.new.sheet) (sym both)
-          (laws.more _ _ _ (map server_address (map body_of fours)) (map server_address (map body_of sixes))
-          c.in_ok-walk_addresses.ensures c.in_ok-walk_addresses-2.ensures))
-          end);
-    })
+    (λ end ascending.
+    let four =
+    subst (λ found. g.S.Sheet.takes c.server_begin.new.self (map server_address (map body_of found)) c.walk_addresses.new.sheet)
+    (c.of_set.ensures.found ascending) c.in_ok-walk_addresses.ensures in
+    let six =
+    subst (λ found. g.S.Sheet.takes c.walk_addresses.new.sheet (map server_address (map body_of found)) c.walk_addresses-2.new.sheet)
+    (c.of_set-2.ensures.found ascending) c.in_ok-walk_addresses-2.ensures in
+    subst (λ ps. g.S.Sheet.takes c.args.sheet.now ps c.server_end.new.self)
+    (sym (append-nil (server_pieces server))
+    ∙ ap (λ held. flat_map server_pieces (filter_map (server_in rows) (held ∷ []))) (sym c.in-Srv.is))
+    (laws.more _ _ _ (begin ∷ []) (map server_address (fours ++ sixes) ++ server_end ∷ []) c.in_ok-server_begin.ensures
+    (laws.more _ _ _ (map server_address (fours ++ sixes)) (server_end ∷ [])
+    (subst (λ ps. g.S.Sheet.takes c.server_begin.new.self ps c.walk_addresses-2.new.sheet) (sym (map-append server_address fours sixes))
+    (laws.more _ _ _ (map server_address fours) (map server_address sixes) four six))
+    end)))
     c.server_end.ensures

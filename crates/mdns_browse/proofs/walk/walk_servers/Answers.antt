@@ -1,45 +1,46 @@
-use Rattle.std.proofs.Common.{refl, ◌∙◌, subst, ◌==◌, length, map, [], ◌∷◌, arith}
+use Rattle.std.proofs.Common.{◌≡◌, sym, ◌∙◌, ap, subst, ◌==◌, List, length, map, ◌++◌, [], ◌∷◌, arith}
+use Rattle.std.proofs.lemmas.Grind.{flat_map-append}
+use Rattle.std.proofs.lemmas.List.{length-map}
 use Rattle.std.proofs.lemmas.Result.{on_ok_weaker}
-use Rattle.std.specs.List.{flat_map}
+use Rattle.std.specs.List.{filter_map, flat_map}
+use Rattle.mdns_join.specs.declared.latest.Latest.{Latest}
 use Rattle.mdns_cache.specs.Rows.{last_lent}
-use Rattle.mdns_browse.specs.Services.{AreEach, IsServerAt}
-use Rattle.mdns_browse.specs.Sheet.{server_pieces, servers_end}
-use Rattle.mdns_browse.proofs.AddLemmas.{flat_map-more, adds-more, each-empty}
-use Rattle.mdns_browse.proofs.PickLemmas.{whole_list}
-use Rattle.mdns_browse.proofs.ServiceLemmas.{number_at, each-taken}
+use Rattle.mdns_browse.specs.Services.{body_of, server_in, servers_in}
+use Rattle.mdns_browse.specs.Sheet.{Piece, server_pieces, servers_end}
+use Rattle.mdns_browse.proofs.InstanceLemmas.{served-each, servers-append}
+use Rattle.mdns_browse.proofs.ListLemmas.{takes_all, takes_more, through-append}
 use Rattle.mdns_browse.proofs.walk.walk_servers.Goals as goal
 
+abbrev pieces : List Latest → List Latest → List Piece
+pieces rows found = flat_map server_pieces (filter_map (server_in rows) (map body_of found))
+
+append : (rows xs ys : List Latest) → pieces rows (xs ++ ys) ≡ pieces rows xs ++ pieces rows ys
+append rows =
+    through-append (flat_map server_pieces) (λ found. filter_map (server_in rows) (map body_of found)) (flat_map-append server_pieces)
+    (servers-append rows)
+
 pub loop-row-init : goal.loop-row-init
-loop-row-init g c heard now live are = record { value = []; right = tt; taken = g.met.S.Sheet.laws.nothing _ }
+loop-row-init g c ascending = g.met.S.Sheet.laws.nothing _
 
 pub loop-row-preserved : goal.loop-row-preserved
-loop-row-preserved g c heard now live are =
-    let found = c.of_set-servers.result.now in
-    let row = c.row-item.result in
-    let number = number_at last_lent c.args.name.now 33 heard now found c.loop-row.row-index row (omega arith) c.row-item.is are in
-    let one = c.in_ok-walk_server.ensures heard now live number in
-    adds-more g.met.S.Sheet.laws _ _ (flat_map server_pieces) (server_pieces one.value) one.value _ _ _
-    (λ servers. flat_map-more server_pieces servers one.value)
-    (λ servers so_far. each-taken last_lent (IsServerAt heard now) found c.loop-row.row-index row servers one.value (omega arith)
-    c.row-item.is so_far one.right)
-    (c.loop-row.invariant heard now live are) one.taken
+loop-row-preserved g c ascending =
+    let rows = map last_lent c.args.rows.now in
+    takes_more (pieces rows) (append rows) g.met.S.Sheet.laws last_lent c.of_set-servers.result.now c.loop-row.row-index c.row-item.result
+    (omega arith) c.row-item.is (c.loop-row.invariant ascending) (c.in_ok-walk_server.ensures ascending)
 
 pub returns : goal.returns
 returns g c =
-    let found = c.of_set-servers.result.now in
+    let rows = map last_lent c.args.rows.now in
+    let name = c.args.name.now in
+    let servers = servers_in rows name in
     on_ok_weaker c.servers_end.result
-    (λ end heard now live.
-    let are = c.of_set-servers.ensures.live heard now live in
-    let so_far = c.loop-row.invariant heard now live are in
-    let each =
-    whole_list (λ rows. AreEach (IsServerAt heard now) rows so_far.value) last_lent found found c.loop-row.row-index (omega arith) refl
-    so_far.right in
-    record {
-      value = so_far.value;
-      right = record { rows = map last_lent found; right = are; each = each };
-      taken =
-          g.met.S.Sheet.laws.more _ _ _ (flat_map server_pieces so_far.value) (servers_end (length so_far.value == 0) ∷ []) so_far.taken
-          (subst (λ none. g.S.Sheet.takes c.loop-row.sheet (servers_end none ∷ []) c.servers_end.new.self)
-          (c.is_empty.ensures ∙ each-empty last_lent (IsServerAt heard now) found so_far.value each) end);
-    })
+    (λ end ascending.
+    let found = c.of_set-servers.ensures.found ascending in
+    let taken = subst (λ found. g.S.Sheet.takes c.args.sheet.now (pieces rows found) c.loop-row.sheet) found
+    (takes_all (pieces rows) (append rows) g.S.Sheet.takes last_lent c.of_set-servers.result.now c.loop-row.row-index (omega arith)
+    (c.loop-row.invariant ascending)) in
+    let count = sym (length-map c.of_set-servers.result.now last_lent) ∙ ap length found ∙ sym (served-each rows rows name) in
+    g.met.S.Sheet.laws.more _ _ _ (flat_map server_pieces servers) (servers_end (length servers == 0) ∷ []) taken
+    (subst (λ none. g.S.Sheet.takes c.loop-row.sheet (servers_end none ∷ []) c.servers_end.new.self)
+    (c.is_empty.ensures ∙ ap (λ n. n == 0) count) end))
     c.servers_end.ensures

@@ -1,37 +1,36 @@
-use Rattle.std.proofs.Common.{[], ◌∷◌, map, arith}
-use Rattle.mdns_message.specs.declared.body.RecordData.TheVariants.{Txt}
+use Rattle.std.proofs.Common.{◌≡◌, sym, ap, subst, List, map, ◌++◌, [], arith}
+use Rattle.std.proofs.lemmas.List.{map-append}
+use Rattle.std.specs.List.{cons_option, filter_map}
+use Rattle.mdns_join.specs.declared.latest.Latest.{Latest}
 use Rattle.mdns_cache.specs.Rows.{last_lent}
-use Rattle.mdns_browse.specs.Services.{IsTextOf, body_of, Holds}
-use Rattle.mdns_browse.specs.Sheet.{instance_text}
-use Rattle.mdns_browse.proofs.AddLemmas.{adds-weaker, adds-more, each-given}
-use Rattle.mdns_browse.proofs.PickLemmas.{map-append}
-use Rattle.mdns_browse.proofs.ServiceLemmas.{text_body, number_at, each-taken}
+use Rattle.mdns_browse.specs.Services.{body_of, text_in}
+use Rattle.mdns_browse.specs.Sheet.{Piece, instance_text}
+use Rattle.mdns_browse.proofs.InstanceLemmas.{text-none, texts-append}
+use Rattle.mdns_browse.proofs.ListLemmas.{takes_all, takes_more, takes_same, through-append}
 use Rattle.mdns_browse.proofs.walk.walk_texts.Goals as goal
 
+abbrev pieces : List Latest → List Piece
+pieces found = map instance_text (filter_map text_in (map body_of found))
+
+append : (xs ys : List Latest) → pieces (xs ++ ys) ≡ pieces xs ++ pieces ys
+append = through-append (map instance_text) (λ found. filter_map text_in (map body_of found)) (map-append instance_text) texts-append
+
 pub loop-row-init : goal.loop-row-init
-loop-row-init g c heard now are = record { value = []; right = tt; taken = g.met.S.Sheet.laws.nothing _ }
+loop-row-init g c = g.met.S.Sheet.laws.nothing _
 
 pub loop-row-preserved-in_default : goal.loop-row-preserved-in_default
-loop-row-preserved-in_default g c heard now are =
-    let row = c.row-item.result in
-    let number =
-    number_at last_lent c.args.name.now 16 heard now c.of_set-row-items.result.now c.loop-row.row-index row (omega arith)
-    c.row-item.is are in
-    absurd (text_body (body_of (last_lent row)) number c.in_default.not-Txt)
+loop-row-preserved-in_default g c =
+    takes_same pieces append g.met.S.Sheet.laws last_lent c.of_set-row-items.result.now c.loop-row.row-index c.row-item.result (omega arith)
+    c.row-item.is c.loop-row.invariant (ap (λ o. map instance_text (cons_option o [])) (text-none _ c.in_default.not-Txt))
 
 pub loop-row-preserved : goal.loop-row-preserved
-loop-row-preserved g c heard now are =
-    let text = c.in-Txt.text in
-    adds-more g.met.S.Sheet.laws _ _ (map instance_text) (instance_text text ∷ []) text _ _ _
-    (λ texts. map-append instance_text texts (text ∷ []))
-    (λ texts so_far. each-taken last_lent (Holds Txt) c.of_set-row-items.result.now c.loop-row.row-index
-    c.row-item.result texts text (omega arith) c.row-item.is so_far c.in-Txt.is)
-    (c.loop-row.invariant heard now are) c.in_ok-instance_text.ensures
+loop-row-preserved g c =
+    takes_more pieces append g.met.S.Sheet.laws last_lent c.of_set-row-items.result.now c.loop-row.row-index c.row-item.result (omega arith)
+    c.row-item.is c.loop-row.invariant
+    (subst (λ held. g.S.Sheet.takes c.loop-row.sheet (map instance_text (cons_option (text_in held) [])) c.instance_text.new.self)
+    (sym c.in-Txt.is) c.in_ok-instance_text.ensures)
 
 pub returns : goal.returns
-returns g c heard now live =
-    let are = c.of_set-row-items.ensures.live heard now live in
-    adds-weaker
-    (each-given last_lent (IsTextOf c.args.name.now) (Holds Txt) c.of_set-row-items.result.now
-    c.loop-row.row-index (omega arith) heard now are)
-    (c.loop-row.invariant heard now are)
+returns g c ascending =
+    subst (λ found. g.S.Sheet.takes c.args.sheet.now (pieces found) c.loop-row.sheet) (c.of_set-row-items.ensures.found ascending)
+    (takes_all pieces append g.S.Sheet.takes last_lent c.of_set-row-items.result.now c.loop-row.row-index (omega arith) c.loop-row.invariant)

@@ -1,43 +1,38 @@
-use Rattle.std.proofs.Common.{refl, [], ◌∷◌, map, arith}
-use Rattle.std.specs.List.{filter}
-use Rattle.mdns_message.specs.declared.body.RecordData.TheVariants.{Ptr}
-use Rattle.mdns_cache.specs.Rows.{last_lent}
+use Rattle.std.proofs.Common.{rules, ◌≡◌, sym, ap, subst, [], map}
+use Rattle.std.specs.List.{cons_option, filter}
+use Rattle.mdns_cache.specs.Rows.{live_record_lent}
 use Rattle.mdns_browse.specs.About.{keeps_type}
-use Rattle.mdns_browse.specs.Services.{GivesType, Holds}
+use Rattle.mdns_browse.specs.Report.{types_about}
 use Rattle.mdns_browse.specs.Sheet.{service_type}
-use Rattle.mdns_browse.proofs.AddLemmas.{adds-weaker, adds-more, picks_each-left, picks_each-taken, picks_each-given}
-use Rattle.mdns_browse.proofs.KeptLemmas.{adds-kept, map_kept-append}
+use Rattle.mdns_browse.proofs.AddLemmas.{Reaches, reaches-start, reaches-more, reaches-same, reaches-all}
+use Rattle.mdns_browse.proofs.KeptLemmas.{type_pieces-append}
+use Rattle.mdns_browse.proofs.ListLemmas.{left_split}
 use Rattle.mdns_browse.proofs.walk.walk_types.Goals as goal
 
-pub loop-row-init : goal.loop-row-init
-loop-row-init g c = record {
-  value = [];
-  right = record { picked = []; picks = tt; each = tt };
-  taken = g.met.S.Sheet.laws.nothing _;
-}
+pub loop-record-init : goal.loop-record-init
+loop-record-init g c =
+    let about = c.args.about.now in
+    let all = map service_type (types_about about c.args.records) in
+    let same : c.into_iter-record-iterator.result ≡ c.args.records = search rules in
+    subst (λ left. Reaches g.S.Sheet.takes c.args.sheet.now all c.args.sheet.now (map service_type (types_about about left))) (sym same)
+    (reaches-start g.met.S.Sheet.laws c.args.sheet.now all)
 
-pub loop-row-preserved-in_default : goal.loop-row-preserved-in_default
-loop-row-preserved-in_default g c =
-    adds-weaker
-    (picks_each-left last_lent GivesType (Holds Ptr) c.args.rows.now c.loop-row.row-index c.row-item.result
-    (omega arith) c.row-item.is c.in_default.ensures.none)
-    c.loop-row.invariant
+pub loop-record-preserved-in_default : goal.loop-record-preserved-in_default
+loop-record-preserved-in_default g c =
+    let about = c.args.about.now in
+    reaches-same g.met.S.Sheet.laws c.loop-record.invariant
+    (left_split (λ rows. map service_type (types_about about rows)) (type_pieces-append about) (live_record_lent c.in-Some.record) _ _ []
+    c.in-Some.ensures.steps (ap (λ o. map service_type (filter (keeps_type about) (cons_option o []))) (sym c.in_default.ensures)))
 
-pub loop-row-preserved : goal.loop-row-preserved
-loop-row-preserved g c =
-    let gives = c.in-Some.ensures.some in
-    let name = c.in-Some.name.now in
-    let keep = keeps_type c.args.about.now in
-    adds-more g.met.S.Sheet.laws _ _ (λ names. map service_type (filter keep names)) (map service_type (filter keep (name ∷ []))) name _ _ _
-    (λ names. map_kept-append service_type keep names (name ∷ []))
-    (picks_each-taken last_lent GivesType (Holds Ptr) c.args.rows.now c.loop-row.row-index c.row-item.result
-    name (omega arith) c.row-item.is gives.0 gives.1)
-    c.loop-row.invariant c.in_ok-walk_type.ensures
+pub loop-record-preserved : goal.loop-record-preserved
+loop-record-preserved g c =
+    let about = c.args.about.now in
+    reaches-more g.met.S.Sheet.laws c.loop-record.invariant
+    (left_split (λ rows. map service_type (types_about about rows)) (type_pieces-append about) (live_record_lent c.in-Some.record) _ _ _
+    c.in-Some.ensures.steps (ap (λ o. map service_type (filter (keeps_type about) (cons_option o []))) (sym c.in-Some-type_of.ensures)))
+    c.in_ok-walk_type.ensures
 
 pub returns : goal.returns
-returns g c heard now are =
-    adds-kept (keeps_type c.args.about.now) (map service_type)
-    (adds-weaker
-    (picks_each-given last_lent GivesType (Holds Ptr) c.args.rows.now c.loop-row.row-index c.args.rows.now
-    (omega arith) refl heard now are)
-    c.loop-row.invariant)
+returns g c =
+    reaches-all g.met.S.Sheet.laws c.loop-record.invariant
+    (ap (λ rows. map service_type (types_about c.args.about.now rows)) c.in-None.ensures.steps.0)

@@ -1,14 +1,10 @@
-use Rattle.std.proofs.Common.{map, take}
-use Rattle.std.specs.List.{filter}
-use Rattle.mdns_message.specs.declared.body.RecordData.TheVariants.{Ptr}
-use Rattle.mdns_cache.specs.Rows.{last_lent}
-use Rattle.mdns_browse.specs.About.{keeps_type}
-use Rattle.mdns_browse.specs.Services.{GivesType, Holds}
-use Rattle.mdns_browse.specs.Sheet.{AddsPieces, service_type}
-use Rattle.mdns_browse.proofs.AddLemmas.{PicksEach}
+use Rattle.std.proofs.Common.{map}
+use Rattle.mdns_browse.specs.Report.{types_about}
+use Rattle.mdns_browse.specs.Sheet.{service_type}
+use Rattle.mdns_browse.proofs.AddLemmas.{Reaches}
 use Rattle.mdns_browse.proofs.walk.walk_types.Given as goal
 
-abbrev pub invariant-loop-row : goal.invariant-loop-row
-invariant-loop-row g l =
-    AddsPieces g.S.Sheet.takes (PicksEach GivesType (Holds Ptr) (map last_lent (take l.row-index l.rows)))
-    (λ names. map service_type (filter (keeps_type l.about) names)) l.initial.sheet l.sheet
+abbrev pub invariant-loop-record : goal.invariant-loop-record
+invariant-loop-record g l =
+    Reaches g.S.Sheet.takes l.initial.sheet (map service_type (types_about l.about l.fn.records)) l.sheet
+    (map service_type (types_about l.about l.record-iterator))

@@ -5,7 +5,7 @@ use Rattle.mdns_browse.specs.Given.{given_lent}
 use Rattle.mdns_browse.specs.Services.{GivenRow, GivesInstance}
 use Rattle.mdns_browse.proofs.GatherLemmas.{choice-lent, list-given, list-more, list-rows, list-start}
 use Rattle.mdns_browse.proofs.PickLemmas.{map-append}
-use Rattle.mdns_browse.proofs.given.gather_since.Goals as goal
+use Rattle.mdns_browse.proofs.since.gather_since.Goals as goal
 
 pub loop-row-init : goal.loop-row-init
 loop-row-init c =

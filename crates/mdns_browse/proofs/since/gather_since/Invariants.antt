@@ -4,7 +4,7 @@ use Rattle.mdns_lives.specs.Since.{live_since_lent}
 use Rattle.mdns_lives.specs.declared.live_since.LiveSince.{LiveSince}
 use Rattle.mdns_browse.specs.Given.{given_lent, given_of_since}
 use Rattle.mdns_browse.proofs.GatherLemmas.{Gathers}
-use Rattle.mdns_browse.proofs.given.gather_since.Given as goal
+use Rattle.mdns_browse.proofs.since.gather_since.Given as goal
 
 abbrev pub invariant-loop-row : goal.invariant-loop-row
 invariant-loop-row l =

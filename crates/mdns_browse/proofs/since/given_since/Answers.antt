@@ -3,7 +3,7 @@ use Rattle.mdns_cache.specs.Live.{AreLiveRows}
 use Rattle.mdns_cache.specs.Rows.{last_lent}
 use Rattle.mdns_browse.specs.Services.{IsSinceKnown}
 use Rattle.mdns_browse.proofs.GatherLemmas.{give_instances, gives_kept}
-use Rattle.mdns_browse.proofs.given.given_since.Goals as goal
+use Rattle.mdns_browse.proofs.since.given_since.Goals as goal
 
 pub returns-clause-given : goal.returns-clause-given
 returns-clause-given c heard now are =

@@ -2,9 +2,9 @@ use Rattle.std.proofs.Common.{sym, ◌∙◌, ap, map}
 use Rattle.std.proofs.lemmas.Result.{IfOk-weaker}
 use Rattle.mdns_cache.specs.Rows.{last_lent}
 use Rattle.mdns_browse.specs.About.{keeps_heard}
-use Rattle.mdns_browse.proofs.AboutServiceLemmas.{keeps-live}
+use Rattle.mdns_browse.proofs.SinceLemmas.{keeps-live}
 use Rattle.mdns_browse.proofs.SameLemmas.{one_pointer}
-use Rattle.mdns_browse.proofs.keeps.keeps_instance.Goals as goal
+use Rattle.mdns_browse.proofs.since.keeps_instance.Goals as goal
 
 pub returns : goal.returns
 returns c =

@@ -1,0 +1,219 @@
+-- The instances that records give among rows.
+use Rattle.std.proofs.Common.{◌≡◌, refl, sym, ◌∙◌, ap, ℕ, ◌==◌, Bool, true, false, cond, Option, None, Some, is_some, option_map}
+use Rattle.std.proofs.Common.{suc, List, [], ◌∷◌, ◌++◌, length, map, arith}
+use Rattle.std.proofs.lemmas.Bool.{false≢true}
+use Rattle.std.proofs.lemmas.Bool.Decides.{nat_tests}
+use Rattle.std.proofs.lemmas.List.{map-append}
+use Rattle.std.proofs.lemmas.List.Elements.{filter-append, filter_map-append}
+use Rattle.std.proofs.lemmas.Option.{cond_some, none-some}
+use Rattle.std.specs.List.{cons_option, filter, filter_map}
+use Rattle.mdns_message.specs.Resource.{Body, number_of, set_key_cmp}
+use Rattle.mdns_message.specs.declared.body.RecordData.TheVariants.{A, Aaaa, Ptr, Txt, Srv}
+use Rattle.mdns_message.specs.laws.Resource.{set_key_cmp-exact}
+use Rattle.std.specs.Ordering.{is_eq}
+use Rattle.mdns_join.specs.declared.latest.Latest.{Latest}
+use Rattle.mdns_cache.specs.Live.{record_of}
+use Rattle.mdns_browse.specs.About.{keeps_instance}
+use Rattle.mdns_browse.specs.Given.{kept_given}
+use Rattle.mdns_browse.specs.declared.about.Subject.{Subject}
+use Rattle.mdns_browse.specs.declared.instance.Instance.{Instance}
+use Rattle.mdns_browse.specs.declared.instance.Server.{Server}
+use Rattle.mdns_browse.specs.Services.{GivenRow, InstanceRow, body_of, given_of, gives_instance, instance_given, instance_in}
+use Rattle.mdns_browse.specs.Services.{instance_row_in, instance_rows_in, lasts_in, name_if, pointer_of, rows_of_set}
+use Rattle.mdns_browse.specs.Services.{server_in, set_for, text_in}
+use Rattle.mdns_browse.proofs.KeptLemmas.{filter-all}
+use Rattle.mdns_browse.proofs.ListLemmas.{through-append}
+use Rattle.mdns_browse.proofs.SearchLemmas.{eq_is}
+
+-- ---- what a record gives
+
+name_if-pointer : (test : List ℕ → Bool) (pointer : Option (List ℕ)) (name : List ℕ) → name_if test pointer ≡ Some name → pointer ≡ Some name
+name_if-pointer test None name given = absurd (none-some name given)
+name_if-pointer test (Some target) name given = ap Some (cond_some (test target) target name given).1
+
+-- a record that gives an instance points to it
+pub instance-points : (last : Latest) (name : List ℕ) → instance_given last ≡ Some name → pointer_of (body_of last) ≡ Some name
+unfolding instance_given
+instance-points last name given = name_if-pointer _ (pointer_of (body_of last)) name given
+
+-- data of another type points to nothing
+pub points-none : (held : Body) → ((name : List ℕ) → held ≡ Ptr name → ⊥) → pointer_of held ≡ None
+points-none (Ptr target) not = absurd (not target refl)
+points-none (A octets) not = refl
+points-none (Aaaa octets) not = refl
+points-none (Txt text) not = refl
+points-none (Srv priority weight port target) not = refl
+
+-- ---- instances with their records
+
+-- the records that give instances
+abbrev pub given_in : List InstanceRow → List GivenRow
+given_in rows = map (λ (row : InstanceRow). row.given) rows
+
+-- their instances
+abbrev pub only : List InstanceRow → List Instance
+only rows = map (λ (row : InstanceRow). row.instance) rows
+
+module _ (rows : List Latest) where
+  abbrev pub row_named : GivenRow → List ℕ → InstanceRow
+  row_named given name = record { given = given; instance = instance_in rows name }
+
+  abbrev pub shown_in : List GivenRow → List InstanceRow
+  shown_in given = filter_map (instance_row_in rows) given
+
+  abbrev kept_in : (InstanceRow → Bool) → List GivenRow → List InstanceRow
+  kept_in keep given = filter keep (shown_in given)
+
+  -- what one record shows
+  pub shown-one : (given : GivenRow) (name : List ℕ) → body_of given.last ≡ Ptr name → shown_in (given ∷ []) ≡ row_named given name ∷ []
+  shown-one given name points = ap (λ held. cons_option (option_map (row_named given) (pointer_of held)) []) points
+
+  pub shown-none : (given : GivenRow) → ((name : List ℕ) → body_of given.last ≡ Ptr name → ⊥) → shown_in (given ∷ []) ≡ []
+  shown-none given not = ap (λ o. cons_option (option_map (row_named given) o) []) (points-none (body_of given.last) not)
+
+  -- what a record that gives an instance shows
+  shows : (given : GivenRow) (name : List ℕ) → instance_given given.last ≡ Some name
+      → instance_row_in rows given ≡ Some (row_named given name)
+  shows given name gives = ap (option_map (row_named given)) (instance-points given.last name gives)
+
+  -- of records that give instances each shows one
+  pub given-shown : (all : List GivenRow) → given_in (instance_rows_in rows all) ≡ filter gives_instance all
+  given-shown [] = refl
+  given-shown (given ∷ all) = by (instance_given given.last) refl (given-shown all)
+    where
+      by : (o : Option (List ℕ)) → instance_given given.last ≡ o → given_in (instance_rows_in rows all) ≡ filter gives_instance all
+          → given_in (filter_map (instance_row_in rows) (cond (is_some o) (given ∷ filter gives_instance all) (filter gives_instance all)))
+          ≡ cond (is_some o) (given ∷ filter gives_instance all) (filter gives_instance all)
+      by None none rest = rest
+      by (Some name) gives rest =
+          ap (λ o. given_in (cons_option o (instance_rows_in rows all))) (shows given name gives) ∙ ap (λ others. given ∷ others) rest
+
+  -- a row that is shown is the one that its record shows
+  shown-by : (given : GivenRow) (row : InstanceRow) → instance_row_in rows given ≡ Some row → instance_row_in rows row.given ≡ Some row
+  shown-by given row is = by (pointer_of (body_of given.last)) refl is
+    where
+      by : (o : Option (List ℕ)) → pointer_of (body_of given.last) ≡ o → option_map (row_named given) o ≡ Some row
+          → instance_row_in rows row.given ≡ Some row
+      by None none other = absurd (none-some row other)
+      by (Some name) points same =
+          let own : row_named given name ≡ row = cc in
+          ap (λ (row : InstanceRow). instance_row_in rows row.given) (sym own) ∙ is
+
+  -- the records of rows that are kept show those rows
+  pub shown-again : (keep : InstanceRow → Bool) (all : List GivenRow)
+      → filter_map (instance_row_in rows) (given_in (filter keep (filter_map (instance_row_in rows) all)))
+      ≡ filter keep (filter_map (instance_row_in rows) all)
+  shown-again keep [] = refl
+  shown-again keep (given ∷ all) = by (instance_row_in rows given) refl (shown-again keep all)
+    where
+      by : (o : Option InstanceRow) → instance_row_in rows given ≡ o → shown_in (given_in (kept_in keep all)) ≡ kept_in keep all
+          → shown_in (given_in (filter keep (cons_option o (shown_in all)))) ≡ filter keep (cons_option o (shown_in all))
+      by None none rest = rest
+      by (Some row) is rest = by_test (keep row)
+        where
+          by_test : (b : Bool) → shown_in (given_in (cond b (row ∷ kept_in keep all) (kept_in keep all)))
+              ≡ cond b (row ∷ kept_in keep all) (kept_in keep all)
+          by_test true =
+              ap (λ o. cons_option o (shown_in (given_in (kept_in keep all)))) (shown-by given row is)
+              ∙ ap (λ others. row ∷ others) rest
+          by_test false = rest
+
+  -- without subjects all are kept
+  pub kept-none : (about : List Subject) (all : List GivenRow) → (length about == 0) ≡ true
+      → filter gives_instance all ≡ given_in (filter (λ (row : InstanceRow). keeps_instance about row.instance) (instance_rows_in rows all))
+  unfolding keeps_instance
+  kept-none [] all none =
+      sym (ap given_in (filter-all (λ (row : InstanceRow). true) (λ row. refl) (instance_rows_in rows all)) ∙ given-shown all)
+  kept-none (subject ∷ about) all none =
+      let some : (length (subject ∷ about) == 0) ≡ false = grind (arith, nat_tests) in absurd (false≢true (sym some ∙ none))
+
+  pub kept-append : (about : List Subject) (xs ys : List GivenRow)
+      → kept_given about rows (xs ++ ys) ≡ kept_given about rows xs ++ kept_given about rows ys
+  kept-append about =
+      through-append given_in (λ xs. filter (λ (row : InstanceRow). keeps_instance about row.instance) (filter_map (instance_row_in rows) xs))
+      (map-append (λ (row : InstanceRow). row.given))
+      (through-append (filter (λ (row : InstanceRow). keeps_instance about row.instance)) (filter_map (instance_row_in rows))
+      (filter-append (λ (row : InstanceRow). keeps_instance about row.instance)) (filter_map-append (instance_row_in rows)))
+
+  -- what is kept of one record
+  pub kept-one : (about : List Subject) (given : GivenRow) (name : List ℕ) (b : Bool) → body_of given.last ≡ Ptr name
+      → keeps_instance about (instance_in rows name) ≡ b → kept_given about rows (given ∷ []) ≡ cond b (given ∷ []) []
+  kept-one about given name b points keeps =
+      ap (λ shown. given_in (filter (λ (row : InstanceRow). keeps_instance about row.instance) shown)) (shown-one given name points)
+      ∙ by (keeps_instance about (instance_in rows name)) ∙ ap (λ b. cond b (given ∷ []) []) keeps
+    where
+      by : (b : Bool) → given_in (cond b (row_named given name ∷ []) []) ≡ cond b (given ∷ []) []
+      by true = refl
+      by false = refl
+
+  pub kept-no_pointer : (about : List Subject) (given : GivenRow) → ((name : List ℕ) → body_of given.last ≡ Ptr name → ⊥)
+      → kept_given about rows (given ∷ []) ≡ []
+  kept-no_pointer about given not =
+      ap (λ shown. given_in (filter (λ (row : InstanceRow). keeps_instance about row.instance) shown)) (shown-none given not)
+
+  -- the instances by the records that give them
+  pub instances-shown : (live : List (Latest × ℕ))
+      → only (instance_rows_in rows (map given_of live))
+      ≡ map (instance_in rows) (filter_map instance_given (lasts_in live))
+  instances-shown [] = refl
+  instances-shown (row ∷ live) = by (instance_given row.0) refl (instances-shown live)
+    where
+      by : (o : Option (List ℕ)) → instance_given row.0 ≡ o
+          → only (instance_rows_in rows (map given_of live)) ≡ map (instance_in rows) (filter_map instance_given (lasts_in live))
+          → only (shown_in (cond (is_some o) (given_of row ∷ filter gives_instance (map given_of live))
+          (filter gives_instance (map given_of live))))
+          ≡ map (instance_in rows) (cons_option o (filter_map instance_given (lasts_in live)))
+      by None none rest = rest
+      by (Some name) gives rest =
+          ap (λ o. only (cons_option o (instance_rows_in rows (map given_of live)))) (shows (given_of row) name gives)
+          ∙ ap (λ more. instance_in rows name ∷ more) rest
+
+-- ---- servers and texts
+
+-- data of another type is no server's, and no text
+pub server-none : (rows : List Latest) (held : Body)
+    → ((priority weight port : ℕ) (target : List ℕ) → held ≡ Srv priority weight port target → ⊥) → server_in rows held ≡ None
+server-none rows (Srv priority weight port target) not = absurd (not priority weight port target refl)
+server-none rows (A octets) not = refl
+server-none rows (Aaaa octets) not = refl
+server-none rows (Ptr target) not = refl
+server-none rows (Txt text) not = refl
+
+pub text-none : (held : Body) → ((text : List ℕ) → held ≡ Txt text → ⊥) → text_in held ≡ None
+text-none (Txt text) not = absurd (not text refl)
+text-none (A octets) not = refl
+text-none (Aaaa octets) not = refl
+text-none (Ptr target) not = refl
+text-none (Srv priority weight port target) not = refl
+
+pub servers-append : (rows xs ys : List Latest) → filter_map (server_in rows) (map body_of (xs ++ ys))
+    ≡ filter_map (server_in rows) (map body_of xs) ++ filter_map (server_in rows) (map body_of ys)
+servers-append rows = through-append (filter_map (server_in rows)) (map body_of) (filter_map-append (server_in rows)) (map-append body_of)
+
+pub texts-append : (xs ys : List Latest)
+    → filter_map text_in (map body_of (xs ++ ys)) ≡ filter_map text_in (map body_of xs) ++ filter_map text_in (map body_of ys)
+texts-append = through-append (filter_map text_in) (map body_of) (filter_map-append text_in) (map-append body_of)
+
+-- SRV data has a server
+has_server : (all : List Latest) (held : Body) → number_of held ≡ 33 → (server : Server) × (server_in all held ≡ Some server)
+has_server all (Srv priority weight port target) is = (_, refl)
+has_server all (A octets) is = let other : 1 ≡ 33 = is in absurd (omega (arith, other))
+has_server all (Aaaa octets) is = let other : 28 ≡ 33 = is in absurd (omega (arith, other))
+has_server all (Ptr target) is = let other : 12 ≡ 33 = is in absurd (omega (arith, other))
+has_server all (Txt text) is = let other : 16 ≡ 33 = is in absurd (omega (arith, other))
+
+-- each SRV record of a name has one
+pub served-each : (all rows : List Latest) (name : List ℕ)
+    → length (filter_map (server_in all) (map body_of (rows_of_set rows name 33))) ≡ length (rows_of_set rows name 33)
+served-each all [] name = refl
+served-each all (row ∷ rows) name = by (is_eq (set_key_cmp (record_of row).set (set_for name 33))) refl (served-each all rows name)
+  where
+    by : (b : Bool) → is_eq (set_key_cmp (record_of row).set (set_for name 33)) ≡ b
+        → length (filter_map (server_in all) (map body_of (rows_of_set rows name 33))) ≡ length (rows_of_set rows name 33)
+        → length (filter_map (server_in all) (map body_of (cond b (row ∷ rows_of_set rows name 33) (rows_of_set rows name 33))))
+        ≡ length (cond b (row ∷ rows_of_set rows name 33) (rows_of_set rows name 33))
+    by false not rest = rest
+    by true is rest =
+        let same = set_key_cmp-exact (record_of row).set (set_for name 33) (eq_is _ is) in
+        let server = has_server all (body_of row) (ap (λ s. s.number) same) in
+        ap (λ o. length (cons_option o (filter_map (server_in all) (map body_of (rows_of_set rows name 33))))) server.1 ∙ ap (λ n. suc n) rest

@@ -1,9 +1,0 @@
-use Rattle.std.proofs.Common.{map, take}
-use Rattle.mdns_message.specs.declared.body.RecordData.TheVariants.{Ptr}
-use Rattle.mdns_cache.specs.Rows.{last_lent}
-use Rattle.mdns_browse.specs.Services.{GivesType, Holds}
-use Rattle.mdns_browse.proofs.AddLemmas.{PicksEach}
-use Rattle.mdns_browse.proofs.services.types.Given as goal
-
-abbrev pub invariant-loop-row : goal.invariant-loop-row
-invariant-loop-row l = PicksEach GivesType (Holds Ptr) (map last_lent (take l.row-index l.row-items)) l.names.items
