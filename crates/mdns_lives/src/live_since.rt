@@ -4,8 +4,8 @@ ghost use Rattle.std.specs.Prelude.{◌≡◌, ◌++◌, ◌∷◌, [], List, ma
 ghost use Rattle.mdns_message.specs.declared.hearing.Hearing.{Hearing};
 ghost use Rattle.mdns_cache.specs.Live.{NoneLater};
 ghost use Rattle.mdns_cache.specs.Rows.{last_lent};
-ghost use Rattle.mdns_lives.specs.Chronicle.{Chronicles};
-ghost use Rattle.mdns_lives.specs.Since.{AreLiveSince, live_since_lent, since_rows};
+ghost use Rattle.mdns_lives.specs.Chronicle.{Chronicles, rows_of};
+ghost use Rattle.mdns_lives.specs.Since.{AreLiveSince, all_since_rows, live_since_lent, since_rows};
 
 use crate::laws::live_lives_are_since;
 use crate::life::Life;
@@ -29,7 +29,8 @@ impl Lives {
     /// Returns each record that is live as of `now` with its end and since when it has been live, in key order.
     pub fn live_at(&self, now: Moment) -> Result<Vec<LiveSince<'_>>, Want>
         requires { NoneLater self.now.newest now }
-        ensures { IfOk result (λ rows. (heard : List Hearing) → Chronicles self.now heard
+        ensures rows { IfOk result (λ rows. map live_since_lent rows.items ≡ all_since_rows now.nanos (rows_of self.now)) }
+        ensures live { IfOk result (λ rows. (heard : List Hearing) → Chronicles self.now heard
             → AreLiveSince heard now.nanos (map live_since_lent rows.items)) }
     {
         live_lives_are_since();

@@ -22,11 +22,14 @@ loop-rows-preserved c =
     ∙ ap (λ (lives : List Life). map live_since_lent c.loop-rows.rows.items ++ since_rows c.args.now.nanos (last_lent row.last) lives)
     c.as_slice.ensures.value)
 
-pub returns : goal.returns
-returns c heard stands =
-    subst (AreLiveSince heard c.args.now.nanos)
-    (sym (tells-all live_since_lent c.args.now.nanos (rows_of c.args.self.now) _ _ c.loop-rows.invariant
-    (none_left row_lent _ c.in_ok-row.ensures.ok c.in_default.not-Some)))
+pub returns-clause-rows : goal.returns-clause-rows
+returns-clause-rows c =
+    tells-all live_since_lent c.args.now.nanos (rows_of c.args.self.now) _ _ c.loop-rows.invariant
+    (none_left row_lent _ c.in_ok-row.ensures.ok c.in_default.not-Some)
+
+pub returns-clause-live : goal.returns-clause-live
+returns-clause-live c heard stands =
+    subst (AreLiveSince heard c.args.now.nanos) (sym (returns-clause-rows c))
     (c.live_lives_are_since.ensures heard (rows_of c.args.self.now) c.args.now.nanos
     (none_later c.args.self.now.newest heard c.args.now stands.newest c.requires)
     (subst (AreAllLives heard) c.walk-walk.ensures.left (c.walk-walk.ensures.all heard stands)))
