@@ -1,7 +1,7 @@
 -- Pages on which names aren't written are equal where they agree but for names.
 use Rattle.std.proofs.Common.{◌≡◌, refl, sym, ◌∙◌, ap, ℕ, ◌+◌, ◌==◌, nat_le, Bool, true, false, if◌then◌else◌, Option, None, Some}
 use Rattle.std.proofs.Common.{List, [], ◌∷◌, ◌++◌, length, map, arith}
-use Rattle.std.specs.List.{flat_map}
+use Rattle.std.specs.List.{filter_map, flat_map}
 use Rattle.mdns_message.specs.Resource.{Body}
 use Rattle.mdns_message.specs.TextData.{strings_of}
 use Rattle.mdns_message.specs.declared.body.RecordData.TheVariants.{A, Aaaa, Ptr, Txt, Srv}
@@ -9,10 +9,11 @@ use Rattle.mdns_lives.specs.declared.life.Life.{Life}
 use Rattle.mdns_lives.specs.declared.life.Reason.TheVariants.{RanOut, Goodbye, Flushed}
 use Rattle.mdns_browse.specs.declared.about.Subject.{Subject}
 use Rattle.mdns_browse.specs.declared.instance.Server.{Server}
-use Rattle.mdns_browse.specs.Services.{GivenRow, InstanceRow}
+use Rattle.mdns_join.specs.declared.latest.Latest.{Latest}
+use Rattle.mdns_browse.specs.Services.{GivenRow, InstanceRow, instance_row_in}
 use Rattle.mdns_browse.specs.Shown.{shown_string, shown_strings}
 use Rattle.mdns_page.specs.declared.axis.Axis.{Axis}
-use Rattle.mdns_page.specs.Bare.{BareLive, BareRow, BareServer, bare_address, bare_capture, bare_end, bare_groups, bare_instances, bare_live}
+use Rattle.mdns_page.specs.Bare.{BareLive, BareRow, BareServer, bare_address, bare_capture, bare_end, bare_group, bare_groups, bare_instances, bare_live}
 use Rattle.mdns_page.specs.Bare.{bare_row, bare_server, bare_text, is_some_filled, unsaid}
 use Rattle.mdns_page.specs.Captures.{Facts, are_many, capture_text, captures_from, captures_group, captures_text}
 use Rattle.mdns_page.specs.Group.{grouped}
@@ -21,7 +22,7 @@ use Rattle.mdns_page.specs.Lanes.{lanes_for}
 use Rattle.mdns_page.specs.Lead.{about_line, cut_warning, ending_warning, has_ended, has_said, lead_text, live_line, other_subject, subjects_line}
 use Rattle.mdns_page.specs.Live.{address_text, addresses_html, left_words, live_group, live_row, live_text, paragraph, server_html}
 use Rattle.mdns_page.specs.Live.{servers_html, text_html}
-use Rattle.mdns_page.specs.Live.{owner_of as type_of}
+use Rattle.mdns_page.specs.Live.{type_of}
 use Rattle.mdns_page.specs.Page.{Shown, page}
 use Rattle.mdns_page.specs.Timeline.{Row, are_titled, group_text, is_live, is_open, lives_in, look_of, others_group}
 use Rattle.mdns_page.specs.Timeline.{owner_of, record_name, row_text, timeline}
@@ -271,26 +272,39 @@ live_row-same axis row other same =
       flat_map-same bare_text (text_html unsaid) text-same row.instance.texts other.instance.texts texts,
     ) refl
 
-live_group-same : (axis : Axis) (opened : Bool) (rows others : List InstanceRow) → map bare_live rows ≡ map bare_live others
-    → live_group unsaid axis opened rows ≡ live_group unsaid axis opened others
+live_group-same : (axis : Axis) (opened : Bool) (lasts others : List Latest) (given more : List GivenRow)
+    → bare_group lasts given ≡ bare_group others more → live_group unsaid axis opened lasts given ≡ live_group unsaid axis opened others more
 unfolding live_group
-live_group-same axis opened rows others same =
-    rw (flat_map-same bare_live (live_row unsaid axis) (live_row-same axis) rows others same) refl
+live_group-same axis opened lasts others given more same =
+    rw (flat_map-same bare_live (live_row unsaid axis) (live_row-same axis) (filter_map (instance_row_in lasts) given)
+    (filter_map (instance_row_in others) more) same) refl
 
-live-same : (axis : Axis) (opened : Bool) (rows others : List InstanceRow) → bare_instances rows ≡ bare_instances others
-    → live_text unsaid axis opened rows ≡ live_text unsaid axis opened others
-live-same axis opened rows others same =
-    rw (flat_map-same (map bare_live) (live_group unsaid axis opened) (live_group-same axis opened) (grouped type_of rows)
-    (grouped type_of others) same) refl
+live_groups-same : (axis : Axis) (opened : Bool) (lasts others : List Latest) (groups more : List (List GivenRow))
+    → map (bare_group lasts) groups ≡ map (bare_group others) more
+    → flat_map (live_group unsaid axis opened lasts) groups ≡ flat_map (live_group unsaid axis opened others) more
+live_groups-same axis opened lasts others [] [] same = refl
+live_groups-same axis opened lasts others [] (group ∷ more) same = cc
+live_groups-same axis opened lasts others (group ∷ groups) [] same = cc
+live_groups-same axis opened lasts others (group ∷ groups) (other ∷ more) same =
+    let first : bare_group lasts group ≡ bare_group others other = cc in
+    let rest : map (bare_group lasts) groups ≡ map (bare_group others) more = cc in
+    let here = live_group-same axis opened lasts others group other first in
+    let after = live_groups-same axis opened lasts others groups more rest in cc
+
+live-same : (axis : Axis) (opened : Bool) (lasts others : List Latest) (given more : List GivenRow)
+    → bare_instances lasts given ≡ bare_instances others more
+    → live_text unsaid axis opened lasts given ≡ live_text unsaid axis opened others more
+live-same axis opened lasts others given more same =
+    rw (live_groups-same axis opened lasts others (grouped type_of given) (grouped type_of more) same) refl
 
 -- ---- the whole
 
-pub page-same : (a b : Shown) (opened : Bool) (live now : List InstanceRow) → a.axis ≡ b.axis → a.lost ≡ b.lost
-    → a.nothing ≡ b.nothing → a.live ≡ live_text unsaid a.axis opened live → b.live ≡ live_text unsaid b.axis opened now
+pub page-same : (a b : Shown) (opened : Bool) (lasts others : List Latest) (live now : List GivenRow) → a.axis ≡ b.axis → a.lost ≡ b.lost
+    → a.nothing ≡ b.nothing → a.live ≡ live_text unsaid a.axis opened lasts live → b.live ≡ live_text unsaid b.axis opened others now
     → length a.about ≡ length b.about → map bare_capture a.captures ≡ map bare_capture b.captures
     → bare_groups a.rows ≡ bare_groups b.rows → map bare_row a.addresses ≡ map bare_row b.addresses
-    → map bare_row a.names ≡ map bare_row b.names → bare_instances live ≡ bare_instances now → page unsaid a ≡ page unsaid b
-page-same a b opened live now same_axis same_lost same_nothing written written_too same_about same_captures same_rows same_addresses
+    → map bare_row a.names ≡ map bare_row b.names → bare_instances lasts live ≡ bare_instances others now → page unsaid a ≡ page unsaid b
+page-same a b opened lasts others live now same_axis same_lost same_nothing written written_too same_about same_captures same_rows same_addresses
     same_names same_live =
     let lanes = lanes_for (is_large (length a.rows)) (length a.captures) in
     let rows = rows-same a.rows b.rows same_rows in
@@ -303,7 +317,7 @@ page-same a b opened live now same_axis same_lost same_nothing written written_t
       lead-same b.axis a.about b.about a.rows b.rows a.captures b.captures b.lost same_about rows same_captures,
       captures-same b.axis a.captures b.captures same_captures,
       timeline-same b.axis lanes a.rows b.rows a.addresses b.addresses a.names b.names same_rows same_addresses same_names,
-      live-same b.axis opened live now same_live,
+      live-same b.axis opened lasts others live now same_live,
       length-same bare_row a.rows b.rows rows,
       length-same bare_capture a.captures b.captures same_captures,
       map-same bare_capture (λ (capture : Facts). capture.span) span-same a.captures b.captures same_captures,

@@ -71,6 +71,18 @@ module _ {X Y : Type 0} (keep : Y → Bool) (f : X → Y) where
   kept-all xs rows i kept enough same are =
       are ∙ ap (λ (ys : List X). filter keep (map f ys)) (take_all i xs enough ∙ same)
 
+module _ {X Y : Type 0} (f : X → Y) where
+  -- the values of one element more of a list, and of all of them
+  pub map-more : (xs : List X) (i : ℕ) (x : X) → i < length xs → x ≡ get_or xs i x
+      → map f (take (i + 1) xs) ≡ map f (take i xs) ++ f x ∷ []
+  map-more xs i x within at =
+      ap (map f) (take_more xs i x within) ∙ map-append f (take i xs) (get_or xs i x ∷ [])
+      ∙ ap (λ (z : X). map f (take i xs) ++ f z ∷ []) (sym at)
+
+  pub map-whole : (xs rows : List X) (i : ℕ) (values : List Y) → length xs ≤ i → xs ≡ rows → values ≡ map f (take i xs)
+      → values ≡ map f rows
+  map-whole xs rows i values enough same are = are ∙ ap (map f) (take_all i xs enough ∙ same)
+
 -- ---- order
 
 module _ {X K : Type 0} (c : K → K → Ordering) (key : X → K) (p : X → Bool) where

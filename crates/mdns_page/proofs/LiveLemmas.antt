@@ -1,63 +1,31 @@
 -- Live instances: their groups, and the text of a row by its pieces.
-use Rattle.std.proofs.Common.{◌≡◌, refl, sym, ◌∙◌, ap, subst, ℕ, zero, suc, ◌+◌, ◌<◌, ◌≤◌, ◌==◌, Bool, true, false, List, [], ◌∷◌, ◌++◌}
-use Rattle.std.proofs.Common.{length, map, take, drop, arith, codes}
+use Rattle.std.proofs.Common.{◌≡◌, refl, sym, ◌∙◌, ap, subst, ℕ, suc, ◌+◌, ◌==◌, Bool, true, false, List, [], ◌∷◌, ◌++◌}
+use Rattle.std.proofs.Common.{length, map, take, arith, codes}
 use Rattle.std.proofs.lemmas.Bool.Decides.{nat_tests}
-use Rattle.std.proofs.lemmas.List.{append-nil, append_assoc, drop-map, nil_from_length, take-map}
-use Rattle.std.proofs.lemmas.Simd.{map-map}
-use Rattle.std.specs.List.{flat_map}
+use Rattle.std.proofs.lemmas.List.{append-nil, append_assoc}
+use Rattle.std.specs.List.{filter_map, flat_map}
 use Rattle.std.specs.String.{string_bytes}
 use Rattle.mdns_message.specs.Resource.{Body}
-use Rattle.mdns_browse.specs.Services.{AreEach, GivenRow, InstanceRow}
+use Rattle.mdns_join.specs.declared.latest.Latest.{Latest}
+use Rattle.mdns_browse.specs.Services.{AreEach, GivenRow, InstanceRow, instance_row_in}
 use Rattle.mdns_browse.specs.Sheet.{Piece, server_address, server_end, servers_end, instance_text, instance_end}
 use Rattle.mdns_browse.specs.Sheet.{server_pieces, servers_pieces, instance_pieces}
 use Rattle.mdns_browse.specs.declared.instance.Server.{Server}
 use Rattle.mdns_page.specs.declared.axis.Axis.{Axis}
 use Rattle.mdns_page.specs.declared.live_sheet.LiveSheet.{LiveSheet}
-use Rattle.mdns_page.specs.Group.{following, group_end, grouped, item_begin, item_end, item_last, item_middle, leading}
+use Rattle.mdns_page.specs.Group.{group_end, grouped, item_begin, item_end, item_last, item_middle}
 use Rattle.mdns_page.specs.Html.{isolated}
 use Rattle.mdns_page.specs.Live.{live_begin, live_text}
-use Rattle.mdns_page.specs.Live.{address_html, addresses_html, live_group, live_row, owner_of, row_name, server_html}
+use Rattle.mdns_page.specs.Live.{address_html, addresses_html, live_group, live_row, row_name, server_html}
 use Rattle.mdns_page.specs.Live.{server_name, servers_html, text_html, type_of}
 use Rattle.mdns_page.specs.LiveSheet.{Adds, Grows, pieces_html, pieces_next, type_begin, unresolved_if}
 use Rattle.mdns_page.specs.laws.LiveSheet.{pieces-append}
-use Rattle.mdns_page.proofs.GroupLemmas.{grouped-first}
-
--- ---- groups
-
-abbrev pub given_of : InstanceRow → GivenRow
-given_of row = row.given
-
--- what holds of rows and records, one each, holds of so many at the front and of the others
-each-take : {X Y : Type 0} (Is : X → Y → Type 0) (n : ℕ) (xs : List X) (ys : List Y) → AreEach Is xs ys
-    → AreEach Is (take n xs) (take n ys)
-each-take Is zero xs ys each = tt
-each-take Is (suc n) [] [] each = tt
-each-take Is (suc n) [] (y ∷ ys) each = absurd each
-each-take Is (suc n) (x ∷ xs) [] each = absurd each
-each-take Is (suc n) (x ∷ xs) (y ∷ ys) each = (each.0, each-take Is n xs ys each.1)
-
-each-drop : {X Y : Type 0} (Is : X → Y → Type 0) (n : ℕ) (xs : List X) (ys : List Y) → AreEach Is xs ys
-    → AreEach Is (drop n xs) (drop n ys)
-each-drop Is zero xs ys each = each
-each-drop Is (suc n) [] [] each = tt
-each-drop Is (suc n) [] (y ∷ ys) each = absurd each
-each-drop Is (suc n) (x ∷ xs) [] each = absurd each
-each-drop Is (suc n) (x ∷ xs) (y ∷ ys) each = each-drop Is n xs ys each.1
 
 pub each-count : {X Y : Type 0} (Is : X → Y → Type 0) (xs : List X) (ys : List Y) → AreEach Is xs ys → length xs ≡ length ys
 each-count Is [] [] each = refl
 each-count Is [] (y ∷ ys) each = absurd each
 each-count Is (x ∷ xs) [] each = absurd each
 each-count Is (x ∷ xs) (y ∷ ys) each = ap suc (each-count Is xs ys each.1)
-
--- the records that give the instances of rows
-each-given : (Is : GivenRow → InstanceRow → Type 0) → ((given : GivenRow) (row : InstanceRow) → Is given row → row.given ≡ given)
-    → (givens : List GivenRow) (rows : List InstanceRow) → AreEach Is givens rows → givens ≡ map given_of rows
-each-given Is same [] [] each = refl
-each-given Is same [] (row ∷ rows) each = absurd each
-each-given Is same (given ∷ givens) [] each = absurd each
-each-given Is same (given ∷ givens) (row ∷ rows) each =
-    ap (λ given. given ∷ givens) (sym (same given row each.0)) ∙ ap (λ rest. row.given ∷ rest) (each-given Is same givens rows each.1)
 
 -- ---- the text of a row, by its pieces
 
@@ -134,15 +102,23 @@ module _ (say : List ℕ → List ℕ) (axis : Axis) where
 -- ---- the groups one after another
 
 -- a group by the record of its first row
-group-by_owner : (say : List ℕ → List ℕ) (axis : Axis) (opened : Bool) (Is : GivenRow → InstanceRow → Type 0)
-    → ((given : GivenRow) (row : InstanceRow) → Is given row → row.given ≡ given) → (given : GivenRow) (givens : List GivenRow)
-    (rows : List InstanceRow) → AreEach Is (given ∷ givens) rows
-    → type_begin say opened (type_of given) ++ flat_map (live_row say axis) rows ++ group_end ≡ live_group say axis opened rows
+group-by_owner : (say : List ℕ → List ℕ) (axis : Axis) (opened : Bool) (lasts : List Latest) (given : GivenRow) (more : List GivenRow)
+    → type_begin say opened (type_of given) ++ flat_map (live_row say axis) (filter_map (instance_row_in lasts) (given ∷ more)) ++ group_end
+    ≡ live_group say axis opened lasts (given ∷ more)
 unfolding live_group type_begin
-group-by_owner say axis opened Is same given givens [] each = absurd each
-group-by_owner say axis opened Is same given givens (row ∷ rows) each =
-    ap (λ (given : GivenRow). type_begin say opened (type_of given) ++ flat_map (live_row say axis) (row ∷ rows) ++ group_end)
-    (sym (same given row each.0))
+group-by_owner say axis opened lasts given more = refl
+
+pub group-at : {R : Type 0} (value : R → GivenRow) (say : List ℕ → List ℕ) (axis : Axis) (opened : Bool) (lasts : List Latest) (rs : List R)
+    (first : R) (others : List R) (n : ℕ) → rs ≡ first ∷ others
+    → type_begin say opened (type_of (value first)) ++ flat_map (live_row say axis) (filter_map (instance_row_in lasts)
+    (map value (take (1 + n) rs))) ++ group_end ≡ live_group say axis opened lasts (map value (take (1 + n) rs))
+group-at value say axis opened lasts rs first others n split =
+    let one : 1 + n ≡ suc n = omega arith in
+    let parts : map value (take (1 + n) rs) ≡ value first ∷ map value (take n others) =
+    ap (λ rs. map value (take (1 + n) rs)) split ∙ ap (λ k. map value (take k (first ∷ others))) one in
+    subst (λ given. type_begin say opened (type_of (value first)) ++ flat_map (live_row say axis) (filter_map (instance_row_in lasts) given)
+    ++ group_end ≡ live_group say axis opened lasts given) (sym parts)
+    (group-by_owner say axis opened lasts (value first) (map value (take n others)))
 
 regroup : (old begin rows end : List ℕ) → ((old ++ begin) ++ rows) ++ end ≡ old ++ (begin ++ rows ++ end)
 regroup old begin rows end = simp append_assoc
@@ -163,84 +139,6 @@ group_by_parts opened owner rows old begun walked new begin walk axis end = reco
       ∙ regroup (string_bytes old.text) (type_begin isolated opened owner) (flat_map (live_row isolated old.axis) rows) group_end;
 }
 
--- what is left to write after `new` are the groups of the rows that are left
-pub record GroupsLeft (Is : GivenRow → InstanceRow → Type 0) (opened : Bool) (shown : List InstanceRow) (rest : List GivenRow)
-    (old new : LiveSheet) : Type 0 where
-  pub left : List InstanceRow
-  pub each : AreEach Is rest left
-  pub axis : new.axis ≡ old.axis
-  pub whole : string_bytes new.text ++ flat_map (live_group isolated old.axis opened) (grouped owner_of left)
-      ≡ string_bytes old.text ++ flat_map (live_group isolated old.axis opened) (grouped owner_of shown)
-
-module _ (Is : GivenRow → InstanceRow → Type 0) (same : (given : GivenRow) (row : InstanceRow) → Is given row → row.given ≡ given)
-    (opened : Bool) (shown : List InstanceRow) where
-  pub groups-start : (givens : List GivenRow) (old : LiveSheet) → AreEach Is givens shown → GroupsLeft Is opened shown givens old old
-  groups-start givens old each = record { left = shown; each = each; axis = refl; whole = refl }
-
-  groups-more_at : {R : Type 0} (value : R → GivenRow) (first : R) (others : List R) (old mid new : LiveSheet) (m : ℕ)
-      → suc m ≡ leading (map (λ r. type_of (value r)) (first ∷ others)) → GroupsLeft Is opened shown (map value (first ∷ others)) old mid
-      → ((rows : List InstanceRow) → AreEach Is (map value (take (suc m) (first ∷ others))) rows
-      → Adds mid (type_begin isolated opened (type_of (value first)) ++ flat_map (live_row isolated mid.axis) rows ++ group_end) new)
-      → GroupsLeft Is opened shown (map value (drop (suc m) (first ∷ others))) old new
-  groups-more_at value first others old mid new m count so_far adds =
-      let givens : List GivenRow = value first ∷ map value others in
-      let rows = so_far.left in
-      let text = live_group isolated old.axis opened in
-      let many : 0 < length rows = omega (arith, each-count Is givens rows so_far.each) in
-      let types : map (λ r. type_of (value r)) (first ∷ others) ≡ map owner_of rows =
-      sym (map-map type_of value (first ∷ others)) ∙ ap (map type_of) (each-given Is same givens rows so_far.each)
-      ∙ map-map type_of given_of rows in
-      let split = grouped-first owner_of (suc m) rows many (count ∙ ap leading types) in
-      let taken = each-take Is (suc m) givens rows so_far.each in
-      let more = adds (take (suc m) rows) (subst (λ given. AreEach Is given (take (suc m) rows)) (take-map value (suc m) (first ∷ others)) taken) in
-      let written =
-      more.written
-      ∙ ap (λ (axis : Axis). string_bytes mid.text
-      ++ (type_begin isolated opened (type_of (value first)) ++ flat_map (live_row isolated axis) (take (suc m) rows) ++ group_end)) so_far.axis
-      ∙ ap (λ group. string_bytes mid.text ++ group)
-      (group-by_owner isolated old.axis opened Is same (value first) (take m (map value others)) (take (suc m) rows) taken) in
-      record {
-        left = drop (suc m) rows;
-        each =
-            subst (λ given. AreEach Is given (drop (suc m) rows)) (drop-map value (suc m) (first ∷ others))
-            (each-drop Is (suc m) givens rows so_far.each);
-        axis = more.axis ∙ so_far.axis;
-        whole =
-            ap (λ front. front ++ flat_map text (grouped owner_of (drop (suc m) rows))) written
-            ∙ append_assoc (string_bytes mid.text) (text (take (suc m) rows)) (flat_map text (grouped owner_of (drop (suc m) rows)))
-            ∙ ap (λ groups. string_bytes mid.text ++ flat_map text groups) (sym split) ∙ so_far.whole;
-      }
-
-  -- a group more
-  pub groups-more : {R : Type 0} (value : R → GivenRow) (rs : List R) (first : R) (others group after : List R) (old mid new : LiveSheet) (n : ℕ)
-      → rs ≡ first ∷ others → n ≡ leading (map (λ r. type_of (value r)) (first ∷ others)) → group ≡ take n rs → after ≡ drop n rs
-      → GroupsLeft Is opened shown (map value rs) old mid
-      → ((rows : List InstanceRow) → AreEach Is (map value group) rows
-      → Adds mid (type_begin isolated opened (type_of (value first)) ++ flat_map (live_row isolated mid.axis) rows ++ group_end) new)
-      → GroupsLeft Is opened shown (map value after) old new
-  groups-more value rs first others group after old mid new n split count front back so_far adds =
-      let m = following (type_of (value first)) (map (λ r. type_of (value r)) others) in
-      let parts : (k : ℕ) → take k rs ≡ take k (first ∷ others) = λ k. ap (take k) split in
-      subst (λ after. GroupsLeft Is opened shown (map value after) old new)
-      (sym (back ∙ ap (drop n) split ∙ ap (λ n. drop n (first ∷ others)) count))
-      (groups-more_at value first others old mid new m refl (subst (λ rs. GroupsLeft Is opened shown (map value rs) old mid) split so_far)
-      (λ rows each. adds rows (subst (λ group. AreEach Is (map value group) rows)
-      (sym (front ∙ parts n ∙ ap (λ n. take n (first ∷ others)) count)) each)))
-
-  -- no group more
-  pub groups-end : {R : Type 0} (value : R → GivenRow) (rs : List R) (old new : LiveSheet) → length rs ≡ 0
-      → GroupsLeft Is opened shown (map value rs) old new → Adds old (flat_map (live_group isolated old.axis opened) (grouped owner_of shown)) new
-  unfolding grouped
-  groups-end value [] old new none so_far =
-      let nothing = nil_from_length so_far.left (sym (each-count Is [] so_far.left so_far.each)) in
-      record {
-        axis = so_far.axis;
-        written =
-            sym (append-nil (string_bytes new.text))
-            ∙ ap (λ rows. string_bytes new.text ++ flat_map (live_group isolated old.axis opened) (grouped owner_of rows)) (sym nothing) ∙ so_far.whole;
-      }
-  groups-end value (r ∷ rs) old new none so_far = absurd (omega (arith, none))
-
 -- ---- the section
 
 pub type_by_parts : (old begin name middle words_begin words words_end a b c d e new : List ℕ) → a ≡ old ++ begin → b ≡ a ++ name
@@ -258,13 +156,14 @@ pub begin_by_parts : (old first time last a b new : List ℕ) → a ≡ old ++ f
 begin_by_parts old first time last a b new one two three = rw (three, two, one) (simp append_assoc)
 
 -- the section by the parts that are written of it
-pub live_by_parts : (axis : Axis) (opened : Bool) (shown : List InstanceRow) (old begun new : List ℕ) (first last : LiveSheet)
+pub live_by_parts : (axis : Axis) (opened : Bool) (lasts : List Latest) (given : List GivenRow) (old begun new : List ℕ)
+    (first last : LiveSheet)
     → begun ≡ old ++ live_begin axis → string_bytes first.text ≡ begun → first.axis ≡ axis
-    → Adds first (flat_map (live_group isolated first.axis opened) (grouped owner_of shown)) last → new ≡ string_bytes last.text ++ codes "</div>\n"
-    → new ≡ old ++ live_text isolated axis opened shown
-live_by_parts axis opened shown old begun new first last begin moved same groups end =
+    → Adds first (flat_map (live_group isolated first.axis opened lasts) (grouped type_of given)) last → new ≡ string_bytes last.text ++ codes "</div>\n"
+    → new ≡ old ++ live_text isolated axis opened lasts given
+live_by_parts axis opened lasts given old begun new first last begin moved same groups end =
     end
     ∙ ap (λ text. text ++ codes "</div>\n")
-    (groups.written ∙ ap (λ text. text ++ flat_map (live_group isolated first.axis opened) (grouped owner_of shown)) (moved ∙ begin)
-    ∙ ap (λ axis'. (old ++ live_begin axis) ++ flat_map (live_group isolated axis' opened) (grouped owner_of shown)) same)
-    ∙ regroup old (live_begin axis) (flat_map (live_group isolated axis opened) (grouped owner_of shown)) (codes "</div>\n")
+    (groups.written ∙ ap (λ text. text ++ flat_map (live_group isolated first.axis opened lasts) (grouped type_of given)) (moved ∙ begin)
+    ∙ ap (λ axis'. (old ++ live_begin axis) ++ flat_map (live_group isolated axis' opened lasts) (grouped type_of given)) same)
+    ∙ regroup old (live_begin axis) (flat_map (live_group isolated axis opened lasts) (grouped type_of given)) (codes "</div>\n")

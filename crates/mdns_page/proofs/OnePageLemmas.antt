@@ -19,12 +19,10 @@ use Rattle.mdns_lives.specs.declared.life.Heard.{Heard}
 use Rattle.mdns_lives.specs.declared.life.Life.{Life}
 use Rattle.mdns_lives.specs.declared.seconds_heard.SecondHeard.{SecondHeard}
 use Rattle.mdns_lives.specs.Heard.{AreSecondsHeard, AreSecondsOf, number_of}
-use Rattle.mdns_lives.specs.Lives.{AreApart, AreApartAfter, AreLives, IsDuring}
 use Rattle.mdns_lives.specs.Seconds.{AreEnds, Ends, ends}
-use Rattle.mdns_lives.specs.Since.{IsLiveSince}
 use Rattle.mdns_lives.proofs.SecondsLemmas.{between-itself, same_ends_in}
 use Rattle.mdns_browse.specs.declared.about.Subject.{Subject}
-use Rattle.mdns_browse.specs.Services.{AreEach, InstanceRow, IsSinceKnown, body_of}
+use Rattle.mdns_browse.specs.Services.{AreEach, body_of}
 use Rattle.mdns_survey.specs.declared.reading.Reading.{Reading}
 use Rattle.mdns_survey.specs.declared.request.AsOf.{AsOf}
 use Rattle.mdns_survey.specs.declared.summary.Summary.{Summary}
@@ -34,7 +32,6 @@ use Rattle.mdns_survey.specs.Readings.{all_moments, summaries_of}
 use Rattle.mdns_survey.specs.Request.{selected}
 use Rattle.mdns_survey.specs.Surveys.{AllLeft, all_hearings}
 use Rattle.mdns_survey.proofs.ContainsLemmas.{contains-after, contains-cons, contains-first}
-use Rattle.mdns_browse.proofs.SameLemmas.{EndsSame, one_instance_rows}
 use Rattle.mdns_survey.proofs.ListenedLemmas.{known-read}
 use Rattle.mdns_survey.proofs.LivesLawLemmas.{OneLives, same_itself, tell_of}
 use Rattle.mdns_survey.proofs.LossLemmas.{NeverBoth, SkipsByCause}
@@ -48,19 +45,12 @@ use Rattle.mdns_page.specs.declared.kept.Kind.TheVariants.{Addresses, Instances,
 use Rattle.mdns_page.specs.Counted.{AreHeardBy, IsCounted, shown_seconds}
 use Rattle.mdns_page.specs.Hosts.{is_large}
 use Rattle.mdns_page.specs.Html.{isolated}
-use Rattle.mdns_page.specs.Live.{live_text}
 use Rattle.mdns_page.specs.Page.{page}
 use Rattle.mdns_page.specs.Servers.{IsServed, servers_of}
-use Rattle.mdns_page.specs.Kept.{AreRows, is_drawn, kept_of, looked_up}
-use Rattle.mdns_page.specs.Survey.{SurveysPage, WritesLive, WritesPage, selected_each}
+use Rattle.mdns_page.specs.Kept.{AreRows, kept_of}
+use Rattle.mdns_page.specs.Survey.{SurveysPage, WritesPage, live_at_end, selected_each}
 use Rattle.mdns_page.specs.Timeline.{Row, is_open, record_in}
 use Rattle.mdns_page.proofs.OneCaptureLemmas.{IsAlike, are-alike, facts-alike, lost-alike, nothing-alike, one-each, one-packets}
-
--- the same hearings give a record one list of lives
-abbrev pub SameLives : Type 0
-SameLives =
-    (heard others : List Hearing) (key : Key) (lives more : List Life) → SameHearings heard others → AreLives heard key lives
-    → AreLives others key more → lives ≡ more
 
 -- ---- the seconds in which a record was heard
 
@@ -127,60 +117,6 @@ module _ (IsThere : Heard → Type 0) where
   one-seconds xs ys are too =
       same-members xs ys are.ascending too.ascending (seconds-within xs ys are too) (seconds-within ys xs too are)
 
--- ---- since when a record has been live
-
-module _ (now : ℕ) where
-  begins-after : (low : ℕ) (lives : List Life) → AreApartAfter low lives → (life : Life) → Contains lives life → low < life.from.nanos
-  begins-after low [] apart life among = absurd (omega (arith, among.1))
-  begins-after low (first ∷ lives) apart life among = elim (contains-cons first lives life among) [
-    | inl is ↦ subst (λ (l : Life). low < l.from.nanos) (sym is) apart.0
-    | inr after ↦ omega (arith, apart.0, apart.1, begins-after first.until lives apart.2 life after)
-  ]
-
-  not-both : (first life : Life) (lives : List Life) → AreApartAfter first.until lives → Contains lives life
-      → IsDuring first now → IsDuring life now → ⊥
-  not-both first life lives apart among during other =
-      omega (arith, begins-after first.until lives apart life among, during.1, other.0)
-
-  -- of lives that are apart, one has the moment
-  one-first : (first : Life) (lives : List Life) → AreApartAfter first.until lives → ((a b : Life) → Contains lives a
-      → Contains lives b → IsDuring a now → IsDuring b now → a ≡ b)
-      → (a b : Life) → Contains (first ∷ lives) a → Contains (first ∷ lives) b → IsDuring a now → IsDuring b now → a ≡ b
-  one-first first lives apart rest a b among other during too = elim (contains-cons first lives a among) [
-    | inl is ↦ elim (contains-cons first lives b other) [
-      | inl same ↦ is ∙ sym same
-      | inr after ↦ absurd (not-both first b lives apart after (subst (λ (l : Life). IsDuring l now) is during) too)
-    ]
-    | inr before ↦ elim (contains-cons first lives b other) [
-      | inl same ↦ absurd (not-both first a lives apart before (subst (λ (l : Life). IsDuring l now) same too) during)
-      | inr after ↦ rest a b before after during too
-    ]
-  ]
-
-  one-after : (low : ℕ) (lives : List Life) → AreApartAfter low lives → (a b : Life) → Contains lives a → Contains lives b
-      → IsDuring a now → IsDuring b now → a ≡ b
-  one-after low [] apart a b among other during too = absurd (omega (arith, among.1))
-  one-after low (first ∷ lives) apart a b among other during too =
-      one-first first lives apart.2 (one-after first.until lives apart.2) a b among other during too
-
-  one-during : (lives : List Life) → AreApart lives → (a b : Life) → Contains lives a → Contains lives b → IsDuring a now
-      → IsDuring b now → a ≡ b
-  one-during [] apart a b among other during too = absurd (omega (arith, among.1))
-  one-during (first ∷ lives) apart a b among other during too =
-      one-first first lives apart.1 (one-after first.until lives apart.1) a b among other during too
-
-  one-since : SameLives → (heard : List Hearing) (key : Key) (a b : ℕ) → IsLiveSince heard now key a → IsLiveSince heard now key b → a ≡ b
-  one-since same_lives heard key a b one two =
-      let lives = same_lives heard heard key one.lives two.lives (same_itself heard) one.are two.are in
-      let life = one-during two.lives two.are.apart one.life two.life
-      (subst (λ (ls : List Life). Contains ls one.life) lives one.among) two.among one.during two.during in
-      sym one.begins ∙ ap (λ (l : Life). l.from.nanos) life ∙ two.begins
-
-  known-same : SameLives → (heard : List Hearing) (last : Latest) (a b : Option ℕ) → IsSinceKnown heard now last a
-      → IsSinceKnown heard now last b → a ≡ b
-  known-same same_lives heard last a b one two =
-      one.1 ∙ ap (λ (n : ℕ). Some n) (one-since same_lives heard (record_of last) one.0 two.0 one.2 two.2) ∙ sym two.1
-
 -- ---- the records of the timeline
 
 module _ (each : List (List Hearing)) (rows : List (Latest × List Life)) where
@@ -222,17 +158,7 @@ one-rows kind large each kept xs ys are too =
 
 -- ---- the page by the hearings
 
-module _ (one_lives : OneLives) (ends_same : EndsSame) (same_lives : SameLives) where
-  one-live : (about : List Subject) (looked : List Latest) (heard : List Hearing) (axis : Axis) (opened : Bool) (text other : List ℕ)
-      → WritesLive about looked heard axis opened text → WritesLive about looked heard axis opened other → text ≡ other
-  one-live about looked heard axis opened text other first second =
-      let values = one_instance_rows ends_same (IsSinceKnown heard axis.end.nanos)
-      (known-same axis.end.nanos same_lives heard) heard axis.end.nanos first.are_live.values second.are_live.values
-      first.are_live.right second.are_live.right in
-      let live : first.live ≡ second.live =
-      first.are_live.are ∙ ap (filter (λ (row : InstanceRow). is_drawn about looked row.given.last)) values ∙ sym second.are_live.are in
-      first.written ∙ ap (live_text isolated axis opened) live ∙ sym second.written
-
+module _ (one_lives : OneLives) where
   one-written : (about : List Subject) (names : List (List ℕ)) (readings more : List Reading) (each : List (List Hearing))
       (heard : List Hearing) (axis : Axis) (text other : List ℕ) → AreEach IsAlike readings more
       → WritesPage about names readings each heard axis text → WritesPage about names more each heard axis other → text ≡ other
@@ -250,14 +176,6 @@ module _ (one_lives : OneLives) (ends_same : EndsSame) (same_lives : SameLives) 
       let addresses : first.addresses ≡ second.addresses =
       own Addresses _ _ first.addresses second.addresses large first.are_addresses second.are_addresses in
       let others : first.others ≡ second.others = own Names _ _ first.others second.others large first.are_others second.are_others in
-      let opened : is_open (length second.instances + length second.addresses + length second.others)
-      ≡ is_open (length first.instances + length first.addresses + length first.others) =
-      λ i. is_open (length (sym instances i) + length (sym addresses i) + length (sym others i)) in
-      let live : first.live ≡ second.live = one-live about (looked_up about first.rows) heard axis
-      (is_open (length first.instances + length first.addresses + length first.others)) first.live second.live first.writes_live
-      (subst (λ (o : Bool). WritesLive about (looked_up about first.rows) heard axis o second.live) opened
-      (subst (λ (rs : List (Latest × List Life)). WritesLive about (looked_up about rs) heard axis
-      (is_open (length second.instances + length second.addresses + length second.others)) second.live) rows second.writes_live)) in
       first.written
       ∙ ap (page isolated) (λ i. record {
         axis = axis;
@@ -267,7 +185,7 @@ module _ (one_lives : OneLives) (ends_same : EndsSame) (same_lives : SameLives) 
         rows = instances i;
         addresses = addresses i;
         names = others i;
-        live = live i;
+        live = live_at_end about axis (is_open (length (instances i) + length (addresses i) + length (others i))) (sym rows i);
         nothing = nothing-alike readings more alike i;
       })
       ∙ sym second.written
@@ -275,7 +193,7 @@ module _ (one_lives : OneLives) (ends_same : EndsSame) (same_lives : SameLives) 
 -- ---- the page on captures
 
 module _ (one : OneReading) (telling : OneTelling) (payload : OnePayload) (never : NeverBoth) (by_cause : SkipsByCause)
-    (one_lives : OneLives) (ends_same : EndsSame) (same_lives : SameLives) where
+    (one_lives : OneLives) where
   pub one_page : (names : List (List ℕ)) (about : List Subject) (as_of : AsOf) (captures : List (List ℕ)) (summaries more : List Summary)
       (text other : List ℕ) → SurveysPage names about as_of captures summaries text
       → SurveysPage names about as_of captures more other → (summaries ≡ more) × (text ≡ other)
@@ -303,7 +221,7 @@ module _ (one : OneReading) (telling : OneTelling) (payload : OnePayload) (never
       let dates = second.is_axis.dates ∙ lasts ∙ sym first.is_axis.dates in
       let axis : second.axis ≡ first.axis = λ i. record { start = start i; end = end i; dates = dates i } in (
         first.summed ∙ same ∙ sym second.summed,
-        one-written one_lives ends_same same_lives about names first.readings second.readings (selected_each as_of first.outcomes)
+        one-written one_lives about names first.readings second.readings (selected_each as_of first.outcomes)
             (selected as_of (all_hearings first.outcomes)) first.axis text other alike first.writes
             (subst (λ (a : Axis). WritesPage about names second.readings (selected_each as_of first.outcomes)
             (selected as_of (all_hearings first.outcomes)) a other) axis

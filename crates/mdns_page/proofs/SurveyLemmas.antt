@@ -1,18 +1,18 @@
--- The records of a timeline, and the page on captures.
-use Rattle.std.proofs.Common.{◌≡◌, ◌∙◌, ℕ, ◌+◌, ◌<◌, ◌≤◌, Bool, true, false, refl, sym, ap, subst, inl, inr, List, [], ◌∷◌, ◌++◌}
-use Rattle.std.proofs.Common.{append_assoc, get_or, length, map, take, Option}
+-- The page on captures.
+use Rattle.std.proofs.Common.{◌≡◌, ◌∙◌, ℕ, ◌≤◌, refl, sym, ap, subst, inl, inr, List, [], ◌∷◌, arith, map, Option}
+use Rattle.std.proofs.lemmas.Simd.{map-map}
 use Rattle.std.specs.Prelude.{Contains}
-use Rattle.std.specs.List.{filter}
-use Rattle.std.proofs.lemmas.List.{append-nil, map-append, take_all, take_more}
-use Rattle.std.proofs.lemmas.List.Elements.{filter-append}
+use Rattle.std.specs.List.Sorted.{IsStrictlySortedBy}
 use Rattle.mdns_message.specs.declared.hearing.Hearing.{Hearing}
+use Rattle.mdns_message.specs.Resource.{key_cmp}
 use Rattle.mdns_join.specs.declared.latest.Latest.{Latest}
-use Rattle.mdns_browse.specs.declared.about.Subject.{Subject}
-use Rattle.mdns_browse.specs.declared.instance.Instance.{Instance}
-use Rattle.mdns_browse.specs.About.{keeps_instance}
-use Rattle.mdns_browse.specs.Given.{AreInstanceRowsAbout, GiveRows, IsShownAt}
-use Rattle.mdns_browse.specs.Services.{AreEach, AreInstanceRowsSince, GivenRow, InstanceRow, IsSinceKnown}
+use Rattle.mdns_cache.specs.Live.{AreLiveRecords, record_of}
 use Rattle.mdns_lives.specs.Chronicle.{Accounts, Chronicles}
+use Rattle.mdns_lives.specs.Since.{AreLiveSince, all_since_rows, live_row}
+use Rattle.mdns_lives.specs.declared.life.Life.{Life}
+use Rattle.mdns_browse.specs.declared.about.Subject.{Subject}
+use Rattle.mdns_browse.specs.Given.{AreLiveGiven, given_of_since, last_of, record_given}
+use Rattle.mdns_browse.specs.Services.{AreAscending, AreEach, IsSinceKnown}
 use Rattle.mdns_survey.specs.declared.each.EachChronicling.{EachChronicling}
 use Rattle.mdns_survey.specs.declared.reading.Reading.{Reading}
 use Rattle.mdns_survey.specs.declared.request.AsOf.{AsOf}
@@ -22,65 +22,40 @@ use Rattle.mdns_survey.specs.Question.{HearsReaders, IsAnswer}
 use Rattle.mdns_survey.specs.Readings.{all_moments, summaries_of}
 use Rattle.mdns_survey.specs.Request.{selected}
 use Rattle.mdns_survey.specs.Surveys.{AllLeft, all_hearings}
+use Rattle.mdns_survey.proofs.ContainsLemmas.{contains-after, contains-cons, contains-first}
 use Rattle.mdns_page.specs.Axis.{IsAxis}
 use Rattle.mdns_page.specs.declared.axis.Axis.{Axis}
-use Rattle.mdns_page.specs.Kept.{is_drawn}
-use Rattle.mdns_page.specs.Survey.{WritesLive, WritesPage, asked_page, selected_each}
-use Rattle.mdns_page.specs.Html.{isolated}
-use Rattle.mdns_page.specs.Live.{live_text}
+use Rattle.mdns_page.specs.Survey.{WritesPage, asked_page, live_given, selected_each}
+
+-- what holds of the value of each element
+mapped-all : {X Y : Type 0} (f : X → Y) (P : Y → Type 0) (xs : List X) → ((x : X) → Contains xs x → P (f x)) → (y : Y)
+    → Contains (map f xs) y → P y
+mapped-all f P [] each y among = absurd (omega (arith, among.1))
+mapped-all f P (x ∷ xs) each y among = elim (contains-cons (f x) (map f xs) y among) [
+  | inl is ↦ subst P (sym is) (each x (contains-first x xs))
+  | inr after ↦ mapped-all f P xs (λ z within. each z (contains-after x xs z within)) y after
+]
 
 -- ---- what was live
 
-filter-all : {X : Type 0} (keep : X → Bool) → ((x : X) → keep x ≡ true) → (xs : List X) → filter keep xs ≡ xs
-filter-all keep all [] = refl
-filter-all keep all (x ∷ xs) = rw (all x) (ap (λ rest. x ∷ rest) (filter-all keep all xs))
+module _ (heard : List Hearing) (axis : Axis) (rows : List (Latest × List Life))
+    (are : AreLiveSince heard axis.end.nanos (all_since_rows axis.end.nanos rows)) where
+  -- the last hearings of live records are in key order
+  pub live-ascending : AreAscending (map last_of (live_given axis rows))
+  live-ascending =
+      let since = all_since_rows axis.end.nanos rows in
+      subst (IsStrictlySortedBy key_cmp)
+      (map-map (λ (row : Latest × ℕ). record_of row.0) live_row since ∙ sym (map-map record_of (λ row. last_of (given_of_since row)) since)
+      ∙ ap (map record_of) (sym (map-map last_of given_of_since since))) are.records.ascending
 
--- without subjects each instance is kept
-kept-without : (instance : Instance) → keeps_instance [] instance ≡ true
-unfolding keeps_instance
-kept-without instance = refl
-
-module _ (heard : List Hearing) (now : ℕ) (keep : GivenRow → Bool) where
-  abbrev Shown : List GivenRow → List InstanceRow → Type 0
-  Shown given rows = AreEach (IsShownAt heard now) given rows
-
-  abbrev keeps_row : InstanceRow → Bool
-  keeps_row row = keep row.given
-
-  shown-step : (given : GivenRow) (more : List GivenRow) (row : InstanceRow) (rows : List InstanceRow) (kept : Bool)
-      → keep given ≡ kept → IsShownAt heard now given row → Shown (filter keep more) (filter keeps_row rows)
-      → Shown (filter keep (given ∷ more)) (filter keeps_row (row ∷ rows))
-  shown-step given more row rows true is one rest = rw is (rw (ap keep one.same ∙ is) (one, rest))
-  shown-step given more row rows false is one rest = rw is (rw (ap keep one.same ∙ is) rest)
-
-  -- of rows that are shown those that are kept are shown
-  pub shown-kept : (given : List GivenRow) (rows : List InstanceRow) → Shown given rows
-      → Shown (filter keep given) (filter keeps_row rows)
-  shown-kept [] [] each = tt
-  shown-kept [] (row ∷ rows) each = absurd each
-  shown-kept (given ∷ more) [] each = absurd each
-  shown-kept (given ∷ more) (row ∷ rows) each =
-      shown-step given more row rows (keep given) refl each.0 (shown-kept more rows each.1)
-
--- the instances of the records that are kept, and their text
-pub writes-live : (about : List Subject) (lasts : List Latest) (heard : List Hearing) (axis : Axis) (opened : Bool)
-    (given : List GivenRow) (text : List ℕ)
-    → (gives : GiveRows (AreInstanceRowsAbout [] (IsSinceKnown heard axis.end.nanos) heard axis.end.nanos) heard axis.end.nanos given)
-    → ((shown : List InstanceRow) → AreEach (IsShownAt heard axis.end.nanos) (filter (λ (row : GivenRow). is_drawn about lasts row.last) given) shown
-    → text ≡ live_text isolated axis opened shown)
-    → WritesLive about lasts heard axis opened text
-writes-live about lasts heard axis opened given text gives written = record {
-  live = filter (λ (row : InstanceRow). is_drawn about lasts row.given.last) gives.rows;
-  are_live = record {
-    values = gives.rows;
-    right = subst (AreInstanceRowsSince heard axis.end.nanos)
-        (sym (gives.right.are
-        ∙ filter-all (λ (row : InstanceRow). keeps_instance [] row.instance) (λ row. kept-without row.instance) gives.right.values))
-        gives.right.right;
-    are = refl;
-  };
-  written = written _ (shown-kept heard axis.end.nanos (λ (row : GivenRow). is_drawn about lasts row.last) given gives.rows gives.each);
-}
+  pub live-since : AreLiveGiven (IsSinceKnown heard axis.end.nanos) heard axis.end.nanos (live_given axis rows)
+  live-since =
+      let since = all_since_rows axis.end.nanos rows in
+      record {
+        records = subst (AreLiveRecords heard axis.end.nanos) (sym (map-map record_given given_of_since since)) are.records;
+        since = mapped-all given_of_since (λ given. IsSinceKnown heard axis.end.nanos given.last given.since) since
+            (λ row among. (row.1, refl, are.since row among));
+      }
 
 -- ---- the page on captures
 

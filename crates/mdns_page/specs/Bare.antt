@@ -1,17 +1,19 @@
 -- What a page has apart from names.
 use Rattle.std.specs.Prelude.{ℕ, ◌==◌, if◌then◌else◌, Bool, true, false, Option, None, Some, List, [], ◌∷◌, map}
+use Rattle.std.specs.List.{filter_map}
 use Rattle.mdns_message.specs.Resource.{Body}
 use Rattle.mdns_message.specs.TextData.{strings_of}
 use Rattle.mdns_message.specs.declared.body.RecordData.TheVariants.{A, Aaaa, Ptr, Txt, Srv}
+use Rattle.mdns_join.specs.declared.latest.Latest.{Latest}
 use Rattle.mdns_lives.specs.declared.life.Life.{Life}
 use Rattle.mdns_lives.specs.declared.seconds_heard.SecondHeard.{SecondHeard}
 use Rattle.mdns_browse.specs.declared.instance.Server.{Server}
-use Rattle.mdns_browse.specs.Services.{GivenRow, InstanceRow}
+use Rattle.mdns_browse.specs.Services.{GivenRow, InstanceRow, instance_row_in}
 use Rattle.mdns_survey.specs.declared.reading.Span.{Span}
 use Rattle.mdns_survey.specs.declared.summary.Summary.{Summary}
 use Rattle.mdns_page.specs.Captures.{Facts}
 use Rattle.mdns_page.specs.Group.{grouped}
-use Rattle.mdns_page.specs.Live.{owner_of as type_of}
+use Rattle.mdns_page.specs.Live.{type_of}
 use Rattle.mdns_page.specs.Timeline.{Row, owner_of}
 
 -- text of the network isn't written at all
@@ -101,6 +103,9 @@ bare_live row = record {
   texts = map bare_text row.instance.texts;
 }
 
--- the same of instances in groups by type
-abbrev pub bare_instances : List InstanceRow → List (List BareLive)
-bare_instances rows = map (map bare_live) (grouped type_of rows)
+-- the same of the instances that records give, in groups by type
+abbrev pub bare_group : List Latest → List GivenRow → List BareLive
+bare_group lasts given = map bare_live (filter_map (instance_row_in lasts) given)
+
+abbrev pub bare_instances : List Latest → List GivenRow → List (List BareLive)
+bare_instances lasts given = map (bare_group lasts) (grouped type_of given)

@@ -2,14 +2,15 @@
 use Rattle.std.specs.Prelude.{ℕ, ◌-◌, ◌==◌, if◌then◌else◌, Bool, true, false, Option, None, Some}
 use Rattle.std.specs.Prelude.{List, [], ◌∷◌, ◌++◌, codes}
 use Rattle.std.specs.Fmt.{decimal}
-use Rattle.std.specs.List.{flat_map}
+use Rattle.std.specs.List.{filter_map, flat_map}
 use Rattle.mdns_message.specs.Resource.{Body}
 use Rattle.mdns_message.specs.declared.body.RecordData.TheVariants as body
 use Rattle.people_text.specs.Address.{ipv6_short}
 use Rattle.people_text.specs.Moments.{duration_text, millis_text}
 use Rattle.people_text.specs.Shown.{name_shown}
 use Rattle.mdns_browse.specs.declared.instance.Server.{Server}
-use Rattle.mdns_browse.specs.Services.{GivenRow, InstanceRow}
+use Rattle.mdns_join.specs.declared.latest.Latest.{Latest}
+use Rattle.mdns_browse.specs.Services.{GivenRow, InstanceRow, instance_row_in}
 use Rattle.mdns_browse.specs.Shown.{shown_instance, shown_order, shown_strings, spaced_wide}
 use Rattle.mdns_browse.specs.Text.{ipv4_text}
 use Rattle.mdns_page.specs.declared.axis.Axis.{Axis}
@@ -106,14 +107,11 @@ live_row say axis row =
 abbrev pub type_of : GivenRow → List ℕ
 type_of given = given.last.resource.owner
 
-abbrev pub owner_of : InstanceRow → List ℕ
-owner_of row = type_of row.given
-
--- the instances of a type
-unfoldable pub live_group : (List ℕ → List ℕ) → Axis → Bool → List InstanceRow → List ℕ
-live_group say axis opened rows =
-    group opened (say (name_shown (first_owner owner_of rows))) (codes "<small>server, addresses</small>") (codes "text")
-    (flat_map (live_row say axis) rows)
+-- the instances of a type, of the records that give them; servers, addresses and texts are among the last hearings `lasts`
+unfoldable pub live_group : (List ℕ → List ℕ) → Axis → Bool → List Latest → List GivenRow → List ℕ
+live_group say axis opened lasts given =
+    group opened (say (name_shown (first_owner type_of given))) (codes "<small>server, addresses</small>") (codes "text")
+    (flat_map (live_row say axis) (filter_map (instance_row_in lasts) given))
 
 -- ---- the section
 
@@ -122,5 +120,6 @@ live_begin axis =
     codes "<h2 id=\"live\">What was live at <time>" ++ millis_text axis.end.nanos ++ codes "</time></h2>\n<div class=\"g l\">\n"
 
 -- what was live at the end of the axis, in key order; `say` is how text of the network is written
-abbrev pub live_text : (List ℕ → List ℕ) → Axis → Bool → List InstanceRow → List ℕ
-live_text say axis opened rows = live_begin axis ++ flat_map (live_group say axis opened) (grouped owner_of rows) ++ codes "</div>\n"
+abbrev pub live_text : (List ℕ → List ℕ) → Axis → Bool → List Latest → List GivenRow → List ℕ
+live_text say axis opened lasts given =
+    live_begin axis ++ flat_map (live_group say axis opened lasts) (grouped type_of given) ++ codes "</div>\n"

@@ -1,13 +1,15 @@
 -- The page on captures.
 use Rattle.std.specs.Prelude.{◌≡◌, ℕ, ◌+◌, ◌≤◌, Bool, false, List, [], ◌∷◌, Some, length, map, Contains}
+use Rattle.std.specs.List.{filter}
 use Rattle.mdns_capture.specs.Savefile.{PacketAt}
 use Rattle.mdns_message.specs.declared.hearing.Hearing.{Hearing}
 use Rattle.mdns_join.specs.declared.latest.Latest.{Latest}
 use Rattle.mdns_lives.specs.declared.life.Life.{Life}
 use Rattle.mdns_lives.specs.Chronicle.{AreAllLives}
+use Rattle.mdns_lives.specs.Since.{all_since_rows}
 use Rattle.mdns_browse.specs.declared.about.Subject.{Subject}
-use Rattle.mdns_browse.specs.About.{AreKept}
-use Rattle.mdns_browse.specs.Services.{AreInstanceRowsSince, InstanceRow}
+use Rattle.mdns_browse.specs.Given.{given_of_since, last_of}
+use Rattle.mdns_browse.specs.Services.{GivenRow}
 use Rattle.mdns_survey.specs.declared.reading.Reading.{Reading}
 use Rattle.mdns_survey.specs.declared.request.AsOf.{AsOf}
 use Rattle.mdns_survey.specs.declared.summary.Summary.{Summary}
@@ -28,12 +30,17 @@ use Rattle.mdns_page.specs.Nothing.{nothing_text}
 use Rattle.mdns_page.specs.Page.{page}
 use Rattle.mdns_page.specs.Timeline.{Row, is_open}
 
--- The text is that of the instances that were live at the end, of those that are about these subjects.
-pub record WritesLive (about : List Subject) (looked : List Latest) (heard : List Hearing) (axis : Axis) (opened : Bool) (text : List ℕ)
-    : Type 0 where
-  pub live : List InstanceRow
-  pub are_live : AreKept (λ row. is_drawn about looked row.given.last) (AreInstanceRowsSince heard axis.end.nanos) live
-  pub written : text ≡ live_text isolated axis opened live
+-- the records that are live at the end, each with its end and since when it has been live
+abbrev pub live_given : Axis → List (Latest × List Life) → List GivenRow
+live_given axis rows = map given_of_since (all_since_rows axis.end.nanos rows)
+
+-- of these those that give an instance about the subjects by all last hearings
+abbrev pub live_drawn : List Subject → Axis → List (Latest × List Life) → List GivenRow
+live_drawn about axis rows = filter (λ given. is_drawn about (looked_up about rows) given.last) (live_given axis rows)
+
+-- what was live at the end: these instances, with their servers and texts among all records that are live then
+abbrev pub live_at_end : List Subject → Axis → (opened : Bool) → List (Latest × List Life) → List ℕ
+live_at_end about axis opened rows = live_text isolated axis opened (map last_of (live_given axis rows)) (live_drawn about axis rows)
 
 -- what a page tells of captures with these names and readings
 abbrev pub facts_of : List (List ℕ) → List Reading → List Facts
@@ -42,8 +49,7 @@ facts_of (name ∷ names) (reading ∷ readings) =
 facts_of _ _ = []
 
 -- The text is the page on captures with these names and readings, by hearings none of which is later than the end of the
--- axis: its timeline has the records that are kept, and what was live at the end are the instances about these subjects, by the last
--- hearings of all records.
+-- axis: but for the seconds in which each capture heard a record, all that it shows is a function of the lives of all records.
 pub record WritesPage (about : List Subject) (names : List (List ℕ)) (readings : List Reading) (each : List (List Hearing))
     (heard : List Hearing) (axis : Axis) (text : List ℕ) : Type 0 where
   pub latest : (hearing : Hearing) → Contains heard hearing → hearing.moment.nanos ≤ axis.end.nanos
@@ -55,9 +61,6 @@ pub record WritesPage (about : List Subject) (names : List (List ℕ)) (readings
   pub are_addresses : AreRows Addresses (is_large (length instances)) each (kept_of about rows) addresses
   pub others : List Row
   pub are_others : AreRows Names (is_large (length instances)) each (kept_of about rows) others
-  pub live : List ℕ
-  pub writes_live
-      : WritesLive about (looked_up about rows) heard axis (is_open (length instances + length addresses + length others)) live
   pub written : text ≡ page isolated (record {
     axis = axis;
     about = about;
@@ -66,7 +69,7 @@ pub record WritesPage (about : List Subject) (names : List (List ℕ)) (readings
     rows = instances;
     addresses = addresses;
     names = others;
-    live = live;
+    live = live_at_end about axis (is_open (length instances + length addresses + length others)) rows;
     nothing = nothing_text readings;
   })
 

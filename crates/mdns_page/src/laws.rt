@@ -9,12 +9,16 @@ ghost use Rattle.std.specs.List.Sorted.{IsStrictlySortedBy};
 ghost use Rattle.std.specs.Ordering.{nat_cmp};
 ghost use Rattle.dns_name.specs.Name.{three_digits};
 ghost use Rattle.mdns_capture.specs.Limits.{second};
+ghost use Rattle.mdns_message.specs.declared.hearing.Hearing.{Hearing};
+ghost use Rattle.mdns_join.specs.declared.latest.Latest.{Latest};
+ghost use Rattle.mdns_lives.specs.Chronicle.{AreAllLives};
 ghost use Rattle.mdns_lives.specs.Heard.{number_of};
 ghost use Rattle.mdns_lives.specs.Lives.{AreApart};
 ghost use Rattle.mdns_lives.specs.Seconds.{second_of};
 ghost use Rattle.mdns_lives.specs.declared.life.Life.{Life};
 ghost use Rattle.mdns_browse.specs.declared.about.Subject.{Subject};
-ghost use Rattle.mdns_browse.specs.Services.{InstanceRow};
+ghost use Rattle.mdns_browse.specs.Given.{AreLiveGiven};
+ghost use Rattle.mdns_browse.specs.Services.{GivenRow, IsSinceKnown};
 ghost use Rattle.mdns_lives.specs.declared.seconds_heard.SecondHeard.{SecondHeard};
 ghost use Rattle.mdns_survey.specs.declared.request.AsOf.{AsOf};
 ghost use Rattle.mdns_survey.specs.declared.summary.Summary.{Summary};
@@ -28,13 +32,12 @@ ghost use Rattle.mdns_page.specs.Live.{live_text};
 ghost use Rattle.mdns_page.specs.Lanes.{second_mark};
 ghost use Rattle.mdns_page.specs.Page.{Shown, page};
 ghost use Rattle.mdns_page.specs.Picture.{AreInOrder, differing, mark_of};
-ghost use Rattle.mdns_page.specs.Survey.{SurveysPage};
+ghost use Rattle.mdns_page.specs.Survey.{SurveysPage, live_given};
 ghost use Rattle.mdns_page.specs.Ticks.{step_of, ticks};
 ghost use Rattle.mdns_page.specs.Timeline.{Row, owner_of};
 
-use mdns_cache::laws::one_end;
 use mdns_capture::laws::{one_payload, one_reading, payload_or_skip, skip_is_of_the_cause};
-use mdns_lives::laws::{one_all, one_list};
+use mdns_lives::laws::{live_lives_are_since, one_all};
 use mdns_survey::laws::one_telling;
 
 /// Captures with these names have at most one page about some subjects, and one list of summaries.
@@ -50,8 +53,16 @@ pub fn one_page()
     skip_is_of_the_cause();
     one_telling();
     one_all();
-    one_list();
-    one_end();
+}
+
+/// What a page takes for live at its end are the records that were live then by all hearings, if none is later: each by its last
+/// hearing, with its end and with the beginning of the life in which that moment is.
+pub fn live_at_the_end()
+    ensures { (heard : List Hearing) (axis : Axis) (rows : List (Latest × List Life))
+        → ((hearing : Hearing) → Contains heard hearing → hearing.moment.nanos ≤ axis.end.nanos) → AreAllLives heard rows
+        → AreLiveGiven (IsSinceKnown heard axis.end.nanos) heard axis.end.nanos (live_given axis rows) }
+{
+    live_lives_are_since();
 }
 
 /// Text of the network has no byte within markup that begins or ends a tag or the value of an attribute, and each `&` in it
@@ -97,10 +108,10 @@ pub fn counts()
 /// Names, of instances, types, hosts, files and subjects, and texts reach a page only by the function `say`. Where it writes
 /// nothing, two pages are equal whose subjects are as many and whose captures, rows and live instances agree in all else.
 pub fn names()
-    ensures { (a b : Shown) (opened : Bool) (live now : List InstanceRow) → a.axis ≡ b.axis → a.lost ≡ b.lost
-        → a.nothing ≡ b.nothing → a.live ≡ live_text unsaid a.axis opened live
-        → b.live ≡ live_text unsaid b.axis opened now → length a.about ≡ length b.about
+    ensures { (a b : Shown) (opened : Bool) (lasts others : List Latest) (live now : List GivenRow) → a.axis ≡ b.axis → a.lost ≡ b.lost
+        → a.nothing ≡ b.nothing → a.live ≡ live_text unsaid a.axis opened lasts live
+        → b.live ≡ live_text unsaid b.axis opened others now → length a.about ≡ length b.about
         → map bare_capture a.captures ≡ map bare_capture b.captures → bare_groups a.rows ≡ bare_groups b.rows
         → map bare_row a.addresses ≡ map bare_row b.addresses → map bare_row a.names ≡ map bare_row b.names
-        → bare_instances live ≡ bare_instances now → page unsaid a ≡ page unsaid b }
+        → bare_instances lasts live ≡ bare_instances others now → page unsaid a ≡ page unsaid b }
 {}

@@ -1,24 +1,21 @@
 //! What was live at the end: the instances with their servers, addresses and texts.
 
-ghost use Rattle.std.specs.Prelude.{◌≡◌, ◌++◌, List, ℕ, map, OnOk};
-ghost use Rattle.std.specs.List.{flat_map};
+ghost use Rattle.std.specs.Prelude.{◌≡◌, ◌++◌, map, OnOk};
+ghost use Rattle.std.specs.List.{filter_map, flat_map};
 ghost use Rattle.std.specs.String.{string_bytes};
-ghost use Rattle.mdns_message.specs.declared.hearing.Hearing.{Hearing};
-ghost use Rattle.mdns_cache.specs.Live.{AreLiveRows};
 ghost use Rattle.mdns_cache.specs.Rows.{last_lent};
-ghost use Rattle.mdns_browse.specs.Given.{IsShownAt, given_lent};
-ghost use Rattle.mdns_browse.specs.Services.{AreEach, InstanceRow};
+ghost use Rattle.mdns_browse.specs.Given.{given_lent};
+ghost use Rattle.mdns_browse.specs.Services.{AreAscending, instance_row_in};
 ghost use Rattle.mdns_page.specs.Group.{group_end, grouped};
 ghost use Rattle.mdns_page.specs.Html.{isolated};
-ghost use Rattle.mdns_page.specs.Live.{live_begin, live_group, live_row, live_text, owner_of, type_of};
+ghost use Rattle.mdns_page.specs.Live.{live_begin, live_group, live_row, live_text, type_of};
 ghost use Rattle.mdns_page.specs.LiveSheet.{Adds, type_begin};
 
 use crate::axis::Axis;
 use crate::group::push_group_end;
 use crate::live_sheet::LiveSheet;
 use crate::owners::{Owned, following_len};
-use mdns_browse::sheet::Given;
-use mdns_browse::since::walk_given;
+use mdns_browse::sheet::{Given, walk_given};
 use mdns_cache::Last;
 use mdns_message::{Name, Want};
 use people_text::moments::push_millis;
@@ -43,9 +40,8 @@ pub(crate) fn push_live(
     rows: &[Last<'_>],
     given: &[Given<'_>],
 ) -> Result<(), Want>
-    ensures { OnOk result ((heard : List Hearing) (now : ℕ) (shown : List InstanceRow)
-        → AreLiveRows heard now (map last_lent rows.now) → AreEach (IsShownAt heard now) (map given_lent given.now) shown
-        → string_bytes to.new ≡ string_bytes to.old ++ live_text isolated axis opened shown) }
+    ensures { OnOk result (AreAscending (map last_lent rows.now) → string_bytes to.new
+        ≡ string_bytes to.old ++ live_text isolated axis opened (map last_lent rows.now) (map given_lent given.now)) }
 {
     push_begin(to, axis)?;
     let empty = String::new(*to.allocator());
@@ -73,9 +69,9 @@ fn push_groups(
     rows: &[Last<'_>],
     given: &[Given<'_>],
 ) -> Result<(), Want>
-    ensures { OnOk result ((heard : List Hearing) (now : ℕ) (shown : List InstanceRow)
-        → AreLiveRows heard now (map last_lent rows.now) → AreEach (IsShownAt heard now) (map given_lent given.now) shown
-        → Adds sheet.old (flat_map (live_group isolated sheet.old.axis opened) (grouped owner_of shown)) sheet.new) }
+    ensures { OnOk result (AreAscending (map last_lent rows.now) → Adds sheet.old
+        (flat_map (live_group isolated sheet.old.axis opened (map last_lent rows.now)) (grouped type_of (map given_lent given.now)))
+        sheet.new) }
 {
     let mut rest = given;
     while let Some((first, others)) = rest.split_first() {
@@ -95,10 +91,9 @@ fn push_group(
     owner: &Name,
     given: &[Given<'_>],
 ) -> Result<(), Want>
-    ensures { OnOk result ((heard : List Hearing) (now : ℕ) (shown : List InstanceRow)
-        → AreLiveRows heard now (map last_lent rows.now) → AreEach (IsShownAt heard now) (map given_lent given.now) shown
-        → Adds sheet.old (type_begin isolated opened owner.now ++ flat_map (live_row isolated sheet.old.axis) shown ++ group_end)
-        sheet.new) }
+    ensures { OnOk result (AreAscending (map last_lent rows.now) → Adds sheet.old (type_begin isolated opened owner.now
+        ++ flat_map (live_row isolated sheet.old.axis) (filter_map (instance_row_in (map last_lent rows.now)) (map given_lent given.now))
+        ++ group_end) sheet.new) }
 {
     sheet.begin_type(opened, owner)?;
     walk_given(sheet, rows, given)?;

@@ -2,17 +2,16 @@
 
 ghost use Rattle.std.specs.Prelude.{◌≡◌, ◌≤◌, ◌++◌, ◌∷◌, [], Contains, IfOk, List, OnOk, map, string_bytes};
 ghost use Rattle.std.specs.List.{filter};
-ghost use Rattle.std.specs.List.Sorted.{IsStrictlySortedBy};
-ghost use Rattle.mdns_message.specs.Resource.{key_cmp};
 ghost use Rattle.mdns_message.specs.declared.hearing.Hearing.{Hearing};
-ghost use Rattle.mdns_cache.specs.Live.{NoneLater, record_of};
+ghost use Rattle.mdns_cache.specs.Live.{NoneLater};
 ghost use Rattle.mdns_cache.specs.Rows.{last_lent};
-ghost use Rattle.mdns_lives.specs.Chronicle.{Chronicles};
-ghost use Rattle.mdns_browse.specs.Given.{given_lent};
-ghost use Rattle.mdns_browse.specs.Services.{AreEach};
+ghost use Rattle.mdns_lives.specs.Chronicle.{Chronicles, rows_of};
+ghost use Rattle.mdns_lives.specs.Since.{live_since_lent};
+ghost use Rattle.mdns_browse.specs.Given.{given_lent, given_of_since};
+ghost use Rattle.mdns_browse.specs.Services.{AreAscending, AreEach};
 ghost use Rattle.mdns_page.specs.Captures.{facts_lent};
-ghost use Rattle.mdns_page.specs.Kept.{is_drawn};
-ghost use Rattle.mdns_page.specs.Survey.{WritesLive, WritesPage, facts_of};
+ghost use Rattle.mdns_page.specs.Kept.{is_drawn, looked_up};
+ghost use Rattle.mdns_page.specs.Survey.{WritesPage, facts_of, live_at_end};
 
 use crate::about::heard_rows;
 use crate::axis::{Axis, axis_of};
@@ -25,12 +24,10 @@ use crate::nothing::push_nothing;
 use crate::page::{Parts, push_page};
 use crate::timeline::is_open;
 use mdns_browse::about::Subject;
-use mdns_browse::given::Gathered;
 use mdns_browse::report::ReportFault;
 use mdns_browse::sheet::Given;
-use mdns_browse::since::given_since;
-use mdns_cache::Last;
-use mdns_lives::Lives;
+use mdns_cache::{Last, LiveRecord};
+use mdns_lives::{LiveSince, Lives};
 use mdns_message::Want;
 use mdns_survey::chronicling::newest_after;
 use mdns_survey::each::EachChronicling;
@@ -174,50 +171,49 @@ fn live_of(
 ) -> Result<String, Want>
     requires { NoneLater lives.now.newest axis.end }
     ensures { IfOk result (λ text. (hearings : List Hearing) → Chronicles lives.now hearings
-        → IsStrictlySortedBy key_cmp (map record_of (map last_lent heard.now))
-        → WritesLive about.now (map last_lent heard.now) hearings axis opened (string_bytes text)) }
+        → AreAscending (map last_lent heard.now) → map last_lent heard.now ≡ looked_up about.now (rows_of lives.now)
+        → string_bytes text ≡ live_at_end about.now axis opened (rows_of lives.now)) }
 {
     let live = lives.live_at(axis.end)?;
-    let Gathered { rows, given } = given_since(alloc, live.as_slice(), &[])?;
-    let kept = kept_given(alloc, given, heard, about)?;
+    let mut rows = Vec::new(alloc);
+    let mut given = Vec::new(alloc);
+    let mut scratch = String::new(alloc);
+    for row in &live {
+        rows.push(row.last)?;
+        push_given(&mut given, row, heard, about, &mut scratch)?;
+    }
     let mut text = String::new(alloc);
-    push_live(&mut text, axis, opened, rows.as_slice(), kept.as_slice())?;
+    push_live(&mut text, axis, opened, rows.as_slice(), given.as_slice())?;
     Ok(text)
 }
 
-// Returns those of the records whose instances are about the subjects.
-fn kept_given<'a>(
-    alloc: Global,
-    given: Vec<Given<'a>>,
-    heard: &[Last<'_>],
-    about: &[Subject],
-) -> Result<Vec<Given<'a>>, Want>
-    ensures { IfOk result (λ kept. IsStrictlySortedBy key_cmp (map record_of (map last_lent heard.now))
-        → map given_lent kept.items
-        ≡ filter (λ row. is_drawn about.now (map last_lent heard.now) row.last) (map given_lent given.entry.items)) }
-{
-    let mut scratch = String::new(alloc);
-    let mut kept = Vec::new(alloc);
-    for row in &given {
-        push_kept(&mut kept, row, heard, about, &mut scratch)?;
-    }
-    Ok(kept)
-}
-
-// Appends a record if its instance is about the subjects.
-fn push_kept<'a>(
+// Appends a live record if it gives an instance about the subjects.
+fn push_given<'a>(
     to: &mut Vec<Given<'a>>,
-    given: &Given<'a>,
+    row: &LiveSince<'a>,
     heard: &[Last<'_>],
     about: &[Subject],
     scratch: &mut String,
 ) -> Result<(), Want>
-    ensures { OnOk result (IsStrictlySortedBy key_cmp (map record_of (map last_lent heard.now))
-        → map given_lent to.new.items ≡ map given_lent to.old.items
-        ++ filter (λ row. is_drawn about.now (map last_lent heard.now) row.last) (given_lent given.now ∷ [])) }
+    ensures { OnOk result (AreAscending (map last_lent heard.now) → map given_lent to.new.items
+        ≡ map given_lent to.old.items ++ filter (λ given. is_drawn about.now (map last_lent heard.now) given.last)
+        (given_of_since (live_since_lent row.now) ∷ [])) }
 {
-    if is_drawn(&given.row.last, heard, about, scratch)? {
-        to.push(*given)?;
+    if is_drawn(&row.last, heard, about, scratch)? {
+        to.push(given_by(row))?;
     }
     Ok(())
+}
+
+// Returns a live record as one that gives an instance.
+fn given_by<'a>(row: &LiveSince<'a>) -> Given<'a>
+    ensures { given_lent result ≡ given_of_since (live_since_lent row.now) }
+{
+    Given {
+        row: LiveRecord {
+            last: row.last,
+            end: row.end,
+        },
+        since: Some(row.since),
+    }
 }

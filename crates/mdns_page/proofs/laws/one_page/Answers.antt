@@ -1,4 +1,3 @@
-use Rattle.mdns_survey.proofs.LivesLawLemmas.{same_itself}
 use Rattle.mdns_page.proofs.OnePageLemmas.{one_page}
 use Rattle.mdns_page.proofs.laws.one_page.Goals as goal
 
@@ -6,4 +5,3 @@ pub returns : goal.returns
 returns c =
     one_page c.one_reading.ensures.unique c.one_telling.ensures.unique c.one_payload.ensures c.payload_or_skip.ensures.not_both
     c.skip_is_of_the_cause.ensures c.one_all.ensures.same
-    (λ heard key d e. c.one_end.ensures.same heard heard key d e (same_itself heard)) c.one_list.ensures.same

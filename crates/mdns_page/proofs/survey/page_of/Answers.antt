@@ -16,7 +16,7 @@ use Rattle.mdns_page.specs.Html.{isolated}
 use Rattle.mdns_page.specs.Kept.{AreRows, is_kept, is_of, kept_of, lasts_of, looked_up}
 use Rattle.mdns_page.specs.Nothing.{nothing_text}
 use Rattle.mdns_page.specs.Page.{Shown, page}
-use Rattle.mdns_page.specs.Survey.{WritesLive}
+use Rattle.mdns_page.specs.Survey.{live_at_end}
 use Rattle.mdns_page.specs.Timeline.{Row, counted_lent, is_open}
 use Rattle.mdns_page.specs.declared.kept.Kind.{Kind}
 use Rattle.mdns_page.specs.declared.kept.Kind.TheVariants.{Addresses, Instances, Names}
@@ -60,7 +60,10 @@ returns c = λ each heard chronicled all latest.
     c.len-4.ensures ∙ c.in_ok-others.others.ok.0 ∙ sym (length-map c.in_ok-others.others.items counted_lent) in
     let opened : c.is_open-opened.result ≡ is_open (length rows + length addresses + length others) =
     c.is_open-opened.ensures ∙ (λ i. is_open (count_rows i + count_addresses i + count_others i)) in
-    let live = string_bytes c.in_ok-live.live in
+    let live : string_bytes c.in_ok-live.live
+    ≡ live_at_end about axis (is_open (length rows + length addresses + length others)) walk =
+    c.in_ok-live.ensures heard all (subst Sorted (sym looked_live) sorted) (looked_live ∙ ap (looked_up about) c.walk-2.ensures.left)
+    ∙ (λ i. live_at_end about axis (opened i) (sym c.walk-2.ensures.left i)) in
     let shown : Shown = record {
       axis = axis;
       about = about;
@@ -94,10 +97,6 @@ returns c = λ each heard chronicled all latest.
         counted = c.in_ok-others.ensures.heard each captures;
         served = c.in_ok-others.ensures.servers in_order;
       });
-      live = live;
-      writes_live = subst (λ (o : Bool). WritesLive about (looked_up about walk) heard axis o live) opened
-          (subst (λ (ls : List Latest). WritesLive about ls heard axis c.is_open-opened.result live) looked_live
-          (c.in_ok-live.ensures heard all (subst Sorted (sym looked_live) sorted)));
       written = c.in_ok-push_page.ensures ∙ ap (λ (text : List ℕ). text ++ page isolated shown) c.new-text.ensures.bytes
           ∙ ap (page isolated) (λ i. record {
             axis = axis;
@@ -107,7 +106,7 @@ returns c = λ each heard chronicled all latest.
             rows = ap (map counted_lent) c.as_slice-4.ensures.value i;
             addresses = ap (map counted_lent) c.as_slice-5.ensures.value i;
             names = ap (map counted_lent) c.as_slice-6.ensures.value i;
-            live = c.as_str.ensures.value i;
+            live = (c.as_str.ensures.value ∙ live) i;
             nothing = (c.as_str-2.ensures.value ∙ c.in_ok-push_nothing.ensures
                 ∙ ap (λ (none : List ℕ). none ++ nothing_text c.args.readings.now) c.new-nothing.ensures.bytes) i;
           });
