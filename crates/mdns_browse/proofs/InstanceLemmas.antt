@@ -27,7 +27,8 @@ use Rattle.mdns_browse.proofs.SearchLemmas.{eq_is}
 
 -- ---- what a record gives
 
-name_if-pointer : (test : List ℕ → Bool) (pointer : Option (List ℕ)) (name : List ℕ) → name_if test pointer ≡ Some name → pointer ≡ Some name
+name_if-pointer : (test : List ℕ → Bool) (pointer : Option (List ℕ)) (name : List ℕ) → name_if test pointer ≡ Some name
+    → pointer ≡ Some name
 name_if-pointer test None name given = absurd (none-some name given)
 name_if-pointer test (Some target) name given = ap Some (cond_some (test target) target name given).1
 
@@ -130,7 +131,7 @@ module _ (rows : List Latest) where
   pub kept-append : (about : List Subject) (xs ys : List GivenRow)
       → kept_given about rows (xs ++ ys) ≡ kept_given about rows xs ++ kept_given about rows ys
   kept-append about =
-      through-append given_in (λ xs. filter (λ (row : InstanceRow). keeps_instance about row.instance) (filter_map (instance_row_in rows) xs))
+      through-append given_in (λ xs. filter (λ (row : InstanceRow). keeps_instance about row.instance) (shown_in xs))
       (map-append (λ (row : InstanceRow). row.given))
       (through-append (filter (λ (row : InstanceRow). keeps_instance about row.instance)) (filter_map (instance_row_in rows))
       (filter-append (λ (row : InstanceRow). keeps_instance about row.instance)) (filter_map-append (instance_row_in rows)))
@@ -186,12 +187,17 @@ text-none (Aaaa octets) not = refl
 text-none (Ptr target) not = refl
 text-none (Srv priority weight port target) not = refl
 
-pub servers-append : (rows xs ys : List Latest) → filter_map (server_in rows) (map body_of (xs ++ ys))
-    ≡ filter_map (server_in rows) (map body_of xs) ++ filter_map (server_in rows) (map body_of ys)
+-- the servers and the texts of these records
+abbrev pub servers_of : List Latest → List Latest → List Server
+servers_of rows found = filter_map (server_in rows) (map body_of found)
+
+abbrev pub texts_of : List Latest → List (List ℕ)
+texts_of found = filter_map text_in (map body_of found)
+
+pub servers-append : (rows xs ys : List Latest) → servers_of rows (xs ++ ys) ≡ servers_of rows xs ++ servers_of rows ys
 servers-append rows = through-append (filter_map (server_in rows)) (map body_of) (filter_map-append (server_in rows)) (map-append body_of)
 
-pub texts-append : (xs ys : List Latest)
-    → filter_map text_in (map body_of (xs ++ ys)) ≡ filter_map text_in (map body_of xs) ++ filter_map text_in (map body_of ys)
+pub texts-append : (xs ys : List Latest) → texts_of (xs ++ ys) ≡ texts_of xs ++ texts_of ys
 texts-append = through-append (filter_map text_in) (map body_of) (filter_map-append text_in) (map-append body_of)
 
 -- SRV data has a server
@@ -204,16 +210,16 @@ has_server all (Txt text) is = let other : 16 ≡ 33 = is in absurd (omega (arit
 
 -- each SRV record of a name has one
 pub served-each : (all rows : List Latest) (name : List ℕ)
-    → length (filter_map (server_in all) (map body_of (rows_of_set rows name 33))) ≡ length (rows_of_set rows name 33)
+    → length (servers_of all (rows_of_set rows name 33)) ≡ length (rows_of_set rows name 33)
 served-each all [] name = refl
 served-each all (row ∷ rows) name = by (is_eq (set_key_cmp (record_of row).set (set_for name 33))) refl (served-each all rows name)
   where
     by : (b : Bool) → is_eq (set_key_cmp (record_of row).set (set_for name 33)) ≡ b
-        → length (filter_map (server_in all) (map body_of (rows_of_set rows name 33))) ≡ length (rows_of_set rows name 33)
+        → length (servers_of all (rows_of_set rows name 33)) ≡ length (rows_of_set rows name 33)
         → length (filter_map (server_in all) (map body_of (cond b (row ∷ rows_of_set rows name 33) (rows_of_set rows name 33))))
         ≡ length (cond b (row ∷ rows_of_set rows name 33) (rows_of_set rows name 33))
     by false not rest = rest
     by true is rest =
         let same = set_key_cmp-exact (record_of row).set (set_for name 33) (eq_is _ is) in
         let server = has_server all (body_of row) (ap (λ s. s.number) same) in
-        ap (λ o. length (cons_option o (filter_map (server_in all) (map body_of (rows_of_set rows name 33))))) server.1 ∙ ap (λ n. suc n) rest
+        ap (λ o. length (cons_option o (servers_of all (rows_of_set rows name 33)))) server.1 ∙ ap (λ n. suc n) rest

@@ -6,7 +6,7 @@ use Rattle.std.specs.List.{filter, filter_map}
 use Rattle.mdns_join.specs.declared.latest.Latest.{Latest}
 use Rattle.mdns_browse.specs.About.{keeps_record, keeps_type}
 use Rattle.mdns_browse.specs.Report.{records_about, types_about}
-use Rattle.mdns_browse.specs.Services.{given_of, gives_instance, lasts_in, other_given, others_in, type_given, types_in}
+use Rattle.mdns_browse.specs.Services.{GivenRow, given_of, gives_instance, lasts_in, other_given, others_in, type_given, types_in}
 use Rattle.mdns_browse.specs.Sheet.{live_record, service_type}
 use Rattle.mdns_browse.specs.declared.about.Subject.{Subject}
 use Rattle.mdns_browse.proofs.ListLemmas.{through-append}
@@ -22,8 +22,11 @@ lasts-append = map-append (λ (row : Latest × ℕ). row.0)
 pub types-append : (xs ys : List (Latest × ℕ)) → types_in (lasts_in (xs ++ ys)) ≡ types_in (lasts_in xs) ++ types_in (lasts_in ys)
 types-append = through-append (filter_map type_given) lasts_in (filter_map-append type_given) lasts-append
 
-pub given-append : (xs ys : List (Latest × ℕ))
-    → filter gives_instance (map given_of (xs ++ ys)) ≡ filter gives_instance (map given_of xs) ++ filter gives_instance (map given_of ys)
+-- those that give an instance
+abbrev pub givers : List (Latest × ℕ) → List GivenRow
+givers rows = filter gives_instance (map given_of rows)
+
+pub given-append : (xs ys : List (Latest × ℕ)) → givers (xs ++ ys) ≡ givers xs ++ givers ys
 given-append = through-append (filter gives_instance) (map given_of) (filter-append gives_instance) (map-append given_of)
 
 module _ (about : List Subject) where
@@ -33,14 +36,16 @@ module _ (about : List Subject) where
   pub others_about-append : (xs ys : List (Latest × ℕ))
       → records_about about (others_in (xs ++ ys)) ≡ records_about about (others_in xs) ++ records_about about (others_in ys)
   others_about-append =
-      through-append (records_about about) others_in records_about-append (filter-append (λ (row : Latest × ℕ). is_some (other_given row.0)))
+      through-append (records_about about) others_in records_about-append
+      (filter-append (λ (row : Latest × ℕ). is_some (other_given row.0)))
 
   pub types_about-append : (xs ys : List (Latest × ℕ)) → types_about about (xs ++ ys) ≡ types_about about xs ++ types_about about ys
   types_about-append =
       through-append (filter (keeps_type about)) (λ rows. types_in (lasts_in rows)) (filter-append (keeps_type about)) types-append
 
   pub record_pieces-append : (xs ys : List (Latest × ℕ))
-      → map live_record (records_about about (xs ++ ys)) ≡ map live_record (records_about about xs) ++ map live_record (records_about about ys)
+      → map live_record (records_about about (xs ++ ys))
+      ≡ map live_record (records_about about xs) ++ map live_record (records_about about ys)
   record_pieces-append = through-append (map live_record) (records_about about) (map-append live_record) records_about-append
 
   pub type_pieces-append : (xs ys : List (Latest × ℕ))

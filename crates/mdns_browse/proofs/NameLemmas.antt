@@ -14,7 +14,8 @@ use Rattle.mdns_message.specs.Resource.{Body}
 use Rattle.mdns_message.specs.declared.body.RecordData.TheVariants.{A, Aaaa, Ptr, Txt, Srv}
 use Rattle.mdns_join.specs.declared.latest.Latest.{Latest}
 use Rattle.mdns_browse.specs.Services.{GivesInstance, GivesOther, GivesType, IsServiceName, IsInstanceOf, body_of, instance_given}
-use Rattle.mdns_browse.specs.Services.{is_instance_of, is_service_name, name_if, other_given, pointer_of, same_text, type_given, types_owner}
+use Rattle.mdns_browse.specs.Services.{is_instance_of, is_service_name, name_if, other_given, pointer_of, same_text, type_given}
+use Rattle.mdns_browse.specs.Services.{types_owner}
 
 -- ---- folding
 
@@ -236,6 +237,8 @@ other-gives row name =
     (λ name. Decides-and _ _ (service-decides owner) (Decides-not _ (instance-decides owner name))) (pointer_of (body_of row)) name in (
       λ given. let own = both.0 given in
           (record { name = name; pointer = point.0 own.0; service = own.1.0; other = own.1.1 }, point.0 own.0),
-      λ gives. both.1
-          (point.1 gives.1, (gives.0.service, subst (λ name. IsInstanceOf owner name → ⊥) (one_name gives.0.pointer gives.1) gives.0.other)),
+      λ gives. both.1 (
+        point.1 gives.1,
+        (gives.0.service, subst (λ name. IsInstanceOf owner name → ⊥) (one_name gives.0.pointer gives.1) gives.0.other),
+      ),
     )

@@ -10,7 +10,8 @@ ghost use Rattle.mdns_cache.specs.Rows.{last_lent};
 ghost use Rattle.mdns_browse.specs.Given.{given_lent};
 ghost use Rattle.mdns_browse.specs.Services.{AreAscending, AreInstances, AreTypes, GivesInstance, GivesOther, InstanceRow};
 ghost use Rattle.mdns_browse.specs.Services.{addresses_in, body_of, instance_given, instance_in, instance_row_in, is_instance_of, lasts_in};
-ghost use Rattle.mdns_browse.specs.Services.{is_service_name, other_given, same_text, servers_in, texts_in, type_given, types_in, types_owner};
+ghost use Rattle.mdns_browse.specs.Services.{is_service_name, other_given, same_text, servers_in, texts_in, type_given, types_in};
+ghost use Rattle.mdns_browse.specs.Services.{types_owner};
 
 use crate::given::gather;
 use crate::instance::{Addresses, InOrder, Instance, Server, Servers, Texts};

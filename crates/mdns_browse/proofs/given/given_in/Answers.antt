@@ -11,4 +11,6 @@ returns-clause-given c ascending =
     let about = c.args.about.now in
     let rows = ap (map last_lent) c.as_slice.ensures.value ∙ c.in_ok-gathered.ensures.rows in
     c.in_ok-given.ensures (subst AreAscending (sym rows) ascending) (map given_of c.args.walk) c.in_ok-gathered.ensures.given
-    ∙ ap (λ all. given_in (filter (λ (row : InstanceRow). keeps_instance about row.instance) (instance_rows_in all (map given_of c.args.walk)))) rows
+    ∙ ap
+    (λ all. given_in (filter (λ (row : InstanceRow). keeps_instance about row.instance) (instance_rows_in all (map given_of c.args.walk))))
+    rows

@@ -17,8 +17,8 @@ pub loop-row-preserved : goal.loop-row-preserved
 loop-row-preserved c ascending =
     let rows = map last_lent c.args.rows.now in
     let about = c.args.about.now in
-    made_more (kept_given about rows) (kept-append rows about) given_lent c.deref-row-items.result.now c.loop-row.row-index c.row-item.result
-    (omega arith) c.row-item.is (c.loop-row.invariant ascending) (c.in_ok-push_kept.ensures ascending)
+    made_more (kept_given about rows) (kept-append rows about) given_lent c.deref-row-items.result.now c.loop-row.row-index
+    c.row-item.result (omega arith) c.row-item.is (c.loop-row.invariant ascending) (c.in_ok-push_kept.ensures ascending)
 
 pub returns : goal.returns
 returns c ascending all gives =

@@ -38,5 +38,6 @@ returns c ascending =
     let rows = map last_lent c.args.rows.now in
     let shows = c.loop-row.invariant ascending in
     subst (λ shown. Writes c.args.page.now (rows_pieces [] shown) c.loop-row.page)
-    (made_all (shown_in rows) (filter_map-append (instance_row_in rows)) given_lent c.args.given.now c.loop-row.row-index (omega arith) refl)
+    (made_all (shown_in rows) (filter_map-append (instance_row_in rows)) given_lent c.args.given.now c.loop-row.row-index (omega arith)
+    refl)
     shows.taken

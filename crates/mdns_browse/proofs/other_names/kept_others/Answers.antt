@@ -27,7 +27,8 @@ loop-row-preserved c =
     left_more (λ rows. records_about about (others_in rows)) (others_about-append about) (live_record_lent c.in-Some.row) _ _ _ _ _
     c.in-Some.ensures.steps
     (c.in_ok-push_kept_record.ensures
-    ∙ ap (λ o. map live_record_lent c.loop-row.rows.items ++ records_about about (cond (is_some o) (live_record_lent c.in-Some.row ∷ []) []))
+    ∙ ap
+    (λ o. map live_record_lent c.loop-row.rows.items ++ records_about about (cond (is_some o) (live_record_lent c.in-Some.row ∷ []) []))
     c.in-Some-other_of.ensures.given)
     c.loop-row.invariant
 

@@ -1,10 +1,9 @@
 use Rattle.std.proofs.Common.{◌∙◌, ap, sym, subst, map}
 use Rattle.std.proofs.lemmas.Result.{IfOk-weaker}
-use Rattle.std.specs.List.{filter_map}
 use Rattle.mdns_cache.specs.Rows.{last_lent}
 use Rattle.mdns_browse.specs.Given.{given_lent}
-use Rattle.mdns_browse.specs.Services.{AreAscending, InstanceRow, instance_row_in, lasts_in}
-use Rattle.mdns_browse.proofs.InstanceLemmas.{instances-shown}
+use Rattle.mdns_browse.specs.Services.{AreAscending, lasts_in}
+use Rattle.mdns_browse.proofs.InstanceLemmas.{instances-shown, only, shown_in}
 use Rattle.mdns_browse.proofs.RowLemmas.{ascending_lasts}
 use Rattle.mdns_browse.proofs.services.instances.Goals as goal
 
@@ -21,8 +20,8 @@ returns c =
       are = are;
       is =
           found (subst AreAscending (sym rows) (ascending_lasts heard c.args.now.nanos records are))
-          ∙ ap (λ all. map (λ (row : InstanceRow). row.instance) (filter_map (instance_row_in all) (map given_lent c.as_slice-2.result.now))) rows
-          ∙ ap (λ all. map (λ (row : InstanceRow). row.instance) (filter_map (instance_row_in (lasts_in records)) all)) given
+          ∙ ap (λ all. only (shown_in all (map given_lent c.as_slice-2.result.now))) rows
+          ∙ ap (λ all. only (shown_in (lasts_in records) all)) given
           ∙ instances-shown (lasts_in records) records;
     })
     c.instances_of.ensures

@@ -10,7 +10,8 @@ use Rattle.mdns_browse.proofs.ListLemmas.{made_all, made_more, made_same, throug
 use Rattle.mdns_browse.proofs.services.instances_of.Goals as goal
 
 append : (rows : List Latest) (xs ys : List GivenRow) → only (shown_in rows (xs ++ ys)) ≡ only (shown_in rows xs) ++ only (shown_in rows ys)
-append rows = through-append only (shown_in rows) (map-append (λ (row : InstanceRow). row.instance)) (filter_map-append (instance_row_in rows))
+append rows =
+    through-append only (shown_in rows) (map-append (λ (row : InstanceRow). row.instance)) (filter_map-append (instance_row_in rows))
 
 pub loop-row-preserved-in_default : goal.loop-row-preserved-in_default
 loop-row-preserved-in_default c ascending =

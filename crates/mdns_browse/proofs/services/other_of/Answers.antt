@@ -12,7 +12,8 @@ returns-then-not-is_instance_of-clause-some c =
     let is = ap not (sym (ap (λ service. is_instance_of service name) c.wire.ensures.bytes) ∙ sym c.is_instance_of.ensures
     ∙ c.if-not-is_instance_of.true) in
     let service = (service-decides owner).0 (sym c.is_service_name.ensures ∙ c.if-is_service_name.true) in
-    (record { name = name; pointer = c.in-Ptr.is; service = service; other = (Decides-not _ (instance-decides owner name)).0 is }, c.in-Ptr.is)
+    let other = (Decides-not _ (instance-decides owner name)).0 is in
+    (record { name = name; pointer = c.in-Ptr.is; service = service; other = other }, c.in-Ptr.is)
 
 pub returns-clause-none : goal.returns-clause-none
 returns-clause-none c gives =

@@ -1,18 +1,18 @@
 use Rattle.std.proofs.Common.{◌∙◌, ap, sym, ℕ, List, map, ◌++◌, [], ◌∷◌, arith}
-use Rattle.std.specs.List.{cons_option, filter_map}
+use Rattle.std.specs.List.{cons_option}
 use Rattle.mdns_message.specs.Resource.{Body}
 use Rattle.mdns_cache.specs.Rows.{last_lent}
-use Rattle.mdns_browse.specs.Services.{body_of, server_in}
+use Rattle.mdns_browse.specs.Services.{server_in}
 use Rattle.mdns_browse.specs.declared.instance.Server.{Server}
-use Rattle.mdns_browse.proofs.InstanceLemmas.{server-none, servers-append}
+use Rattle.mdns_browse.proofs.InstanceLemmas.{server-none, servers-append, servers_of}
 use Rattle.mdns_browse.proofs.ListLemmas.{made_all, made_more, made_same}
 use Rattle.mdns_browse.proofs.services.servers.Goals as goal
 
 pub loop-row-preserved-in_default : goal.loop-row-preserved-in_default
 loop-row-preserved-in_default c ascending =
     let rows = map last_lent c.args.rows.now in
-    made_same (λ found. filter_map (server_in rows) (map body_of found)) (servers-append rows) last_lent c.of_set-row-items.result.now c.loop-row.row-index c.row-item.result (omega arith)
-    c.row-item.is (c.loop-row.invariant ascending) (ap (λ o. cons_option o []) (server-none rows _ c.in_default.not-Srv))
+    made_same (servers_of rows) (servers-append rows) last_lent c.of_set-row-items.result.now c.loop-row.row-index c.row-item.result
+    (omega arith) c.row-item.is (c.loop-row.invariant ascending) (ap (λ o. cons_option o []) (server-none rows _ c.in_default.not-Srv))
 
 pub loop-row-preserved : goal.loop-row-preserved
 loop-row-preserved c ascending =
@@ -27,8 +27,8 @@ loop-row-preserved c ascending =
     let same = c.in_ok-copy.ensures in
     let own = ap (λ target. with_parts target c.in_ok-addresses.field-0) same
     ∙ ap (with_parts c.in-Srv.target) (c.in_ok-addresses.ensures ascending) in
-    made_more (λ found. filter_map (server_in rows) (map body_of found)) (servers-append rows) last_lent c.of_set-row-items.result.now c.loop-row.row-index c.row-item.result (omega arith)
-    c.row-item.is (c.loop-row.invariant ascending)
+    made_more (servers_of rows) (servers-append rows) last_lent c.of_set-row-items.result.now c.loop-row.row-index c.row-item.result
+    (omega arith) c.row-item.is (c.loop-row.invariant ascending)
     (c.in_ok-push.ensures.items ∙ ap (λ (server : Server). c.loop-row.servers.items ++ server ∷ []) own
     ∙ ap (λ held. c.loop-row.servers.items ++ cons_option (server_in rows held) []) (sym c.in-Srv.is))
 
@@ -36,6 +36,6 @@ pub returns : goal.returns
 returns c ascending =
     let rows = map last_lent c.args.rows.now in
     c.from_vec.ensures
-    ∙ made_all (λ found. filter_map (server_in rows) (map body_of found)) (servers-append rows) last_lent c.of_set-row-items.result.now c.loop-row.row-index (omega arith)
+    ∙ made_all (servers_of rows) (servers-append rows) last_lent c.of_set-row-items.result.now c.loop-row.row-index (omega arith)
     (c.loop-row.invariant ascending)
-    ∙ ap (λ found. filter_map (server_in rows) (map body_of found)) (c.of_set-row-items.ensures.found ascending)
+    ∙ ap (servers_of rows) (c.of_set-row-items.ensures.found ascending)

@@ -16,7 +16,8 @@ abbrev pieces : List Latest → List GivenRow → List Piece
 pieces rows given = flat_map instance_pieces (shown_in rows given)
 
 append : (rows : List Latest) (xs ys : List GivenRow) → pieces rows (xs ++ ys) ≡ pieces rows xs ++ pieces rows ys
-append rows = through-append (flat_map instance_pieces) (shown_in rows) (flat_map-append instance_pieces) (filter_map-append (instance_row_in rows))
+append rows =
+    through-append (flat_map instance_pieces) (shown_in rows) (flat_map-append instance_pieces) (filter_map-append (instance_row_in rows))
 
 pub loop-row-init : goal.loop-row-init
 loop-row-init g c ascending = g.met.S.Sheet.laws.nothing _

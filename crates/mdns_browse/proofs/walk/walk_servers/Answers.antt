@@ -2,22 +2,21 @@ use Rattle.std.proofs.Common.{◌≡◌, sym, ◌∙◌, ap, subst, ◌==◌, Li
 use Rattle.std.proofs.lemmas.Grind.{flat_map-append}
 use Rattle.std.proofs.lemmas.List.{length-map}
 use Rattle.std.proofs.lemmas.Result.{on_ok_weaker}
-use Rattle.std.specs.List.{filter_map, flat_map}
+use Rattle.std.specs.List.{flat_map}
 use Rattle.mdns_join.specs.declared.latest.Latest.{Latest}
 use Rattle.mdns_cache.specs.Rows.{last_lent}
-use Rattle.mdns_browse.specs.Services.{body_of, server_in, servers_in}
+use Rattle.mdns_browse.specs.Services.{servers_in}
 use Rattle.mdns_browse.specs.Sheet.{Piece, server_pieces, servers_end}
-use Rattle.mdns_browse.proofs.InstanceLemmas.{served-each, servers-append}
+use Rattle.mdns_browse.proofs.InstanceLemmas.{served-each, servers-append, servers_of}
 use Rattle.mdns_browse.proofs.ListLemmas.{takes_all, takes_more, through-append}
 use Rattle.mdns_browse.proofs.walk.walk_servers.Goals as goal
 
 abbrev pieces : List Latest → List Latest → List Piece
-pieces rows found = flat_map server_pieces (filter_map (server_in rows) (map body_of found))
+pieces rows found = flat_map server_pieces (servers_of rows found)
 
 append : (rows xs ys : List Latest) → pieces rows (xs ++ ys) ≡ pieces rows xs ++ pieces rows ys
 append rows =
-    through-append (flat_map server_pieces) (λ found. filter_map (server_in rows) (map body_of found)) (flat_map-append server_pieces)
-    (servers-append rows)
+    through-append (flat_map server_pieces) (servers_of rows) (flat_map-append server_pieces) (servers-append rows)
 
 pub loop-row-init : goal.loop-row-init
 loop-row-init g c ascending = g.met.S.Sheet.laws.nothing _

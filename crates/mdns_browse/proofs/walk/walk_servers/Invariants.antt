@@ -1,12 +1,13 @@
 use Rattle.std.proofs.Common.{map, take}
-use Rattle.std.specs.List.{filter_map, flat_map}
+use Rattle.std.specs.List.{flat_map}
 use Rattle.mdns_cache.specs.Rows.{last_lent}
-use Rattle.mdns_browse.specs.Services.{AreAscending, body_of, server_in}
+use Rattle.mdns_browse.specs.Services.{AreAscending}
 use Rattle.mdns_browse.specs.Sheet.{server_pieces}
+use Rattle.mdns_browse.proofs.InstanceLemmas.{servers_of}
 use Rattle.mdns_browse.proofs.walk.walk_servers.Given as goal
 
 abbrev pub invariant-loop-row : goal.invariant-loop-row
 invariant-loop-row g l =
     AreAscending (map last_lent l.rows)
     → g.S.Sheet.takes l.initial.sheet
-    (flat_map server_pieces (filter_map (server_in (map last_lent l.rows)) (map body_of (map last_lent (take l.row-index l.servers))))) l.sheet
+    (flat_map server_pieces (servers_of (map last_lent l.rows) (map last_lent (take l.row-index l.servers)))) l.sheet

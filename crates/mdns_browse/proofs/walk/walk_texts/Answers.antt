@@ -1,19 +1,19 @@
 use Rattle.std.proofs.Common.{◌≡◌, sym, ap, subst, List, map, ◌++◌, [], arith}
 use Rattle.std.proofs.lemmas.List.{map-append}
-use Rattle.std.specs.List.{cons_option, filter_map}
+use Rattle.std.specs.List.{cons_option}
 use Rattle.mdns_join.specs.declared.latest.Latest.{Latest}
 use Rattle.mdns_cache.specs.Rows.{last_lent}
-use Rattle.mdns_browse.specs.Services.{body_of, text_in}
+use Rattle.mdns_browse.specs.Services.{text_in}
 use Rattle.mdns_browse.specs.Sheet.{Piece, instance_text}
-use Rattle.mdns_browse.proofs.InstanceLemmas.{text-none, texts-append}
+use Rattle.mdns_browse.proofs.InstanceLemmas.{text-none, texts-append, texts_of}
 use Rattle.mdns_browse.proofs.ListLemmas.{takes_all, takes_more, takes_same, through-append}
 use Rattle.mdns_browse.proofs.walk.walk_texts.Goals as goal
 
 abbrev pieces : List Latest → List Piece
-pieces found = map instance_text (filter_map text_in (map body_of found))
+pieces found = map instance_text (texts_of found)
 
 append : (xs ys : List Latest) → pieces (xs ++ ys) ≡ pieces xs ++ pieces ys
-append = through-append (map instance_text) (λ found. filter_map text_in (map body_of found)) (map-append instance_text) texts-append
+append = through-append (map instance_text) texts_of (map-append instance_text) texts-append
 
 pub loop-row-init : goal.loop-row-init
 loop-row-init g c = g.met.S.Sheet.laws.nothing _
@@ -33,4 +33,5 @@ loop-row-preserved g c =
 pub returns : goal.returns
 returns g c ascending =
     subst (λ found. g.S.Sheet.takes c.args.sheet.now (pieces found) c.loop-row.sheet) (c.of_set-row-items.ensures.found ascending)
-    (takes_all pieces append g.S.Sheet.takes last_lent c.of_set-row-items.result.now c.loop-row.row-index (omega arith) c.loop-row.invariant)
+    (takes_all pieces append g.S.Sheet.takes last_lent c.of_set-row-items.result.now c.loop-row.row-index (omega arith)
+    c.loop-row.invariant)

@@ -1,10 +1,9 @@
 use Rattle.std.proofs.Common.{map, take}
-use Rattle.std.specs.List.{filter_map}
 use Rattle.mdns_cache.specs.Rows.{last_lent}
-use Rattle.mdns_browse.specs.Services.{body_of, text_in}
 use Rattle.mdns_browse.specs.Sheet.{instance_text}
+use Rattle.mdns_browse.proofs.InstanceLemmas.{texts_of}
 use Rattle.mdns_browse.proofs.walk.walk_texts.Given as goal
 
 abbrev pub invariant-loop-row : goal.invariant-loop-row
 invariant-loop-row g l =
-    g.S.Sheet.takes l.initial.sheet (map instance_text (filter_map text_in (map body_of (map last_lent (take l.row-index l.row-items))))) l.sheet
+    g.S.Sheet.takes l.initial.sheet (map instance_text (texts_of (map last_lent (take l.row-index l.row-items)))) l.sheet
