@@ -13,7 +13,7 @@ use Rattle.people_text.specs.Moments.{clock_text, date_text, date_written, day_t
 use Rattle.mdns_browse.specs.Pretty.{heading, heard_text, kind_text, left_text, padded, record_heads, record_row, record_table}
 use Rattle.mdns_browse.specs.Pretty.{spaces, unless_none, widest}
 use Rattle.mdns_browse.specs.Shown.{shown_record}
-use Rattle.mdns_browse.proofs.PickLemmas.{map_more}
+use Rattle.mdns_browse.proofs.ListLemmas.{map_more}
 
 -- one space more
 pub spaces-more : (old mid new : List ℕ) (n : ℕ) → mid ≡ old ++ spaces n → new ≡ mid ++ 32 ∷ [] → new ≡ old ++ spaces (n + 1)

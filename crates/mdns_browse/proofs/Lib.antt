@@ -1,11 +1,8 @@
 mod AboutLemmas
 mod AboutServiceLemmas
-mod AddLemmas
 mod ColumnLemmas
 mod DigitLemmas
 mod FormLemmas
-mod GatherLemmas
-mod GivenLemmas
 mod InstanceLemmas
 mod JsonLemmas
 mod KeptLemmas
@@ -15,14 +12,10 @@ mod ListLemmas
 mod NameLemmas
 mod ObjectLemmas
 mod PageLemmas
-mod PickLemmas
+mod ReachLemmas
 mod ReportLemmas
-mod RowLemmas
+pub mod RowLemmas
 mod SaidLemmas
-pub mod SameLemmas
 pub mod SearchLemmas
-mod ServiceLemmas
-mod ShownKeptLemmas
 mod ShownLemmas
-mod SinceLemmas
 mod TextLemmas

@@ -198,23 +198,18 @@ pointer-is (Aaaa octets) name = (λ points. absurd (none-some name points), λ i
 pointer-is (Txt text) name = (λ points. absurd (none-some name points), λ is. absurd cc)
 pointer-is (Srv priority weight port target) name = (λ points. absurd (none-some name points), λ is. absurd cc)
 
-pub one_name : {held : Body} {name other : List ℕ} → held ≡ Ptr name → held ≡ Ptr other → name ≡ other
-one_name {name = name} {other = other} is was = let same : Ptr name ≡ Ptr other = sym is ∙ was in cc
-
-pub type-gives : (row : Latest) (name : List ℕ) → (type_given row ≡ Some name) ↔ (GivesType row × (body_of row ≡ Ptr name))
+pub type-gives : (row : Latest) (name : List ℕ) → (type_given row ≡ Some name) ↔ GivesType row name
 unfolding type_given
 type-gives row name =
-    let owner = row.resource.owner in
     let point = pointer-is (body_of row) name in
     let both =
-    name_if-decides _ (λ name. (folded owner ≡ folded types_owner) × IsServiceName name)
-    (λ name. Decides-and _ _ (same_text-decides owner types_owner) (service-decides name)) (pointer_of (body_of row)) name in (
-      λ given. let own = both.0 given in
-          (record { name = name; pointer = point.0 own.0; owner = own.1.0; service = own.1.1 }, point.0 own.0),
-      λ gives. both.1 (point.1 gives.1, (gives.0.owner, subst IsServiceName (one_name gives.0.pointer gives.1) gives.0.service)),
+    name_if-decides _ (λ name. (folded row.resource.owner ≡ folded types_owner) × IsServiceName name)
+    (λ name. Decides-and _ _ (same_text-decides row.resource.owner types_owner) (service-decides name)) (pointer_of (body_of row)) name in (
+      λ given. let own = both.0 given in record { pointer = point.0 own.0; owner = own.1.0; service = own.1.1 },
+      λ gives. both.1 (point.1 gives.pointer, (gives.owner, gives.service)),
     )
 
-pub instance-gives : (row : Latest) (name : List ℕ) → (instance_given row ≡ Some name) ↔ (GivesInstance row × (body_of row ≡ Ptr name))
+pub instance-gives : (row : Latest) (name : List ℕ) → (instance_given row ≡ Some name) ↔ GivesInstance row name
 unfolding instance_given
 instance-gives row name =
     let owner = row.resource.owner in
@@ -222,12 +217,11 @@ instance-gives row name =
     let both =
     name_if-decides _ (λ name. IsServiceName owner × IsInstanceOf owner name)
     (λ name. Decides-and _ _ (service-decides owner) (instance-decides owner name)) (pointer_of (body_of row)) name in (
-      λ given. let own = both.0 given in
-          (record { name = name; pointer = point.0 own.0; service = own.1.0; instance = own.1.1 }, point.0 own.0),
-      λ gives. both.1 (point.1 gives.1, (gives.0.service, subst (IsInstanceOf owner) (one_name gives.0.pointer gives.1) gives.0.instance)),
+      λ given. let own = both.0 given in record { pointer = point.0 own.0; service = own.1.0; instance = own.1.1 },
+      λ gives. both.1 (point.1 gives.pointer, (gives.service, gives.instance)),
     )
 
-pub other-gives : (row : Latest) (name : List ℕ) → (other_given row ≡ Some name) ↔ (GivesOther row × (body_of row ≡ Ptr name))
+pub other-gives : (row : Latest) (name : List ℕ) → (other_given row ≡ Some name) ↔ GivesOther row name
 unfolding other_given
 other-gives row name =
     let owner = row.resource.owner in
@@ -235,10 +229,6 @@ other-gives row name =
     let both =
     name_if-decides _ (λ name. IsServiceName owner × (IsInstanceOf owner name → ⊥))
     (λ name. Decides-and _ _ (service-decides owner) (Decides-not _ (instance-decides owner name))) (pointer_of (body_of row)) name in (
-      λ given. let own = both.0 given in
-          (record { name = name; pointer = point.0 own.0; service = own.1.0; other = own.1.1 }, point.0 own.0),
-      λ gives. both.1 (
-        point.1 gives.1,
-        (gives.0.service, subst (λ name. IsInstanceOf owner name → ⊥) (one_name gives.0.pointer gives.1) gives.0.other),
-      ),
+      λ given. let own = both.0 given in record { pointer = point.0 own.0; service = own.1.0; other = own.1.1 },
+      λ gives. both.1 (point.1 gives.pointer, (gives.service, gives.other)),
     )

@@ -1,6 +1,6 @@
 -- Rows in key order are decided by which rows there are, and so is what is a function of them.
-use Rattle.std.proofs.Common.{◌≡◌, refl, sym, ◌∙◌, ap, subst, ℕ, zero, suc, ◌<◌, ◌⊎◌, inl, inr, List, [], ◌∷◌, length, map, arith}
-use Rattle.std.specs.Prelude.{Contains, slice_index_or}
+use Rattle.std.proofs.Common.{◌≡◌, refl, sym, ◌∙◌, ap, subst, ℕ, inl, inr, List, [], ◌∷◌, map}
+use Rattle.std.specs.Prelude.{Contains}
 use Rattle.std.specs.List.{AllByRecursion}
 use Rattle.std.specs.List.Sorted.{IsStrictlySortedBy}
 use Rattle.std.specs.Cmp.{IsTotalOrder}
@@ -15,29 +15,15 @@ use Rattle.mdns_message.specs.laws.Resource.{key_cmp-total}
 use Rattle.mdns_join.specs.declared.latest.Latest.{Latest}
 use Rattle.mdns_cache.specs.Live.{record_of, AreLiveRecords, IsEnd, IsLive, SameHearings}
 use Rattle.mdns_cache.proofs.EndLemmas.{end_among}
-use Rattle.mdns_cache.proofs.StandsPartLemmas.{IsLast-among, same-back}
+use Rattle.mdns_cache.proofs.StandsPartLemmas.{Contains-cases, Contains-head, Contains-later, Contains-nil, IsLast-among, same-back}
 use Rattle.mdns_browse.specs.Services.{AreAscending, IsOfLive, lasts_in}
 
-contains_at-cons : {X : Type 0} (x : X) (xs : List X) (z : X) (k : ℕ) → k < length (x ∷ xs)
-    → slice_index_or (x ∷ xs) k z ≡ z → (z ≡ x) ⊎ Contains xs z
-contains_at-cons x xs z zero within is = inl (sym is)
-contains_at-cons x xs z (suc k) within is = inr (k, omega arith, is)
-
--- an element is the first one, or is after it
-pub contains-cons : {X : Type 0} (x : X) (xs : List X) (z : X) → Contains (x ∷ xs) z → (z ≡ x) ⊎ Contains xs z
-contains-cons x xs z among = contains_at-cons x xs z among.0 among.1 among.2
-
-pub contains-first : {X : Type 0} (x : X) (xs : List X) → Contains (x ∷ xs) x
-contains-first x xs = (zero, omega arith, refl)
-
-pub contains-after : {X : Type 0} (x : X) (xs : List X) (z : X) → Contains xs z → Contains (x ∷ xs) z
-contains-after x xs z among = (suc among.0, omega arith, among.2)
-
-holds_at : {X K : Type 0} (P : K → Type 0) (key : X → K) (xs : List X) (z : X) (k : ℕ) → k < length xs
-    → slice_index_or xs k z ≡ z → AllByRecursion P (map key xs) → P (key z)
-holds_at P key [] z k within is all = absurd (omega arith)
-holds_at P key (x ∷ xs) z zero within is all = subst (λ v. P (key v)) is all.0
-holds_at P key (x ∷ xs) z (suc k) within is all = holds_at P key xs z k (omega arith) is all.1
+holds_at : {X K : Type 0} (P : K → Type 0) (key : X → K) (xs : List X) (z : X) → Contains xs z → AllByRecursion P (map key xs) → P (key z)
+holds_at P key [] z among all = absurd (Contains-nil z among)
+holds_at P key (x ∷ xs) z among all = elim (Contains-cases x xs z among) [
+  | inl is ↦ subst (λ v. P (key v)) is all.0
+  | inr rest ↦ holds_at P key xs z rest all.1
+]
 
 -- nothing is below itself, nor two things each below the other
 not_below_both : {K : Type 0} (cmp : K → K → Ordering) (o : IsTotalOrder cmp) (a b : K) → cmp a b ≡ Less → cmp b a ≡ Less → ⊥
@@ -50,38 +36,36 @@ pub same_rows : {X K : Type 0} (cmp : K → K → Ordering) (o : IsTotalOrder cm
     → ((z : X) → Contains xs z → Contains ys z) → ((z : X) → Contains ys z → Contains xs z) → xs ≡ ys
 unfolding IsStrictlySortedBy
 same_rows cmp o key [] [] sx sy into back = refl
-same_rows cmp o key [] (y ∷ ys) sx sy into back =
-    let among : Contains [] y = back y (contains-first y ys) in absurd (omega (arith, among.1))
-same_rows cmp o key (x ∷ xs) [] sx sy into back =
-    let among : Contains [] x = into x (contains-first x xs) in absurd (omega (arith, among.1))
+same_rows cmp o key [] (y ∷ ys) sx sy into back = absurd (Contains-nil y (back y (Contains-head y ys)))
+same_rows cmp o key (x ∷ xs) [] sx sy into back = absurd (Contains-nil x (into x (Contains-head x xs)))
 same_rows {X} cmp o key (x ∷ xs) (y ∷ ys) sx sy into back =
     ap (λ first. first ∷ xs) same ∙ ap (λ rest. y ∷ rest) (same_rows cmp o key xs ys sx.1 sy.1 into_rest back_rest)
   where
     below_x : (z : X) → Contains xs z → cmp (key x) (key z) ≡ Less
-    below_x z among = holds_at (λ k. cmp (key x) k ≡ Less) key xs z among.0 among.1 among.2 sx.0
+    below_x z among = holds_at (λ k. cmp (key x) k ≡ Less) key xs z among sx.0
 
     below_y : (z : X) → Contains ys z → cmp (key y) (key z) ≡ Less
-    below_y z among = holds_at (λ k. cmp (key y) k ≡ Less) key ys z among.0 among.1 among.2 sy.0
+    below_y z among = holds_at (λ k. cmp (key y) k ≡ Less) key ys z among sy.0
 
     same : x ≡ y
-    same = elim (contains-cons y ys x (into x (contains-first x xs))) [
-      | inl is ↦ is
-      | inr x_after ↦ elim (contains-cons x xs y (back y (contains-first y ys))) [
-        | inl is ↦ sym is
+    same = elim (Contains-cases y ys x (into x (Contains-head x xs))) [
+      | inl is ↦ sym is
+      | inr x_after ↦ elim (Contains-cases x xs y (back y (Contains-head y ys))) [
+        | inl is ↦ is
         | inr y_after ↦ absurd (not_below_both cmp o (key x) (key y) (below_x y y_after) (below_y x x_after))
       ]
     ]
 
     into_rest : (z : X) → Contains xs z → Contains ys z
-    into_rest z among = elim (contains-cons y ys z (into z (contains-after x xs z among))) [
-      | inl is ↦ let own : cmp (key x) (key x) ≡ Less = subst (λ v. cmp (key x) (key v) ≡ Less) (is ∙ sym same) (below_x z among) in
+    into_rest z among = elim (Contains-cases y ys z (into z (Contains-later x xs z among))) [
+      | inl is ↦ let own : cmp (key x) (key x) ≡ Less = subst (λ v. cmp (key x) (key v) ≡ Less) (sym (same ∙ is)) (below_x z among) in
           absurd (not_below_both cmp o (key x) (key x) own own)
       | inr after ↦ after
     ]
 
     back_rest : (z : X) → Contains ys z → Contains xs z
-    back_rest z among = elim (contains-cons x xs z (back z (contains-after y ys z among))) [
-      | inl is ↦ let own : cmp (key y) (key y) ≡ Less = subst (λ v. cmp (key y) (key v) ≡ Less) (is ∙ same) (below_y z among) in
+    back_rest z among = elim (Contains-cases x xs z (back z (Contains-later y ys z among))) [
+      | inl is ↦ let own : cmp (key y) (key y) ≡ Less = subst (λ v. cmp (key y) (key v) ≡ Less) (sym (sym same ∙ is)) (below_y z among) in
           absurd (not_below_both cmp o (key y) (key y) own own)
       | inr after ↦ after
     ]

@@ -1,37 +1,23 @@
 -- Rows in key order: those of one record set are consecutive, and a binary search finds them.
-use Rattle.std.proofs.Common.{◌≡◌, refl, sym, ◌∙◌, ap, subst, ℕ, zero, suc, ◌+◌, ◌-◌, ◌<◌, ◌≤◌, ◌⊎◌, inl, inr, true}
-use Rattle.std.proofs.Common.{false, List, [], ◌∷◌, length, map, take, drop, get_or, arith}
+use Rattle.std.proofs.Common.{◌≡◌, refl, sym, ◌∙◌, ap, subst, ℕ, zero, suc, ◌+◌, ◌-◌, ◌<◌, ◌≤◌, ◌⊎◌, inl, inr, Bool, true}
+use Rattle.std.proofs.Common.{false, cond, List, [], ◌∷◌, length, map, take, drop, get_or, arith}
 use Rattle.std.proofs.lemmas.List.{get_or-drop, length-drop, take_all}
 use Rattle.std.proofs.lemmas.Bool.{false≢true}
 use Rattle.std.proofs.lemmas.Cmp.{tied_itself}
-use Rattle.std.specs.List.{AllByRecursion, filter}
+use Rattle.std.proofs.lemmas.Simd.{map-map}
+use Rattle.std.specs.List.{AllByRecursion, AllWithin, filter}
 use Rattle.std.specs.List.Sorted.{IsStrictlySortedBy, IsPartitionPoint, IsPartitionedBy}
 use Rattle.std.specs.Cmp.{IsTotalOrder, alike_right}
 use Rattle.std.specs.Ordering.{is_eq, is_lt, is_le, ordering_then}
 use Rattle.std.specs.declared.cmp.Ordering.{Ordering}
 use Rattle.std.specs.declared.cmp.Ordering.TheVariants.{Less, Equal, Greater}
-use Rattle.mdns_message.specs.declared.hearing.Hearing.{Hearing}
 use Rattle.mdns_message.specs.declared.key.Key.{Key}
 use Rattle.mdns_message.specs.RecordSet.{RecordSet}
 use Rattle.mdns_message.specs.Resource.{set_key_cmp, key_cmp}
-use Rattle.mdns_message.specs.laws.Resource.{set_key_cmp-total, set_key_cmp-exact}
+use Rattle.mdns_message.specs.laws.Resource.{set_key_cmp-total}
 use Rattle.mdns_join.specs.declared.latest.Latest.{Latest}
-use Rattle.mdns_cache.specs.Live.{AreLiveRows, record_of}
-use Rattle.mdns_browse.specs.Services.{AreRowsOf, IsOfSet, rows_of_set, set_for}
-use Rattle.mdns_browse.proofs.PickLemmas.{Picks, picked-is, is-picked, picks-ascending, picks-filter, picks-one, picks-range}
-
--- of the live rows those with a property are the rows of that kind
-pub rows_of : (Is : Latest → Type 0) (heard : List Hearing) (now : ℕ) (rows picked : List Latest) → AreLiveRows heard now rows
-    → Picks Is rows picked → AreRowsOf Is heard now picked
-rows_of Is heard now rows picked are picks = record {
-  ascending = picks-ascending Is key_cmp record_of rows picked picks are.ascending;
-  exactly = λ l. (
-    λ among.
-        let own = picked-is Is rows picked l picks among in
-        ((are.exactly l).0 own.0, own.1),
-    λ both. is-picked Is rows picked l picks ((are.exactly l).1 both.0) both.1,
-  );
-}
+use Rattle.mdns_cache.specs.Live.{record_of}
+use Rattle.mdns_browse.specs.Services.{rows_of_set, set_for}
 
 lt_is : (o : Ordering) → is_lt o ≡ true → o ≡ Less
 lt_is Less e = refl
@@ -43,10 +29,20 @@ le_is Less e = inl refl
 le_is Equal e = inr refl
 le_is Greater e = absurd (false≢true e)
 
-between_is : (o : Ordering) → is_lt o ≡ false → is_le o ≡ true → o ≡ Equal
-between_is Less not le = absurd (false≢true (sym not))
-between_is Equal not le = refl
-between_is Greater not le = absurd (false≢true le)
+lt-not_eq : (o : Ordering) → is_lt o ≡ true → is_eq o ≡ false
+lt-not_eq Less e = refl
+lt-not_eq Equal e = absurd (false≢true e)
+lt-not_eq Greater e = refl
+
+above-not_eq : (o : Ordering) → is_le o ≡ false → is_eq o ≡ false
+above-not_eq Less e = absurd (false≢true (sym e))
+above-not_eq Equal e = absurd (false≢true (sym e))
+above-not_eq Greater e = refl
+
+between-eq : (o : Ordering) → is_lt o ≡ false → is_le o ≡ true → is_eq o ≡ true
+between-eq Less not le = absurd (false≢true (sym not))
+between-eq Equal not le = refl
+between-eq Greater not le = absurd (false≢true le)
 
 pub eq_is : (o : Ordering) → is_eq o ≡ true → o ≡ Equal
 eq_is Less e = absurd (false≢true e)
@@ -79,6 +75,29 @@ all_at : {X K : Type 0} (P : K → Type 0) (key : X → K) (xs : List X) (k : �
 all_at P key [] k d within all = absurd (omega arith)
 all_at P key (x ∷ xs) zero d within all = all.0
 all_at P key (x ∷ xs) (suc k) d within all = all_at P key xs k d (omega arith) all.1
+
+-- a filter leaves elements that stand together: `count` of them from `first` on
+module _ {X : Type 0} (test : X → Bool) where
+  filter-from : (xs : List X) (first : ℕ) → AllWithin (λ x. test x ≡ false) xs 0 first → filter test xs ≡ filter test (drop first xs)
+  filter-from xs zero none = refl
+  filter-from [] (suc first) none = refl
+  filter-from (x ∷ xs) (suc first) none =
+      ap (λ passes. cond passes (x ∷ filter test xs) (filter test xs)) (none 0 x (omega arith) (omega arith))
+      ∙ filter-from xs first (λ k d low high. none (suc k) d (omega arith) (omega arith))
+
+  filter-upto : (xs : List X) (count : ℕ) → count ≤ length xs → AllWithin (λ x. test x ≡ true) xs 0 count
+      → AllWithin (λ x. test x ≡ false) xs count (length xs) → filter test xs ≡ take count xs
+  filter-upto [] zero within all none = refl
+  filter-upto [] (suc count) within all none = absurd (omega arith)
+  filter-upto (x ∷ xs) zero within all none =
+      ap (λ passes. cond passes (x ∷ filter test xs) (filter test xs)) (none 0 x (omega arith) (omega arith))
+      ∙ filter-upto xs zero (omega arith) (λ k d low high. absurd (omega arith))
+      (λ k d low high. none (suc k) d (omega arith) (omega arith))
+  filter-upto (x ∷ xs) (suc count) within all none =
+      ap (λ passes. cond passes (x ∷ filter test xs) (filter test xs)) (all 0 x (omega arith) (omega arith))
+      ∙ ap (λ rest. x ∷ rest)
+      (filter-upto xs count (omega arith) (λ k d low high. all (suc k) d (omega arith) (omega arith))
+      (λ k d low high. none (suc k) d (omega arith) (omega arith)))
 
 module _ {X : Type 0} (key : X → Key) (set : RecordSet) where
   -- how a row's record set compares with the one that is looked for
@@ -117,80 +136,45 @@ module _ {X : Type 0} (key : X → Key) (set : RecordSet) where
       (subst (λ x. is_le (against x) ≡ true) (get_or-drop first xs j d) below)))
 
   -- the rows of the set are those between the two places that the searches find
-  pub picks-set : (Is : X → Type 0) (xs : List X) (first count : ℕ) → ((x : X) → against x ≡ Equal → Is x)
-      → ((x : X) → Is x → against x ≡ Equal) → count ≤ length (drop first xs)
-      → IsPartitionPoint (λ x. is_lt (against x) ≡ true) (λ x. is_lt (against x) ≡ false) xs first
-      → IsPartitionPoint (λ x. is_le (against x) ≡ true) (λ x. is_le (against x) ≡ false) (drop first xs) count
-      → Picks Is xs (take count (drop first xs))
-  picks-set Is xs first count tie untie within below upto =
-      picks-range Is xs first count within
-      (λ k d low high is. false≢true (sym (ap is_lt (untie _ is)) ∙ below.0 k d low high))
-      (λ k d low high. tie _ (between_is _ (not_below k d (omega arith)) (upto.0 k d low high)))
-      (λ k d low high is. false≢true (sym (upto.1 k d low high) ∙ ap is_le (untie _ is)))
-    where
-      not_below : (k : ℕ) (d : X) → k < length (drop first xs) → is_lt (against (get_or (drop first xs) k d)) ≡ false
-      not_below k d lt =
-          subst (λ x. is_lt (against x) ≡ false) (sym (get_or-drop first xs k d))
-          (below.1 (first + k) d (omega arith) (omega (arith, length-drop first xs)))
-
-  -- the same, with the rest of the rows under another name
-  pub picks-rest : (Is : X → Type 0) (xs ys : List X) (first count : ℕ) → ys ≡ drop first xs
-      → ((x : X) → against x ≡ Equal → Is x) → ((x : X) → Is x → against x ≡ Equal) → count ≤ length ys
-      → IsPartitionPoint (λ x. is_lt (against x) ≡ true) (λ x. is_lt (against x) ≡ false) xs first
-      → IsPartitionPoint (λ x. is_le (against x) ≡ true) (λ x. is_le (against x) ≡ false) ys count
-      → Picks Is xs (take count ys)
-  picks-rest Is xs ys first count rest tie untie within below upto =
-      subst (λ zs. Picks Is xs (take count zs)) (sym rest)
-      (picks-set Is xs first count tie untie (subst (λ zs. count ≤ length zs) rest within) below
-      (subst (λ zs. IsPartitionPoint (λ x. is_le (against x) ≡ true) (λ x. is_le (against x) ≡ false) zs count) rest upto))
-
-  -- the same as a filter
   pub filter-rest : (xs ys : List X) (first count : ℕ) → ys ≡ drop first xs → count ≤ length ys
       → IsPartitionPoint (λ x. is_lt (against x) ≡ true) (λ x. is_lt (against x) ≡ false) xs first
       → IsPartitionPoint (λ x. is_le (against x) ≡ true) (λ x. is_le (against x) ≡ false) ys count
       → filter (λ x. is_eq (against x)) xs ≡ take count ys
   filter-rest xs ys first count rest within below upto =
-      picks-one (λ x. against x ≡ Equal) xs (filter (λ x. is_eq (against x)) xs) (take count ys)
-      (picks-filter (λ x. against x ≡ Equal) (λ x. is_eq (against x)) (λ x tied. eq_is _ tied) (λ x tied. ap is_eq tied) xs)
-      (picks-rest (λ x. against x ≡ Equal) xs ys first count rest (λ x tied. tied) (λ x tied. tied) within below upto)
+      filter-from (λ x. is_eq (against x)) xs first (λ k d low high. lt-not_eq _ (below.0 k d low high))
+      ∙ ap (filter (λ x. is_eq (against x))) (sym rest)
+      ∙ filter-upto (λ x. is_eq (against x)) ys count within
+      (λ k d low high. between-eq _ (not_below k d (omega arith)) (upto.0 k d low high))
+      (λ k d low high. above-not_eq _ (upto.1 k d low high))
+    where
+      not_below : (k : ℕ) (d : X) → k < length ys → is_lt (against (get_or ys k d)) ≡ false
+      not_below k d lt =
+          subst (λ zs. is_lt (against (get_or zs k d)) ≡ false) (sym rest)
+          (subst (λ x. is_lt (against x) ≡ false) (sym (get_or-drop first xs k d))
+          (below.1 (first + k) d (omega arith) (omega (arith, lt, ap length rest, length-drop first xs))))
 
-pub of_set-tie : (owner : List ℕ) (number : ℕ) (l : Latest) → set_key_cmp (record_of l).set (set_for owner number) ≡ Equal
-    → IsOfSet owner number l
-of_set-tie owner number l tied =
-    let same = set_key_cmp-exact (record_of l).set (set_for owner number) tied in
-    record { owner = ap (λ s. s.owner) same; number_is = ap (λ s. s.number) same }
+filter-map : {X Y : Type 0} (f : X → Y) (test : Y → Bool) (xs : List X) → filter test (map f xs) ≡ map f (filter (λ x. test (f x)) xs)
+filter-map f test [] = refl
+filter-map f test (x ∷ xs) = by (test (f x)) (filter-map f test xs)
+  where
+    by : (passes : Bool) → filter test (map f xs) ≡ map f (filter (λ x. test (f x)) xs)
+        → cond passes (f x ∷ filter test (map f xs)) (filter test (map f xs))
+        ≡ map f (cond passes (x ∷ filter (λ x. test (f x)) xs) (filter (λ x. test (f x)) xs))
+    by true rest = ap (λ ys. f x ∷ ys) rest
+    by false rest = rest
 
-pub of_set-untie : (owner : List ℕ) (number : ℕ) (l : Latest) → IsOfSet owner number l
-    → set_key_cmp (record_of l).set (set_for owner number) ≡ Equal
-of_set-untie owner number l is =
-    let same : (record_of l).set ≡ set_for owner number = λ i. record { owner = is.owner i; number = is.number_is i } in
-    ap (λ s. set_key_cmp s (set_for owner number)) same ∙ tied_itself set_key_cmp-total (set_for owner number)
-
-picks-set_rows : (rows : List Latest) (name : List ℕ) (number : ℕ) → Picks (IsOfSet name number) rows (rows_of_set rows name number)
-picks-set_rows rows name number =
-    picks-filter (IsOfSet name number) (λ row. is_eq (set_key_cmp (record_of row).set (set_for name number)))
-    (λ row tied. of_set-tie name number row (eq_is _ tied)) (λ row is. ap is_eq (of_set-untie name number row is)) rows
-
--- the rows of a set are those that were picked
-pub set-found : (rows found : List Latest) (name : List ℕ) (number : ℕ) → Picks (IsOfSet name number) rows found
-    → found ≡ rows_of_set rows name number
-set-found rows found name number picks = picks-one (IsOfSet name number) rows found _ picks (picks-set_rows rows name number)
-
--- of live rows those of a set are the live rows of that kind
-pub set-live : (heard : List Hearing) (now : ℕ) (rows : List Latest) → AreLiveRows heard now rows → (name : List ℕ) (number : ℕ)
-    → AreRowsOf (IsOfSet name number) heard now (rows_of_set rows name number)
-set-live heard now rows are name number =
-    rows_of (IsOfSet name number) heard now rows (rows_of_set rows name number) are (picks-set_rows rows name number)
+-- what is found in the rows is the record set among their values
+pub set-found : {X : Type 0} (f : X → Latest) (owner : List ℕ) (number : ℕ) (xs found : List X)
+    → filter (λ x. is_eq (against (λ x. record_of (f x)) (set_for owner number) x)) xs ≡ found
+    → map f found ≡ rows_of_set (map f xs) owner number
+set-found f owner number xs found same =
+    ap (map f) (sym same) ∙ sym (filter-map f (λ row. is_eq (set_key_cmp (record_of row).set (set_for owner number))) xs)
 
 -- the rest of a list, taken whole
 pub after_whole : {X : Type 0} (xs : List X) (first : ℕ) → take (length xs - first) (drop first xs) ≡ drop first xs
 after_whole xs first = take_all (length xs - first) (drop first xs) (omega (arith, length-drop first xs))
 
-map-map : {X Y Z : Type 0} (f : X → Y) (g : Y → Z) (xs : List X) → map g (map f xs) ≡ map (λ x. g (f x)) xs
-map-map f g [] = refl
-map-map f g (x ∷ xs) = ap (λ rest. g (f x) ∷ rest) (map-map f g xs)
-
 -- the order of the records that rows show, as an order of the rows
 pub ascending_seen : {X : Type 0} (f : X → Latest) (rows : List X) → IsStrictlySortedBy key_cmp (map record_of (map f rows))
     → IsStrictlySortedBy key_cmp (map (λ x. record_of (f x)) rows)
-ascending_seen f rows sorted = subst (IsStrictlySortedBy key_cmp) (map-map f record_of rows) sorted
+ascending_seen f rows sorted = subst (IsStrictlySortedBy key_cmp) (map-map record_of f rows) sorted

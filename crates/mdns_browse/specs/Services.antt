@@ -1,20 +1,19 @@
 -- Services: which live records give them (RFC 6763, sections 4, 5 and 9). Names are compared folded (RFC 6762,
 -- section 16), and each is spelled as in the record that gives it.
-use Rattle.std.specs.Prelude.{◌≡◌, ◌⊎◌, ◌↔◌, ℕ, Bool, false, not, ◌&&◌, ◌||◌, nat_le, min, if◌then◌else◌, List, [], ◌∷◌, ◌++◌}
-use Rattle.std.specs.Prelude.{length, map, drop, codes, Contains, Option, None, Some, is_some, option_map}
+use Rattle.std.specs.Prelude.{◌≡◌, ◌⊎◌, ℕ, Bool, false, not, ◌&&◌, ◌||◌, nat_le, min, if◌then◌else◌, List, [], ◌∷◌, ◌++◌}
+use Rattle.std.specs.Prelude.{length, map, drop, codes, Option, None, Some, is_some, option_map}
 use Rattle.std.specs.Cmp.Lexicographic.{slice_cmp}
 use Rattle.std.specs.List.{filter, filter_map}
 use Rattle.std.specs.List.Sorted.{IsStrictlySortedBy}
 use Rattle.std.specs.Ordering.{is_eq, nat_cmp}
 use Rattle.mdns_message.specs.declared.hearing.Hearing.{Hearing}
 use Rattle.mdns_message.specs.RecordSet.{RecordSet}
-use Rattle.mdns_message.specs.Resource.{Body, type_number, number_of, key_cmp, set_key_cmp}
+use Rattle.mdns_message.specs.Resource.{Body, type_number, key_cmp, set_key_cmp}
 use Rattle.mdns_message.specs.declared.body.RecordData.TheVariants as body
 use Rattle.mdns_message.specs.declared.record_type.RecordType.TheVariants as kind
 use Rattle.dns_name.specs.Name.{IsLabel, folded, longest_label, wire_of}
 use Rattle.mdns_join.specs.declared.latest.Latest.{Latest}
-use Rattle.mdns_cache.specs.Live.{AreLiveRecords, IsEnd, IsLive, record_of}
-use Rattle.mdns_lives.specs.Since.{IsLiveSince}
+use Rattle.mdns_cache.specs.Live.{AreLiveRecords, record_of}
 use Rattle.mdns_browse.specs.declared.instance.Instance.{Instance}
 use Rattle.mdns_browse.specs.declared.instance.Server.{Server}
 
@@ -62,24 +61,21 @@ types_owner = wire_of (codes "_services" ∷ codes "_dns-sd" ∷ codes "_udp" �
 abbrev pub body_of : Latest → Body
 body_of last = last.resource.body
 
--- the record gives a service type (section 9)
-pub record GivesType (last : Latest) : Type 0 where
-  pub name : List ℕ
+-- the record gives a service type of that name (section 9)
+pub record GivesType (last : Latest) (name : List ℕ) : Type 0 where
   pub pointer : body_of last ≡ body.Ptr name
   pub owner : folded last.resource.owner ≡ types_owner
   pub service : IsServiceName name
 
--- the record gives a service instance (section 4.1)
-pub record GivesInstance (last : Latest) : Type 0 where
-  pub name : List ℕ
+-- the record gives a service instance of that name (section 4.1)
+pub record GivesInstance (last : Latest) (name : List ℕ) : Type 0 where
   pub pointer : body_of last ≡ body.Ptr name
   pub service : IsServiceName last.resource.owner
   pub instance : IsInstanceOf last.resource.owner name
 
 -- The record stands where those do that give instances, and points to another name: one that isn't one label and the service's
 -- name, as that of an instance is (section 4.1).
-pub record GivesOther (last : Latest) : Type 0 where
-  pub name : List ℕ
+pub record GivesOther (last : Latest) (name : List ℕ) : Type 0 where
   pub pointer : body_of last ≡ body.Ptr name
   pub service : IsServiceName last.resource.owner
   pub other : IsInstanceOf last.resource.owner name → ⊥
@@ -217,85 +213,3 @@ abbrev pub AreEach : {X Y : Type 0} → (X → Y → Type 0) → List X → List
 AreEach Is [] [] = Unit {0}
 AreEach Is (x ∷ xs) (y ∷ ys) = Is x y × AreEach Is xs ys
 AreEach Is _ _ = ⊥
-
--- ---- instances of pages, by relations
-
--- a record of the name with that type number
-pub record IsOfSet (name : List ℕ) (number : ℕ) (last : Latest) : Type 0 where
-  pub owner : folded last.resource.owner ≡ folded name
-  pub number_is : number_of (body_of last) ≡ number
-
--- an SRV record of the name: where an instance is served (section 5)
-abbrev pub IsServerOf : List ℕ → Latest → Type 0
-IsServerOf name = IsOfSet name (type_number kind.Srv)
-
--- a TXT record of the name: the instance's attributes (section 6)
-abbrev pub IsTextOf : List ℕ → Latest → Type 0
-IsTextOf name = IsOfSet name (type_number kind.Txt)
-
--- an A or AAAA record of the name
-abbrev pub IsAddressOf : List ℕ → Latest → Type 0
-IsAddressOf name last = IsOfSet name (type_number kind.A) last ⊎ IsOfSet name (type_number kind.Aaaa) last
-
--- the rows are the last hearings of the live records of that kind, each record once, in key order
-pub record AreRowsOf (Is : Latest → Type 0) (heard : List Hearing) (now : ℕ) (rows : List Latest) : Type 0 where
-  pub ascending : IsStrictlySortedBy key_cmp (map record_of rows)
-  pub exactly : (l : Latest) → Contains rows l ↔ (IsLive heard now (record_of l) l × Is l)
-
--- the row's data is that of a value
-abbrev pub Holds : {X : Type 0} → (X → Body) → Latest → X → Type 0
-Holds data_with row value = body_of row ≡ data_with value
-
--- what the live records of a kind give, one value each, in key order
-pub record AreGiven {X : Type 0} (Gives : Latest → Type 0) (Is : Latest → X → Type 0) (heard : List Hearing) (now : ℕ) (values : List X)
-    : Type 0 where
-  pub rows : List Latest
-  pub right : AreRowsOf Gives heard now rows
-  pub each : AreEach Is rows values
-
--- the addresses of a name
-abbrev pub AreAddresses : List Hearing → ℕ → List ℕ → List Body → Type 0
-AreAddresses heard now name = AreGiven (IsAddressOf name) (Holds (λ given. given)) heard now
-
--- the server of an SRV record, with the addresses of its target (RFC 2782)
-pub record IsServerAt (heard : List Hearing) (now : ℕ) (row : Latest) (server : Server) : Type 0 where
-  pub said : body_of row ≡ body.Srv server.priority server.weight server.port server.target
-  pub addresses : AreAddresses heard now server.target server.addresses
-
--- the servers of a name
-abbrev pub AreServers : List Hearing → ℕ → List ℕ → List Server → Type 0
-AreServers heard now name = AreGiven (IsServerOf name) (IsServerAt heard now) heard now
-
--- the data of the TXT records of a name
-abbrev pub AreTexts : List Hearing → ℕ → List ℕ → List (List ℕ) → Type 0
-AreTexts heard now name = AreGiven (IsTextOf name) (Holds body.Txt) heard now
-
--- the instance that a PTR record gives, with its servers and its texts
-pub record IsInstanceAt (heard : List Hearing) (now : ℕ) (row : Latest) (instance : Instance) : Type 0 where
-  pub named : body_of row ≡ body.Ptr instance.name
-  pub servers : AreServers heard now instance.name instance.servers
-  pub texts : AreTexts heard now instance.name instance.texts
-
--- ---- instances, each with the live record that gives it
-
-pub record IsGivenAt (IsSince : Latest → Option ℕ → Type 0) (heard : List Hearing) (last : Latest) (given : GivenRow) : Type 0 where
-  pub same : given.last ≡ last
-  pub ends : IsEnd heard (record_of last) given.end
-  pub since : IsSince last given.since
-
--- the record has been live since then
-abbrev pub IsSinceKnown : List Hearing → ℕ → Latest → Option ℕ → Type 0
-IsSinceKnown heard now last since = (from : ℕ) × (since ≡ Some from) × IsLiveSince heard now (record_of last) from
-
-pub record IsInstanceRowAt (IsSince : Latest → Option ℕ → Type 0) (heard : List Hearing) (now : ℕ) (last : Latest) (row : InstanceRow)
-    : Type 0 where
-  pub given : IsGivenAt IsSince heard last row.given
-  pub instance : IsInstanceAt heard now last row.instance
-
--- the service instances, each with the live record that gives it
-abbrev pub AreInstanceRowsBy : (Latest → Option ℕ → Type 0) → List Hearing → ℕ → List InstanceRow → Type 0
-AreInstanceRowsBy IsSince heard now = AreGiven GivesInstance (IsInstanceRowAt IsSince heard now) heard now
-
--- the same, where it is known since when each record has been live
-abbrev pub AreInstanceRowsSince : List Hearing → ℕ → List InstanceRow → Type 0
-AreInstanceRowsSince heard now = AreInstanceRowsBy (IsSinceKnown heard now) heard now

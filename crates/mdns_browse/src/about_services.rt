@@ -2,12 +2,10 @@
 
 ghost use Rattle.std.specs.Prelude.{◌≡◌, IfOk, map};
 ghost use Rattle.std.specs.List.{list_any};
-ghost use Rattle.std.specs.List.Sorted.{IsStrictlySortedBy};
-ghost use Rattle.mdns_message.specs.Resource.{key_cmp, type_number};
-ghost use Rattle.mdns_cache.specs.Live.{record_of};
+ghost use Rattle.mdns_message.specs.Resource.{type_number};
 ghost use Rattle.mdns_cache.specs.Rows.{last_lent};
 ghost use Rattle.mdns_browse.specs.About.{is_heard_about, is_heard_server_about, is_in_data};
-ghost use Rattle.mdns_browse.specs.Services.{body_of, data_of_set};
+ghost use Rattle.mdns_browse.specs.Services.{AreAscending, body_of, data_of_set};
 
 use crate::about::Subject;
 use crate::about_data::is_in_data;
@@ -24,7 +22,7 @@ pub(crate) fn is_in_instance(
     name: &Name,
     scratch: &mut String,
 ) -> Result<bool, Want>
-    ensures { IfOk result (λ is. IsStrictlySortedBy key_cmp (map record_of (map last_lent rows.now))
+    ensures { IfOk result (λ is. AreAscending (map last_lent rows.now)
         → is ≡ list_any (is_heard_about (map last_lent rows.now) name.now) about.now) }
 {
     let whole = name.borrowed();
@@ -44,7 +42,7 @@ fn is_in_servers(
     name: &Name,
     scratch: &mut String,
 ) -> Result<bool, Want>
-    ensures { IfOk result (λ is. IsStrictlySortedBy key_cmp (map record_of (map last_lent rows.now))
+    ensures { IfOk result (λ is. AreAscending (map last_lent rows.now)
         → is ≡ list_any (λ subject. list_any (λ served. is_heard_server_about (map last_lent rows.now) served subject)
         (data_of_set (map last_lent rows.now) name.now (type_number RecordType.Srv))) about.now) }
 {
@@ -63,7 +61,7 @@ fn is_in_server(
     row: &Last<'_>,
     scratch: &mut String,
 ) -> Result<bool, Want>
-    ensures { IfOk result (λ is. IsStrictlySortedBy key_cmp (map record_of (map last_lent rows.now))
+    ensures { IfOk result (λ is. AreAscending (map last_lent rows.now)
         → is ≡ list_any (is_heard_server_about (map last_lent rows.now) (body_of (last_lent row.now))) about.now) }
 {
     let Body::Srv { target, .. } = &row.resource.body else {

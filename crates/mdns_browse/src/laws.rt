@@ -1,12 +1,11 @@
 //! Laws of the definitions. Each function does nothing: its contract is the law.
 
 ghost use Rattle.std.specs.Prelude.{◌≡◌, ◌↔◌, [], List, ℕ, Some, true};
-ghost use Rattle.mdns_message.specs.declared.body.RecordData.TheVariants.{Ptr};
 ghost use Rattle.mdns_message.specs.declared.hearing.Hearing.{Hearing};
 ghost use Rattle.mdns_join.specs.declared.latest.Latest.{Latest};
 ghost use Rattle.mdns_cache.specs.Live.{SameHearings};
 ghost use Rattle.mdns_browse.specs.Report.{IsReport, IsReportIn};
-ghost use Rattle.mdns_browse.specs.Services.{instance_given, is_instance_of, is_service_name, other_given, type_given, body_of};
+ghost use Rattle.mdns_browse.specs.Services.{instance_given, is_instance_of, is_service_name, other_given, type_given};
 ghost use Rattle.mdns_browse.specs.Services.{GivesInstance, GivesOther, GivesType, IsInstanceOf, IsServiceName};
 ghost use Rattle.mdns_browse.specs.declared.report.Ask.{Ask};
 ghost use Rattle.mdns_browse.specs.declared.about.Subject.{Subject};
@@ -48,10 +47,7 @@ pub fn report_about_all()
 pub fn given_by_labels()
     ensures service_name { (name : List ℕ) → (is_service_name name ≡ true) ↔ IsServiceName name }
     ensures instance_name { (service name : List ℕ) → (is_instance_of service name ≡ true) ↔ IsInstanceOf service name }
-    ensures gives_type { (row : Latest) (name : List ℕ)
-        → (type_given row ≡ Some name) ↔ (GivesType row × (body_of row ≡ Ptr name)) }
-    ensures gives_instance { (row : Latest) (name : List ℕ)
-        → (instance_given row ≡ Some name) ↔ (GivesInstance row × (body_of row ≡ Ptr name)) }
-    ensures gives_other { (row : Latest) (name : List ℕ)
-        → (other_given row ≡ Some name) ↔ (GivesOther row × (body_of row ≡ Ptr name)) }
+    ensures gives_type { (row : Latest) (name : List ℕ) → (type_given row ≡ Some name) ↔ GivesType row name }
+    ensures gives_instance { (row : Latest) (name : List ℕ) → (instance_given row ≡ Some name) ↔ GivesInstance row name }
+    ensures gives_other { (row : Latest) (name : List ℕ) → (other_given row ≡ Some name) ↔ GivesOther row name }
 {}

@@ -28,7 +28,6 @@ pub mod services;
 pub mod sheet;
 mod short_text;
 mod shown;
-pub mod since;
 mod walk;
 mod words;
 

@@ -1,12 +1,9 @@
 //! Look-up of record sets among rows in key order, without copies.
 
-ghost use Rattle.std.specs.Prelude.{◌≡◌, ◌≤◌, ℕ, List, length, map};
-ghost use Rattle.std.specs.List.Sorted.{IsStrictlySortedBy};
-ghost use Rattle.mdns_message.specs.declared.hearing.Hearing.{Hearing};
-ghost use Rattle.mdns_message.specs.Resource.{key_cmp, type_number, set_key_of, set_key_cmp};
-ghost use Rattle.mdns_cache.specs.Live.{AreLiveRows, record_of};
+ghost use Rattle.std.specs.Prelude.{◌≡◌, map};
+ghost use Rattle.mdns_message.specs.Resource.{type_number, set_key_of, set_key_cmp};
 ghost use Rattle.mdns_cache.specs.Rows.{last_lent};
-ghost use Rattle.mdns_browse.specs.Services.{AreRowsOf, IsOfSet, rows_of_set, set_for};
+ghost use Rattle.mdns_browse.specs.Services.{AreAscending, rows_of_set, set_for};
 
 use dns_name::fold::folded_cmp;
 use mdns_cache::Last;
@@ -30,10 +27,8 @@ pub(crate) fn of_set<'a, 'b>(
     owner: &Name,
     record_type: RecordType,
 ) -> &'a [Last<'b>]
-    ensures found { IsStrictlySortedBy key_cmp (map record_of (map last_lent rows.now))
+    ensures { AreAscending (map last_lent rows.now)
         → map last_lent result.now ≡ rows_of_set (map last_lent rows.now) owner.now (type_number record_type) }
-    ensures live { (heard : List Hearing) (now : ℕ) → AreLiveRows heard now (map last_lent rows.now)
-        → AreRowsOf (IsOfSet owner.now (type_number record_type)) heard now (map last_lent result.now) }
 {
     let first = rows.partition_point(|row| set_cmp(row.resource, owner, record_type).is_lt());
     let after = &rows[first..];

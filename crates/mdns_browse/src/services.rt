@@ -1,14 +1,13 @@
 //! Service types and service instances among the live records (RFC 6763, sections 4, 5 and 9).
 
-ghost use Rattle.std.specs.Prelude.{◌≡◌, ◌++◌, List, map, option_map, IfOk, IfSome, IfNone, OnOk};
+ghost use Rattle.std.specs.Prelude.{◌≡◌, ◌++◌, List, map, option_map, IfOk, OnOk};
 ghost use Rattle.std.specs.List.{filter_map};
 ghost use Rattle.mdns_message.specs.declared.hearing.Hearing.{Hearing};
-ghost use Rattle.mdns_message.specs.declared.body.RecordData.TheVariants.{Ptr};
 ghost use Rattle.mdns_cache.specs.Live.{NoneLater};
 ghost use Rattle.mdns_cache.specs.Contents.{StandsFor};
 ghost use Rattle.mdns_cache.specs.Rows.{last_lent};
 ghost use Rattle.mdns_browse.specs.Given.{given_lent};
-ghost use Rattle.mdns_browse.specs.Services.{AreAscending, AreInstances, AreTypes, GivesInstance, GivesOther, InstanceRow};
+ghost use Rattle.mdns_browse.specs.Services.{AreAscending, AreInstances, AreTypes, InstanceRow};
 ghost use Rattle.mdns_browse.specs.Services.{addresses_in, body_of, instance_given, instance_in, instance_row_in, is_instance_of, lasts_in};
 ghost use Rattle.mdns_browse.specs.Services.{is_service_name, other_given, same_text, servers_in, texts_in, type_given, types_in};
 ghost use Rattle.mdns_browse.specs.Services.{types_owner};
@@ -75,9 +74,7 @@ pub(crate) fn type_of<'a>(row: &Last<'a>) -> Option<&'a Name>
 /// Returns the name of the service instance that a record points to, if it does.
 #[tactic(auto, unfolding(crate::specs::Services::instance_given))]
 pub fn instance_of<'a>(row: &Last<'a>) -> Option<&'a Name>
-    ensures given { option_map (λ name. name.now) result ≡ instance_given (last_lent row.now) }
-    ensures some { IfSome result (λ name. GivesInstance (last_lent row.now) × (body_of (last_lent row.now) ≡ Ptr name.now)) }
-    ensures none { IfNone result (GivesInstance (last_lent row.now) → ⊥) }
+    ensures { option_map (λ name. name.now) result ≡ instance_given (last_lent row.now) }
 {
     let Body::Ptr(name) = &row.resource.body else {
         return None;
@@ -92,9 +89,7 @@ pub fn instance_of<'a>(row: &Last<'a>) -> Option<&'a Name>
 /// Returns the name that a record of a service type points to, if it isn't one label and that type's name.
 #[tactic(auto, unfolding(crate::specs::Services::other_given))]
 pub fn other_of<'a>(row: &Last<'a>) -> Option<&'a Name>
-    ensures given { option_map (λ name. name.now) result ≡ other_given (last_lent row.now) }
-    ensures some { IfSome result (λ name. GivesOther (last_lent row.now) × (body_of (last_lent row.now) ≡ Ptr name.now)) }
-    ensures none { IfNone result (GivesOther (last_lent row.now) → ⊥) }
+    ensures { option_map (λ name. name.now) result ≡ other_given (last_lent row.now) }
 {
     let Body::Ptr(name) = &row.resource.body else {
         return None;

@@ -18,7 +18,7 @@ returns-then-branch c sorted =
     let named = c.in_ok-is_name.ensures ∙ ap (λ name. list_any (is_type_about name) about) c.borrowed.ensures in
     let parts =
     server-parts about (map last_lent c.args.rows.now) (body_of (last_lent c.args.row.now)) _ _ _ _ _ _ c.in-Srv.is
-    (c.of_set-fours.ensures.found sorted) (c.of_set-sixes.ensures.found sorted) in
+    (c.of_set-fours.ensures sorted) (c.of_set-sixes.ensures sorted) in
     or-first _ parts (sym named ∙ c.if-branch.true)
 
 pub returns-then-branch-2 : goal.returns-then-branch-2
@@ -27,7 +27,7 @@ returns-then-branch-2 c sorted =
     let named = c.in_ok-is_name.ensures ∙ ap (λ name. list_any (is_type_about name) about) c.borrowed.ensures in
     let parts =
     server-parts about (map last_lent c.args.rows.now) (body_of (last_lent c.args.row.now)) _ _ _ _ _ _ c.in-Srv.is
-    (c.of_set-fours.ensures.found sorted) (c.of_set-sixes.ensures.found sorted) in
+    (c.of_set-fours.ensures sorted) (c.of_set-sixes.ensures sorted) in
     or-first _ (sym (or-rest parts (sym named ∙ c.if-branch.false))) (sym c.in_ok-is_in_rows.ensures ∙ c.if-branch-2.true)
 
 pub returns : goal.returns
@@ -38,6 +38,6 @@ returns c =
     let named = c.in_ok-is_name.ensures ∙ ap (λ name. list_any (is_type_about name) about) c.borrowed.ensures in
     let parts =
     server-parts about (map last_lent c.args.rows.now) (body_of (last_lent c.args.row.now)) _ _ _ _ _ _ c.in-Srv.is
-    (c.of_set-fours.ensures.found sorted) (c.of_set-sixes.ensures.found sorted) in
+    (c.of_set-fours.ensures sorted) (c.of_set-sixes.ensures sorted) in
     same ∙ or-rest (sym (or-rest parts (sym named ∙ c.if-branch.false))) (sym c.in_ok-is_in_rows.ensures ∙ c.if-branch-2.false))
     c.is_in_rows-2.ensures

@@ -18,7 +18,7 @@ returns-then-branch c sorted =
     any-found test found c.loop-row.row-index c.row-item.result (omega arith) c.row-item.is
     (sym (c.in_ok-is_in_server.ensures sorted) ∙ c.if-branch.true)
     ∙ rows-swap (λ subject body. is_heard_server_about rows body subject) last_lent about found
-    ∙ ap (λ served. any_in_servers about rows (map body_of served)) (c.of_set-row-items.ensures.found sorted)
+    ∙ ap (λ served. any_in_servers about rows (map body_of served)) (c.of_set-row-items.ensures sorted)
 
 pub loop-row-preserved : goal.loop-row-preserved
 loop-row-preserved c sorted =
@@ -36,4 +36,4 @@ returns c sorted =
     let test = λ (row : Last). any_in_server about rows (body_of (last_lent row)) in
     sym (none-all test found c.loop-row.row-index (omega arith) (c.loop-row.invariant sorted))
     ∙ rows-swap (λ subject body. is_heard_server_about rows body subject) last_lent about found
-    ∙ ap (λ served. any_in_servers about rows (map body_of served)) (c.of_set-row-items.ensures.found sorted)
+    ∙ ap (λ served. any_in_servers about rows (map body_of served)) (c.of_set-row-items.ensures sorted)

@@ -1,14 +1,11 @@
 use Rattle.std.proofs.Common.{◌≡◌, false, map, take}
 use Rattle.std.specs.List.{list_any}
-use Rattle.std.specs.List.Sorted.{IsStrictlySortedBy}
-use Rattle.mdns_message.specs.Resource.{key_cmp}
-use Rattle.mdns_cache.specs.Live.{record_of}
 use Rattle.mdns_cache.specs.Rows.{last_lent}
-use Rattle.mdns_browse.specs.Services.{body_of}
+use Rattle.mdns_browse.specs.Services.{AreAscending, body_of}
 use Rattle.mdns_browse.proofs.AboutServiceLemmas.{any_in_server}
 use Rattle.mdns_browse.proofs.about_services.is_in_servers.Given as goal
 
 abbrev pub invariant-loop-row : goal.invariant-loop-row
 invariant-loop-row l =
-    IsStrictlySortedBy key_cmp (map record_of (map last_lent l.rows))
+    AreAscending (map last_lent l.rows)
     → list_any (λ row. any_in_server l.about (map last_lent l.rows) (body_of (last_lent row))) (take l.row-index l.row-items) ≡ false

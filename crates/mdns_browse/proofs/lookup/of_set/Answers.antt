@@ -1,18 +1,16 @@
-use Rattle.std.proofs.Common.{rules, sym, subst, length, map, take, drop, ◌-◌}
+use Rattle.std.proofs.Common.{rules, length, take, drop, ◌-◌}
 use Rattle.std.specs.Ordering.{is_lt, is_le}
 use Rattle.std.proofs.lemmas.List.Sorted.{IsPartitionPoint-from_clause}
 use Rattle.mdns_message.specs.Resource.{type_number}
 use Rattle.mdns_cache.specs.Live.{record_of}
 use Rattle.mdns_cache.specs.Rows.{last_lent}
 use Rattle.mdns_cache.specs.declared.cache.Last.{Last}
-use Rattle.mdns_browse.specs.Services.{AreRowsOf, IsOfSet, set_for}
-use Rattle.mdns_browse.proofs.PickLemmas.{picks-map}
-use Rattle.mdns_browse.proofs.SearchLemmas.{against, parted_below, parted_after, picks-rest, set-found, set-live}
-use Rattle.mdns_browse.proofs.SearchLemmas.{of_set-tie, of_set-untie, after_whole, ascending_seen}
+use Rattle.mdns_browse.specs.Services.{set_for}
+use Rattle.mdns_browse.proofs.SearchLemmas.{against, parted_below, parted_after, filter-rest, set-found, after_whole, ascending_seen}
 use Rattle.mdns_browse.proofs.lookup.of_set.Goals as goal
 
-pub returns-clause-found : goal.returns-clause-found
-returns-clause-found c ascending =
+pub returns : goal.returns
+returns c ascending =
     let rows = c.args.rows.now in
     let owner = c.args.owner.now in
     let number = type_number c.args.record_type in
@@ -23,21 +21,9 @@ returns-clause-found c ascending =
     let set = set_for owner number in
     let sorted = ascending_seen last_lent rows ascending in
     let whole = after_whole rows first in
-    let below =
-    IsPartitionPoint-from_clause (λ r. is_lt (against key set r)) rows first c.partition_point-first.ensures.partitioned
-    (parted_below key set rows sorted) (λ a r q k. search rules) in
-    let upto =
-    IsPartitionPoint-from_clause (λ r. is_le (against key set r)) after count c.partition_point-count.ensures.partitioned
-    (parted_after key set rows after first whole sorted) (λ a r q k. search rules) in
-    set-found (map last_lent rows) (map last_lent (take count after)) owner number
-    (picks-map last_lent (IsOfSet owner number) rows (take count after)
-    (picks-rest key set (λ r. IsOfSet owner number (last_lent r)) rows after first count whole
-    (λ r. of_set-tie owner number (last_lent r)) (λ r. of_set-untie owner number (last_lent r)) c.partition_point-count.ensures.bound
-    below upto))
-
-pub returns-clause-live : goal.returns-clause-live
-returns-clause-live c heard now are =
-    let owner = c.args.owner.now in
-    let number = type_number c.args.record_type in
-    subst (AreRowsOf (IsOfSet owner number) heard now) (sym (returns-clause-found c are.ascending))
-    (set-live heard now (map last_lent c.args.rows.now) are owner number)
+    set-found last_lent owner number rows (take count after)
+    (filter-rest key set rows after first count whole c.partition_point-count.ensures.bound
+    (IsPartitionPoint-from_clause (λ r. is_lt (against key set r)) rows first c.partition_point-first.ensures.partitioned
+    (parted_below key set rows sorted) (λ a r q k. search rules))
+    (IsPartitionPoint-from_clause (λ r. is_le (against key set r)) after count c.partition_point-count.ensures.partitioned
+    (parted_after key set rows after first whole sorted) (λ a r q k. search rules)))

@@ -38,4 +38,4 @@ returns c ascending =
     c.from_vec.ensures
     ∙ made_all (servers_of rows) (servers-append rows) last_lent c.of_set-row-items.result.now c.loop-row.row-index (omega arith)
     (c.loop-row.invariant ascending)
-    ∙ ap (servers_of rows) (c.of_set-row-items.ensures.found ascending)
+    ∙ ap (servers_of rows) (c.of_set-row-items.ensures ascending)

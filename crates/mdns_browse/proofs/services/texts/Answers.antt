@@ -22,4 +22,4 @@ pub returns : goal.returns
 returns c ascending =
     c.from_vec.ensures
     ∙ made_all texts_of texts-append last_lent c.of_set-row-items.result.now c.loop-row.row-index (omega arith) c.loop-row.invariant
-    ∙ ap texts_of (c.of_set-row-items.ensures.found ascending)
+    ∙ ap texts_of (c.of_set-row-items.ensures ascending)

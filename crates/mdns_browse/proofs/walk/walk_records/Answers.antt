@@ -2,7 +2,7 @@ use Rattle.std.proofs.Common.{rules, refl, ◌≡◌, sym, ap, subst, map}
 use Rattle.mdns_cache.specs.Rows.{live_record_lent}
 use Rattle.mdns_browse.specs.Report.{records_about}
 use Rattle.mdns_browse.specs.Sheet.{live_record}
-use Rattle.mdns_browse.proofs.AddLemmas.{Reaches, reaches-start, reaches-more, reaches-all}
+use Rattle.mdns_browse.proofs.ReachLemmas.{Reaches, reaches-start, reaches-more, reaches-all}
 use Rattle.mdns_browse.proofs.KeptLemmas.{record_pieces-append}
 use Rattle.mdns_browse.proofs.ListLemmas.{left_split}
 use Rattle.mdns_browse.proofs.walk.walk_records.Goals as goal

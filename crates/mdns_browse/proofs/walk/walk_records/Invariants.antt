@@ -1,7 +1,7 @@
 use Rattle.std.proofs.Common.{map}
 use Rattle.mdns_browse.specs.Report.{records_about}
 use Rattle.mdns_browse.specs.Sheet.{live_record}
-use Rattle.mdns_browse.proofs.AddLemmas.{Reaches}
+use Rattle.mdns_browse.proofs.ReachLemmas.{Reaches}
 use Rattle.mdns_browse.proofs.walk.walk_records.Given as goal
 
 abbrev pub invariant-loop-record : goal.invariant-loop-record

@@ -33,10 +33,10 @@ returns g c =
     (λ end ascending.
     let four =
     subst (λ found. g.S.Sheet.takes c.server_begin.new.self (map server_address (map body_of found)) c.walk_addresses.new.sheet)
-    (c.of_set.ensures.found ascending) c.in_ok-walk_addresses.ensures in
+    (c.of_set.ensures ascending) c.in_ok-walk_addresses.ensures in
     let six =
     subst (λ found. g.S.Sheet.takes c.walk_addresses.new.sheet (map server_address (map body_of found)) c.walk_addresses-2.new.sheet)
-    (c.of_set-2.ensures.found ascending) c.in_ok-walk_addresses-2.ensures in
+    (c.of_set-2.ensures ascending) c.in_ok-walk_addresses-2.ensures in
     subst (λ ps. g.S.Sheet.takes c.args.sheet.now ps c.server_end.new.self)
     (sym (append-nil (server_pieces server))
     ∙ ap (λ held. flat_map server_pieces (filter_map (server_in rows) (held ∷ []))) (sym c.in-Srv.is))

@@ -34,7 +34,7 @@ returns g c =
     let servers = servers_in rows name in
     on_ok_weaker c.servers_end.result
     (λ end ascending.
-    let found = c.of_set-servers.ensures.found ascending in
+    let found = c.of_set-servers.ensures ascending in
     let taken = subst (λ found. g.S.Sheet.takes c.args.sheet.now (pieces rows found) c.loop-row.sheet) found
     (takes_all (pieces rows) (append rows) g.S.Sheet.takes last_lent c.of_set-servers.result.now c.loop-row.row-index (omega arith)
     (c.loop-row.invariant ascending)) in

@@ -4,6 +4,7 @@ use Rattle.mdns_cache.specs.Rows.{last_lent}
 use Rattle.mdns_browse.specs.Services.{AreAscending}
 use Rattle.mdns_browse.specs.Sheet.{server_pieces}
 use Rattle.mdns_browse.proofs.InstanceLemmas.{servers_of}
+use Rattle.mdns_browse.proofs.InstanceLemmas.{servers_of}
 use Rattle.mdns_browse.proofs.walk.walk_servers.Given as goal
 
 abbrev pub invariant-loop-row : goal.invariant-loop-row

@@ -32,6 +32,6 @@ loop-row-preserved g c =
 
 pub returns : goal.returns
 returns g c ascending =
-    subst (λ found. g.S.Sheet.takes c.args.sheet.now (pieces found) c.loop-row.sheet) (c.of_set-row-items.ensures.found ascending)
+    subst (λ found. g.S.Sheet.takes c.args.sheet.now (pieces found) c.loop-row.sheet) (c.of_set-row-items.ensures ascending)
     (takes_all pieces append g.S.Sheet.takes last_lent c.of_set-row-items.result.now c.loop-row.row-index (omega arith)
     c.loop-row.invariant)

@@ -4,7 +4,7 @@ use Rattle.mdns_cache.specs.Rows.{live_record_lent}
 use Rattle.mdns_browse.specs.About.{keeps_type}
 use Rattle.mdns_browse.specs.Report.{types_about}
 use Rattle.mdns_browse.specs.Sheet.{service_type}
-use Rattle.mdns_browse.proofs.AddLemmas.{Reaches, reaches-start, reaches-more, reaches-same, reaches-all}
+use Rattle.mdns_browse.proofs.ReachLemmas.{Reaches, reaches-start, reaches-more, reaches-same, reaches-all}
 use Rattle.mdns_browse.proofs.KeptLemmas.{type_pieces-append}
 use Rattle.mdns_browse.proofs.ListLemmas.{left_split}
 use Rattle.mdns_browse.proofs.walk.walk_types.Goals as goal

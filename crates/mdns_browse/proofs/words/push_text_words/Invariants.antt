@@ -1,6 +1,6 @@
 use Rattle.std.proofs.Common.{length}
 use Rattle.mdns_browse.specs.Text.{text_words}
-use Rattle.mdns_browse.proofs.AddLemmas.{Reaches}
+use Rattle.mdns_browse.proofs.ReachLemmas.{Reaches}
 use Rattle.mdns_browse.proofs.words.push_text_words.Given as goal
 
 abbrev pub invariant-loop-string : goal.invariant-loop-string
