@@ -10,12 +10,10 @@ use Rattle.mdns_message.specs.declared.key.Key.{Key}
 use Rattle.mdns_lives.specs.declared.seconds_heard.SecondHeard.{SecondHeard}
 use Rattle.mdns_lives.specs.Chronicle.{Accounts, Chronicles}
 use Rattle.mdns_lives.specs.Heard.{AreSecondsHeard}
-use Rattle.mdns_lives.specs.Rows.{row_lent}
-use Rattle.mdns_lives.specs.declared.record_lives.RecordLives.{RecordLives}
 use Rattle.mdns_cache.specs.Live.{record_of}
 use Rattle.mdns_browse.specs.Services.{AreEach}
 use Rattle.mdns_page.specs.Counted.{AreHeardBy, AreShownBy, IsCounted, is_hearer, shown_seconds}
-use Rattle.mdns_page.specs.Timeline.{Row, counted_lent, record_in}
+use Rattle.mdns_page.specs.Timeline.{Row, counted_lent}
 use Rattle.mdns_page.specs.declared.counted.CountedRow.{CountedRow}
 use Rattle.mdns_page.proofs.LiveLemmas.{each-count}
 

@@ -1,5 +1,5 @@
 -- The page on captures.
-use Rattle.std.proofs.Common.{◌≡◌, ◌∙◌, ℕ, ◌≤◌, refl, sym, ap, subst, inl, inr, List, [], ◌∷◌, arith, map, Option}
+use Rattle.std.proofs.Common.{◌∙◌, ℕ, ◌≤◌, refl, sym, ap, subst, inl, inr, List, [], ◌∷◌, arith, map, Option}
 use Rattle.std.proofs.lemmas.Simd.{map-map}
 use Rattle.std.specs.Prelude.{Contains}
 use Rattle.std.specs.List.Sorted.{IsStrictlySortedBy}
@@ -11,8 +11,7 @@ use Rattle.mdns_lives.specs.Chronicle.{Accounts, Chronicles}
 use Rattle.mdns_lives.specs.Since.{AreLiveSince, all_since_rows, live_row}
 use Rattle.mdns_lives.specs.declared.life.Life.{Life}
 use Rattle.mdns_browse.specs.declared.about.Subject.{Subject}
-use Rattle.mdns_browse.specs.Given.{AreLiveGiven, given_of_since, last_of, record_given}
-use Rattle.mdns_browse.specs.Services.{AreAscending, AreEach, IsSinceKnown}
+use Rattle.mdns_browse.specs.Services.{AreAscending, AreEach}
 use Rattle.mdns_survey.specs.declared.each.EachChronicling.{EachChronicling}
 use Rattle.mdns_survey.specs.declared.reading.Reading.{Reading}
 use Rattle.mdns_survey.specs.declared.request.AsOf.{AsOf}
@@ -25,7 +24,8 @@ use Rattle.mdns_survey.specs.Surveys.{AllLeft, all_hearings}
 use Rattle.mdns_survey.proofs.ContainsLemmas.{contains-after, contains-cons, contains-first}
 use Rattle.mdns_page.specs.Axis.{IsAxis}
 use Rattle.mdns_page.specs.declared.axis.Axis.{Axis}
-use Rattle.mdns_page.specs.Survey.{WritesPage, asked_page, live_given, selected_each}
+use Rattle.mdns_page.specs.Survey.{AreLiveGiven, IsSinceKnown, WritesPage, asked_page, given_of_since, last_of, live_given}
+use Rattle.mdns_page.specs.Survey.{record_given, selected_each}
 
 -- what holds of the value of each element
 mapped-all : {X Y : Type 0} (f : X → Y) (P : Y → Type 0) (xs : List X) → ((x : X) → Contains xs x → P (f x)) → (y : Y)
@@ -48,7 +48,7 @@ module _ (heard : List Hearing) (axis : Axis) (rows : List (Latest × List Life)
       (map-map (λ (row : Latest × ℕ). record_of row.0) live_row since ∙ sym (map-map record_of (λ row. last_of (given_of_since row)) since)
       ∙ ap (map record_of) (sym (map-map last_of given_of_since since))) are.records.ascending
 
-  pub live-since : AreLiveGiven (IsSinceKnown heard axis.end.nanos) heard axis.end.nanos (live_given axis rows)
+  pub live-since : AreLiveGiven heard axis.end.nanos (live_given axis rows)
   live-since =
       let since = all_since_rows axis.end.nanos rows in
       record {

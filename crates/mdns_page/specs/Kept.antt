@@ -1,5 +1,5 @@
 -- The records of a page.
-use Rattle.std.specs.Prelude.{◌≡◌, Bool, true, false, ◌||◌, if◌then◌else◌, is_some, Option, None, Some, ℕ, List, [], ◌∷◌, map}
+use Rattle.std.specs.Prelude.{◌≡◌, Bool, ◌||◌, if◌then◌else◌, is_some, Option, ℕ, List, [], ◌∷◌, map}
 use Rattle.std.specs.List.{All, filter}
 use Rattle.mdns_message.specs.declared.hearing.Hearing.{Hearing}
 use Rattle.mdns_join.specs.declared.latest.Latest.{Latest}

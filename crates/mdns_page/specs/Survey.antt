@@ -1,14 +1,14 @@
 -- The page on captures.
-use Rattle.std.specs.Prelude.{◌≡◌, ℕ, ◌+◌, ◌≤◌, Bool, false, List, [], ◌∷◌, Some, length, map, Contains}
+use Rattle.std.specs.Prelude.{◌≡◌, ℕ, ◌+◌, ◌≤◌, Bool, false, List, [], ◌∷◌, Option, Some, length, map, Contains}
 use Rattle.std.specs.List.{filter}
 use Rattle.mdns_capture.specs.Savefile.{PacketAt}
 use Rattle.mdns_message.specs.declared.hearing.Hearing.{Hearing}
 use Rattle.mdns_join.specs.declared.latest.Latest.{Latest}
+use Rattle.mdns_cache.specs.Live.{AreLiveRecords, record_of}
 use Rattle.mdns_lives.specs.declared.life.Life.{Life}
 use Rattle.mdns_lives.specs.Chronicle.{AreAllLives}
-use Rattle.mdns_lives.specs.Since.{all_since_rows}
+use Rattle.mdns_lives.specs.Since.{IsLiveSince, all_since_rows}
 use Rattle.mdns_browse.specs.declared.about.Subject.{Subject}
-use Rattle.mdns_browse.specs.Given.{given_of_since, last_of}
 use Rattle.mdns_browse.specs.Services.{GivenRow}
 use Rattle.mdns_survey.specs.declared.reading.Reading.{Reading}
 use Rattle.mdns_survey.specs.declared.request.AsOf.{AsOf}
@@ -29,6 +29,28 @@ use Rattle.mdns_page.specs.Live.{live_text}
 use Rattle.mdns_page.specs.Nothing.{nothing_text}
 use Rattle.mdns_page.specs.Page.{page}
 use Rattle.mdns_page.specs.Timeline.{Row, is_open}
+
+-- ---- what was live at the end
+
+-- a live record with its end and since when it has been live, as one that may give an instance
+abbrev pub given_of_since : (Latest × ℕ) × ℕ → GivenRow
+given_of_since row = record { last = row.0.0; end = row.0.1; since = Some row.1 }
+
+-- its last hearing, and that with its end
+abbrev pub last_of : GivenRow → Latest
+last_of given = given.last
+
+abbrev pub record_given : GivenRow → Latest × ℕ
+record_given given = (given.last, given.end)
+
+-- the record has been live since then
+abbrev pub IsSinceKnown : List Hearing → ℕ → Latest → Option ℕ → Type 0
+IsSinceKnown heard now last since = (from : ℕ) × (since ≡ Some from) × IsLiveSince heard now (record_of last) from
+
+-- the live records, each with since when it has been live
+pub record AreLiveGiven (heard : List Hearing) (now : ℕ) (rows : List GivenRow) : Type 0 where
+  pub records : AreLiveRecords heard now (map record_given rows)
+  pub since : (row : GivenRow) → Contains rows row → IsSinceKnown heard now row.last row.since
 
 -- the records that are live at the end, each with its end and since when it has been live
 abbrev pub live_given : Axis → List (Latest × List Life) → List GivenRow

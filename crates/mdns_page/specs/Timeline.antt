@@ -1,8 +1,8 @@
 -- The timeline.
-use Rattle.std.specs.Prelude.{ℕ, ◌+◌, ◌-◌, ◌==◌, nat_le, Bool, true, false, not, if◌then◌else◌, Option, None, Some}
-use Rattle.std.specs.Prelude.{List, [], ◌∷◌, ◌++◌, codes, length, map, slice_get}
+use Rattle.std.specs.Prelude.{ℕ, ◌+◌, ◌-◌, ◌==◌, nat_le, Bool, true, false, if◌then◌else◌, Option, None, Some}
+use Rattle.std.specs.Prelude.{List, [], ◌++◌, codes, length, map, slice_get}
 use Rattle.std.specs.Global.{Vec}
-use Rattle.std.specs.List.{count_by, filter, flat_map}
+use Rattle.std.specs.List.{count_by, flat_map}
 use Rattle.mdns_message.specs.Resource.{Body}
 use Rattle.mdns_message.specs.declared.body.RecordData.TheVariants.{A, Aaaa, Ptr, Txt, Srv}
 use Rattle.mdns_join.specs.declared.latest.Latest.{Latest}
@@ -15,7 +15,7 @@ use Rattle.mdns_cache.specs.Rows.{last_lent}
 use Rattle.mdns_page.specs.Counts.{live_count_text}
 use Rattle.mdns_page.specs.Group.{axis_picture, first_owner, group, grouped, item}
 use Rattle.mdns_page.specs.Heard.{heard_text}
-use Rattle.mdns_page.specs.Hosts.{has_address, host_name, is_large, large_note, others_heading, others_words}
+use Rattle.mdns_page.specs.Hosts.{host_name, is_large, large_note, others_heading, others_words}
 use Rattle.mdns_page.specs.Key.{key}
 use Rattle.mdns_page.specs.Lanes.{lanes_note}
 use Rattle.mdns_page.specs.Picture.{goes_on}

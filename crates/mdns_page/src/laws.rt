@@ -17,8 +17,7 @@ ghost use Rattle.mdns_lives.specs.Lives.{AreApart};
 ghost use Rattle.mdns_lives.specs.Seconds.{second_of};
 ghost use Rattle.mdns_lives.specs.declared.life.Life.{Life};
 ghost use Rattle.mdns_browse.specs.declared.about.Subject.{Subject};
-ghost use Rattle.mdns_browse.specs.Given.{AreLiveGiven};
-ghost use Rattle.mdns_browse.specs.Services.{GivenRow, IsSinceKnown};
+ghost use Rattle.mdns_browse.specs.Services.{GivenRow};
 ghost use Rattle.mdns_lives.specs.declared.seconds_heard.SecondHeard.{SecondHeard};
 ghost use Rattle.mdns_survey.specs.declared.request.AsOf.{AsOf};
 ghost use Rattle.mdns_survey.specs.declared.summary.Summary.{Summary};
@@ -32,7 +31,7 @@ ghost use Rattle.mdns_page.specs.Live.{live_text};
 ghost use Rattle.mdns_page.specs.Lanes.{second_mark};
 ghost use Rattle.mdns_page.specs.Page.{Shown, page};
 ghost use Rattle.mdns_page.specs.Picture.{AreInOrder, differing, mark_of};
-ghost use Rattle.mdns_page.specs.Survey.{SurveysPage, live_given};
+ghost use Rattle.mdns_page.specs.Survey.{AreLiveGiven, SurveysPage, live_given};
 ghost use Rattle.mdns_page.specs.Ticks.{step_of, ticks};
 ghost use Rattle.mdns_page.specs.Timeline.{Row, owner_of};
 
@@ -60,7 +59,7 @@ pub fn one_page()
 pub fn live_at_the_end()
     ensures { (heard : List Hearing) (axis : Axis) (rows : List (Latest × List Life))
         → ((hearing : Hearing) → Contains heard hearing → hearing.moment.nanos ≤ axis.end.nanos) → AreAllLives heard rows
-        → AreLiveGiven (IsSinceKnown heard axis.end.nanos) heard axis.end.nanos (live_given axis rows) }
+        → AreLiveGiven heard axis.end.nanos (live_given axis rows) }
 {
     live_lives_are_since();
 }

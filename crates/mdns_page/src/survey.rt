@@ -7,11 +7,11 @@ ghost use Rattle.mdns_cache.specs.Live.{NoneLater};
 ghost use Rattle.mdns_cache.specs.Rows.{last_lent};
 ghost use Rattle.mdns_lives.specs.Chronicle.{Chronicles, rows_of};
 ghost use Rattle.mdns_lives.specs.Since.{live_since_lent};
-ghost use Rattle.mdns_browse.specs.Given.{given_lent, given_of_since};
+ghost use Rattle.mdns_browse.specs.Given.{given_lent};
 ghost use Rattle.mdns_browse.specs.Services.{AreAscending, AreEach};
 ghost use Rattle.mdns_page.specs.Captures.{facts_lent};
 ghost use Rattle.mdns_page.specs.Kept.{is_drawn, looked_up};
-ghost use Rattle.mdns_page.specs.Survey.{WritesPage, facts_of, live_at_end};
+ghost use Rattle.mdns_page.specs.Survey.{WritesPage, facts_of, given_of_since, live_at_end};
 
 use crate::about::heard_rows;
 use crate::axis::{Axis, axis_of};

@@ -1,4 +1,4 @@
-use Rattle.std.proofs.Common.{◌≡◌, ◌∙◌, ap, max}
+use Rattle.std.proofs.Common.{◌∙◌, ap, max}
 use Rattle.mdns_page.specs.Axis.{dates_of}
 use Rattle.mdns_page.proofs.axis.axis_of.Goals as goal
 

@@ -1,10 +1,9 @@
-use Rattle.std.proofs.Common.{◌≡◌, ◌∙◌, ap, cond, is_some, map, sym, true, false}
+use Rattle.std.proofs.Common.{◌≡◌, ◌∙◌, ap, is_some, sym, true, false}
 use Rattle.std.proofs.lemmas.Result.{IfOk-weaker}
 use Rattle.mdns_cache.specs.Rows.{last_lent}
 use Rattle.mdns_browse.specs.About.{keeps_record}
-use Rattle.mdns_browse.specs.Services.{body_of, instance_given}
-use Rattle.mdns_page.specs.Kept.{is_apart, is_drawn}
-use Rattle.mdns_page.specs.Servers.{is_srv}
+use Rattle.mdns_browse.specs.Services.{instance_given}
+use Rattle.mdns_page.specs.Kept.{is_apart}
 use Rattle.mdns_page.proofs.KeptLemmas.{some-mapped}
 use Rattle.mdns_page.proofs.kept.is_kept.Goals as goal
 

@@ -1,4 +1,4 @@
-use Rattle.std.proofs.Common.{◌≡◌, ◌∙◌, ◌++◌, ◌∷◌, [], ℕ, List, ap, arith, map, string_bytes, subst, sym}
+use Rattle.std.proofs.Common.{◌≡◌, ◌∙◌, ◌++◌, ◌∷◌, [], ℕ, List, ap, arith, map, subst, sym}
 use Rattle.std.proofs.lemmas.List.{map-append}
 use Rattle.std.proofs.lemmas.Simd.{map-map}
 use Rattle.std.specs.List.{filter}
@@ -7,12 +7,12 @@ use Rattle.mdns_join.specs.declared.latest.Latest.{Latest}
 use Rattle.mdns_lives.specs.Chronicle.{rows_of}
 use Rattle.mdns_lives.specs.declared.live_since.LiveSince.{LiveSince}
 use Rattle.mdns_lives.specs.Since.{AreLiveSince, all_since_rows, live_since_lent}
-use Rattle.mdns_browse.specs.Given.{given_lent, given_of_since, last_of}
+use Rattle.mdns_browse.specs.Given.{given_lent}
 use Rattle.mdns_browse.specs.Services.{AreAscending, GivenRow}
 use Rattle.mdns_page.specs.Html.{isolated}
 use Rattle.mdns_page.specs.Kept.{is_drawn}
 use Rattle.mdns_page.specs.Live.{live_text}
-use Rattle.mdns_page.specs.Survey.{live_drawn, live_given}
+use Rattle.mdns_page.specs.Survey.{given_of_since, last_of, live_drawn, live_given}
 use Rattle.mdns_page.proofs.KeptLemmas.{kept-all, kept-more, map-more, map-whole}
 use Rattle.mdns_page.proofs.SurveyLemmas.{live-ascending}
 use Rattle.mdns_page.proofs.survey.live_of.Goals as goal

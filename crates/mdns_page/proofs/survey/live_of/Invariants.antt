@@ -3,7 +3,8 @@ use Rattle.std.specs.List.{filter}
 use Rattle.mdns_cache.specs.Rows.{last_lent}
 use Rattle.mdns_lives.specs.declared.live_since.LiveSince.{LiveSince}
 use Rattle.mdns_lives.specs.Since.{live_since_lent}
-use Rattle.mdns_browse.specs.Given.{given_lent, given_of_since}
+use Rattle.mdns_browse.specs.Given.{given_lent}
+use Rattle.mdns_page.specs.Survey.{given_of_since}
 use Rattle.mdns_browse.specs.Services.{AreAscending}
 use Rattle.mdns_page.specs.Kept.{is_drawn}
 use Rattle.mdns_page.proofs.survey.live_of.Given as goal

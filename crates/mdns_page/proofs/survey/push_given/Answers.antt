@@ -1,6 +1,7 @@
 use Rattle.std.proofs.Common.{◌∙◌, ◌++◌, ◌∷◌, [], ap, append-nil, cond, map, sym}
 use Rattle.std.proofs.lemmas.List.{map-append}
-use Rattle.mdns_browse.specs.Given.{given_lent, given_of_since}
+use Rattle.mdns_browse.specs.Given.{given_lent}
+use Rattle.mdns_page.specs.Survey.{given_of_since}
 use Rattle.mdns_lives.specs.Since.{live_since_lent}
 use Rattle.mdns_page.proofs.survey.push_given.Goals as goal
 
