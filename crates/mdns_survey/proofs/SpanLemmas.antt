@@ -1,7 +1,9 @@
 -- Spans of packets, joined.
-use Rattle.std.proofs.Common.{◌≡◌, ◌∙◌, ℕ, ◌<◌, ◌≤◌, true, false, nat_lt, max, min, List, [], ◌∷◌, ◌++◌, Option, Some, None}
+use Rattle.std.proofs.Common.{◌≡◌, ◌∙◌, ℕ, ◌<◌, ◌≤◌, Bool, true, false, nat_lt, max, min, List, [], ◌∷◌, ◌++◌, Option, Some, None}
 use Rattle.std.proofs.Common.{refl, sym, ap, arith, if◌then◌else◌}
 use Rattle.std.proofs.lemmas.Bool.{ltb-false, ltb-true}
+use Rattle.std.proofs.lemmas.List.Elements.{All-cons, All-nil, All-weaker, Contains-append_right}
+use Rattle.std.specs.List.{Contains}
 use Rattle.mdns_capture.specs.declared.moment.Moment.{Moment}
 use Rattle.mdns_capture.specs.Savefile.{PacketAt}
 use Rattle.mdns_capture.proofs.OneReadingLemmas.{same_moment}
@@ -15,7 +17,7 @@ use Rattle.mdns_survey.specs.Listen.{packet_moments}
 use Rattle.mdns_survey.specs.Lives.{begin_of, earliest_nanos, end_of, latest_nanos}
 use Rattle.mdns_survey.specs.Readings.{HaveSpans, all_moments}
 use Rattle.mdns_survey.specs.Request.{moment_of}
-use Rattle.mdns_survey.specs.Span.{both_spans, earlier_moment, joined_spans, span_at, span_of}
+use Rattle.mdns_survey.specs.Span.{HasEnds, both_spans, earlier_moment, joined_spans, span_at, span_of}
 
 -- BOTH SPANS
 
@@ -55,13 +57,13 @@ joined-assoc (Some a) None c = refl
 joined-assoc (Some a) (Some b) None = refl
 joined-assoc (Some a) (Some b) (Some c) = ap (λ (s : Span). Some s) (both-assoc a b c)
 
-joined-none : (a : Option Span) → joined_spans a None ≡ a
+pub joined-none : (a : Option Span) → joined_spans a None ≡ a
 joined-none None = refl
 joined-none (Some a) = refl
 
 -- THE SPAN OF MOMENTS
 
-span-both : (moments more : List Moment) → span_of (moments ++ more) ≡ joined_spans (span_of moments) (span_of more)
+pub span-both : (moments more : List Moment) → span_of (moments ++ more) ≡ joined_spans (span_of moments) (span_of more)
 span-both [] more = refl
 span-both (moment ∷ moments) more =
     ap (joined_spans (Some (span_at moment))) (span-both moments more)
@@ -72,6 +74,38 @@ pub span-more : (span : Option Span) (moments : List Moment) (moment : Moment) �
     → joined_spans span (Some (span_at moment)) ≡ span_of (moments ++ moment ∷ [])
 span-more span moments moment is =
     ap (λ (s : Option Span). joined_spans s (Some (span_at moment))) is ∙ sym (span-both moments (moment ∷ []))
+
+abbrev IsWithin : Span → Moment → Type 0
+IsWithin span moment = (span.first.nanos ≤ moment.nanos) × (moment.nanos ≤ span.last.nanos)
+
+among : (moment held : Moment) (moments : List Moment) (is_held : Bool) → Contains moments held
+    → Contains (moment ∷ moments) (if is_held then held else moment)
+among moment held moments true has = Contains-append_right (moment ∷ []) moments held has
+among moment held moments false has = (0, omega arith, refl)
+
+ends-more : (moment : Moment) (moments : List Moment) (span : Option Span) → HasEnds moments span
+    → HasEnds (moment ∷ moments) (joined_spans (Some (span_at moment)) span)
+ends-more moment moments None none = rw none (record {
+  first = (0, omega arith, refl);
+  last = (0, omega arith, refl);
+  within = All-cons (IsWithin (span_at moment)) moment [] (omega arith, omega arith) (All-nil (IsWithin (span_at moment)));
+})
+ends-more moment moments (Some span) ends =
+    let both = both_spans (span_at moment) span in
+    let first = nanos-earlier moment span.first in
+    let last = nanos-later moment span.last in
+    record {
+      first = among moment span.first moments (nat_lt span.first.nanos moment.nanos) ends.first;
+      last = among moment span.last moments (nat_lt moment.nanos span.last.nanos) ends.last;
+      within = All-cons (IsWithin both) moment moments (omega (arith, first), omega (arith, last))
+          (All-weaker (IsWithin span) (IsWithin both)
+          (λ m inside. (omega (arith, first, inside.0), omega (arith, last, inside.1))) moments ends.within);
+    }
+
+-- the span of moments has the earliest and the latest of them
+pub has-ends : (moments : List Moment) → HasEnds moments (span_of moments)
+has-ends [] = refl
+has-ends (moment ∷ moments) = ends-more moment moments (span_of moments) (has-ends moments)
 
 -- the latest moment, or 0 of none
 abbrev pub last_of : Option Span → ℕ

@@ -1,5 +1,5 @@
 -- The time span of packets.
-use Rattle.std.specs.Prelude.{nat_lt, if◌then◌else◌, List, [], ◌∷◌, Option, Some, None}
+use Rattle.std.specs.Prelude.{◌≡◌, ◌≤◌, nat_lt, if◌then◌else◌, List, [], ◌∷◌, All, Contains, Option, Some, None}
 use Rattle.mdns_capture.specs.declared.moment.Moment.{Moment}
 use Rattle.mdns_cache.specs.Contents.{later_moment}
 use Rattle.mdns_survey.specs.declared.reading.Span.{Span}
@@ -26,3 +26,14 @@ span_at moment = record { first = moment; last = moment }
 abbrev pub span_of : List Moment → Option Span
 span_of [] = None
 span_of (moment ∷ moments) = joined_spans (Some (span_at moment)) (span_of moments)
+
+-- it is from one of the moments to another, and none of them is earlier or later
+pub record AreEnds (moments : List Moment) (span : Span) : Type 0 where
+  pub first : Contains moments span.first
+  pub last : Contains moments span.last
+  pub within : All (λ moment. (span.first.nanos ≤ moment.nanos) × (moment.nanos ≤ span.last.nanos)) moments
+
+-- the same, and there are no moments where there is no span
+abbrev pub HasEnds : List Moment → Option Span → Type 0
+HasEnds moments None = moments ≡ []
+HasEnds moments (Some span) = AreEnds moments span

@@ -20,6 +20,7 @@ ghost use Rattle.mdns_survey.specs.declared.summary.Summary.{Summary};
 ghost use Rattle.mdns_survey.specs.Captures.{ComesTo, Outcome, CaptureTells};
 ghost use Rattle.mdns_survey.specs.Lives.{SurveysLives};
 ghost use Rattle.mdns_survey.specs.Request.{at_or_newest, plain_query};
+ghost use Rattle.mdns_survey.specs.Span.{HasEnds, span_of};
 ghost use Rattle.mdns_survey.specs.Surveys.{SurveysBy, SurveysReport};
 ghost use Rattle.mdns_survey.specs.Laws.{AreBefore, SameCaptures, with_capture, with_both_parts};
 
@@ -50,6 +51,12 @@ pub fn one_telling()
     one_packet_outcome();
     one_reading();
 }
+
+/// The span of moments is from one of them, than which none is earlier, to one, than which none is later; there is none
+/// only where there are no moments.
+pub fn span_has_ends()
+    ensures { (moments : List Moment) → HasEnds moments (span_of moments) }
+{}
 
 /// Captures have at most one text that a query asks for, and one list of summaries.
 pub fn one_survey()

@@ -104,7 +104,7 @@ pub struct Reading {
 
 impl Span {
     /// Makes the span of one packet.
-    pub(crate) fn at(moment: Moment) -> Span
+    pub fn at(moment: Moment) -> Span
         ensures { result ≡ span_at moment }
     {
         Span {
@@ -114,7 +114,7 @@ impl Span {
     }
 
     /// Returns the span of the packets of both.
-    pub(crate) fn both(one: Option<Span>, other: Option<Span>) -> Option<Span>
+    pub fn both(one: Option<Span>, other: Option<Span>) -> Option<Span>
         ensures { result ≡ joined_spans one other }
     {
         let Some(span) = one else {
