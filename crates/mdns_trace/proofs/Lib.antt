@@ -1,5 +1,4 @@
 mod FilesLemmas
-mod LossLemmas
 mod MemberLemmas
 mod ObjectLemmas
 mod SpanLemmas

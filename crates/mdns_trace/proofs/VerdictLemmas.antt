@@ -6,14 +6,7 @@ use Rattle.std.specs.Io.KnownBytes.{Consumes, IsAtEnd, prepend_known}
 use Rattle.std.proofs.KnownBytes.{prepend_known-read, Keeps-refl}
 use lib.Seq.{take-append-add, take-append_seam}
 use Rattle.mdns_capture.specs.Limits.{file_header_size}
-use Rattle.mdns_survey.specs.declared.reading.Reading.{Reading}
-use Rattle.mdns_survey.specs.Reading.{ReadsCapture}
-use Rattle.mdns_survey.proofs.LossLemmas.{NeverBoth, SkipsByCause}
-use Rattle.mdns_trace.specs.declared.span.Span.{Span}
-use Rattle.mdns_trace.specs.Account.{HasAccount}
 use Rattle.mdns_trace.specs.Flaw.{head_of}
-use Rattle.mdns_trace.specs.Span.{IsSpanOf}
-use Rattle.mdns_trace.proofs.LossLemmas.{counts-losses}
 
 -- BYTES THAT WERE READ BEFORE
 
@@ -61,24 +54,3 @@ head-known (Some rest) to count room within ended =
     none-left (file_header_size - count) rest (λ some. ended (omega (arith, some, room))) in
     ap (λ (n : ℕ). take n (head ++ rest)) least ∙ take-append-add head rest (file_header_size - count)
     ∙ ap (λ (l : List ℕ). head ++ l) none ∙ append-nil head
-
--- AN ACCOUNT
-
--- a capture that was read whole has the account of its packets
-pub account-read : NeverBoth → SkipsByCause → (left : Option (List ℕ)) (old new : Span) (reading : Reading)
-    → ReadsCapture (λ _ span packets outcomes. IsSpanOf packets outcomes span) left old new reading
-    → old.packets ≡ None → old.hearings ≡ None
-    → IfSome left (λ bytes. HasAccount bytes reading.summary (record { packets = new.packets; skips = reading.skips }))
-account-read never by_cause None old new reading read no_packets no_hearings = tt
-account-read never by_cause (Some bytes) old new reading read no_packets no_hearings =
-    let is_span : IsSpanOf read.packets read.outcomes new =
-    read.took old (record { packets_have = rw no_packets refl; hearings_have = rw no_hearings refl }) in
-    record {
-      outcomes = read.outcomes;
-      tells = record { packets = read.packets; reads = read.reads; come = read.come };
-      counts = read.counts;
-      is_account = record {
-        bounds = is_span.packets_have;
-        losses = counts-losses never by_cause read.packets reading.skips read.skips;
-      };
-    }

@@ -1,11 +1,9 @@
-pub mod Account
 pub mod Answer
 pub mod Faults
 pub mod Files
 pub mod Flaw
 pub mod Kind
 pub mod Line
-pub mod Losses
 pub mod Objects
 pub mod PacketLine
 pub mod Pretty

@@ -12,9 +12,9 @@ use Rattle.mdns_message.specs.declared.hearing.Hearing.{Hearing}
 use Rattle.mdns_message.specs.declared.resource.Resource.{Resource}
 use Rattle.mdns_survey.specs.declared.outcome.Found.{Found}
 use Rattle.mdns_survey.specs.declared.outcome.Found.TheVariants as found
+use Rattle.mdns_survey.specs.declared.reading.Span.{Span}
 use Rattle.mdns_survey.specs.Why.{why_text}
-use Rattle.mdns_trace.specs.declared.span.Bounds.{Bounds}
-use Rattle.mdns_trace.specs.declared.span.Span.{Span}
+use Rattle.mdns_trace.specs.declared.span.Spanned.{Spanned}
 use Rattle.mdns_trace.specs.Line.{address_text, hearing_line}
 use Rattle.mdns_trace.specs.PacketLine.{packet_line}
 use Rattle.mdns_trace.specs.Pretty.{hearing_row, packet_row, span_row}
@@ -125,22 +125,22 @@ packet_text Json file packet words members = packet_json file packet members
 -- SPANS
 
 -- the earliest and the latest moment; `null` where there is none
-unfoldable pub bounds_json : Option Bounds → List ℕ
+unfoldable pub bounds_json : Option Span → List ℕ
 bounds_json None = codes "null"
-bounds_json (Some bounds) =
-    json_object (moment_member (codes "first") bounds.first.nanos ∷ moment_member (codes "last") bounds.last.nanos ∷ [])
+bounds_json (Some span) =
+    json_object (moment_member (codes "first") span.first.nanos ∷ moment_member (codes "last") span.last.nanos ∷ [])
 
 -- the line of a time span
-unfoldable pub span_json : List ℕ → ℕ → Span → List ℕ
-span_json file snap span =
+unfoldable pub span_json : List ℕ → Spanned → List ℕ
+span_json file spanned =
     json_object
     (text_member (codes "file") file
-    ∷ value_member (codes "packets") (bounds_json span.packets)
-    ∷ value_member (codes "hearings") (bounds_json span.hearings)
-    ∷ number_member (codes "snap") snap ∷ []) ++ 10 ∷ []
+    ∷ value_member (codes "packets") (bounds_json spanned.reading.span)
+    ∷ value_member (codes "hearings") (bounds_json spanned.hearings)
+    ∷ number_member (codes "snap") spanned.reading.snap_length ∷ []) ++ 10 ∷ []
 
 -- the same in a form
-abbrev pub span_text : Form → List ℕ → ℕ → Span → List ℕ
-span_text Lines file snap span = span_line file snap span
-span_text Pretty file snap span = span_row file snap span
-span_text Json file snap span = span_json file snap span
+abbrev pub span_text : Form → List ℕ → Spanned → List ℕ
+span_text Lines file spanned = span_line file spanned
+span_text Pretty file spanned = span_row file spanned
+span_text Json file spanned = span_json file spanned

@@ -12,8 +12,8 @@ use Rattle.mdns_capture.specs.declared.source.SourceAddress.TheVariants.{V4, V6}
 use Rattle.mdns_capture.specs.Savefile.{PacketAt}
 use Rattle.mdns_message.specs.declared.hearing.Hearing.{Hearing}
 use Rattle.mdns_message.specs.Resource.{type_name, type_of}
-use Rattle.mdns_trace.specs.declared.span.Bounds.{Bounds}
-use Rattle.mdns_trace.specs.declared.span.Span.{Span}
+use Rattle.mdns_survey.specs.declared.reading.Span.{Span}
+use Rattle.mdns_trace.specs.declared.span.Spanned.{Spanned}
 use Rattle.mdns_trace.specs.Line.{flush_text}
 
 -- HEARINGS
@@ -47,12 +47,12 @@ packet_row file packet words =
 -- SPANS
 
 -- the earliest and the latest moment, if there are any
-abbrev pub bounds_shown : Option Bounds → List ℕ
+abbrev pub bounds_shown : Option Span → List ℕ
 bounds_shown None = codes "none"
-bounds_shown (Some bounds) = millis_text bounds.first.nanos ++ codes " to " ++ millis_text bounds.last.nanos
+bounds_shown (Some span) = millis_text span.first.nanos ++ codes " to " ++ millis_text span.last.nanos
 
--- the line of a file of that name, whose header states that snapshot length, with that span
-unfoldable pub span_row : List ℕ → ℕ → Span → List ℕ
-span_row file snap span =
-    file ++ codes "  packets " ++ bounds_shown span.packets ++ codes "  hearings " ++ bounds_shown span.hearings
-    ++ codes "  snap " ++ decimal snap ++ 10 ∷ []
+-- the line of a file of that name: the span of its packets, that of its hearings, and the snapshot length
+unfoldable pub span_row : List ℕ → Spanned → List ℕ
+span_row file spanned =
+    file ++ codes "  packets " ++ bounds_shown spanned.reading.span ++ codes "  hearings " ++ bounds_shown spanned.hearings
+    ++ codes "  snap " ++ decimal spanned.reading.snap_length ++ 10 ∷ []

@@ -1,21 +1,21 @@
 -- What is written of the time span of a capture.
-use Rattle.std.specs.Prelude.{◌≡◌, ℕ, List, Option, IfSome}
+use Rattle.std.specs.Prelude.{◌≡◌, ℕ, List, Option, Some, IfSome}
 use Rattle.mdns_browse.specs.declared.report.Form.{Form}
 use Rattle.mdns_capture.specs.declared.stream.Sink.{Ghosts}
 use Rattle.mdns_capture.specs.Output.{AppendsPrefix}
-use Rattle.mdns_capture.specs.Savefile.{snap_length}
 use Rattle.mdns_survey.specs.declared.summary.Summary.{Summary}
-use Rattle.mdns_trace.specs.declared.span.Span.{Span}
+use Rattle.mdns_trace.specs.declared.span.Spanned.{Spanned}
 use Rattle.mdns_trace.specs.declared.trace.TraceFault.{TraceFault}
 use Rattle.mdns_trace.specs.declared.trace.TraceFault.TheVariants.{Listen, Write}
 use Rattle.mdns_trace.specs.Objects.{span_text}
-use Rattle.mdns_trace.specs.Span.{HasSpan}
+use Rattle.mdns_trace.specs.Span.{IsSpanned}
 
 -- the text is the line of a capture with that summary, in that form
 pub record SpansCapture (form : Form) (file bytes : List ℕ) (summary : Summary) (text : List ℕ) : Type 0 where
-  pub span : Span
-  pub has : HasSpan bytes summary span
-  pub line : text ≡ span_text form file (snap_length bytes) span
+  pub spanned : Spanned
+  pub is : IsSpanned (Some bytes) spanned
+  pub counts : summary ≡ spanned.reading.summary
+  pub line : text ≡ span_text form file spanned
 
 -- WHAT WENT OUT BEFORE A FAULT
 

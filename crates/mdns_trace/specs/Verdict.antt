@@ -8,22 +8,23 @@ use Rattle.mdns_capture.specs.declared.savefile.BeginFault.TheVariants.{Memory a
 use Rattle.mdns_capture.specs.declared.savefile.Ending.{Ending}
 use Rattle.mdns_capture.specs.declared.stream.Source.{Ghosts as SourceGhosts}
 use Rattle.mdns_capture.specs.Capture.{IsOver}
-use Rattle.mdns_capture.specs.Savefile.{header_fault}
+use Rattle.mdns_capture.specs.Savefile.{PacketAt, header_fault}
 use Rattle.mdns_capture.specs.Text.{ending_text, moment_text}
 use Rattle.mdns_survey.specs.declared.listen.ListenFault.{ListenFault}
 use Rattle.mdns_survey.specs.declared.listen.ListenFault.TheVariants.{Begin, Read, Memory}
 use Rattle.mdns_survey.specs.declared.skips.Skips.{Skips}
-use Rattle.mdns_survey.specs.declared.summary.Summary.{Summary}
+use Rattle.mdns_survey.specs.declared.outcome.Why.TheVariants as why
+use Rattle.mdns_survey.specs.declared.reading.Reading.{Reading}
+use Rattle.mdns_survey.specs.declared.reading.Span.{Span}
 use Rattle.mdns_survey.specs.declared.summary.Tally.{Tally}
+use Rattle.mdns_survey.specs.Captures.{Outcome}
 use Rattle.mdns_survey.specs.Lines.{is_whole}
+use Rattle.mdns_survey.specs.Listen.{IsReadingOf}
+use Rattle.mdns_survey.specs.Skips.{count_of}
 use Rattle.mdns_survey.specs.Why.{cause_text}
-use Rattle.mdns_trace.specs.declared.account.Account.{Account}
-use Rattle.mdns_trace.specs.declared.span.Bounds.{Bounds}
 use Rattle.mdns_trace.specs.declared.verdict.Verdict.{Verdict}
 use Rattle.mdns_trace.specs.declared.verdict.Verdict.TheVariants.{Capture, Other, Unread, Unopened}
-use Rattle.mdns_trace.specs.Account.{HasAccount}
 use Rattle.mdns_trace.specs.Flaw.{cure_text, flaw_of, head_of, what_text}
-use Rattle.mdns_trace.specs.Losses.{lost_to}
 use Rattle.mdns_trace.specs.Span.{bounds_text}
 
 -- WHAT A FILE IS
@@ -32,11 +33,14 @@ use Rattle.mdns_trace.specs.Span.{bounds_text}
 abbrev pub IsNoCapture : List ℕ → Type 0
 IsNoCapture bytes = (fault : BeginFault) × (header_fault bytes ≡ Some fault)
 
--- What a file is whose reader has these bytes, where they are known: a capture with that account, which was read to its
--- end; no capture, and of that kind by its first bytes; or one whose read failed, if the reader isn't steady.
+-- the reading is that of a capture of these bytes, where they are known
+abbrev pub IsReading : Option (List ℕ) → Reading → Type 0
+IsReading left reading = (packets : List PacketAt) × ((outcomes : List Outcome) × IsReadingOf left packets outcomes reading)
+
+-- What a file is whose reader has these bytes, where they are known: a capture with that reading, to its end; no capture,
+-- and of that kind by its first bytes; or one whose read failed, if the reader isn't steady.
 abbrev pub IsVerdictOf : Option (List ℕ) → Bool → Verdict → Type 0
-IsVerdictOf left steady (Capture summary account) =
-    IsOver summary.ending × IfSome left (λ bytes. HasAccount bytes summary account)
+IsVerdictOf left steady (Capture reading) = IsOver reading.summary.ending × IsReading left reading
 IsVerdictOf left steady (Other flaw) = IfSome left (λ bytes. IsNoCapture bytes × (flaw ≡ flaw_of (head_of bytes)))
 IsVerdictOf left steady Unread = IsTrue steady → ⊥
 IsVerdictOf left steady Unopened = ⊥
@@ -60,22 +64,21 @@ verdict_for Memory head = None
 unfoldable pub capture_front : List ℕ → Ending → List ℕ
 capture_front file ending = file ++ codes " pcap " ++ ending_text ending
 
--- The line of a capture in a file of that name: how it ends, how many packets it has, their bounds, and how many
+-- The line of a capture in a file of that name: how it ends, how many packets it has, their span, and how many
 -- hearings they have.
-unfoldable pub capture_line : List ℕ → Summary → Account → List ℕ
-capture_line file summary account =
-    capture_front file summary.ending ++ codes " packets " ++ decimal summary.tally.packets
-    ++ 32 ∷ bounds_text account.packets ++ codes " hearings " ++ decimal summary.tally.hearings ++ 10 ∷ []
+unfoldable pub capture_line : List ℕ → Reading → List ℕ
+capture_line file reading =
+    capture_front file reading.summary.ending ++ codes " packets " ++ decimal reading.summary.tally.packets
+    ++ 32 ∷ bounds_text reading.span ++ codes " hearings " ++ decimal reading.summary.tally.hearings ++ 10 ∷ []
 
--- what to do about a capture that ended before its packets did, by the bounds of those that it has
-abbrev pub early_cure : Option Bounds → List ℕ
+-- what to do about a capture that ended before its packets did, by the span of those that it has
+abbrev pub early_cure : Option Span → List ℕ
 early_cure None = codes "no packet is whole"
-early_cure (Some bounds) =
-    codes "later goodbyes are missing, so trust the answers --before " ++ moment_text bounds.last.nanos
+early_cure (Some span) = codes "later goodbyes are missing, so trust the answers --before " ++ moment_text span.last.nanos
 
 -- its line; nothing for a whole capture
-unfoldable pub early_text : List ℕ → Ending → Option Bounds → List ℕ
-early_text file ending bounds = if is_whole ending then [] else file ++ codes " ends early: " ++ early_cure bounds ++ 10 ∷ []
+unfoldable pub early_text : List ℕ → Ending → Option Span → List ℕ
+early_text file ending span = if is_whole ending then [] else file ++ codes " ends early: " ++ early_cure span ++ 10 ∷ []
 
 -- the line of packets that were lost to a cause, and what to do about it
 abbrev pub lost_line : List ℕ → ℕ → List ℕ → List ℕ → List ℕ
@@ -105,7 +108,7 @@ loss_cure cause.UdpLength = codes "a broken sender, or a damaged capture"
 
 -- the line of the packets that fail a check
 unfoldable pub loss_text : List ℕ → Skips → Cause → List ℕ
-loss_text file skips own = lost_text file (lost_to own skips) (cause_text own) (loss_cure own)
+loss_text file skips own = lost_text file (count_of (why.Frame own) skips) (cause_text own) (loss_cure own)
 
 -- a line for each check that lost packets, in the order of the checks
 unfoldable pub losses_text : List ℕ → Skips → List ℕ
@@ -140,10 +143,10 @@ unfoldable pub silent_text : List ℕ → Tally → List ℕ
 silent_text file tally = if is_silent tally then file ++ codes " heard nothing: " ++ silent_cure ++ 10 ∷ [] else []
 
 -- the lines of a capture in a file of that name
-unfoldable pub capture_text : List ℕ → Summary → Account → List ℕ
-capture_text file summary account =
-    capture_line file summary account ++ early_text file summary.ending account.packets ++ losses_text file account.skips
-    ++ refused_text file summary.tally.refused ++ silent_text file summary.tally
+unfoldable pub capture_text : List ℕ → Reading → List ℕ
+capture_text file reading =
+    capture_line file reading ++ early_text file reading.summary.ending reading.span ++ losses_text file reading.skips
+    ++ refused_text file reading.summary.tally.refused ++ silent_text file reading.summary.tally
 
 -- what to do about a file of which a read failed, and about one that can't be opened
 abbrev pub unread_cure : List ℕ
@@ -158,7 +161,7 @@ unusable_line file what cure = file ++ codes " unusable " ++ what ++ codes ": " 
 
 -- the lines of a file of that name
 abbrev pub verdict_text : List ℕ → Verdict → List ℕ
-verdict_text file (Capture summary account) = capture_text file summary account
+verdict_text file (Capture reading) = capture_text file reading
 verdict_text file (Other flaw) = unusable_line file (what_text flaw) (cure_text flaw)
 verdict_text file Unread = unusable_line file (codes "read failed") unread_cure
 verdict_text file Unopened = unusable_line file (codes "cannot be opened") unopened_cure

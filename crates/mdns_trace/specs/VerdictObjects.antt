@@ -6,19 +6,19 @@ use Rattle.mdns_browse.specs.Json.{first_after, json_array, json_object, parted}
 use Rattle.mdns_capture.specs.declared.cause.Cause.{Cause}
 use Rattle.mdns_capture.specs.declared.cause.Cause.TheVariants as cause
 use Rattle.mdns_capture.specs.Text.{ending_text}
+use Rattle.mdns_survey.specs.declared.outcome.Why.TheVariants as why
+use Rattle.mdns_survey.specs.declared.reading.Reading.{Reading}
+use Rattle.mdns_survey.specs.declared.reading.Span.{Span}
 use Rattle.mdns_survey.specs.declared.skips.Skips.{Skips}
-use Rattle.mdns_survey.specs.declared.summary.Summary.{Summary}
 use Rattle.mdns_survey.specs.declared.summary.Tally.{Tally}
 use Rattle.mdns_survey.specs.Lines.{is_whole}
+use Rattle.mdns_survey.specs.Skips.{count_of}
 use Rattle.mdns_survey.specs.Why.{cause_text}
-use Rattle.mdns_trace.specs.declared.account.Account.{Account}
 use Rattle.mdns_trace.specs.declared.flaw.Flaw.{Flaw}
 use Rattle.mdns_trace.specs.declared.flaw.Flaw.TheVariants as flaw
-use Rattle.mdns_trace.specs.declared.span.Bounds.{Bounds}
 use Rattle.mdns_trace.specs.declared.verdict.Verdict.{Verdict}
 use Rattle.mdns_trace.specs.declared.verdict.Verdict.TheVariants.{Capture, Other, Unread, Unopened}
 use Rattle.mdns_trace.specs.Flaw.{cure_text, link_name}
-use Rattle.mdns_trace.specs.Losses.{lost_to}
 use Rattle.mdns_trace.specs.Objects.{moment_member, number_member, text_member, value_member}
 use Rattle.mdns_trace.specs.Verdict.{early_cure, is_silent, loss_cure, refused_cure, silent_cure}
 use Rattle.mdns_trace.specs.Verdict.{unopened_cure, unread_cure, verdict_text}
@@ -38,7 +38,7 @@ kind_word flaw.Unknown = codes "other"
 
 -- what a file is, in one word
 abbrev pub is_word : Verdict → List ℕ
-is_word (Capture summary account) = codes "capture"
+is_word (Capture reading) = codes "capture"
 is_word (Other flaw) = kind_word flaw
 is_word Unread = codes "unread"
 is_word Unopened = codes "unopened"
@@ -68,7 +68,7 @@ lost_objects count why cure =
 
 -- the packets that fail a check
 unfoldable pub loss_objects : Skips → Cause → List (List ℕ)
-loss_objects skips own = lost_objects (lost_to own skips) (cause_text own) (loss_cure own)
+loss_objects skips own = lost_objects (count_of (why.Frame own) skips) (cause_text own) (loss_cure own)
 
 -- an object for each check that lost packets, in the order of the checks
 unfoldable pub losses_objects : Skips → List (List ℕ)
@@ -103,16 +103,15 @@ unfoldable pub silent_after : Tally → List ℕ
 silent_after tally = if is_silent tally then codes "; " ++ silent_cure else []
 
 -- what to do about a capture that ended before its packets did, or that has packets, but no hearings; both cures where it is both
-unfoldable pub do_members : Summary → Account → List (List ℕ)
-do_members summary account =
-    if is_whole summary.ending then silent_members summary.tally
-    else text_member (codes "do") (early_cure account.packets ++ silent_after summary.tally) ∷ []
+unfoldable pub do_members : Reading → List (List ℕ)
+do_members reading =
+    if is_whole reading.summary.ending then silent_members reading.summary.tally
+    else text_member (codes "do") (early_cure reading.span ++ silent_after reading.summary.tally) ∷ []
 
 -- the earliest and the latest moment of its packets, where it has packets
-unfoldable pub bounds_members : Option Bounds → List (List ℕ)
+unfoldable pub bounds_members : Option Span → List (List ℕ)
 bounds_members None = []
-bounds_members (Some bounds) =
-    moment_member (codes "first") bounds.first.nanos ∷ moment_member (codes "last") bounds.last.nanos ∷ []
+bounds_members (Some span) = moment_member (codes "first") span.first.nanos ∷ moment_member (codes "last") span.last.nanos ∷ []
 
 -- its counts
 unfoldable pub tally_members : Tally → List (List ℕ)
@@ -124,17 +123,17 @@ tally_members tally =
     ∷ number_member (codes "hearings") tally.hearings ∷ []
 
 -- these, how it ends, and what it lost
-unfoldable pub capture_members : Summary → Account → List (List ℕ)
-capture_members summary account =
-    do_members summary account ++ bounds_members account.packets ++ tally_members summary.tally
-    ++ text_member (codes "ending") (ending_text summary.ending)
-    ∷ value_member (codes "lost") (lost_json account.skips summary.tally.refused) ∷ []
+unfoldable pub capture_members : Reading → List (List ℕ)
+capture_members reading =
+    do_members reading ++ bounds_members reading.span ++ tally_members reading.summary.tally
+    ++ text_member (codes "ending") (ending_text reading.summary.ending)
+    ∷ value_member (codes "lost") (lost_json reading.skips reading.summary.tally.refused) ∷ []
 
 -- THE LINE
 
 -- what is known of a file beside what it is
 abbrev pub verdict_members : Verdict → List (List ℕ)
-verdict_members (Capture summary account) = capture_members summary account
+verdict_members (Capture reading) = capture_members reading
 verdict_members (Other flaw) = flaw_members flaw
 verdict_members Unread = text_member (codes "do") unread_cure ∷ []
 verdict_members Unopened = text_member (codes "do") unopened_cure ∷ []

@@ -93,12 +93,12 @@ StopsVerdicts source sink form names readers old new Write = BreaksVerdicts sour
 
 -- the file is a capture
 abbrev pub is_usable : Verdict → Bool
-is_usable (Capture summary account) = true
+is_usable (Capture reading) = true
 is_usable verdict = false
 
 -- the file is a capture that ends where a packet does, and that has hearings, or no packets
 abbrev pub is_sound : Verdict → Bool
-is_sound (Capture summary account) = is_whole summary.ending && not (is_silent summary.tally)
+is_sound (Capture reading) = is_whole reading.summary.ending && not (is_silent reading.summary.tally)
 is_sound verdict = false
 
 abbrev pub are_usable : List Verdict → Bool

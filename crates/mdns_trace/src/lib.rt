@@ -3,7 +3,6 @@
 //! each file whether it is a capture, what it lost, and what to do about it.
 #![tactic(auto)]
 
-mod account;
 pub mod files;
 mod flaw;
 mod headed;
@@ -19,13 +18,11 @@ mod verdict;
 mod verdict_objects;
 pub mod verdicts;
 
-pub use account::Account;
 pub use files::{FilesFault, write_traces};
 pub use flaw::Flaw;
 pub use kind::{Inquiry, Trace};
 pub use line::push_hearing_line;
 pub use run::answer_traces;
-pub use span::Bounds;
 pub use trace::{TraceFault, write_trace};
 pub use verdict::Verdict;
 pub use verdicts::{VerdictsFault, answer_files, write_verdicts};

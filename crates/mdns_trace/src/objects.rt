@@ -11,13 +11,14 @@ ghost use Rattle.mdns_trace.specs.Objects.{moment_member, number_member, packet_
 ghost use Rattle.mdns_trace.specs.Objects.{status_members, text_member, value_member};
 
 use crate::line::push_address;
-use crate::span::{Bounds, Span};
+use crate::span::Spanned;
 use mdns_browse::format::push_nanos;
 use mdns_browse::json::{push_json_name, push_number_member, push_text_member};
 use mdns_browse::push_resource_members;
 use mdns_capture::{Moment, Packet, SourceAddress};
 use mdns_message::{BorrowedHearing, BorrowedResource, MessageFault, Want};
 use mdns_survey::outcome::Found;
+use mdns_survey::reading::Span;
 use std::alloc::Global;
 
 /// Appends the object of a hearing, and ends the line.
@@ -217,16 +218,15 @@ pub(crate) fn push_span_json(
     alloc: Global,
     to: &mut String,
     file: &str,
-    snap_length: u32,
-    span: &Span,
+    spanned: &Spanned,
 ) -> Result<(), Want>
-    ensures { OnOk result (string_bytes to.new ≡ string_bytes to.old ++ span_json file.now snap_length span.now) }
+    ensures { OnOk result (string_bytes to.new ≡ string_bytes to.old ++ span_json file.now spanned.now) }
 {
     to.push('{')?;
     push_text(to, true, "file", file)?;
-    push_bounds_member(alloc, to, "packets", span.packets)?;
-    push_bounds_member(alloc, to, "hearings", span.hearings)?;
-    push_number(to, "snap", snap_length as u64)?;
+    push_bounds_member(alloc, to, "packets", spanned.reading.span)?;
+    push_bounds_member(alloc, to, "hearings", spanned.hearings)?;
+    push_number(to, "snap", spanned.reading.snap_length as u64)?;
     to.push_str("}\n")?;
     Ok(())
 }
@@ -237,27 +237,27 @@ fn push_bounds_member(
     alloc: Global,
     to: &mut String,
     name: &str,
-    bounds: Option<Bounds>,
+    span: Option<Span>,
 ) -> Result<(), Want>
     ensures { OnOk result (string_bytes to.new
-        ≡ string_bytes to.old ++ (comma_unless false ++ value_member name.now (bounds_json bounds))) }
+        ≡ string_bytes to.old ++ (comma_unless false ++ value_member name.now (bounds_json span))) }
 {
     push_json_name(to, false, name)?;
-    push_bounds_json(alloc, to, bounds)
+    push_bounds_json(alloc, to, span)
 }
 
 // Appends the earliest and the latest moment; `null` where there is none.
 #[tactic(auto, unfolding(crate::specs::Objects::bounds_json, mdns_browse::specs::Json::parted))]
-fn push_bounds_json(alloc: Global, to: &mut String, bounds: Option<Bounds>) -> Result<(), Want>
-    ensures { OnOk result (string_bytes to.new ≡ string_bytes to.old ++ bounds_json bounds) }
+fn push_bounds_json(alloc: Global, to: &mut String, span: Option<Span>) -> Result<(), Want>
+    ensures { OnOk result (string_bytes to.new ≡ string_bytes to.old ++ bounds_json span) }
 {
-    let Some(bounds) = bounds else {
+    let Some(span) = span else {
         to.push_str("null")?;
         return Ok(());
     };
     to.push('{')?;
-    push_moment_member(alloc, to, true, "first", bounds.first)?;
-    push_moment_member(alloc, to, false, "last", bounds.last)?;
+    push_moment_member(alloc, to, true, "first", span.first)?;
+    push_moment_member(alloc, to, false, "last", span.last)?;
     to.push('}')?;
     Ok(())
 }

@@ -10,12 +10,13 @@ ghost use Rattle.mdns_trace.specs.PacketLine.{found_text};
 ghost use Rattle.mdns_trace.specs.Pretty.{bounds_shown, hearing_row, packet_row, said_text, source_shown, span_row};
 
 use crate::packet_line::push_found;
-use crate::span::{Bounds, Span};
+use crate::span::Spanned;
 use mdns_browse::format::push_ipv4;
 use mdns_browse::{push_padded, push_shown_record};
 use mdns_capture::{Packet, SourceAddress};
 use mdns_message::{BorrowedHearing, BorrowedResource, Want};
 use mdns_survey::outcome::Found;
+use mdns_survey::reading::Span;
 use people_text::address::push_ipv6_short;
 use people_text::moments::push_millis;
 use std::alloc::Global;
@@ -120,35 +121,29 @@ pub(crate) fn push_packet_row(
     Ok(())
 }
 
-/// Appends the line of a file with that span, whose header states that snapshot length. The name of `file` is written as
-/// it is.
+/// Appends the line of a file with that span. The name of `file` is written as it is.
 #[tactic(auto, unfolding(crate::specs::Pretty::span_row))]
-pub(crate) fn push_span_row(
-    to: &mut String,
-    file: &str,
-    snap_length: u32,
-    span: &Span,
-) -> Result<(), Want>
-    ensures { OnOk result (string_bytes to.new ≡ string_bytes to.old ++ span_row file.now snap_length span.now) }
+pub(crate) fn push_span_row(to: &mut String, file: &str, spanned: &Spanned) -> Result<(), Want>
+    ensures { OnOk result (string_bytes to.new ≡ string_bytes to.old ++ span_row file.now spanned.now) }
 {
     write!(to, "{file}  packets ")?;
-    push_shown_bounds(to, span.packets)?;
+    push_shown_bounds(to, spanned.reading.span)?;
     to.push_str("  hearings ")?;
-    push_shown_bounds(to, span.hearings)?;
-    write!(to, "  snap {snap_length}")?;
+    push_shown_bounds(to, spanned.hearings)?;
+    write!(to, "  snap {}", spanned.reading.snap_length)?;
     to.push('\n')?;
     Ok(())
 }
 
 // Appends the earliest and the latest moment, if there are any.
-fn push_shown_bounds(to: &mut String, bounds: Option<Bounds>) -> Result<(), Want>
-    ensures { OnOk result (string_bytes to.new ≡ string_bytes to.old ++ bounds_shown bounds) }
+fn push_shown_bounds(to: &mut String, span: Option<Span>) -> Result<(), Want>
+    ensures { OnOk result (string_bytes to.new ≡ string_bytes to.old ++ bounds_shown span) }
 {
-    let Some(bounds) = bounds else {
+    let Some(span) = span else {
         to.push_str("none")?;
         return Ok(());
     };
-    push_millis(to, bounds.first.nanos())?;
+    push_millis(to, span.first.nanos())?;
     to.push_str(" to ")?;
-    push_millis(to, bounds.last.nanos())
+    push_millis(to, span.last.nanos())
 }

@@ -11,23 +11,21 @@ ghost use Rattle.mdns_trace.specs.Verdict.{loss_text, losses_text, lost_text, re
 ghost use Rattle.mdns_trace.specs.Verdict.{unusable_line, verdict_for, verdict_text};
 ghost use Rattle.mdns_trace.specs.VerdictObjects.{file_text};
 
-use crate::account::Account;
 use crate::flaw::{Flaw, cure_words, flaw_of, push_what};
 use crate::headed::{Headed, read_head};
-use crate::span::{Bounds, Span, push_bounds};
+use crate::span::{push_bounds, read_spanned};
 use crate::trace::word_of;
 use crate::verdict_objects::push_verdict_json;
 use mdns_browse::format::push_nanos;
 use mdns_browse::report::Form;
-use mdns_capture::laws::{payload_or_skip, skip_is_of_the_cause};
 use mdns_capture::savefile::FILE_HEADER;
 use mdns_capture::{BeginFault, Broken, Cause, Ending, Source};
 use mdns_message::Want;
 use mdns_survey::Skips;
 use mdns_survey::listen::ListenFault;
 use mdns_survey::outcome::Why;
-use mdns_survey::reading::{ReadFault, read_capture};
-use mdns_survey::summary::{Summary, Tally};
+use mdns_survey::reading::{Reading, Span};
+use mdns_survey::summary::Tally;
 use std::alloc::Global;
 
 /// What to do about damaged messages.
@@ -46,8 +44,8 @@ pub(crate) const UNOPENED_CURE: &str = "missing, not readable, or too many open 
 /// What a file is.
 #[derive(Clone, Copy)]
 pub enum Verdict {
-    /// A capture: its counts, how it ends, and what its packets come to.
-    Capture { summary: Summary, account: Account },
+    /// A capture that was read to its end.
+    Capture(Reading),
     /// No capture, but a file of this kind.
     Other(Flaw),
     /// A file of which a read failed.
@@ -82,19 +80,9 @@ fn judge_headed<R: Source + Drop>(alloc: Global, head: &[u8], inner: R) -> Resul
     requires { IfSome (R.remaining inner) (λ rest. head_of (head.now ++ rest) ≡ head.now) }
     ensures { IfOk result (IsVerdictOf (prepend_known head.now (R.remaining inner)) (R.steady inner)) }
 {
-    payload_or_skip();
-    skip_is_of_the_cause();
-    let mut span = Span::new();
-    match read_capture(alloc, Headed { head, inner }, &mut span) {
-        Ok(reading) => Ok(Verdict::Capture {
-            summary: reading.summary,
-            account: Account {
-                packets: span.packets,
-                skips: reading.skips,
-            },
-        }),
-        Err(ReadFault::Listen(fault)) => verdict_for(fault, head),
-        Err(ReadFault::Consumer(Want)) => Err(Want),
+    match read_spanned(alloc, Headed { head, inner }) {
+        Ok(spanned) => Ok(Verdict::Capture(spanned.reading)),
+        Err(fault) => verdict_for(fault, head),
     }
 }
 
@@ -145,7 +133,7 @@ fn push_verdict(to: &mut String, file: &str, verdict: &Verdict) -> Result<(), Wa
     ensures { OnOk result (string_bytes to.new ≡ string_bytes to.old ++ verdict_text file.now verdict.now) }
 {
     match *verdict {
-        Verdict::Capture { summary, account } => push_capture(to, file, &summary, &account),
+        Verdict::Capture(reading) => push_capture(to, file, &reading),
         Verdict::Other(flaw) => push_flaw(to, file, flaw),
         Verdict::Unread => push_unusable(to, file, "read failed", UNREAD_CURE),
         Verdict::Unopened => push_unusable(to, file, "cannot be opened", UNOPENED_CURE),
@@ -154,69 +142,54 @@ fn push_verdict(to: &mut String, file: &str, verdict: &Verdict) -> Result<(), Wa
 
 // Appends the lines of a capture.
 #[tactic(auto, unfolding(crate::specs::Verdict::capture_text))]
-fn push_capture(
-    to: &mut String,
-    file: &str,
-    summary: &Summary,
-    account: &Account,
-) -> Result<(), Want>
-    ensures { OnOk result (string_bytes to.new ≡ string_bytes to.old ++ capture_text file.now summary.now account.now) }
+fn push_capture(to: &mut String, file: &str, reading: &Reading) -> Result<(), Want>
+    ensures { OnOk result (string_bytes to.new ≡ string_bytes to.old ++ capture_text file.now reading.now) }
 {
-    push_capture_line(to, file, summary, account)?;
-    push_early(to, file, summary.ending, account.packets)?;
-    push_losses(to, file, &account.skips)?;
-    push_refused(to, file, summary.tally.refused)?;
-    push_silent(to, file, &summary.tally)
+    push_capture_line(to, file, reading)?;
+    push_early(to, file, reading.summary.ending, reading.span)?;
+    push_losses(to, file, &reading.skips)?;
+    push_refused(to, file, reading.summary.tally.refused)?;
+    push_silent(to, file, &reading.summary.tally)
 }
 
 // Appends the line of a capture with its counts.
 #[tactic(auto, unfolding(crate::specs::Verdict::capture_line))]
-fn push_capture_line(
-    to: &mut String,
-    file: &str,
-    summary: &Summary,
-    account: &Account,
-) -> Result<(), Want>
-    ensures { OnOk result (string_bytes to.new ≡ string_bytes to.old ++ capture_line file.now summary.now account.now) }
+fn push_capture_line(to: &mut String, file: &str, reading: &Reading) -> Result<(), Want>
+    ensures { OnOk result (string_bytes to.new ≡ string_bytes to.old ++ capture_line file.now reading.now) }
 {
-    push_front(to, file, summary.ending)?;
-    write!(to, " packets {}", summary.tally.packets)?;
+    push_front(to, file, reading.summary.ending)?;
+    write!(to, " packets {}", reading.summary.tally.packets)?;
     to.push(' ')?;
-    push_bounds(to, account.packets)?;
-    write!(to, " hearings {}", summary.tally.hearings)?;
+    push_bounds(to, reading.span)?;
+    write!(to, " hearings {}", reading.summary.tally.hearings)?;
     to.push('\n')?;
     Ok(())
 }
 
 // Appends the line of a capture that ended before its packets did.
 #[tactic(auto, unfolding(crate::specs::Verdict::early_text))]
-fn push_early(
-    to: &mut String,
-    file: &str,
-    ending: Ending,
-    packets: Option<Bounds>,
-) -> Result<(), Want>
-    ensures { OnOk result (string_bytes to.new ≡ string_bytes to.old ++ early_text file.now ending packets) }
+fn push_early(to: &mut String, file: &str, ending: Ending, span: Option<Span>) -> Result<(), Want>
+    ensures { OnOk result (string_bytes to.new ≡ string_bytes to.old ++ early_text file.now ending span) }
 {
     if is_whole(ending) {
         return Ok(());
     }
     write!(to, "{file} ends early: ")?;
-    push_early_cure(to, packets)?;
+    push_early_cure(to, span)?;
     to.push('\n')?;
     Ok(())
 }
 
 /// Appends what to do about a capture that ended before its packets did. After `Want` nothing is promised of `to`.
-pub(crate) fn push_early_cure(to: &mut String, packets: Option<Bounds>) -> Result<(), Want>
-    ensures { OnOk result (string_bytes to.new ≡ string_bytes to.old ++ early_cure packets) }
+pub(crate) fn push_early_cure(to: &mut String, span: Option<Span>) -> Result<(), Want>
+    ensures { OnOk result (string_bytes to.new ≡ string_bytes to.old ++ early_cure span) }
 {
-    let Some(bounds) = packets else {
+    let Some(span) = span else {
         to.push_str("no packet is whole")?;
         return Ok(());
     };
     to.push_str("later goodbyes are missing, so trust the answers --before ")?;
-    push_nanos(to, bounds.last.nanos())?;
+    push_nanos(to, span.last.nanos())?;
     Ok(())
 }
 

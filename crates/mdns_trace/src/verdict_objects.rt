@@ -9,10 +9,8 @@ ghost use Rattle.mdns_trace.specs.VerdictObjects.{kind_word, link_members, losse
 ghost use Rattle.mdns_trace.specs.VerdictObjects.{lost_objects, name_members, silent_after, silent_members, tally_members};
 ghost use Rattle.mdns_trace.specs.VerdictObjects.{verdict_json, verdict_members};
 
-use crate::account::Account;
 use crate::flaw::{Flaw, cure_words, link_name};
 use crate::objects::{push_moment_member, push_number, push_text};
-use crate::span::Bounds;
 use crate::verdict::{
     REFUSED_CURE, SILENT_CURE, UNOPENED_CURE, UNREAD_CURE, Verdict, is_silent, is_whole, loss_cure,
     push_early_cure,
@@ -22,7 +20,8 @@ use mdns_capture::{Cause, Ending};
 use mdns_message::Want;
 use mdns_survey::Skips;
 use mdns_survey::outcome::Why;
-use mdns_survey::summary::{Summary, Tally};
+use mdns_survey::reading::{Reading, Span};
+use mdns_survey::summary::Tally;
 use std::alloc::Global;
 
 /// Appends the object of a file, and ends the line. The file's name is written as it is.
@@ -48,7 +47,7 @@ fn is_word(verdict: &Verdict) -> &'static str
     ensures { result.now ≡ is_word verdict.now }
 {
     match *verdict {
-        Verdict::Capture { .. } => "capture",
+        Verdict::Capture(_) => "capture",
         Verdict::Other(flaw) => kind_word(flaw),
         Verdict::Unread => "unread",
         Verdict::Unopened => "unopened",
@@ -76,9 +75,7 @@ fn push_verdict_members(alloc: Global, to: &mut String, verdict: &Verdict) -> Re
     ensures { OnOk result (string_bytes to.new ≡ string_bytes to.old ++ parted false (verdict_members verdict.now)) }
 {
     match *verdict {
-        Verdict::Capture { summary, account } => push_capture_members(
-            alloc, to, &summary, &account,
-        ),
+        Verdict::Capture(reading) => push_capture_members(alloc, to, &reading),
         Verdict::Other(flaw) => push_flaw_members(to, flaw),
         Verdict::Unread => push_do(to, UNREAD_CURE),
         Verdict::Unopened => push_do(to, UNOPENED_CURE),
@@ -128,39 +125,28 @@ fn push_link_name(to: &mut String, name: &str) -> Result<(), Want>
 }
 
 // Appends what a capture has and how it ends, and what it lost.
-fn push_capture_members(
-    alloc: Global,
-    to: &mut String,
-    summary: &Summary,
-    account: &Account,
-) -> Result<(), Want>
-    ensures { OnOk result (string_bytes to.new
-        ≡ string_bytes to.old ++ parted false (capture_members summary.now account.now)) }
+fn push_capture_members(alloc: Global, to: &mut String, reading: &Reading) -> Result<(), Want>
+    ensures { OnOk result (string_bytes to.new ≡ string_bytes to.old ++ parted false (capture_members reading.now)) }
 {
-    push_do_members(alloc, to, summary, account)?;
-    push_bounds_members(alloc, to, account.packets)?;
-    push_tally_members(to, &summary.tally)?;
-    push_ending_member(alloc, to, summary.ending)?;
-    push_lost_member(to, &account.skips, summary.tally.refused)
+    push_do_members(alloc, to, reading)?;
+    push_bounds_members(alloc, to, reading.span)?;
+    push_tally_members(to, &reading.summary.tally)?;
+    push_ending_member(alloc, to, reading.summary.ending)?;
+    push_lost_member(to, &reading.skips, reading.summary.tally.refused)
 }
 
 // Appends what to do about a capture that ended before its packets did, or that has packets, but no hearings; both cures
 // where it is both.
 #[tactic(auto, unfolding(crate::specs::VerdictObjects::do_members, mdns_browse::specs::Json::parted))]
-fn push_do_members(
-    alloc: Global,
-    to: &mut String,
-    summary: &Summary,
-    account: &Account,
-) -> Result<(), Want>
-    ensures { OnOk result (string_bytes to.new
-        ≡ string_bytes to.old ++ parted false (do_members summary.now account.now)) }
+fn push_do_members(alloc: Global, to: &mut String, reading: &Reading) -> Result<(), Want>
+    ensures { OnOk result (string_bytes to.new ≡ string_bytes to.old ++ parted false (do_members reading.now)) }
 {
+    let summary = reading.summary;
     if is_whole(summary.ending) {
         return push_silent_members(to, &summary.tally);
     }
     let mut cure = String::new(alloc);
-    push_early_cure(&mut cure, account.packets)?;
+    push_early_cure(&mut cure, reading.span)?;
     push_silent_after(&mut cure, &summary.tally)?;
     push_text(to, false, "do", cure.as_str())
 }
@@ -189,14 +175,14 @@ fn push_silent_members(to: &mut String, tally: &Tally) -> Result<(), Want>
 
 // Appends the earliest and the latest moment of packets, if there are packets.
 #[tactic(auto, unfolding(crate::specs::VerdictObjects::bounds_members, mdns_browse::specs::Json::parted))]
-fn push_bounds_members(alloc: Global, to: &mut String, bounds: Option<Bounds>) -> Result<(), Want>
-    ensures { OnOk result (string_bytes to.new ≡ string_bytes to.old ++ parted false (bounds_members bounds)) }
+fn push_bounds_members(alloc: Global, to: &mut String, span: Option<Span>) -> Result<(), Want>
+    ensures { OnOk result (string_bytes to.new ≡ string_bytes to.old ++ parted false (bounds_members span)) }
 {
-    let Some(bounds) = bounds else {
+    let Some(span) = span else {
         return Ok(());
     };
-    push_moment_member(alloc, to, false, "first", bounds.first)?;
-    push_moment_member(alloc, to, false, "last", bounds.last)
+    push_moment_member(alloc, to, false, "first", span.first)?;
+    push_moment_member(alloc, to, false, "last", span.last)
 }
 
 // Appends the counts of a capture.

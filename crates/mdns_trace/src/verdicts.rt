@@ -10,6 +10,7 @@ ghost use Rattle.mdns_trace.specs.Verdicts.{is_usable, status_of, survey_fault};
 use crate::verdict::{Verdict, is_silent, is_whole, judge, lines_of};
 use mdns_browse::report::Form;
 use mdns_capture::{Broken, Sink, Source, write_whole};
+use mdns_survey::reading::Reading;
 use mdns_survey::saying::refuse;
 use mdns_survey::status::{DAMAGED, REFUSED, WHOLE};
 use mdns_survey::survey::SurveyFault;
@@ -123,7 +124,7 @@ fn are_sound(verdicts: &[Verdict]) -> bool
 fn is_usable(verdict: &Verdict) -> bool
     ensures { result ≡ is_usable verdict.now }
 {
-    matches!(verdict, Verdict::Capture { .. })
+    matches!(verdict, Verdict::Capture(_))
 }
 
 // Checks that a file is a capture that ends where a packet does, and that has hearings, or no packets.
@@ -131,7 +132,9 @@ fn is_sound(verdict: &Verdict) -> bool
     ensures { result ≡ is_sound verdict.now }
 {
     match *verdict {
-        Verdict::Capture { summary, .. } => is_whole(summary.ending) && !is_silent(&summary.tally),
+        Verdict::Capture(Reading { summary, .. }) => {
+            is_whole(summary.ending) && !is_silent(&summary.tally)
+        }
         _ => false,
     }
 }
