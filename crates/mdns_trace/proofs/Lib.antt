@@ -4,4 +4,3 @@ mod ObjectLemmas
 mod SpanLemmas
 mod TraceLemmas
 mod VerdictLemmas
-mod VerdictsLemmas

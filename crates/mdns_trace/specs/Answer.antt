@@ -14,7 +14,8 @@ use Rattle.mdns_trace.specs.declared.files.FilesFault.{FilesFault}
 use Rattle.mdns_trace.specs.declared.files.FilesFault.TheVariants.{File, Memory}
 use Rattle.mdns_trace.specs.declared.kind.Trace.{Trace}
 use Rattle.mdns_trace.specs.declared.trace.TraceFault.TheVariants.{Listen, Write}
-use Rattle.mdns_trace.specs.Files.{StopsAmong, WritesAll}
+use Rattle.mdns_trace.specs.Files.{StopsAmong, WritesEach}
+use Rattle.mdns_trace.specs.Kind.{StopsTrace, WritesTrace}
 
 -- the fault of a survey that has the same error line
 abbrev pub survey_fault : FilesFault → SurveyFault
@@ -27,7 +28,7 @@ survey_fault Memory = survey.Memory
 pub record IsTraced {R W : Type 0} (source : SourceGhosts R) (sink : SinkGhosts W) (trace : Trace) (about : List Subject)
     (names : List (List ℕ)) (readers : List R) (old new : W) (err : Writing) (status : ℕ) : Type 0 where
   pub summaries : List Summary
-  pub written : WritesAll source sink trace about old names readers new summaries
+  pub written : WritesEach (WritesTrace source sink trace about) old names readers new summaries
   pub says : Says (codes "mdnswhy") (ending_lines (codes "mdnswhy") names summaries) err
   pub is_status : status ≡ status_of summaries
 
@@ -35,5 +36,5 @@ pub record IsTraced {R W : Type 0} (source : SourceGhosts R) (sink : SinkGhosts 
 pub record IsTraceRefused {R W : Type 0} (source : SourceGhosts R) (sink : SinkGhosts W) (trace : Trace) (about : List Subject)
     (names : List (List ℕ)) (readers : List R) (old new : W) (err : Writing) : Type 0 where
   pub fault : FilesFault
-  pub stops : StopsAmong source sink trace about names readers old new fault
+  pub stops : StopsAmong (WritesTrace source sink trace about) (StopsTrace source sink trace about) names readers old new fault
   pub says : Says (codes "mdnswhy") (fault_line_text (codes "mdnswhy") names (survey_fault fault) ∷ []) err

@@ -1,5 +1,5 @@
 -- The lines of several files, each of which says what its file is, and the exit status.
-use Rattle.std.specs.Prelude.{◌≡◌, ℕ, ◌&&◌, Bool, false, true, not, IsTrue, if◌then◌else◌, List, [], ◌∷◌, ◌++◌, Option, codes}
+use Rattle.std.specs.Prelude.{◌≡◌, ℕ, ◌&&◌, Bool, false, true, not, IsTrue, if◌then◌else◌, List, [], ◌∷◌, Option, codes}
 use Rattle.std.specs.List.{list_all}
 use Rattle.std.specs.Io.KnownBytes.{Appends}
 use Rattle.mdns_browse.specs.declared.report.Form.{Form}
@@ -8,86 +8,45 @@ use Rattle.mdns_capture.specs.declared.stream.Source.{Ghosts as SourceGhosts}
 use Rattle.mdns_capture.specs.Output.{AppendsPrefix, Writing}
 use Rattle.mdns_capture.specs.Stream.{OneMoreFailed}
 use Rattle.mdns_message.specs.TextData.{string_text}
+use Rattle.mdns_survey.specs.declared.listen.ListenFault.TheVariants.{Memory as ListenMemory}
 use Rattle.mdns_survey.specs.declared.survey.SurveyFault.{SurveyFault}
 use Rattle.mdns_survey.specs.declared.survey.SurveyFault.TheVariants as survey
 use Rattle.mdns_survey.specs.Lines.{fault_line_text, is_whole}
 use Rattle.mdns_survey.specs.Said.{Says}
 use Rattle.mdns_trace.specs.declared.verdict.Verdict.{Verdict}
 use Rattle.mdns_trace.specs.declared.verdict.Verdict.TheVariants.{Capture}
-use Rattle.mdns_trace.specs.declared.verdicts.VerdictsFault.{VerdictsFault}
-use Rattle.mdns_trace.specs.declared.verdicts.VerdictsFault.TheVariants.{Memory, Write}
+use Rattle.mdns_trace.specs.declared.files.FilesFault.{FilesFault}
+use Rattle.mdns_trace.specs.declared.files.FilesFault.TheVariants.{File, Memory}
+use Rattle.mdns_trace.specs.declared.trace.TraceFault.{TraceFault}
+use Rattle.mdns_trace.specs.declared.trace.TraceFault.TheVariants.{Listen, Write}
+use Rattle.mdns_trace.specs.Files.{StopsAmong, WritesEach}
 use Rattle.mdns_trace.specs.Verdict.{IsVerdict, is_silent}
 use Rattle.mdns_trace.specs.VerdictObjects.{file_text}
-
--- what the files of these readers are, one verdict each, in order
-abbrev pub AreVerdicts : {R : Type 0} → SourceGhosts R → List (Option R) → List Verdict → Type 0
-AreVerdicts source [] [] = Unit {0}
-AreVerdicts source (reader ∷ readers) (verdict ∷ verdicts) = IsVerdict source reader verdict × AreVerdicts source readers verdicts
-AreVerdicts source _ _ = ⊥
-
--- the lines of the files of these names in a form, file after file
-abbrev pub verdicts_text : Form → List (List ℕ) → List Verdict → List ℕ
-verdicts_text form (name ∷ names) (verdict ∷ verdicts) = file_text form (string_text name) verdict ++ verdicts_text form names verdicts
-verdicts_text form _ _ = []
 
 -- no write failed
 abbrev pub IsUnfailed : {W : Type 0} → SinkGhosts W → W → W → Type 0
 IsUnfailed sink old new = (sink.failures new ≡ sink.failures old) × (IsTrue (sink.steady old) → IsTrue (sink.steady new))
 
--- The lines of a file were written, and no write failed.
-pub record WritesVerdict {R W : Type 0} (source : SourceGhosts R) (sink : SinkGhosts W) (form : Form) (file : List ℕ)
+-- The lines of the file of that name were written, and no write failed.
+pub record WritesVerdict {R W : Type 0} (source : SourceGhosts R) (sink : SinkGhosts W) (form : Form) (name : List ℕ)
     (reader : Option R) (old new : W) (verdict : Verdict) : Type 0 where
   pub is : IsVerdict source reader verdict
-  pub written : Appends (sink.written old) (sink.written new) (file_text form file verdict)
+  pub written : Appends (sink.written old) (sink.written new) (file_text form (string_text name) verdict)
   pub unfailed : IsUnfailed sink old new
 
 -- A prefix of the lines of a file was written; then a write failed, of a sink that isn't steady.
-pub record BreaksVerdict {R W : Type 0} (source : SourceGhosts R) (sink : SinkGhosts W) (form : Form) (file : List ℕ)
+pub record BreaksVerdict {R W : Type 0} (source : SourceGhosts R) (sink : SinkGhosts W) (form : Form) (name : List ℕ)
     (reader : Option R) (old new : W) : Type 0 where
   pub verdict : Verdict
   pub is : IsVerdict source reader verdict
-  pub prefix : AppendsPrefix (sink.written old) (sink.written new) (file_text form file verdict)
+  pub prefix : AppendsPrefix (sink.written old) (sink.written new) (file_text form (string_text name) verdict)
   pub failed : OneMoreFailed (sink.failures old) (sink.failures new)
   pub unsteady : IsTrue (sink.steady old) → ⊥
 
--- the lines of a file weren't all written: none of them, or some
-abbrev pub StopsVerdict : {R W : Type 0} → SourceGhosts R → SinkGhosts W → Form → List ℕ → Option R → W → W → VerdictsFault → Type 0
-StopsVerdict source sink form file reader old new Memory = new ≡ old
-StopsVerdict source sink form file reader old new Write = BreaksVerdict source sink form file reader old new
-
--- The lines of all files were written, and no write failed.
-pub record WritesVerdicts {R W : Type 0} (source : SourceGhosts R) (sink : SinkGhosts W) (form : Form) (names : List (List ℕ))
-    (readers : List (Option R)) (old new : W) (verdicts : List Verdict) : Type 0 where
-  pub are : AreVerdicts source readers verdicts
-  pub written : Appends (sink.written old) (sink.written new) (verdicts_text form names verdicts)
-  pub unfailed : IsUnfailed sink old new
-
--- The lines of some first files were written, and nothing after them.
-pub record WritesFirstVerdicts {R W : Type 0} (source : SourceGhosts R) (sink : SinkGhosts W) (form : Form) (names : List (List ℕ))
-    (readers : List (Option R)) (old new : W) : Type 0 where
-  pub first : List (Option R)
-  pub left : List (Option R)
-  pub of_readers : readers ≡ first ++ left
-  pub verdicts : List Verdict
-  pub writes : WritesVerdicts source sink form names first old new verdicts
-
--- A prefix of the lines of some first files was written; then a write failed, of a sink that isn't steady.
-pub record BreaksVerdicts {R W : Type 0} (source : SourceGhosts R) (sink : SinkGhosts W) (form : Form) (names : List (List ℕ))
-    (readers : List (Option R)) (old new : W) : Type 0 where
-  pub first : List (Option R)
-  pub left : List (Option R)
-  pub of_readers : readers ≡ first ++ left
-  pub verdicts : List Verdict
-  pub are : AreVerdicts source first verdicts
-  pub prefix : AppendsPrefix (sink.written old) (sink.written new) (verdicts_text form names verdicts)
-  pub failed : OneMoreFailed (sink.failures old) (sink.failures new)
-  pub unsteady : IsTrue (sink.steady old) → ⊥
-
--- the lines of these files weren't all written
-abbrev pub StopsVerdicts : {R W : Type 0} → SourceGhosts R → SinkGhosts W → Form → List (List ℕ) → List (Option R) → W → W
-    → VerdictsFault → Type 0
-StopsVerdicts source sink form names readers old new Memory = WritesFirstVerdicts source sink form names readers old new
-StopsVerdicts source sink form names readers old new Write = BreaksVerdicts source sink form names readers old new
+-- the lines of a file weren't all written: none of them where an allocation failed, or some
+abbrev pub StopsVerdict : {R W : Type 0} → SourceGhosts R → SinkGhosts W → Form → List ℕ → Option R → W → W → TraceFault → Type 0
+StopsVerdict source sink form name reader old new (Listen fault) = (fault ≡ ListenMemory) × (new ≡ old)
+StopsVerdict source sink form name reader old new Write = BreaksVerdict source sink form name reader old new
 
 -- THE EXIT STATUS
 
@@ -114,23 +73,24 @@ status_of verdicts =
 
 -- THE RUN
 
--- the fault of a survey that has the same error line
-abbrev pub survey_fault : VerdictsFault → SurveyFault
+-- the fault of a survey that has the same error line, which names no file
+abbrev pub survey_fault : FilesFault → SurveyFault
+survey_fault (File index (Listen fault)) = survey.Memory
+survey_fault (File index Write) = survey.Write
 survey_fault Memory = survey.Memory
-survey_fault Write = survey.Write
 
 -- The lines of all files were written, and nothing on the error writer; this is the status.
 pub record IsAnsweredFiles {R O E : Type 0} (source : SourceGhosts R) (sink : SinkGhosts O) (form : Form) (names : List (List ℕ))
     (readers : List (Option R)) (old new : O) (old_err new_err : E) (status : ℕ) : Type 0 where
   pub verdicts : List Verdict
-  pub writes : WritesVerdicts source sink form names readers old new verdicts
+  pub writes : WritesEach (WritesVerdict source sink form) old names readers new verdicts
   pub silent : new_err ≡ old_err
   pub is_status : status ≡ status_of verdicts
 
 -- The lines weren't all written for some fault, whose error line was written; the status is 2.
 pub record IsRefusedFiles {R O : Type 0} (source : SourceGhosts R) (sink : SinkGhosts O) (form : Form) (names : List (List ℕ))
     (readers : List (Option R)) (old new : O) (err : Writing) (status : ℕ) : Type 0 where
-  pub fault : VerdictsFault
-  pub stops : StopsVerdicts source sink form names readers old new fault
+  pub fault : FilesFault
+  pub stops : StopsAmong (WritesVerdict source sink form) (StopsVerdict source sink form) names readers old new fault
   pub says : Says (codes "mdnswhy") (fault_line_text (codes "mdnswhy") names (survey_fault fault) ∷ []) err
   pub is_status : status ≡ 2

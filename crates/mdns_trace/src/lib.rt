@@ -25,4 +25,4 @@ pub use line::push_hearing_line;
 pub use run::answer_traces;
 pub use trace::{TraceFault, write_trace};
 pub use verdict::Verdict;
-pub use verdicts::{VerdictsFault, answer_files, write_verdicts};
+pub use verdicts::{answer_files, write_verdicts};

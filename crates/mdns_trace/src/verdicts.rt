@@ -2,31 +2,21 @@
 
 ghost use Rattle.std.specs.Prelude.{◌≡◌, ◌⊎◌, ◌≤◌, IfErr, IfOk, length, map, string_bytes};
 ghost use Rattle.mdns_capture.specs.Output.{writing};
-ghost use Rattle.mdns_message.specs.TextData.{string_text};
-ghost use Rattle.mdns_trace.specs.Verdicts.{IsAnsweredFiles, IsRefusedFiles, StopsVerdict, StopsVerdicts};
-ghost use Rattle.mdns_trace.specs.Verdicts.{WritesVerdict, WritesVerdicts, are_sound, are_usable, is_sound};
-ghost use Rattle.mdns_trace.specs.Verdicts.{is_usable, status_of, survey_fault};
+ghost use Rattle.mdns_trace.specs.Files.{NamesFile, StopsAmong, WritesEach};
+ghost use Rattle.mdns_trace.specs.Verdicts.{IsAnsweredFiles, IsRefusedFiles, StopsVerdict, WritesVerdict, are_sound};
+ghost use Rattle.mdns_trace.specs.Verdicts.{are_usable, is_sound, is_usable, status_of, survey_fault};
 
+use crate::files::{FilesFault, Scribe, write_each};
+use crate::trace::TraceFault;
 use crate::verdict::{Verdict, is_silent, is_whole, judge, lines_of};
 use mdns_browse::report::Form;
 use mdns_capture::{Broken, Sink, Source, write_whole};
+use mdns_survey::listen::ListenFault;
 use mdns_survey::reading::Reading;
 use mdns_survey::saying::refuse;
 use mdns_survey::status::{DAMAGED, REFUSED, WHOLE};
 use mdns_survey::survey::SurveyFault;
 use std::alloc::Global;
-use thiserror::Error;
-
-/// Why the lines of files weren't all written.
-#[derive(Debug, Clone, Copy, Error)]
-pub enum VerdictsFault {
-    /// An allocation failed.
-    #[error("Memory")]
-    Memory,
-    /// The writer failed, or took nothing.
-    #[error("Write")]
-    Write,
-}
 
 /// Writes to `out` what each file is, and what to do about it, in order, and returns the verdicts. `readers` are the
 /// files' readers, `None` for a file that can't be opened; `names` are the files' names.
@@ -36,58 +26,57 @@ pub enum VerdictsFault {
 ///
 /// # Errors
 ///
-/// After `Memory` the lines of some first files have gone out whole, after `Write` a prefix of them.
+/// After `Memory` the lines of some first files have gone out; after `File` those of the files before the one that it names,
+/// and where a write failed a prefix of its own. Its only other fault is an allocation that failed.
 pub fn write_verdicts<R: Source + Drop, W: Sink>(
     alloc: Global,
     form: Form,
     names: &[String],
     readers: Vec<Option<R>>,
     out: &mut W,
-) -> Result<Vec<Verdict>, VerdictsFault>
+) -> Result<Vec<Verdict>, FilesFault>
     requires { length names.now ≡ length readers.items }
-    ensures written { IfOk result (λ verdicts. WritesVerdicts R.Source W.Sink form
-        (map string_bytes names.now) readers.items out.old out.new verdicts.items) }
-    ensures stops { IfErr result (StopsVerdicts R.Source W.Sink form
+    ensures written { IfOk result (λ verdicts. WritesEach (WritesVerdict R.Source W.Sink form) out.old
+        (map string_bytes names.now) readers.items out.new verdicts.items) }
+    ensures stops { IfErr result (StopsAmong (WritesVerdict R.Source W.Sink form) (StopsVerdict R.Source W.Sink form)
         (map string_bytes names.now) readers.items out.old out.new) }
+    ensures within { IfErr result (NamesFile (length names.now)) }
 {
-    let mut verdicts = match Vec::with_capacity(alloc, readers.len()) {
-        Ok(verdicts) => verdicts,
-        Err(_) => return Err(VerdictsFault::Memory),
-    };
-    for reader in readers {
-        let index = verdicts.len();
-        let verdict = match write_verdict(alloc, form, names[index].as_str(), reader, out) {
-            Ok(verdict) => verdict,
-            Err(fault) => return Err(fault),
-        };
-        match verdicts.push(verdict) {
-            Ok(()) => {}
-            Err(_) => return Err(VerdictsFault::Memory),
-        }
-    }
-    Ok(verdicts)
+    write_each(alloc, &Judge { form }, names, readers, out)
 }
 
-// Writes what one file is.
-fn write_verdict<R: Source + Drop, W: Sink>(
-    alloc: Global,
+// Writes what files are.
+#[derive(Clone, Copy)]
+struct Judge {
     form: Form,
-    name: &str,
-    reader: Option<R>,
-    out: &mut W,
-) -> Result<Verdict, VerdictsFault>
-    ensures written { IfOk result (WritesVerdict R.Source W.Sink form (string_text name.now) reader out.old out.new) }
-    ensures stops { IfErr result (StopsVerdict R.Source W.Sink form (string_text name.now) reader out.old out.new) }
-{
-    let Ok(verdict) = judge(alloc, reader) else {
-        return Err(VerdictsFault::Memory);
-    };
-    let Ok(lines) = lines_of(alloc, form, name, &verdict) else {
-        return Err(VerdictsFault::Memory);
-    };
-    match write_whole(out, lines.as_bytes()) {
-        Ok(()) => Ok(verdict),
-        Err(Broken) => Err(VerdictsFault::Write),
+}
+
+impl<R: Source + Drop, W: Sink> Scribe<Option<R>, W> for Judge {
+    ghost use Rattle.mdns_trace.specs.Verdicts.{StopsVerdict, WritesVerdict};
+
+    type Found = Verdict;
+
+    ghost Writes = { λ judge. WritesVerdict R.Source W.Sink judge.form };
+
+    ghost Stops = { λ judge. StopsVerdict R.Source W.Sink judge.form };
+
+    fn write(
+        &self,
+        alloc: Global,
+        name: &str,
+        reader: Option<R>,
+        out: &mut W,
+    ) -> Result<Verdict, TraceFault> {
+        let Ok(verdict) = judge(alloc, reader) else {
+            return Err(TraceFault::Listen(ListenFault::Memory));
+        };
+        let Ok(lines) = lines_of(alloc, self.form, name, &verdict) else {
+            return Err(TraceFault::Listen(ListenFault::Memory));
+        };
+        match write_whole(out, lines.as_bytes()) {
+            Ok(()) => Ok(verdict),
+            Err(Broken) => Err(TraceFault::Write),
+        }
     }
 }
 
@@ -163,12 +152,19 @@ pub fn answer_files<R: Source + Drop, O: Sink, E: Sink>(
     }
 }
 
-// Returns the fault of a survey that has the same error line.
-fn survey_fault(fault: VerdictsFault) -> SurveyFault
+// Returns the fault of a survey that has the same error line, which names no file.
+fn survey_fault(fault: FilesFault) -> SurveyFault
     ensures { result ≡ survey_fault fault }
 {
     match fault {
-        VerdictsFault::Memory => SurveyFault::Memory,
-        VerdictsFault::Write => SurveyFault::Write,
+        FilesFault::File {
+            index: _,
+            fault: TraceFault::Write,
+        } => SurveyFault::Write,
+        FilesFault::File {
+            index: _,
+            fault: TraceFault::Listen(_),
+        }
+        | FilesFault::Memory => SurveyFault::Memory,
     }
 }
