@@ -6,8 +6,6 @@ use Rattle.mdns_browse.specs.Json.{json_member, json_object, json_string, parted
 use Rattle.mdns_capture.specs.declared.source.SourceAddress.{SourceAddress}
 use Rattle.mdns_capture.specs.Savefile.{PacketAt}
 use Rattle.mdns_capture.specs.Text.{moment_text}
-use Rattle.mdns_message.specs.declared.fault.MessageFault.{MessageFault}
-use Rattle.mdns_message.specs.declared.fault.MessageFault.TheVariants as fault
 use Rattle.mdns_message.specs.declared.hearing.Hearing.{Hearing}
 use Rattle.mdns_message.specs.declared.resource.Resource.{Resource}
 use Rattle.mdns_survey.specs.declared.outcome.Found.{Found}
@@ -16,7 +14,7 @@ use Rattle.mdns_survey.specs.declared.reading.Span.{Span}
 use Rattle.mdns_survey.specs.Why.{why_text}
 use Rattle.mdns_trace.specs.declared.span.Spanned.{Spanned}
 use Rattle.mdns_trace.specs.Line.{address_text, hearing_line}
-use Rattle.mdns_trace.specs.PacketLine.{packet_line}
+use Rattle.mdns_trace.specs.PacketLine.{fault_at, fault_text, packet_line}
 use Rattle.mdns_trace.specs.Pretty.{hearing_row, packet_row, span_row}
 use Rattle.mdns_trace.specs.Span.{span_line}
 
@@ -71,26 +69,6 @@ hearing_text Pretty file source hearing = hearing_row file source hearing
 hearing_text Json file source hearing = hearing_json file source hearing
 
 -- PACKETS
-
--- the fault of a damaged message in words, and its offset from the message's first byte
-abbrev pub fault_text : MessageFault → List ℕ
-fault_text fault.Header = codes "header cut short"
-fault_text (fault.Cut at) = codes "cut short"
-fault_text (fault.Label at) = codes "neither label nor pointer"
-fault_text (fault.Pointer at) = codes "pointer not backward"
-fault_text (fault.LongName at) = codes "name too long"
-fault_text (fault.Body at) = codes "data out of form"
-fault_text fault.Query = codes "query"
-fault_text fault.Ignored = codes "OPCODE or RCODE"
-fault_text fault.Memory = codes "out of memory"
-
-abbrev pub fault_at : MessageFault → ℕ
-fault_at (fault.Cut at) = at
-fault_at (fault.Label at) = at
-fault_at (fault.Pointer at) = at
-fault_at (fault.LongName at) = at
-fault_at (fault.Body at) = at
-fault_at other = 0
 
 -- what came of a packet, and why
 abbrev pub status_members : List ℕ → List ℕ → List (List ℕ)

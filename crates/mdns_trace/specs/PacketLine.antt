@@ -10,18 +10,26 @@ use Rattle.mdns_survey.specs.declared.outcome.Found.TheVariants as found
 use Rattle.mdns_survey.specs.Lines.{◌<>◌}
 use Rattle.mdns_survey.specs.Why.{why_text}
 
--- The fault of a damaged message, and the offset of it from the message's first byte. The last three are no damage, so
+-- The fault of a damaged message in words, and its offset from the message's first byte. The last three are no damage, so
 -- that no packet is refused for them.
-abbrev pub damage_text : MessageFault → List ℕ
-damage_text fault.Header = codes "header cut short at 0"
-damage_text (fault.Cut at) = codes "cut short at " <> decimal at
-damage_text (fault.Label at) = codes "neither label nor pointer at " <> decimal at
-damage_text (fault.Pointer at) = codes "pointer not backward at " <> decimal at
-damage_text (fault.LongName at) = codes "name too long at " <> decimal at
-damage_text (fault.Body at) = codes "data out of form at " <> decimal at
-damage_text fault.Query = codes "query"
-damage_text fault.Ignored = codes "OPCODE or RCODE"
-damage_text fault.Memory = codes "out of memory"
+abbrev pub fault_text : MessageFault → List ℕ
+fault_text fault.Header = codes "header cut short"
+fault_text (fault.Cut at) = codes "cut short"
+fault_text (fault.Label at) = codes "neither label nor pointer"
+fault_text (fault.Pointer at) = codes "pointer not backward"
+fault_text (fault.LongName at) = codes "name too long"
+fault_text (fault.Body at) = codes "data out of form"
+fault_text fault.Query = codes "query"
+fault_text fault.Ignored = codes "OPCODE or RCODE"
+fault_text fault.Memory = codes "out of memory"
+
+abbrev pub fault_at : MessageFault → ℕ
+fault_at (fault.Cut at) = at
+fault_at (fault.Label at) = at
+fault_at (fault.Pointer at) = at
+fault_at (fault.LongName at) = at
+fault_at (fault.Body at) = at
+fault_at other = 0
 
 -- where a packet is: its moment, its file, and the offset of its header in that file
 abbrev pub place_text : List ℕ → PacketAt → List ℕ
@@ -34,7 +42,7 @@ silence_text = codes "heard no listed record"
 -- what came of a packet that told nothing, and the cause
 abbrev pub found_text : Found → List ℕ
 found_text (found.Skipped why) = codes "skipped " <> why_text why
-found_text (found.Refused damage) = codes "refused " <> damage_text damage
+found_text (found.Refused damage) = codes "refused " <> fault_text damage <> codes " at " <> decimal (fault_at damage)
 found_text (found.Heard source message) = silence_text
 
 -- the line of a packet that told nothing, in a file of that name, with its line feed

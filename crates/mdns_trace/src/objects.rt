@@ -5,18 +5,19 @@ ghost use Rattle.mdns_browse.specs.Json.{comma_unless, parted};
 ghost use Rattle.mdns_capture.specs.Capture.{packet_lent};
 ghost use Rattle.mdns_message.specs.Borrowed.{hearing_lent, resource_lent};
 ghost use Rattle.mdns_trace.specs.Line.{address_text};
-ghost use Rattle.mdns_trace.specs.Objects.{bounds_json, fault_at, fault_text, found_members, hearing_json};
+ghost use Rattle.mdns_trace.specs.Objects.{bounds_json, found_members, hearing_json};
 ghost use Rattle.mdns_trace.specs.Objects.{hearing_pieces, json_bool};
 ghost use Rattle.mdns_trace.specs.Objects.{moment_member, number_member, packet_json, resource_part, span_json};
 ghost use Rattle.mdns_trace.specs.Objects.{status_members, text_member, value_member};
 
 use crate::line::push_address;
+use crate::packet_line::{fault_at, fault_words};
 use crate::span::Spanned;
 use mdns_browse::format::push_nanos;
 use mdns_browse::json::{push_json_name, push_number_member, push_text_member};
 use mdns_browse::push_resource_members;
 use mdns_capture::{Moment, Packet, SourceAddress};
-use mdns_message::{BorrowedHearing, BorrowedResource, MessageFault, Want};
+use mdns_message::{BorrowedHearing, BorrowedResource, Want};
 use mdns_survey::outcome::Found;
 use mdns_survey::reading::Span;
 use std::alloc::Global;
@@ -178,38 +179,6 @@ fn push_status(to: &mut String, status: &str, cause: &str) -> Result<(), Want>
 {
     push_text(to, false, "status", status)?;
     push_text(to, false, "cause", cause)
-}
-
-// Returns the fault of a damaged message in words.
-fn fault_words(fault: MessageFault) -> &'static str
-    ensures { result.now ≡ fault_text fault }
-{
-    match fault {
-        MessageFault::Header => "header cut short",
-        MessageFault::Cut { .. } => "cut short",
-        MessageFault::Label { .. } => "neither label nor pointer",
-        MessageFault::Pointer { .. } => "pointer not backward",
-        MessageFault::LongName { .. } => "name too long",
-        MessageFault::Body { .. } => "data out of form",
-        MessageFault::Query => "query",
-        MessageFault::Ignored => "OPCODE or RCODE",
-        MessageFault::Memory => "out of memory",
-    }
-}
-
-// Returns the offset of the fault from the message's first byte.
-fn fault_at(fault: MessageFault) -> usize
-    ensures { result ≡ fault_at fault }
-{
-    match fault {
-        MessageFault::Cut { at }
-        | MessageFault::Label { at }
-        | MessageFault::Pointer { at }
-        | MessageFault::LongName { at }
-        | MessageFault::Body { at } => at,
-        MessageFault::Header | MessageFault::Query | MessageFault::Ignored | MessageFault::Memory =>
-            0,
-    }
 }
 
 /// Appends the object of a time span, and ends the line.

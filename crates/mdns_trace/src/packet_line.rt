@@ -2,7 +2,7 @@
 
 ghost use Rattle.std.specs.Prelude.{◌≡◌, ◌++◌, OnOk, string_bytes};
 ghost use Rattle.mdns_capture.specs.Capture.{packet_lent};
-ghost use Rattle.mdns_trace.specs.PacketLine.{damage_text, found_text, packet_line, place_text};
+ghost use Rattle.mdns_trace.specs.PacketLine.{fault_at, fault_text, found_text, packet_line, place_text};
 ghost use Rattle.mdns_trace.specs.Trace.{text_of_found};
 
 use crate::objects::push_packet_json;
@@ -14,23 +14,36 @@ use mdns_message::{MessageFault, Want};
 use mdns_survey::outcome::Found;
 use std::alloc::Global;
 
-/// Appends in words the fault of a message, and its offset from the message's first byte. After `Want` nothing is promised
-/// of `to`.
-pub(crate) fn push_fault(to: &mut String, fault: MessageFault) -> Result<(), Want>
-    ensures { OnOk result (string_bytes to.new ≡ string_bytes to.old ++ damage_text fault) }
+/// Returns the fault of a damaged message in words.
+pub(crate) fn fault_words(fault: MessageFault) -> &'static str
+    ensures { result.now ≡ fault_text fault }
 {
     match fault {
-        MessageFault::Header => to.push_str("header cut short at 0")?,
-        MessageFault::Cut { at } => write!(to, "cut short at {at}")?,
-        MessageFault::Label { at } => write!(to, "neither label nor pointer at {at}")?,
-        MessageFault::Pointer { at } => write!(to, "pointer not backward at {at}")?,
-        MessageFault::LongName { at } => write!(to, "name too long at {at}")?,
-        MessageFault::Body { at } => write!(to, "data out of form at {at}")?,
-        MessageFault::Query => to.push_str("query")?,
-        MessageFault::Ignored => to.push_str("OPCODE or RCODE")?,
-        MessageFault::Memory => to.push_str("out of memory")?,
+        MessageFault::Header => "header cut short",
+        MessageFault::Cut { .. } => "cut short",
+        MessageFault::Label { .. } => "neither label nor pointer",
+        MessageFault::Pointer { .. } => "pointer not backward",
+        MessageFault::LongName { .. } => "name too long",
+        MessageFault::Body { .. } => "data out of form",
+        MessageFault::Query => "query",
+        MessageFault::Ignored => "OPCODE or RCODE",
+        MessageFault::Memory => "out of memory",
     }
-    Ok(())
+}
+
+/// Returns the offset of the fault from the message's first byte.
+pub(crate) fn fault_at(fault: MessageFault) -> usize
+    ensures { result ≡ fault_at fault }
+{
+    match fault {
+        MessageFault::Cut { at }
+        | MessageFault::Label { at }
+        | MessageFault::Pointer { at }
+        | MessageFault::LongName { at }
+        | MessageFault::Body { at } => at,
+        MessageFault::Header | MessageFault::Query | MessageFault::Ignored | MessageFault::Memory =>
+            0,
+    }
 }
 
 // Appends the moment of a packet, its file, and the offset of its header there.
@@ -50,8 +63,7 @@ pub(crate) fn push_found(to: &mut String, found: &Found) -> Result<(), Want>
     match *found {
         Found::Skipped(why) => write!(to, "skipped {}", why.words())?,
         Found::Refused(fault) => {
-            to.push_str("refused ")?;
-            push_fault(to, fault)?;
+            write!(to, "refused {} at {}", fault_words(fault), fault_at(fault))?;
         }
         Found::Heard { .. } => to.push_str("heard no listed record")?,
     }
