@@ -1,7 +1,7 @@
 -- Members of objects and values of arrays, group after group.
 use Rattle.std.proofs.Common.{◌≡◌, ℕ, Bool, false, List, [], ◌∷◌, ◌++◌, refl, sym, ap, ◌∙◌, append_assoc, append-nil}
+use Rattle.std.specs.List.{flat_map}
 use Rattle.mdns_browse.specs.Json.{comma_unless, first_after, parted}
-use Rattle.mdns_browse.specs.laws.Objects.{first_after-append}
 use Rattle.mdns_trace.specs.VerdictObjects.{AddsObjects}
 
 first_after-false : {X : Type 0} (xs : List X) → first_after false xs ≡ false
@@ -45,19 +45,12 @@ two-after old first second third fourth new xs ys zs value last one two three fo
       members-append xs ys,
     ) (simp (append_assoc, append-nil))
 
--- the values of an array
-pub in-array : (old opened all new values : List ℕ) → opened ≡ old ++ 91 ∷ [] → all ≡ opened ++ values → new ≡ all ++ 93 ∷ []
-    → new ≡ old ++ (91 ∷ values ++ 93 ∷ [])
-in-array old opened all new values one two three = rw (three, two, one) (simp append_assoc)
-
--- objects after others
-pub adds-more : {first next after : Bool} {old middle new : List ℕ} {xs ys : List (List ℕ)} → AddsObjects first old xs middle next
-    → AddsObjects next middle ys new after → AddsObjects first old (xs ++ ys) new after
-adds-more {first} {next} {after} {old} {middle} {new} {xs} {ys} one two = record {
-  text =
-      two.text ∙ ap (λ (text : List ℕ). text ++ parted next ys) one.text
-      ∙ append_assoc old (parted first xs) (parted next ys)
-      ∙ ap (λ (n : Bool). old ++ (parted first xs ++ parted n ys)) one.flag
-      ∙ ap (λ (text : List ℕ). old ++ text) (sym (parted-append first xs ys));
-  flag = two.flag ∙ ap (λ (n : Bool). first_after n ys) one.flag ∙ sym (first_after-append first xs ys);
-}
+-- the objects of one loss more
+pub objects-more : {A : Type 0} (objects : A → List (List ℕ)) (loss : A) (left : List A) (first next : Bool) (old new : List ℕ)
+    → AddsObjects first old (objects loss) new next
+    → new ++ parted next (flat_map objects left) ≡ old ++ parted first (flat_map objects (loss ∷ left))
+objects-more objects loss left first next old new adds =
+    ap (λ (text : List ℕ). text ++ parted next (flat_map objects left)) adds.text
+    ∙ ap (λ (n : Bool). (old ++ parted first (objects loss)) ++ parted n (flat_map objects left)) adds.flag
+    ∙ append_assoc old (parted first (objects loss)) (parted (first_after first (objects loss)) (flat_map objects left))
+    ∙ ap (λ (text : List ℕ). old ++ text) (sym (parted-append first (objects loss) (flat_map objects left)))

@@ -4,6 +4,7 @@ pub mod Files
 pub mod Flaw
 pub mod Kind
 pub mod Line
+pub mod Loss
 pub mod Objects
 pub mod PacketLine
 pub mod Pretty

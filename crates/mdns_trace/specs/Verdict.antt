@@ -1,8 +1,7 @@
 -- What each of several files is, and the lines that say so.
 use Rattle.std.specs.Prelude.{◌≡◌, ℕ, ◌==◌, ◌&&◌, Bool, IsTrue, not, if◌then◌else◌, List, [], ◌∷◌, ◌++◌, Option, Some, None}
 use Rattle.std.specs.Prelude.{IfSome, codes, decimal}
-use Rattle.mdns_capture.specs.declared.cause.Cause.{Cause}
-use Rattle.mdns_capture.specs.declared.cause.Cause.TheVariants as cause
+use Rattle.std.specs.List.{flat_map}
 use Rattle.mdns_capture.specs.declared.savefile.BeginFault.{BeginFault}
 use Rattle.mdns_capture.specs.declared.savefile.BeginFault.TheVariants.{Memory as BeginMemory, Read as BeginRead}
 use Rattle.mdns_capture.specs.declared.savefile.Ending.{Ending}
@@ -12,19 +11,16 @@ use Rattle.mdns_capture.specs.Savefile.{PacketAt, header_fault}
 use Rattle.mdns_capture.specs.Text.{ending_text, moment_text}
 use Rattle.mdns_survey.specs.declared.listen.ListenFault.{ListenFault}
 use Rattle.mdns_survey.specs.declared.listen.ListenFault.TheVariants.{Begin, Read, Memory}
-use Rattle.mdns_survey.specs.declared.skips.Skips.{Skips}
-use Rattle.mdns_survey.specs.declared.outcome.Why.TheVariants as why
 use Rattle.mdns_survey.specs.declared.reading.Reading.{Reading}
 use Rattle.mdns_survey.specs.declared.reading.Span.{Span}
 use Rattle.mdns_survey.specs.declared.summary.Tally.{Tally}
 use Rattle.mdns_survey.specs.Captures.{Outcome}
 use Rattle.mdns_survey.specs.Lines.{is_whole}
 use Rattle.mdns_survey.specs.Listen.{IsReadingOf}
-use Rattle.mdns_survey.specs.Skips.{count_of}
-use Rattle.mdns_survey.specs.Why.{cause_text}
 use Rattle.mdns_trace.specs.declared.verdict.Verdict.{Verdict}
 use Rattle.mdns_trace.specs.declared.verdict.Verdict.TheVariants.{Capture, Other, Unread, Unopened}
 use Rattle.mdns_trace.specs.Flaw.{cure_text, flaw_of, head_of, what_text}
+use Rattle.mdns_trace.specs.Loss.{loss_text, losses}
 use Rattle.mdns_trace.specs.Span.{bounds_text}
 
 -- WHAT A FILE IS
@@ -80,57 +76,6 @@ early_cure (Some span) = codes "later goodbyes are missing, so trust the answers
 unfoldable pub early_text : List ℕ → Ending → Option Span → List ℕ
 early_text file ending span = if is_whole ending then [] else file ++ codes " ends early: " ++ early_cure span ++ 10 ∷ []
 
--- the line of packets that were lost to a cause, and what to do about it
-abbrev pub lost_line : List ℕ → ℕ → List ℕ → List ℕ → List ℕ
-lost_line file count why cure =
-    file ++ codes " lost " ++ decimal count ++ 32 ∷ why ++ codes ": " ++ cure ++ 10 ∷ []
-
--- the same, and nothing where there are none
-unfoldable pub lost_text : List ℕ → ℕ → List ℕ → List ℕ → List ℕ
-lost_text file count why cure = if count == 0 then [] else lost_line file count why cure
-
--- what to do about packets that fail a check, and nothing where other traffic fails it
-abbrev pub loss_cure : Cause → List ℕ
-loss_cure cause.EthernetCut = codes "bytes are missing, record with tcpdump -s 0"
-loss_cure cause.VlanTag = codes "take one VLAN: tcpdump --nano -r FILE -w TAGGED vlan ID; then editcap -F nsecpcap -L -C 12:4 TAGGED NEW"
-loss_cure cause.EtherType = []
-loss_cure cause.HeaderCut = codes "bytes are missing, record with tcpdump -s 0"
-loss_cure cause.IpHeader = codes "a broken sender, or a damaged capture"
-loss_cure cause.TotalLength = codes "a broken sender, or a damaged capture"
-loss_cure cause.DatagramCut = codes "bytes are missing, record with tcpdump -s 0"
-loss_cure cause.Fragment = codes "what it told is missing, unless another message told it"
-loss_cure cause.FragmentHeader = codes "what it told is missing, unless another message told it"
-loss_cure cause.Protocol = []
-loss_cure cause.ExtensionHeader = []
-loss_cure cause.Group = []
-loss_cure cause.Port = []
-loss_cure cause.UdpLength = codes "a broken sender, or a damaged capture"
-
--- the line of the packets that fail a check
-unfoldable pub loss_text : List ℕ → Skips → Cause → List ℕ
-loss_text file skips own = lost_text file (count_of (why.Frame own) skips) (cause_text own) (loss_cure own)
-
--- a line for each check that lost packets, in the order of the checks
-unfoldable pub losses_text : List ℕ → Skips → List ℕ
-losses_text file skips =
-    loss_text file skips cause.EthernetCut
-    ++ loss_text file skips cause.VlanTag
-    ++ loss_text file skips cause.HeaderCut
-    ++ loss_text file skips cause.IpHeader
-    ++ loss_text file skips cause.TotalLength
-    ++ loss_text file skips cause.DatagramCut
-    ++ loss_text file skips cause.Fragment
-    ++ loss_text file skips cause.FragmentHeader
-    ++ loss_text file skips cause.UdpLength
-
--- what to do about damaged messages
-abbrev pub refused_cure : List ℕ
-refused_cure = codes "a broken sender, or a damaged capture; mdnswhy packets tells where"
-
--- the line of damaged messages, of all faults
-unfoldable pub refused_text : List ℕ → ℕ → List ℕ
-refused_text file count = lost_text file count (codes "refused") refused_cure
-
 -- there are packets, but no hearings
 abbrev pub is_silent : Tally → Bool
 is_silent tally = not (tally.packets == 0) && (tally.hearings == 0)
@@ -145,8 +90,8 @@ silent_text file tally = if is_silent tally then file ++ codes " heard nothing: 
 -- the lines of a capture in a file of that name
 unfoldable pub capture_text : List ℕ → Reading → List ℕ
 capture_text file reading =
-    capture_line file reading ++ early_text file reading.summary.ending reading.span ++ losses_text file reading.skips
-    ++ refused_text file reading.summary.tally.refused ++ silent_text file reading.summary.tally
+    capture_line file reading ++ early_text file reading.summary.ending reading.span
+    ++ flat_map (loss_text file reading) losses ++ silent_text file reading.summary.tally
 
 -- what to do about a file of which a read failed, and about one that can't be opened
 abbrev pub unread_cure : List ℕ

@@ -1,27 +1,23 @@
 -- What each of several files is, as JSON (RFC 8259): one object a line, which says what the lines of words say.
 use Rattle.std.specs.Prelude.{◌≡◌, ℕ, ◌==◌, Bool, if◌then◌else◌, List, [], ◌∷◌, ◌++◌, length, Option, Some, None, codes}
+use Rattle.std.specs.List.{flat_map}
 use Rattle.mdns_browse.specs.declared.report.Form.{Form}
 use Rattle.mdns_browse.specs.declared.report.Form.TheVariants.{Lines, Json, Pretty}
 use Rattle.mdns_browse.specs.Json.{first_after, json_array, json_object, parted}
-use Rattle.mdns_capture.specs.declared.cause.Cause.{Cause}
-use Rattle.mdns_capture.specs.declared.cause.Cause.TheVariants as cause
 use Rattle.mdns_capture.specs.Text.{ending_text}
-use Rattle.mdns_survey.specs.declared.outcome.Why.TheVariants as why
 use Rattle.mdns_survey.specs.declared.reading.Reading.{Reading}
 use Rattle.mdns_survey.specs.declared.reading.Span.{Span}
-use Rattle.mdns_survey.specs.declared.skips.Skips.{Skips}
 use Rattle.mdns_survey.specs.declared.summary.Tally.{Tally}
 use Rattle.mdns_survey.specs.Lines.{is_whole}
-use Rattle.mdns_survey.specs.Skips.{count_of}
-use Rattle.mdns_survey.specs.Why.{cause_text}
 use Rattle.mdns_trace.specs.declared.flaw.Flaw.{Flaw}
 use Rattle.mdns_trace.specs.declared.flaw.Flaw.TheVariants as flaw
 use Rattle.mdns_trace.specs.declared.verdict.Verdict.{Verdict}
 use Rattle.mdns_trace.specs.declared.verdict.Verdict.TheVariants.{Capture, Other, Unread, Unopened}
 use Rattle.mdns_trace.specs.Flaw.{cure_text, link_name}
+use Rattle.mdns_trace.specs.declared.loss.Loss.{Loss}
+use Rattle.mdns_trace.specs.Loss.{cure_of, losses, lost_to, words_of}
 use Rattle.mdns_trace.specs.Objects.{moment_member, number_member, text_member, value_member}
-use Rattle.mdns_trace.specs.Verdict.{early_cure, is_silent, loss_cure, refused_cure, silent_cure}
-use Rattle.mdns_trace.specs.Verdict.{unopened_cure, unread_cure, verdict_text}
+use Rattle.mdns_trace.specs.Verdict.{early_cure, is_silent, silent_cure, unopened_cure, unread_cure, verdict_text}
 
 -- WHAT A FILE IS
 
@@ -58,34 +54,17 @@ flaw_members flaw = link_members flaw ++ text_member (codes "do") (cure_text fla
 
 -- WHAT A CAPTURE LOST
 
--- packets that were lost to a cause, and what to do about it; nothing where there are none
-unfoldable pub lost_objects : ℕ → List ℕ → List ℕ → List (List ℕ)
-lost_objects count why cure =
-    if count == 0 then []
-    else json_object (text_member (codes "cause") why
-    ∷ number_member (codes "packets") count
-    ∷ text_member (codes "do") cure ∷ []) ∷ []
+-- the packets that were lost to it, and what to do about it; nothing where there are none
+unfoldable pub loss_objects : Reading → Loss → List (List ℕ)
+loss_objects reading loss =
+    if lost_to loss reading == 0 then []
+    else json_object (text_member (codes "cause") (words_of loss)
+    ∷ number_member (codes "packets") (lost_to loss reading)
+    ∷ text_member (codes "do") (cure_of loss) ∷ []) ∷ []
 
--- the packets that fail a check
-unfoldable pub loss_objects : Skips → Cause → List (List ℕ)
-loss_objects skips own = lost_objects (count_of (why.Frame own) skips) (cause_text own) (loss_cure own)
-
--- an object for each check that lost packets, in the order of the checks
-unfoldable pub losses_objects : Skips → List (List ℕ)
-losses_objects skips =
-    loss_objects skips cause.EthernetCut
-    ++ loss_objects skips cause.VlanTag
-    ++ loss_objects skips cause.HeaderCut
-    ++ loss_objects skips cause.IpHeader
-    ++ loss_objects skips cause.TotalLength
-    ++ loss_objects skips cause.DatagramCut
-    ++ loss_objects skips cause.Fragment
-    ++ loss_objects skips cause.FragmentHeader
-    ++ loss_objects skips cause.UdpLength
-
--- the same, and one for damaged messages, of all faults
-unfoldable pub lost_json : Skips → ℕ → List ℕ
-lost_json skips refused = json_array (losses_objects skips ++ lost_objects refused (codes "refused") refused_cure)
+-- an array of them
+unfoldable pub lost_json : Reading → List ℕ
+lost_json reading = json_array (flat_map (loss_objects reading) losses)
 
 -- the objects were added to the values of an array, of which none, or some, had been written before
 pub record AddsObjects (first : Bool) (old : List ℕ) (objects : List (List ℕ)) (new : List ℕ) (next : Bool) : Type 0 where
@@ -127,7 +106,7 @@ unfoldable pub capture_members : Reading → List (List ℕ)
 capture_members reading =
     do_members reading ++ bounds_members reading.span ++ tally_members reading.summary.tally
     ++ text_member (codes "ending") (ending_text reading.summary.ending)
-    ∷ value_member (codes "lost") (lost_json reading.skips reading.summary.tally.refused) ∷ []
+    ∷ value_member (codes "lost") (lost_json reading) ∷ []
 
 -- THE LINE
 

@@ -8,6 +8,7 @@ mod flaw;
 mod headed;
 pub mod kind;
 pub mod line;
+mod loss;
 mod objects;
 mod packet_line;
 mod pretty;

@@ -5,32 +5,25 @@ ghost use Rattle.std.specs.Io.KnownBytes.{prepend_known};
 ghost use Rattle.mdns_message.specs.TextData.{string_text};
 ghost use Rattle.mdns_survey.specs.Lines.{is_whole};
 ghost use Rattle.mdns_trace.specs.Flaw.{cure_text, head_of, what_text};
-ghost use Rattle.mdns_trace.specs.Verdict.{IsVerdict, IsVerdictOf, capture_front, capture_line};
-ghost use Rattle.mdns_trace.specs.Verdict.{capture_text, early_cure, early_text, is_silent, loss_cure};
-ghost use Rattle.mdns_trace.specs.Verdict.{loss_text, losses_text, lost_text, refused_text, silent_text};
-ghost use Rattle.mdns_trace.specs.Verdict.{unusable_line, verdict_for, verdict_text};
+ghost use Rattle.mdns_trace.specs.Verdict.{IsVerdict, IsVerdictOf, capture_front, capture_line, capture_text, early_cure};
+ghost use Rattle.mdns_trace.specs.Verdict.{early_text, is_silent, silent_text, unusable_line, verdict_for, verdict_text};
 ghost use Rattle.mdns_trace.specs.VerdictObjects.{file_text};
 
 use crate::flaw::{Flaw, cure_words, flaw_of, push_what};
 use crate::headed::{Headed, read_head};
+use crate::loss::{LOSSES, push_losses};
 use crate::span::{push_bounds, read_spanned};
 use crate::trace::word_of;
 use crate::verdict_objects::push_verdict_json;
 use mdns_browse::format::push_nanos;
 use mdns_browse::report::Form;
 use mdns_capture::savefile::FILE_HEADER;
-use mdns_capture::{BeginFault, Broken, Cause, Ending, Source};
+use mdns_capture::{BeginFault, Broken, Ending, Source};
 use mdns_message::Want;
-use mdns_survey::Skips;
 use mdns_survey::listen::ListenFault;
-use mdns_survey::outcome::Why;
 use mdns_survey::reading::{Reading, Span};
 use mdns_survey::summary::Tally;
 use std::alloc::Global;
-
-/// What to do about damaged messages.
-pub(crate) const REFUSED_CURE: &str =
-    "a broken sender, or a damaged capture; mdnswhy packets tells where";
 
 /// What to do about a capture that has packets, but no hearings.
 pub(crate) const SILENT_CURE: &str = "mdnswhy packets tells what each packet is";
@@ -147,8 +140,7 @@ fn push_capture(to: &mut String, file: &str, reading: &Reading) -> Result<(), Wa
 {
     push_capture_line(to, file, reading)?;
     push_early(to, file, reading.summary.ending, reading.span)?;
-    push_losses(to, file, &reading.skips)?;
-    push_refused(to, file, reading.summary.tally.refused)?;
+    push_losses(to, file, reading, LOSSES)?;
     push_silent(to, file, &reading.summary.tally)
 }
 
@@ -206,73 +198,6 @@ fn push_front(to: &mut String, file: &str, ending: Ending) -> Result<(), Want>
     ensures { OnOk result (string_bytes to.new ≡ string_bytes to.old ++ capture_front file.now ending) }
 {
     write!(to, "{file} pcap {ending}")?;
-    Ok(())
-}
-
-// Appends a line for each check that lost packets.
-#[tactic(auto, unfolding(crate::specs::Verdict::losses_text))]
-fn push_losses(to: &mut String, file: &str, skips: &Skips) -> Result<(), Want>
-    ensures { OnOk result (string_bytes to.new ≡ string_bytes to.old ++ losses_text file.now skips.now) }
-{
-    push_loss(to, file, skips, Cause::EthernetCut)?;
-    push_loss(to, file, skips, Cause::VlanTag)?;
-    push_loss(to, file, skips, Cause::HeaderCut)?;
-    push_loss(to, file, skips, Cause::IpHeader)?;
-    push_loss(to, file, skips, Cause::TotalLength)?;
-    push_loss(to, file, skips, Cause::DatagramCut)?;
-    push_loss(to, file, skips, Cause::Fragment)?;
-    push_loss(to, file, skips, Cause::FragmentHeader)?;
-    push_loss(to, file, skips, Cause::UdpLength)
-}
-
-// Appends the line of the packets that fail a check.
-#[tactic(auto, unfolding(crate::specs::Verdict::loss_text))]
-fn push_loss(to: &mut String, file: &str, skips: &Skips, cause: Cause) -> Result<(), Want>
-    ensures { OnOk result (string_bytes to.new ≡ string_bytes to.old ++ loss_text file.now skips.now cause) }
-{
-    let why = Why::Frame(cause);
-    push_lost(to, file, skips.count(why), why.words(), loss_cure(cause))
-}
-
-/// Returns in words what to do about packets that fail a check.
-pub(crate) fn loss_cure(cause: Cause) -> &'static str
-    ensures { result.now ≡ loss_cure cause }
-{
-    match cause {
-        Cause::EthernetCut | Cause::HeaderCut | Cause::DatagramCut => {
-            "bytes are missing, record with tcpdump -s 0"
-        }
-        Cause::VlanTag => {
-            "take one VLAN: tcpdump --nano -r FILE -w TAGGED vlan ID; then editcap -F nsecpcap -L -C 12:4 TAGGED NEW"
-        }
-        Cause::IpHeader | Cause::TotalLength | Cause::UdpLength => {
-            "a broken sender, or a damaged capture"
-        }
-        Cause::Fragment | Cause::FragmentHeader => {
-            "what it told is missing, unless another message told it"
-        }
-        Cause::EtherType | Cause::Protocol | Cause::ExtensionHeader | Cause::Group | Cause::Port =>
-            "",
-    }
-}
-
-// Appends the line of damaged messages.
-#[tactic(auto, unfolding(crate::specs::Verdict::refused_text))]
-fn push_refused(to: &mut String, file: &str, count: u32) -> Result<(), Want>
-    ensures { OnOk result (string_bytes to.new ≡ string_bytes to.old ++ refused_text file.now count) }
-{
-    push_lost(to, file, count, "refused", REFUSED_CURE)
-}
-
-// Appends the line of packets that were lost, if there are any.
-#[tactic(auto, unfolding(crate::specs::Verdict::lost_text))]
-fn push_lost(to: &mut String, file: &str, count: u32, why: &str, cure: &str) -> Result<(), Want>
-    ensures { OnOk result (string_bytes to.new ≡ string_bytes to.old ++ lost_text file.now count why.now cure.now) }
-{
-    if count == 0 {
-        return Ok(());
-    }
-    write!(to, "{file} lost {count} {why}: {cure}\n")?;
     Ok(())
 }
 

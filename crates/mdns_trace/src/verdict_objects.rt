@@ -1,25 +1,23 @@
 //! What each of several files is, as JSON (RFC 8259): one object a line.
 
 ghost use Rattle.std.specs.Prelude.{◌≡◌, ◌∷◌, ◌++◌, [], IfOk, OnOk, codes, false, string_bytes, true};
+ghost use Rattle.std.specs.List.{flat_map};
 ghost use Rattle.mdns_browse.specs.Json.{comma_unless, parted};
 ghost use Rattle.mdns_capture.specs.Text.{ending_text};
 ghost use Rattle.mdns_trace.specs.Objects.{text_member, value_member};
-ghost use Rattle.mdns_trace.specs.VerdictObjects.{AddsObjects, bounds_members, capture_members, do_members, flaw_members, is_word};
-ghost use Rattle.mdns_trace.specs.VerdictObjects.{kind_word, link_members, losses_objects, loss_objects, lost_json};
-ghost use Rattle.mdns_trace.specs.VerdictObjects.{lost_objects, name_members, silent_after, silent_members, tally_members};
-ghost use Rattle.mdns_trace.specs.VerdictObjects.{verdict_json, verdict_members};
+ghost use Rattle.mdns_trace.specs.VerdictObjects.{AddsObjects, bounds_members, capture_members, do_members, flaw_members};
+ghost use Rattle.mdns_trace.specs.VerdictObjects.{is_word, kind_word, link_members, loss_objects, lost_json, name_members};
+ghost use Rattle.mdns_trace.specs.VerdictObjects.{silent_after, silent_members, tally_members, verdict_json, verdict_members};
 
 use crate::flaw::{Flaw, cure_words, link_name};
+use crate::loss::{LOSSES, Loss};
 use crate::objects::{push_moment_member, push_number, push_text};
 use crate::verdict::{
-    REFUSED_CURE, SILENT_CURE, UNOPENED_CURE, UNREAD_CURE, Verdict, is_silent, is_whole, loss_cure,
-    push_early_cure,
+    SILENT_CURE, UNOPENED_CURE, UNREAD_CURE, Verdict, is_silent, is_whole, push_early_cure,
 };
 use mdns_browse::json::push_json_name;
-use mdns_capture::{Cause, Ending};
+use mdns_capture::Ending;
 use mdns_message::Want;
-use mdns_survey::Skips;
-use mdns_survey::outcome::Why;
 use mdns_survey::reading::{Reading, Span};
 use mdns_survey::summary::Tally;
 use std::alloc::Global;
@@ -132,7 +130,7 @@ fn push_capture_members(alloc: Global, to: &mut String, reading: &Reading) -> Re
     push_bounds_members(alloc, to, reading.span)?;
     push_tally_members(to, &reading.summary.tally)?;
     push_ending_member(alloc, to, reading.summary.ending)?;
-    push_lost_member(to, &reading.skips, reading.summary.tally.refused)
+    push_lost_member(to, reading)
 }
 
 // Appends what to do about a capture that ended before its packets did, or that has packets, but no hearings; both cures
@@ -209,66 +207,49 @@ fn push_ending_member(alloc: Global, to: &mut String, ending: Ending) -> Result<
 
 // Appends what a capture lost.
 #[tactic(auto, unfolding(crate::specs::Objects::value_member))]
-fn push_lost_member(to: &mut String, skips: &Skips, refused: u32) -> Result<(), Want>
+fn push_lost_member(to: &mut String, reading: &Reading) -> Result<(), Want>
     ensures { OnOk result (string_bytes to.new ≡ string_bytes to.old
-        ++ (comma_unless false ++ value_member (codes "lost") (lost_json skips.now refused))) }
+        ++ (comma_unless false ++ value_member (codes "lost") (lost_json reading.now))) }
 {
     push_json_name(to, false, "lost")?;
-    push_lost_json(to, skips, refused)
+    push_lost_json(to, reading)
 }
 
 // Appends an array of what a capture lost.
-fn push_lost_json(to: &mut String, skips: &Skips, refused: u32) -> Result<(), Want>
-    ensures { OnOk result (string_bytes to.new ≡ string_bytes to.old ++ lost_json skips.now refused) }
+#[tactic(auto, unfolding(crate::specs::VerdictObjects::lost_json))]
+fn push_lost_json(to: &mut String, reading: &Reading) -> Result<(), Want>
+    ensures { OnOk result (string_bytes to.new ≡ string_bytes to.old ++ lost_json reading.now) }
 {
     to.push('[')?;
-    let first = push_losses_objects(to, skips)?;
-    push_lost_objects(to, first, refused, "refused", REFUSED_CURE)?;
+    push_loss_objects(to, reading, LOSSES)?;
     to.push(']')?;
     Ok(())
 }
 
-// Appends an object for each check that lost packets. Returns whether there is none.
-fn push_losses_objects(to: &mut String, skips: &Skips) -> Result<bool, Want>
-    ensures { IfOk result (AddsObjects true (string_bytes to.old) (losses_objects skips.now) (string_bytes to.new)) }
+// Appends an object for each loss of a capture, if it lost packets to it.
+#[tactic(auto, unfolding(mdns_browse::specs::Json::parted))]
+fn push_loss_objects(to: &mut String, reading: &Reading, losses: &[Loss]) -> Result<(), Want>
+    ensures { OnOk result (string_bytes to.new
+        ≡ string_bytes to.old ++ parted true (flat_map (loss_objects reading.now) losses.now)) }
 {
-    let first = push_loss_objects(to, true, skips, Cause::EthernetCut)?;
-    let first = push_loss_objects(to, first, skips, Cause::VlanTag)?;
-    let first = push_loss_objects(to, first, skips, Cause::HeaderCut)?;
-    let first = push_loss_objects(to, first, skips, Cause::IpHeader)?;
-    let first = push_loss_objects(to, first, skips, Cause::TotalLength)?;
-    let first = push_loss_objects(to, first, skips, Cause::DatagramCut)?;
-    let first = push_loss_objects(to, first, skips, Cause::Fragment)?;
-    let first = push_loss_objects(to, first, skips, Cause::FragmentHeader)?;
-    push_loss_objects(to, first, skips, Cause::UdpLength)
+    let mut first = true;
+    for loss in losses {
+        first = push_loss_object(to, first, reading, *loss)?;
+    }
+    Ok(())
 }
 
-// Appends the object of the packets that fail a check. Returns whether the next object is the first.
-#[tactic(auto, unfolding(crate::specs::VerdictObjects::loss_objects))]
-fn push_loss_objects(
+// Appends the object of a loss, if there are packets. Returns whether the next object is the first.
+#[tactic(auto, unfolding(crate::specs::VerdictObjects::loss_objects, mdns_browse::specs::Json::parted))]
+fn push_loss_object(
     to: &mut String,
     first: bool,
-    skips: &Skips,
-    cause: Cause,
+    reading: &Reading,
+    loss: Loss,
 ) -> Result<bool, Want>
-    ensures { IfOk result (AddsObjects first (string_bytes to.old) (loss_objects skips.now cause) (string_bytes to.new)) }
+    ensures { IfOk result (AddsObjects first (string_bytes to.old) (loss_objects reading.now loss) (string_bytes to.new)) }
 {
-    let why = Why::Frame(cause);
-    push_lost_objects(to, first, skips.count(why), why.words(), loss_cure(cause))
-}
-
-// Appends the object of packets that were lost, if there are any. Returns whether the next object is the first.
-#[tactic(auto, unfolding(crate::specs::VerdictObjects::lost_objects, mdns_browse::specs::Json::parted))]
-fn push_lost_objects(
-    to: &mut String,
-    first: bool,
-    count: u32,
-    why: &str,
-    cure: &str,
-) -> Result<bool, Want>
-    ensures { IfOk result (AddsObjects first (string_bytes to.old) (lost_objects count why.now cure.now)
-        (string_bytes to.new)) }
-{
+    let count = loss.count(reading);
     if count == 0 {
         return Ok(first);
     }
@@ -276,9 +257,9 @@ fn push_lost_objects(
         to.push(',')?;
     }
     to.push('{')?;
-    push_text(to, true, "cause", why)?;
+    push_text(to, true, "cause", loss.words())?;
     push_number(to, "packets", count as u64)?;
-    push_text(to, false, "do", cure)?;
+    push_text(to, false, "do", loss.cure())?;
     to.push('}')?;
     Ok(false)
 }
