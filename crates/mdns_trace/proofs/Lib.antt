@@ -1,6 +1,5 @@
 mod FilesLemmas
 mod MemberLemmas
-mod ObjectLemmas
 mod SpanLemmas
 mod TraceLemmas
 mod VerdictLemmas

@@ -1,7 +1,7 @@
 -- Members of objects and values of arrays, group after group.
 use Rattle.std.proofs.Common.{◌≡◌, ℕ, Bool, false, List, [], ◌∷◌, ◌++◌, refl, sym, ap, ◌∙◌, append_assoc, append-nil}
 use Rattle.std.specs.List.{flat_map}
-use Rattle.mdns_browse.specs.Json.{comma_unless, first_after, parted}
+use Rattle.mdns_browse.specs.Json.{comma_unless, first_after, json_object, parted}
 use Rattle.mdns_trace.specs.VerdictObjects.{AddsObjects}
 
 first_after-false : {X : Type 0} (xs : List X) → first_after false xs ≡ false
@@ -20,6 +20,26 @@ parted-append first (x ∷ xs) ys =
 pub members-append : (xs ys : List (List ℕ)) → parted false (xs ++ ys) ≡ parted false xs ++ parted false ys
 members-append xs ys =
     parted-append false xs ys ∙ ap (λ (next : Bool). parted false xs ++ parted next ys) (first_after-false xs)
+
+pieces-together : (a b c others d e : List ℕ) → ((a ++ (b ++ (c ++ (others ++ (d ++ (e ++ [])))))) ++ 125 ∷ []) ++ 10 ∷ []
+    ≡ a ++ (b ++ (c ++ (others ++ (d ++ (e ++ 125 ∷ 10 ∷ [])))))
+pieces-together a b c others d e = simp (append_assoc, append-nil)
+
+pieces-after : (old one a b c others d e end : List ℕ) → (((((((old ++ one) ++ a) ++ b) ++ c) ++ others) ++ d) ++ e) ++ end
+    ≡ old ++ (one ++ (a ++ (b ++ (c ++ (others ++ (d ++ (e ++ end)))))))
+pieces-after old one a b c others d e end = simp append_assoc
+
+-- the line of an object of three members, others, and two more, which were appended one after another
+pub object-after : (old opened first second third fourth fifth last new a b c : List ℕ) (xs : List (List ℕ)) (d e : List ℕ)
+    → opened ≡ old ++ 123 ∷ [] → first ≡ opened ++ a → second ≡ first ++ 44 ∷ b → third ≡ second ++ 44 ∷ c
+    → fourth ≡ third ++ parted false xs → fifth ≡ fourth ++ 44 ∷ d → last ≡ fifth ++ 44 ∷ e → new ≡ last ++ 125 ∷ 10 ∷ []
+    → new ≡ old ++ (json_object (a ∷ b ∷ c ∷ (xs ++ d ∷ e ∷ [])) ++ 10 ∷ [])
+unfolding parted
+object-after old opened first second third fourth fifth last new a b c xs d e one two three four five six seven eight =
+    let others = parted false xs in
+    rw (eight, seven, six, five, four, three, two, one, members-append xs (d ∷ e ∷ []))
+    (pieces-after old (123 ∷ []) a (44 ∷ b) (44 ∷ c) others (44 ∷ d) (44 ∷ e) (125 ∷ 10 ∷ [])
+    ∙ ap (λ (l : List ℕ). old ++ 123 ∷ l) (sym (pieces-together a (44 ∷ b) (44 ∷ c) others (44 ∷ d) (44 ∷ e))))
 
 -- members, and one after them
 pub one-after : (old middle new : List ℕ) (xs : List (List ℕ)) (value : List ℕ) → middle ≡ old ++ parted false xs

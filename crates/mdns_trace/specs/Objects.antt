@@ -1,13 +1,12 @@
 -- Hearings, packets and time spans as JSON (RFC 8259): one object a line.
-use Rattle.std.specs.Prelude.{ℕ, Bool, true, false, List, [], ◌∷◌, ◌++◌, Option, Some, None, codes, decimal}
+use Rattle.std.specs.Prelude.{ℕ, List, [], ◌∷◌, ◌++◌, Option, Some, None, codes, decimal}
 use Rattle.mdns_browse.specs.declared.report.Form.{Form}
 use Rattle.mdns_browse.specs.declared.report.Form.TheVariants.{Lines, Json, Pretty}
-use Rattle.mdns_browse.specs.Json.{json_member, json_object, json_string, parted, resource_members}
+use Rattle.mdns_browse.specs.Json.{json_bool, json_member, json_object, json_string, resource_members}
 use Rattle.mdns_capture.specs.declared.source.SourceAddress.{SourceAddress}
 use Rattle.mdns_capture.specs.Savefile.{PacketAt}
 use Rattle.mdns_capture.specs.Text.{moment_text}
 use Rattle.mdns_message.specs.declared.hearing.Hearing.{Hearing}
-use Rattle.mdns_message.specs.declared.resource.Resource.{Resource}
 use Rattle.mdns_survey.specs.declared.outcome.Found.{Found}
 use Rattle.mdns_survey.specs.declared.outcome.Found.TheVariants as found
 use Rattle.mdns_survey.specs.declared.reading.Span.{Span}
@@ -31,14 +30,6 @@ moment_member name nanos = json_member name (json_string (moment_text nanos))
 unfoldable pub value_member : List ℕ → List ℕ → List ℕ
 value_member name value = json_member name value
 
--- the members that say what a record is, each after a comma
-unfoldable pub resource_part : Resource → List ℕ
-resource_part resource = parted false (resource_members resource)
-
-abbrev pub json_bool : Bool → List ℕ
-json_bool true = codes "true"
-json_bool false = codes "false"
-
 -- HEARINGS
 
 -- the line of a hearing: the moment, the file, the source address, the record, the TTL and the cache-flush bit
@@ -51,16 +42,6 @@ hearing_json file source hearing =
     ∷ (resource_members hearing.heard
     ++ number_member (codes "ttl") hearing.ttl
     ∷ value_member (codes "flush") (json_bool hearing.flush) ∷ [])) ++ 10 ∷ []
-
--- the same, piece after piece
-unfoldable pub hearing_pieces : List ℕ → SourceAddress → Hearing → List ℕ
-hearing_pieces file source hearing =
-    123 ∷ (moment_member (codes "moment") hearing.moment.nanos
-    ++ 44 ∷ (text_member (codes "file") file
-    ++ 44 ∷ (text_member (codes "source") (address_text source)
-    ++ resource_part hearing.heard
-    ++ 44 ∷ (number_member (codes "ttl") hearing.ttl
-    ++ 44 ∷ (value_member (codes "flush") (json_bool hearing.flush) ++ 125 ∷ 10 ∷ [])))))
 
 -- the same in a form
 abbrev pub hearing_text : Form → List ℕ → SourceAddress → Hearing → List ℕ

@@ -1,13 +1,12 @@
 //! Hearings, packets and time spans as JSON (RFC 8259): one object a line.
 
 ghost use Rattle.std.specs.Prelude.{◌≡◌, ◌++◌, OnOk, codes, false, string_bytes};
-ghost use Rattle.mdns_browse.specs.Json.{comma_unless, parted};
+ghost use Rattle.mdns_browse.specs.Json.{comma_unless, json_bool, parted};
 ghost use Rattle.mdns_capture.specs.Capture.{packet_lent};
-ghost use Rattle.mdns_message.specs.Borrowed.{hearing_lent, resource_lent};
+ghost use Rattle.mdns_message.specs.Borrowed.{hearing_lent};
 ghost use Rattle.mdns_trace.specs.Line.{address_text};
 ghost use Rattle.mdns_trace.specs.Objects.{bounds_json, found_members, hearing_json};
-ghost use Rattle.mdns_trace.specs.Objects.{hearing_pieces, json_bool};
-ghost use Rattle.mdns_trace.specs.Objects.{moment_member, number_member, packet_json, resource_part, span_json};
+ghost use Rattle.mdns_trace.specs.Objects.{moment_member, number_member, packet_json, span_json};
 ghost use Rattle.mdns_trace.specs.Objects.{status_members, text_member, value_member};
 
 use crate::line::push_address;
@@ -17,7 +16,7 @@ use mdns_browse::format::push_nanos;
 use mdns_browse::json::{push_json_name, push_number_member, push_text_member};
 use mdns_browse::push_resource_members;
 use mdns_capture::{Moment, Packet, SourceAddress};
-use mdns_message::{BorrowedHearing, BorrowedResource, Want};
+use mdns_message::{BorrowedHearing, Want};
 use mdns_survey::outcome::Found;
 use mdns_survey::reading::Span;
 use std::alloc::Global;
@@ -33,26 +32,11 @@ pub(crate) fn push_hearing_json(
     ensures { OnOk result (string_bytes to.new
         ≡ string_bytes to.old ++ hearing_json file.now source.now (hearing_lent hearing.now)) }
 {
-    push_hearing_pieces(alloc, to, file, source, hearing)
-}
-
-// Appends the object of a hearing piece after piece, and ends the line.
-#[tactic(auto, unfolding(crate::specs::Objects::hearing_pieces))]
-fn push_hearing_pieces(
-    alloc: Global,
-    to: &mut String,
-    file: &str,
-    source: &SourceAddress,
-    hearing: &BorrowedHearing<'_>,
-) -> Result<(), Want>
-    ensures { OnOk result (string_bytes to.new
-        ≡ string_bytes to.old ++ hearing_pieces file.now source.now (hearing_lent hearing.now)) }
-{
     to.push('{')?;
     push_moment_member(alloc, to, true, "moment", hearing.moment)?;
     push_text(to, false, "file", file)?;
     push_source_member(alloc, to, source)?;
-    push_resource_part(alloc, to, &hearing.heard)?;
+    push_resource_members(alloc, to, &hearing.heard)?;
     push_number(to, "ttl", hearing.ttl as u64)?;
     push_flush_member(to, hearing.flush)?;
     to.push_str("}\n")?;
@@ -75,19 +59,6 @@ pub(crate) fn push_number(to: &mut String, name: &str, number: u64) -> Result<()
         ≡ string_bytes to.old ++ (comma_unless false ++ number_member name.now number)) }
 {
     push_number_member(to, false, name, number)
-}
-
-// Appends the members that say what a record is.
-#[tactic(auto, unfolding(crate::specs::Objects::resource_part))]
-fn push_resource_part(
-    alloc: Global,
-    to: &mut String,
-    resource: &BorrowedResource<'_>,
-) -> Result<(), Want>
-    ensures { OnOk result (string_bytes to.new
-        ≡ string_bytes to.old ++ resource_part (resource_lent resource.now)) }
-{
-    push_resource_members(alloc, to, resource)
 }
 
 /// Appends a member that is a moment.

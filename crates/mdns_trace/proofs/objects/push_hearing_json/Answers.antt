@@ -1,6 +1,10 @@
-use Rattle.mdns_message.specs.Borrowed.{hearing_lent}
-use Rattle.mdns_trace.proofs.ObjectLemmas.{hearing-by_pieces}
+use Rattle.mdns_trace.specs.Objects.{hearing_json}
+use Rattle.mdns_trace.proofs.MemberLemmas.{object-after}
 use Rattle.mdns_trace.proofs.objects.push_hearing_json.Goals as goal
 
 pub returns : goal.returns
-returns c = rw (hearing-by_pieces c.args.file.now c.args.source.now (hearing_lent c.args.hearing.now)) c.push_hearing_pieces.ensures
+unfolding hearing_json lib.Utf8.encode
+returns c =
+    object-after _ _ _ _ _ _ _ _ _ _ _ _ _ _ _ c.in_ok-push.ensures.bytes c.in_ok-push_moment_member.ensures
+    c.in_ok-push_text.ensures c.in_ok-push_source_member.ensures c.in_ok-push_resource_members.ensures
+    c.in_ok-push_number.ensures c.in_ok-push_flush_member.ensures c.in_ok-push_str.ensures.bytes
