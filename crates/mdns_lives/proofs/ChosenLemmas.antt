@@ -8,7 +8,7 @@ use Rattle.std.specs.declared.cmp.Ordering.{Ordering}
 use Rattle.std.specs.declared.cmp.Ordering.TheVariants.{Less, Equal, Greater}
 use Rattle.std.specs.Ordering.{is_eq}
 use Rattle.std.specs.Cmp.{tied_itself}
-use Rattle.std.proofs.lemmas.Bool.{or_left, or_right}
+use Rattle.std.proofs.lemmas.Bool.{and_parts, or_left, or_right}
 use Rattle.std.proofs.lemmas.Bool.Decides.{nat_tests}
 use Rattle.std.proofs.lemmas.List.{map-append}
 use Rattle.std.proofs.lemmas.List.Elements.{filter-append}
@@ -146,18 +146,39 @@ changed-alike : (all some : List Row) (row : Row) → has_changed all (set_in ro
     → changed_in all row ≡ changed_in some row
 changed-alike all some row same = ap (λ b. (row.0, if b then row.1 else [])) same
 
-module _ (set : RecordSet) (xs more : List Row) (own : AllOf set xs) (none : NoneOf set more) where
+-- the records of the set are PTR records
+abbrev is_shared_set : RecordSet → Bool
+is_shared_set set = set.number == 12
+
+-- of a set of PTR records no rows have a change
+as-changed : (all some : List Row) (set : RecordSet) → (is_shared_set set ≡ false → has_changed all set ≡ has_changed some set)
+    → has_changed all set ≡ has_changed some set
+as-changed all some set same = by (is_shared_set set) refl
+  where
+    never : (rows : List Row) → is_shared_set set ≡ true → has_changed rows set ≡ false
+    never rows shared =
+        let own = filter (is_in set) rows in
+        changed-by rows set ∙ ap (λ b. not b && list_any (comes_back (begins_in own)) own) shared
+
+    by : (b : Bool) → is_shared_set set ≡ b → has_changed all set ≡ has_changed some set
+    by true e = never all e ∙ sym (never some e)
+    by false e = same e
+
+module _ (set : RecordSet) (xs more : List Row) (own : AllOf set xs) (none : is_shared_set set ≡ false → NoneOf set more) where
   first-rows : (rows : List Row) → AllOf set rows → map (changed_in (xs ++ more)) rows ≡ map (changed_in xs) rows
   first-rows [] all = refl
   first-rows (row ∷ rows) all =
-      let here = changed-left (set_in row) xs more (subst (λ (key : RecordSet). NoneOf key more) (sym all.0) none) in
+      let here = as-changed (xs ++ more) xs (set_in row) (λ unshared. changed-left (set_in row) xs more
+      (subst (λ (key : RecordSet). NoneOf key more) (sym all.0) (none (ap is_shared_set (sym all.0) ∙ unshared)))) in
       λ i. changed-alike (xs ++ more) xs row here i ∷ first-rows rows all.1 i
 
-  other-rows : (rows : List Row) → NoneOf set rows → map (changed_in (xs ++ more)) rows ≡ map (changed_in more) rows
+  other-rows : (rows : List Row) → (is_shared_set set ≡ false → NoneOf set rows)
+      → map (changed_in (xs ++ more)) rows ≡ map (changed_in more) rows
   other-rows [] others = refl
   other-rows (row ∷ rows) others =
-      let here = changed-right (set_in row) xs more (none-other set (set_in row) xs others.0 own) in
-      λ i. changed-alike (xs ++ more) more row here i ∷ other-rows rows others.1 i
+      let here = as-changed (xs ++ more) more (set_in row) (λ unshared. changed-right (set_in row) xs more
+      (none-other set (set_in row) xs (λ same. (others (ap is_shared_set same ∙ unshared)).0 same) own)) in
+      λ i. changed-alike (xs ++ more) more row here i ∷ other-rows rows (λ unshared. (others unshared).1) i
 
   changes-both : changes_in (xs ++ more) ≡ changes_in xs ++ changes_in more
   changes-both = map-append (changed_in (xs ++ more)) xs more ∙ (λ i. first-rows xs own i ++ other-rows more none i)
@@ -199,9 +220,13 @@ all-more : (set : RecordSet) (rows : List Row) (row : Row) → AllOf set rows �
 all-more set [] row own same = (same, tt)
 all-more set (x ∷ rows) row own same = (own.0, all-more set rows row own.1 same)
 
-one-step : (x row : Row) (xs rows : List Row) (b : Bool) → is_in (set_in x) row ≡ b → AllOf (set_in x) (x ∷ xs)
-    → (is_in (set_in x) row ≡ true → by_sets (x ∷ xs ++ row ∷ []) rows ≡ changes_in ((x ∷ xs ++ row ∷ []) ++ rows))
-    → (is_in (set_in x) row ≡ false → NoneOf (set_in x) (row ∷ rows)) → by_sets (row ∷ []) rows ≡ changes_in (row ∷ rows)
+on-same : (x row : Row) → goes_on (x ∷ []) row.0 ≡ true → set_in row ≡ set_in x
+on-same x row on = sym (same-set (set_in x) (set_in row) (and_parts (not (is_shared x.0)) (is_in (set_in x) row) on).1)
+
+one-step : (x row : Row) (xs rows : List Row) (b : Bool) → goes_on (x ∷ xs) row.0 ≡ b → AllOf (set_in x) (x ∷ xs)
+    → (goes_on (x ∷ xs) row.0 ≡ true → by_sets (x ∷ xs ++ row ∷ []) rows ≡ changes_in ((x ∷ xs ++ row ∷ []) ++ rows))
+    → (goes_on (x ∷ xs) row.0 ≡ false → is_shared x.0 ≡ false → NoneOf (set_in x) (row ∷ rows))
+    → by_sets (row ∷ []) rows ≡ changes_in (row ∷ rows)
     → (if b then by_sets (x ∷ xs ++ row ∷ []) rows else changes_in (x ∷ xs) ++ by_sets (row ∷ []) rows) ≡ changes_in (x ∷ xs ++ row ∷ rows)
 one-step x row xs rows true e own on others next = on e ∙ ap changes_in (append_assoc (x ∷ xs) (row ∷ []) rows)
 one-step x row xs rows false e own on others next =
@@ -212,10 +237,11 @@ sets-from : (x : Row) (xs rows : List Row) → AllOf (set_in x) (x ∷ xs) → I
 unfolding IsStrictlySortedBy
 sets-from x xs [] own sorted = sym (ap changes_in (append-nil (x ∷ xs)))
 sets-from x xs (row ∷ rows) own sorted =
-    one-step x row xs rows (is_in (set_in x) row) refl own
+    one-step x row xs rows (goes_on (x ∷ xs) row.0) refl own
     (λ on. sets-from x (xs ++ row ∷ []) rows
-    (all-more (set_in x) (x ∷ xs) row own (sym (same-set (set_in x) (set_in row) on))) (sorted.0.1, sorted.1.1))
-    (others-left x row rows sorted.0 sorted.1.0) (sets-from row [] rows (refl, tt) sorted.1)
+    (all-more (set_in x) (x ∷ xs) row own (on-same x row on)) (sorted.0.1, sorted.1.1))
+    (λ ends unshared. others-left x row rows sorted.0 sorted.1.0
+    (sym (ap (λ b. not b && is_in (set_in x) row) unshared) ∙ ends)) (sets-from row [] rows (refl, tt) sorted.1)
 
 sets-all : (rows : List Row) → IsStrictlySortedBy key_cmp (map row_record rows) → by_sets [] rows ≡ changes_in rows
 sets-all [] sorted = refl
@@ -239,12 +265,19 @@ is-set set key false test = by (is_eq (set_key_cmp set key)) refl
     by false e = refl
     by true e = test.1 (same-set set key e)
 
+is-held : (shared : Bool) (set key : RecordSet) (is : Bool) → (IsTrue is ↔ ((shared ≡ false) × (set ≡ key)))
+    → is ≡ (not shared && is_eq (set_key_cmp set key))
+is-held false set key is test = is-set set key is (λ yes. (test.0 yes).1, λ same. test.1 (refl, same))
+is-held true set key false test = refl
+is-held true set key true test = absurd (true≢false (test.0 refl).0)
+
 pub set-goes-on : (set : List RecordLives) (first : RecordLives) (last : Latest) (is : Bool) → Some first ≡ slice_get set 0
-    → (IsTrue is ↔ (set_key_of (last_lent first.last).resource ≡ set_key_of last.resource)) → is ≡ goes_on (map row_lent set) last
+    → (IsTrue is ↔ ((is_shared (last_lent first.last) ≡ false) × (set_key_of (last_lent first.last).resource ≡ set_key_of last.resource)))
+    → is ≡ goes_on (map row_lent set) last
 set-goes-on [] first last is at test = absurd (cc)
 set-goes-on (x ∷ set) first last is at test =
-    is-set (set_key_of (last_lent first.last).resource) (set_key_of last.resource) is test
-    ∙ ap (λ (o : Option RecordLives). is_of_set (set_key_of (last_lent (unwrap_or o first).last).resource) last) at
+    is-held (is_shared (last_lent first.last)) (set_key_of (last_lent first.last).resource) (set_key_of last.resource) is test
+    ∙ ap (λ (o : Option RecordLives). goes_on (row_lent (unwrap_or o first) ∷ []) last) at
 
 of-more : (set : RecordSet) (rows : List Row) (row : Row) → AreOf set rows → set_in row ≡ set → AreApart row.1
     → AreOf set (rows ++ row ∷ [])
@@ -254,7 +287,7 @@ of-more set (x ∷ rows) row own same apart = (own.0, own.1, of-more set rows ro
 one-more : (set : List Row) (row : Row) → AreOfOne set → goes_on set row.0 ≡ true → AreApart row.1 → AreOfOne (set ++ row ∷ [])
 one-more [] row one on apart = (refl, apart, tt)
 one-more (x ∷ set) row one on apart =
-    of-more (set_in x) (x ∷ set) row one (sym (same-set (set_in x) (set_in row) on)) apart
+    of-more (set_in x) (x ∷ set) row one (on-same x row on) apart
 
 -- the rows of a set that were read, the first of which was before the others, and what is left of those
 pub record ReadSo (first rows set rest : List Row) : Type 0 where

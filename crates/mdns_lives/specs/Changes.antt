@@ -58,13 +58,13 @@ chosen Changes rows = changes_in rows
 
 -- ---- one record set after another
 
--- there are no rows, or the record is one more of their set
+-- there are no rows, or the record is one more of their set, which may change
 abbrev pub goes_on : List (Latest × List Life) → Latest → Bool
 goes_on [] last = true
-goes_on (row ∷ rows) last = is_of_set (set_key_of row.0.resource) last
+goes_on (row ∷ rows) last = not (is_shared row.0) && is_of_set (set_key_of row.0.resource) last
 
--- The rows with the lives that are chosen, of each set by its rows alone, which stand together. The first of them come after
--- other rows of their set.
+-- The rows with the lives that are chosen, of each set by its rows alone, which stand together, and of each PTR record alone.
+-- The first of them come after other rows of their set.
 abbrev pub by_sets : List (Latest × List Life) → List (Latest × List Life) → List (Latest × List Life)
 by_sets set [] = changes_in set
 by_sets set (row ∷ rows) =

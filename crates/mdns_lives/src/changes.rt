@@ -1,6 +1,6 @@
 //! The lives of record sets that changed: in which a record came, or came back, after another had come.
 
-ghost use Rattle.std.specs.Prelude.{◌≡◌, ◌↔◌, ◌++◌, [], List, IfNone, IfOk, IsTrue, OnOk, OnErr, map};
+ghost use Rattle.std.specs.Prelude.{◌≡◌, ◌↔◌, ◌++◌, [], false, List, IfNone, IfOk, IsTrue, OnOk, OnErr, map};
 ghost use Rattle.std.specs.List.{list_any};
 ghost use Rattle.std.specs.Map.Iter.{TakesFirst};
 ghost use Rattle.mdns_message.specs.Resource.{set_key_of};
@@ -47,8 +47,8 @@ impl Lives {
 pub struct ChosenWalk<'a> {
     which: Which,
 
-    // Those records of the set that was read last which are left, and whether the set has changed. Where all lives are chosen,
-    // no set is read.
+    // Those records of the set that was read last which are left, and whether the set has changed. A PTR record is read alone,
+    // since its set never changes; where all lives are chosen, no set is read.
     set: VecDeque<RecordLives<'a>>,
     changed: bool,
 
@@ -129,7 +129,7 @@ fn kept_if<'a>(kept: bool, row: RecordLives<'a>) -> RecordLives<'a>
     row
 }
 
-// Takes the records of a set, of which the first may have been taken before, and the record after them.
+// Takes the records of a set, or one PTR record, and the record after them. The first may have been taken before.
 fn read_set<'a>(
     alloc: Global,
     first: Option<RecordLives<'a>>,
@@ -166,12 +166,12 @@ fn begun_set<'a>(
     Ok(set)
 }
 
-// Returns whether a record is one more of the set of these, or there are none.
+// Returns whether a record is to be held with these, or there are none.
 fn goes_on(set: &[RecordLives<'_>], last: &Last<'_>) -> bool
     ensures { result ≡ goes_on (map row_lent set.now) (last_lent last.now) }
 {
     match set.first() {
-        Some(first) => is_of_set(&first.last, last),
+        Some(first) => is_held_with(&first.last, last),
         None => true,
     }
 }
@@ -183,11 +183,13 @@ fn is_shared(last: &Last<'_>) -> bool
     last.resource.body.number() == RecordType::Ptr.number()
 }
 
-// Returns whether two records are of one set.
-fn is_of_set(first: &Last<'_>, last: &Last<'_>) -> bool
-    ensures { IsTrue result ↔ (set_key_of (last_lent first.now).resource ≡ set_key_of (last_lent last.now).resource) }
+// Returns whether two records are of one set, which may change.
+fn is_held_with(first: &Last<'_>, last: &Last<'_>) -> bool
+    ensures { IsTrue result ↔ ((is_shared (last_lent first.now) ≡ false)
+        × (set_key_of (last_lent first.now).resource ≡ set_key_of (last_lent last.now).resource)) }
 {
-    first.resource.body.number() == last.resource.body.number()
+    !is_shared(first)
+        && first.resource.body.number() == last.resource.body.number()
         && folded_eq(first.resource.owner.wire(), last.resource.owner.wire())
 }
 

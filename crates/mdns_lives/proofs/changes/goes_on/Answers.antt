@@ -4,5 +4,5 @@ use Rattle.mdns_lives.proofs.changes.goes_on.Goals as goal
 
 pub returns-in-Some : goal.returns-in-Some
 returns-in-Some c =
-    set-goes-on c.args.set.now c.in-Some.first.now (last_lent c.args.last.now) c.is_of_set.result c.in-Some.ensures.value
-    c.is_of_set.ensures
+    set-goes-on c.args.set.now c.in-Some.first.now (last_lent c.args.last.now) c.is_held_with.result c.in-Some.ensures.value
+    c.is_held_with.ensures
