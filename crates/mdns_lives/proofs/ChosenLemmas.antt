@@ -1,6 +1,7 @@
 -- Which record sets have changed, by each set alone.
 use Rattle.std.proofs.Common.{◌≡◌, ◌≢◌, Bool, true, false, ◌&&◌, ◌||◌, ◌==◌, not, if◌then◌else◌, cond, IsTrue, ◌↔◌, ℕ}
-use Rattle.std.proofs.Common.{List, [], ◌∷◌, ◌++◌, map, slice_get, Option, Some, unwrap_or}
+use Rattle.std.proofs.Common.{List, [], ◌∷◌, ◌++◌, map, slice_get, Option, Some, unwrap_or, Ok, Err, Result}
+use Rattle.std.specs.Prelude.{OnErr}
 use Rattle.std.proofs.Common.{refl, sym, ap, ◌∙◌, subst, true≢false, append_assoc, append-nil, arith}
 use Rattle.std.specs.List.{AllByRecursion, filter, flat_map, list_any}
 use Rattle.std.specs.List.Sorted.{IsStrictlySortedBy}
@@ -257,6 +258,24 @@ left-whole Changes changed set walk rows none same sorted =
 
 -- ---- reading a set
 
+some-first : (row : Row) (rows : List Row) → row ∷ rows ≢ []
+some-first row rows none = cc
+
+sets-some : (x : Row) (xs rows : List Row) → by_sets (x ∷ xs) rows ≢ []
+sets-some x xs [] = some-first _ _
+sets-some x xs (row ∷ rows) = by (goes_on (x ∷ xs) row.0) (sets-some x (xs ++ row ∷ []) rows)
+  where
+    by : (b : Bool) → by_sets (x ∷ xs ++ row ∷ []) rows ≢ []
+        → (if b then by_sets (x ∷ xs ++ row ∷ []) rows else changes_in (x ∷ xs) ++ by_sets (row ∷ []) rows) ≢ []
+    by true more = more
+    by false more = λ none. some-first _ _ none
+
+-- where nothing is left there are no rows
+pub none-left : (set rows : List Row) → by_sets set rows ≡ [] → (set ≡ []) × (rows ≡ [])
+none-left [] [] none = (refl, refl)
+none-left [] (row ∷ rows) none = absurd (sets-some row [] rows none)
+none-left (x ∷ set) rows none = absurd (sets-some x set rows none)
+
 is-set : (set key : RecordSet) (is : Bool) → (IsTrue is ↔ (set ≡ key)) → is ≡ is_eq (set_key_cmp set key)
 is-set set key true test = sym (of-itself set key (test.0 refl))
 is-set set key false test = by (is_eq (set_key_cmp set key)) refl
@@ -302,6 +321,15 @@ read-more first rows set old row rest more read next on apart pushed = record {
       ∙ ap (λ (s : List Row). by_sets s rest) (sym pushed);
   one = subst AreOfOne (sym pushed) (one-more set row read.one on apart);
 }
+
+-- a row was left
+pub read-some : (first rows set rest : List Row) (row : Row) (more : List Row) → ReadSo first rows set rest → rest ≡ row ∷ more
+    → by_sets first rows ≢ []
+read-some first rows set rest row more read next none = some-first row more (sym next ∙ (none-left set rest (sym read.left ∙ none)).1)
+
+pub on-err : {T E P : Type 0} (r : Result T E) → P → OnErr r P
+on-err (Ok x) p = tt
+on-err (Err e) p = p
 
 -- ---- whether a set has changed
 

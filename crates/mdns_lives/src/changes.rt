@@ -1,6 +1,6 @@
 //! The lives of record sets that changed: in which a record came, or came back, after another had come.
 
-ghost use Rattle.std.specs.Prelude.{◌≡◌, ◌↔◌, ◌++◌, [], false, List, IfNone, IfOk, IsTrue, OnOk, OnErr, map};
+ghost use Rattle.std.specs.Prelude.{◌≡◌, ◌≢◌, ◌↔◌, ◌++◌, [], false, List, IfNone, IfOk, IsTrue, OnOk, OnErr, map};
 ghost use Rattle.std.specs.List.{list_any};
 ghost use Rattle.std.specs.Map.Iter.{TakesFirst};
 ghost use Rattle.mdns_message.specs.Resource.{set_key_of};
@@ -80,6 +80,7 @@ impl<'a> ChosenWalk<'a> {
     pub fn next(&mut self) -> Result<Option<RecordLives<'a>>, Want>
         ensures ok { IfOk result (λ next. TakesFirst row_lent self.old next self.new) }
         ensures err { OnErr result (self.new ≡ []) }
+        ensures some { OnErr result (self.old ≢ []) }
     {
         match self.which {
             Which::All => {
@@ -141,6 +142,7 @@ fn read_set<'a>(
     ensures some { IfOk result (λ read. map row_lent read.0.items ≡ [] → by_sets (maybe_row read.1) rows.new ≡ []) }
     ensures one { IfOk result (λ read. AreOfOne (map row_lent read.0.items)) }
     ensures next { IfOk result (λ read. AreOfOne (maybe_row read.1)) }
+    ensures err { OnErr result (by_sets (maybe_row first.entry) rows.old ≢ []) }
 {
     let mut set = begun_set(alloc, first)?;
     while let Some(row) = rows.next()? {
@@ -157,7 +159,8 @@ fn begun_set<'a>(
     alloc: Global,
     first: Option<RecordLives<'a>>,
 ) -> Result<Vec<RecordLives<'a>>, Want>
-    ensures { IfOk result (λ set. map row_lent set.items ≡ maybe_row first.entry) }
+    ensures ok { IfOk result (λ set. map row_lent set.items ≡ maybe_row first.entry) }
+    ensures err { OnErr result (maybe_row first.entry ≢ []) }
 {
     let mut set = Vec::new(alloc);
     if let Some(row) = first {
@@ -197,7 +200,8 @@ fn is_held_with(first: &Last<'_>, last: &Last<'_>) -> bool
 // which a life of the set begins.
 fn has_changed(alloc: Global, set: &[RecordLives<'_>]) -> Result<bool, Want>
     requires { AreOfOne (map row_lent set.now) }
-    ensures { IfOk result (λ changed. changes_in (map row_lent set.now) ≡ map (kept_if changed) (map row_lent set.now)) }
+    ensures ok { IfOk result (λ changed. changes_in (map row_lent set.now) ≡ map (kept_if changed) (map row_lent set.now)) }
+    ensures err { OnErr result (set.now ≢ []) }
 {
     let Some(first) = set.first() else {
         return Ok(false);

@@ -8,16 +8,16 @@ use Rattle.mdns_lives.specs.declared.record_lives.RecordLives.{RecordLives}
 use Rattle.mdns_lives.proofs.ChosenLemmas.{kept-set}
 use Rattle.mdns_lives.proofs.changes.has_changed.Goals as goal
 
-pub returns-then-is_shared : goal.returns-then-is_shared
-returns-then-is_shared c =
+pub returns-then-is_shared-clause-ok : goal.returns-then-is_shared-clause-ok
+returns-then-is_shared-clause-ok c =
     let set = c.args.set.now in
     let begun = ascending (begins_in (map row_lent set)) in
     let shared = sym c.if-is_shared.true ∙ c.is_shared.ensures in
     kept-set set c.in-Some.first.now begun false c.in-Some.ensures.value c.requires refl
     (ap (λ b. not b && list_any (λ (row : RecordLives). strays row.lives.items begun) set) shared)
 
-pub returns : goal.returns
-returns c =
+pub returns-clause-ok : goal.returns-clause-ok
+returns-clause-ok c =
     let set = c.args.set.now in
     let begun = nanos_of c.as_slice.result.now in
     let own = sym c.if-is_shared.false ∙ c.is_shared.ensures in
