@@ -3,7 +3,7 @@ use Rattle.std.proofs.Common.{◌≡◌, ◌≢◌, Bool, true, false, ◌&&◌,
 use Rattle.std.proofs.Common.{List, [], ◌∷◌, ◌++◌, map, slice_get, Option, Some, unwrap_or, Ok, Err, Result}
 use Rattle.std.specs.Prelude.{OnErr}
 use Rattle.std.proofs.Common.{refl, sym, ap, ◌∙◌, subst, true≢false, append_assoc, append-nil, arith}
-use Rattle.std.specs.List.{AllByRecursion, filter, flat_map, list_any}
+use Rattle.std.specs.List.{AllByRecursion, filter, list_any}
 use Rattle.std.specs.List.Sorted.{IsStrictlySortedBy}
 use Rattle.std.specs.declared.cmp.Ordering.{Ordering}
 use Rattle.std.specs.declared.cmp.Ordering.TheVariants.{Less, Equal, Greater}
@@ -25,8 +25,8 @@ use Rattle.mdns_lives.specs.declared.life.Life.{Life}
 use Rattle.mdns_lives.specs.declared.life.Which.{Which}
 use Rattle.mdns_lives.specs.declared.life.Which.TheVariants.{All, Changes}
 use Rattle.mdns_lives.specs.declared.record_lives.RecordLives.{RecordLives}
-use Rattle.mdns_lives.specs.Changes.{AreOf, AreOfOne, begins_in, begins_of, by_sets, changes_in, chosen, goes_on, has_changed, is_between}
-use Rattle.mdns_lives.specs.Changes.{is_change, is_of_set, is_shared, kept_if, left_of, set_begins, strays}
+use Rattle.mdns_lives.specs.Changes.{AreOf, AreOfOne, begins_in, begins_of, by_sets, changes_in, chosen, comes_back, goes_on, has_change}
+use Rattle.mdns_lives.specs.Changes.{has_changed, is_between, is_of_set, is_shared, kept_if, left_of, rows_of_set, strays}
 use Rattle.mdns_lives.specs.Lives.{AreApart}
 use Rattle.mdns_lives.specs.Rows.{row_lent}
 use Rattle.mdns_lives.proofs.ChangesLemmas.{BeganAt, changes-stray}
@@ -52,20 +52,6 @@ any-alike : {X : Type 0} (p q : X → Bool) (xs : List X) → ((x : X) → p x �
 any-alike p q [] same = refl
 any-alike p q (x ∷ xs) same = λ i. same x i || any-alike p q xs same i
 
-any-and : {X : Type 0} (b : Bool) (p : X → Bool) (xs : List X) → list_any (λ x. b && p x) xs ≡ (b && list_any p xs)
-any-and true p xs = refl
-any-and false p [] = refl
-any-and false p (x ∷ xs) = any-and false p xs
-
-any-of : {X : Type 0} (p q : X → Bool) (xs : List X) → list_any (λ x. p x && q x) xs ≡ list_any q (filter p xs)
-any-of p q [] = refl
-any-of p q (x ∷ xs) = grind (arith, nat_tests, any-of p q xs)
-
-all-of : {X Y : Type 0} (p : X → Bool) (f : X → List Y) (xs : List X)
-    → flat_map (λ x. if p x then f x else []) xs ≡ flat_map f (filter p xs)
-all-of p f [] = refl
-all-of p f (x ∷ xs) = grind (arith, nat_tests, all-of p f xs)
-
 -- neither the order of moments counts, nor repeats
 any-put : (p : ℕ → Bool) (m : ℕ) (xs : List ℕ) → list_any p (put m xs) ≡ (p m || list_any p xs)
 any-put p m [] = refl
@@ -75,37 +61,7 @@ any-sorted : (p : ℕ → Bool) (xs : List ℕ) → list_any p (ascending xs) �
 any-sorted p [] = refl
 any-sorted p (x ∷ xs) = any-put p x (ascending xs) ∙ ap (λ b. p x || b) (any-sorted p xs)
 
--- ---- the changes of a set, by its own rows
-
--- one of the record's lives is a change where the set's lives began at these moments
-abbrev comes_back : List ℕ → Row → Bool
-comes_back begun row = list_any (λ (life : Life). list_any (is_between row.1 life) begun) row.1
-
--- these rows of a set have a change
-abbrev has_change : RecordSet → List Row → Bool
-has_change set own = not (set.number == 12) && list_any (comes_back (begins_in own)) own
-
-changed-by : (all : List Row) (set : RecordSet) → has_changed all set ≡ has_change set (filter (is_in set) all)
-changed-by all set =
-    any-alike _ (λ (row : Row). is_in set row && (not (set.number == 12) && comes_back begun row)) all here
-    ∙ any-of (is_in set) (λ (row : Row). not (set.number == 12) && comes_back begun row) all
-    ∙ any-and (not (set.number == 12)) (comes_back begun) (filter (is_in set) all)
-    ∙ ap (λ (ms : List ℕ). not (set.number == 12) && list_any (comes_back ms) (filter (is_in set) all))
-    (all-of (is_in set) (λ (row : Row). begins_of row.1) all)
-  where
-    begun : List ℕ
-    begun = set_begins set all
-
-    here : (row : Row) → (is_in set row && list_any (is_change all row) row.1)
-        ≡ (is_in set row && (not (set.number == 12) && comes_back begun row))
-    here row = by (is_in set row) refl
-      where
-        by : (b : Bool) → is_in set row ≡ b → (b && list_any (is_change all row) row.1)
-            ≡ (b && (not (set.number == 12) && comes_back begun row))
-        by false e = refl
-        by true e =
-            any-and (not (is_shared row.0)) (λ (life : Life). list_any (is_between row.1 life) (set_begins (set_in row) all)) row.1
-            ∙ ap (λ (key : RecordSet). not (key.number == 12) && comes_back (set_begins key all) row) (sym (same-set set (set_in row) e))
+-- ---- the rows of a set among others
 
 -- none of the rows is of the set
 abbrev NoneOf : RecordSet → List Row → Type 0
@@ -122,13 +78,13 @@ none-of set (row ∷ rows) none = λ i. cond (out (is_in set row) refl i) (row �
 changed-right : (set : RecordSet) (xs ys : List Row) → NoneOf set xs → has_changed (xs ++ ys) set ≡ has_changed ys set
 changed-right set xs ys none =
     let own = filter-append (is_in set) xs ys ∙ ap (λ (rows : List Row). rows ++ filter (is_in set) ys) (none-of set xs none) in
-    changed-by (xs ++ ys) set ∙ ap (has_change set) own ∙ sym (changed-by ys set)
+    ap (has_change set) own
 
 changed-left : (set : RecordSet) (xs ys : List Row) → NoneOf set ys → has_changed (xs ++ ys) set ≡ has_changed xs set
 changed-left set xs ys none =
     let own = filter-append (is_in set) xs ys ∙ ap (λ (rows : List Row). filter (is_in set) xs ++ rows) (none-of set ys none)
     ∙ append-nil (filter (is_in set) xs) in
-    changed-by (xs ++ ys) set ∙ ap (has_change set) own ∙ sym (changed-by xs set)
+    ap (has_change set) own
 
 -- ---- a set, and rows of others
 
@@ -157,9 +113,7 @@ as-changed : (all some : List Row) (set : RecordSet) → (is_shared_set set ≡ 
 as-changed all some set same = by (is_shared_set set) refl
   where
     never : (rows : List Row) → is_shared_set set ≡ true → has_changed rows set ≡ false
-    never rows shared =
-        let own = filter (is_in set) rows in
-        changed-by rows set ∙ ap (λ b. not b && list_any (comes_back (begins_in own)) own) shared
+    never rows shared = ap (λ b. not b && list_any (comes_back (begins_in (rows_of_set set rows))) (rows_of_set set rows)) shared
 
     by : (b : Bool) → is_shared_set set ≡ b → has_changed all set ≡ has_changed some set
     by true e = never all e ∙ sym (never some e)
@@ -364,7 +318,7 @@ changed-stray : (set : RecordSet) (rows : List Row) → AreOf set rows → has_c
     ≡ (not (set.number == 12) && list_any (λ (row : Row). strays row.1 (ascending (begins_in rows))) rows)
 changed-stray set rows own =
     let begun = begins_in rows in
-    changed-by rows set ∙ ap (has_change set) (own-rows set rows own)
+    ap (has_change set) (own-rows set rows own)
     ∙ ap (λ b. not (set.number == 12) && b)
     (any-alike (comes_back begun) (comes_back (ascending begun)) rows
     (λ (row : Row). any-alike _ _ row.1 (λ (life : Life). sym (any-sorted (is_between row.1 life) begun)))

@@ -2,7 +2,7 @@
 -- are listed for them.
 use Rattle.std.specs.Prelude.{◌≡◌, ℕ, Bool, true, false, ◌&&◌, ◌||◌, ◌==◌, not, nat_le, nat_lt, if◌then◌else◌}
 use Rattle.std.specs.Prelude.{List, [], ◌∷◌, ◌++◌, map, Option, None, Some, unwrap_or}
-use Rattle.std.specs.List.{flat_map, list_all, list_any}
+use Rattle.std.specs.List.{filter, flat_map, list_all, list_any}
 use Rattle.std.specs.Ordering.{is_eq}
 use Rattle.mdns_message.specs.RecordSet.{RecordSet}
 use Rattle.mdns_message.specs.Resource.{number_of, set_key_cmp, set_key_of}
@@ -26,9 +26,13 @@ is_shared last = number_of last.resource.body == 12
 abbrev pub is_of_set : RecordSet → Latest → Bool
 is_of_set set last = is_eq (set_key_cmp set (set_key_of last.resource))
 
--- when the lives of the set's records began
-abbrev pub set_begins : RecordSet → List (Latest × List Life) → List ℕ
-set_begins set rows = flat_map (λ (row : Latest × List Life). if is_of_set set row.0 then begins_of row.1 else []) rows
+-- the rows of the set's records
+abbrev pub rows_of_set : RecordSet → List (Latest × List Life) → List (Latest × List Life)
+rows_of_set set rows = filter (λ (row : Latest × List Life). is_of_set set row.0) rows
+
+-- when the lives of these rows began
+abbrev pub begins_in : List (Latest × List Life) → List ℕ
+begins_in rows = flat_map (λ (row : Latest × List Life). begins_of row.1) rows
 
 -- the moment is before the life began, and after the beginning of each of the lives that began before it
 abbrev pub is_between : List Life → Life → ℕ → Bool
@@ -36,15 +40,17 @@ is_between lives life m =
     nat_lt m life.from.nanos
     && list_all (λ (own : Life). nat_le life.from.nanos own.from.nanos || nat_lt own.from.nanos m) lives
 
--- The record isn't a PTR record, and a life of its set began before this one did, but after each earlier life of the record
--- itself: so it is a life of another record.
-abbrev pub is_change : List (Latest × List Life) → Latest × List Life → Life → Bool
-is_change rows row life = not (is_shared row.0) && list_any (is_between row.1 life) (set_begins (set_key_of row.0.resource) rows)
+-- One of the row's lives is a change, where the lives of its set began at these moments: a life of the set began before this one
+-- did, but after each earlier life of the record itself, so it is a life of another record.
+abbrev pub comes_back : List ℕ → Latest × List Life → Bool
+comes_back begun row = list_any (λ (life : Life). list_any (is_between row.1 life) begun) row.1
 
--- a life of the set's records is a change
+-- the rows are those of the set, and a life of one of them is a change; of PTR records none is
+abbrev pub has_change : RecordSet → List (Latest × List Life) → Bool
+has_change set own = not (set.number == 12) && list_any (comes_back (begins_in own)) own
+
 abbrev pub has_changed : List (Latest × List Life) → RecordSet → Bool
-has_changed rows set =
-    list_any (λ (row : Latest × List Life). is_of_set set row.0 && list_any (is_change rows row) row.1) rows
+has_changed rows set = has_change set (rows_of_set set rows)
 
 -- each row with all its lives if its record set has changed, and with none otherwise
 abbrev pub changes_in : List (Latest × List Life) → List (Latest × List Life)
@@ -98,10 +104,6 @@ AreOf set (row ∷ rows) = (set_key_of row.0.resource ≡ set) × AreApart row.1
 abbrev pub AreOfOne : List (Latest × List Life) → Type 0
 AreOfOne [] = Unit {0}
 AreOfOne (row ∷ rows) = AreOf (set_key_of row.0.resource) (row ∷ rows)
-
--- when the lives of these rows began
-abbrev pub begins_in : List (Latest × List Life) → List ℕ
-begins_in rows = flat_map (λ (row : Latest × List Life). begins_of row.1) rows
 
 -- the lives begin at other moments than the first of these
 abbrev pub strays : List Life → List ℕ → Bool
