@@ -1,4 +1,4 @@
--- Captures have one list of packets, and readings of them agree in all that a page tells.
+-- Readings of captures agree in all that a page tells.
 use Rattle.std.proofs.Common.{◌≡◌, ◌∙◌, ℕ, ◌+◌, true, false, List, [], ◌∷◌, ◌++◌, Option, Some, None, ap, drop, get_or, inl, inr}
 use Rattle.std.proofs.Common.{option_map, refl, subst, sym}
 use Rattle.std.specs.Prelude.{codes, count_by, sum_by}
@@ -13,30 +13,15 @@ use Rattle.mdns_survey.specs.declared.outcome.Why.TheVariants as why
 use Rattle.mdns_survey.specs.declared.reading.Reading.{Reading}
 use Rattle.mdns_survey.specs.declared.summary.Summary.{Summary}
 use Rattle.mdns_survey.specs.Captures.{Outcome}
-use Rattle.mdns_survey.specs.Lives.{AllRead}
 use Rattle.mdns_survey.specs.Readings.{lost_in, refused_in, skipped_in, summaries_of}
 use Rattle.mdns_survey.specs.Skips.{IsSkipOf, count_of, is_why}
 use Rattle.mdns_survey.specs.Surveys.{AllLeft}
 use Rattle.mdns_survey.specs.Why.{why_text}
 use Rattle.mdns_survey.proofs.LossLemmas.{NeverBoth, SkipsByCause, no-cause}
-use Rattle.mdns_survey.proofs.OutcomeLemmas.{OnePayload, OneReading}
+use Rattle.mdns_survey.proofs.OutcomeLemmas.{OnePayload}
 use Rattle.mdns_page.specs.Nothing.{broken, broken_rows, nothing_text, other_rows, others as reasons, packets_text, row_text, table_text}
 use Rattle.mdns_page.specs.Nothing.{unread, unread_rows, untold, warning_row}
 use Rattle.mdns_page.specs.Survey.{facts_of}
-
--- ---- packets
-
-pub one-packets : OneReading → (captures : List (List ℕ)) (packets others : List (List PacketAt)) (outcomes more : List (List Outcome))
-    (summaries rest : List Summary) → AllRead captures packets outcomes summaries → AllRead captures others more rest
-    → packets ≡ others
-one-packets one [] [] [] [] [] [] [] first second = refl
-one-packets one (bytes ∷ captures) (packets ∷ front) (others ∷ back) (outcomes ∷ os) (more ∷ ms) (summary ∷ ss) (other ∷ rs) first
-    second =
-    ap (λ (ps : List PacketAt). ps ∷ front) (one bytes packets others summary.ending other.ending first.0 second.0).0
-    ∙ ap (λ (pss : List (List PacketAt)). others ∷ pss) (one-packets one captures front back os ms ss rs first.3 second.3)
-one-packets one [] [] others [] more [] rest first second = absurd second
-one-packets one (bytes ∷ captures) (packets ∷ front) others (outcomes ∷ os) more (summary ∷ ss) rest first second = absurd second
-one-packets one captures packets others outcomes more summaries rest first second = absurd first
 
 -- ---- why packets are skipped
 

@@ -32,11 +32,10 @@ use Rattle.mdns_survey.specs.Request.{selected}
 use Rattle.mdns_survey.specs.Surveys.{AllLeft, all_hearings}
 use Rattle.mdns_survey.proofs.ContainsLemmas.{contains-after, contains-cons, contains-first}
 use Rattle.mdns_survey.proofs.ListenedLemmas.{known-read}
-use Rattle.mdns_survey.proofs.LivesLawLemmas.{OneLives, same_itself, tell_of}
+use Rattle.mdns_survey.proofs.LivesLawLemmas.{OneLives, same_itself}
 use Rattle.mdns_survey.proofs.LossLemmas.{NeverBoth, SkipsByCause}
-use Rattle.mdns_survey.proofs.OneSurveyLemmas.{same_summaries}
+use Rattle.mdns_survey.proofs.OneSurveyLemmas.{one-read}
 use Rattle.mdns_survey.proofs.OutcomeLemmas.{OnePayload, OneReading, OneTelling}
-use Rattle.mdns_survey.proofs.TextLemmas.{one_outcomes}
 use Rattle.mdns_page.specs.Axis.{dates_of}
 use Rattle.mdns_page.specs.declared.axis.Axis.{Axis}
 use Rattle.mdns_page.specs.declared.kept.Kind.{Kind}
@@ -49,7 +48,7 @@ use Rattle.mdns_page.specs.Servers.{IsServed, servers_of}
 use Rattle.mdns_page.specs.Kept.{AreRows, kept_of}
 use Rattle.mdns_page.specs.Survey.{SurveysPage, WritesPage, live_at_end, selected_each}
 use Rattle.mdns_page.specs.Timeline.{Row, is_open, record_in}
-use Rattle.mdns_page.proofs.OneCaptureLemmas.{IsAlike, are-alike, facts-alike, lost-alike, nothing-alike, one-each, one-packets}
+use Rattle.mdns_page.proofs.OneCaptureLemmas.{IsAlike, are-alike, facts-alike, lost-alike, nothing-alike, one-each}
 
 -- ---- the seconds in which a record was heard
 
@@ -200,14 +199,11 @@ module _ (one : OneReading) (telling : OneTelling) (payload : OnePayload) (never
       let lefts = map (λ x. Some x) captures in
       let read = known-read lefts captures first.packets first.outcomes first.readings refl first.read in
       let too = known-read lefts captures second.packets second.outcomes second.readings refl second.read in
-      let tell = tell_of captures first.packets first.outcomes (summaries_of first.readings) read in
-      let tell_too = tell_of captures second.packets second.outcomes (summaries_of second.readings) too in
-      let packets : second.packets ≡ first.packets = one-packets one captures second.packets first.packets second.outcomes
-      first.outcomes (summaries_of second.readings) (summaries_of first.readings) too read in
-      let outcomes : second.outcomes ≡ first.outcomes = one_outcomes telling captures second.outcomes first.outcomes
-      (summaries_of second.readings) (summaries_of first.readings) tell_too tell in
-      let same : summaries_of first.readings ≡ summaries_of second.readings = same_summaries telling captures first.outcomes
-      second.outcomes (summaries_of first.readings) (summaries_of second.readings) tell tell_too in
+      let one_way = one-read one telling captures first.packets second.packets first.outcomes second.outcomes
+      (summaries_of first.readings) (summaries_of second.readings) read too in
+      let packets : second.packets ≡ first.packets = sym one_way.0 in
+      let outcomes : second.outcomes ≡ first.outcomes = sym one_way.1 in
+      let same : summaries_of first.readings ≡ summaries_of second.readings = one_way.2 in
       let alike = are-alike payload never by_cause lefts first.packets first.outcomes second.outcomes first.readings second.readings first.read
       (subst (λ (ps : List (List PacketAt)). AllLeft lefts ps second.outcomes second.readings) packets second.read) same in
       let start = moment-same second.axis.start first.axis.start

@@ -2,13 +2,13 @@ pub mod ByteLemmas
 pub mod ContainsLemmas
 pub mod CountLemmas
 pub mod EachLemmas
+pub mod FactLemmas
 pub mod FewLemmas
 pub mod HeardLemmas
 pub mod KeptLemmas
 pub mod ListenedLemmas
 pub mod LivesLawLemmas
 pub mod LivesLemmas
-pub mod LivesSplitLemmas
 pub mod LossLemmas
 pub mod OneSurveyLemmas
 pub mod OutcomeLemmas
@@ -16,10 +16,9 @@ pub mod QuestionLemmas
 pub mod ReadingLemmas
 pub mod RowsLemmas
 pub mod SaidLemmas
-pub mod SameTextLemmas
 pub mod SelectedLemmas
 pub mod SkipLemmas
 pub mod SpanLemmas
-pub mod SplitTextLemmas
+pub mod SplitLemmas
 pub mod SurveyLemmas
 pub mod TextLemmas

@@ -1,15 +1,14 @@
--- Captures have at most one report and one list of summaries.
+-- Captures are read in one way.
 use Rattle.std.proofs.Common.{◌≡◌, ◌∙◌, ℕ, ◌+◌, ◌*◌, ◌≤◌, List, [], ◌∷◌, refl, sym, ap, subst}
 use Rattle.std.proofs.Math.Bridge.{le_prop}
 use Rattle.std.proofs.Math.Nat.{ℕ_set}
 use Rattle.mdns_capture.specs.declared.savefile.Ending.{Ending}
-use Rattle.mdns_survey.specs.declared.request.Query.{Query}
+use Rattle.mdns_capture.specs.Savefile.{PacketAt}
 use Rattle.mdns_survey.specs.declared.summary.Summary.{Summary}
 use Rattle.mdns_survey.specs.declared.summary.Tally.{Tally}
 use Rattle.mdns_survey.specs.Captures.{Counts, Outcome}
-use Rattle.mdns_survey.specs.Surveys.{AllTell, SurveysReport}
-use Rattle.mdns_survey.proofs.OutcomeLemmas.{OneTelling}
-use Rattle.mdns_survey.proofs.TextLemmas.{OneReport, one_surveyed}
+use Rattle.mdns_survey.specs.Lives.{AllRead}
+use Rattle.mdns_survey.proofs.OutcomeLemmas.{OneReading, OneTelling}
 
 -- a tally by its counts
 abbrev pub tally_by : (packets skipped refused messages hearings : ℕ)
@@ -59,23 +58,21 @@ same_summary : (a b : Summary) → a.tally ≡ b.tally → a.ending ≡ b.ending
 same_summary a b tally ending =
     ap (λ (t : Tally). summary_by t a.ending) tally ∙ ap (λ (e : Ending). summary_by b.tally e) ending
 
-pub same_summaries : OneTelling → (captures : List (List ℕ)) (outcomes others : List (List Outcome)) (summaries more : List Summary)
-    → AllTell captures outcomes summaries → AllTell captures others more → summaries ≡ more
-same_summaries one [] [] [] [] [] first second = refl
-same_summaries one (bytes ∷ captures) (outcomes ∷ rest) (others ∷ after) (summary ∷ summaries) (other ∷ more) first second =
-    let told = one bytes outcomes others summary.ending other.ending first.0 second.0 in
-    let counts : Counts others summary.tally = subst (λ (os : List Outcome). Counts os summary.tally) told.0 first.1 in
-    let same = same_summary summary other (same_tally others summary.tally other.tally counts second.1) told.1 in
-    ap (λ (s : Summary). s ∷ summaries) same
-    ∙ ap (λ (ss : List Summary). other ∷ ss) (same_summaries one captures rest after summaries more first.2 second.2)
-same_summaries one [] [] others [] more first second = absurd second
-same_summaries one (bytes ∷ captures) (outcomes ∷ rest) others (summary ∷ summaries) more first second = absurd second
-same_summaries one captures outcomes others summaries more first second = absurd first
-
-pub one_survey : OneTelling → OneReport
-    → (captures : List (List ℕ)) (query : Query) (summaries more : List Summary) (text other : List ℕ)
-    → SurveysReport captures query summaries text → SurveysReport captures query more other → (summaries ≡ more) × (text ≡ other)
-one_survey one one_report captures query summaries more text other first second = (
-  same_summaries one captures first.outcomes second.outcomes summaries more first.tell second.tell,
-  one_surveyed one one_report captures query summaries more text other first second,
-)
+-- captures are read in one way
+pub one-read : OneReading → OneTelling → (captures : List (List ℕ)) (packets more : List (List PacketAt))
+    (outcomes others : List (List Outcome)) (summaries after : List Summary) → AllRead captures packets outcomes summaries
+    → AllRead captures more others after → (packets ≡ more) × (outcomes ≡ others) × (summaries ≡ after)
+one-read one telling [] [] [] [] [] [] [] first second = (refl, refl, refl)
+one-read one telling (bytes ∷ captures) (ps ∷ packets) (qs ∷ more) (outcomes ∷ rest) (others ∷ latter) (summary ∷ summaries) (other ∷ after)
+    first second =
+    let reads = one bytes ps qs summary.ending other.ending first.0 second.0 in
+    let told = telling bytes outcomes others summary.ending other.ending
+    record { packets = ps; reads = first.0; come = first.1 } record { packets = qs; reads = second.0; come = second.1 } in
+    let counts : Counts others summary.tally = subst (λ (os : List Outcome). Counts os summary.tally) told.0 first.2 in
+    let same = same_summary summary other (same_tally others summary.tally other.tally counts second.2) told.1 in
+    let alike = one-read one telling captures packets more rest latter summaries after first.3 second.3 in
+    (λ i. reads.0 i ∷ alike.0 i, λ i. told.0 i ∷ alike.1 i, λ i. same i ∷ alike.2 i)
+one-read one telling [] [] more [] others [] after first second = absurd second
+one-read one telling (bytes ∷ captures) (ps ∷ packets) more (outcomes ∷ rest) others (summary ∷ summaries) after first second =
+    absurd second
+one-read one telling captures packets more outcomes others summaries after first second = absurd first

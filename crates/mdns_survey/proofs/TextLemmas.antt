@@ -11,11 +11,11 @@ use Rattle.mdns_browse.specs.Report.{IsReportIn}
 use Rattle.mdns_survey.specs.declared.request.AsOf.{AsOf}
 use Rattle.mdns_survey.specs.declared.request.AsOf.TheVariants.{Newest, At, Before}
 use Rattle.mdns_survey.specs.declared.request.Query.{Query}
-use Rattle.mdns_survey.specs.declared.summary.Summary.{Summary}
-use Rattle.mdns_survey.specs.Captures.{Outcome}
 use Rattle.mdns_survey.specs.Request.{selected}
-use Rattle.mdns_survey.specs.Surveys.{AllTell, IsAsOf, ReportsQuery, SurveysReport, all_hearings}
-use Rattle.mdns_survey.proofs.OutcomeLemmas.{OneTelling}
+use Rattle.mdns_survey.specs.Surveys.{IsAsOf, ReportsQuery, SurveysReport}
+use Rattle.mdns_survey.proofs.FactLemmas.{IsByFacts}
+use Rattle.mdns_survey.proofs.LivesLawLemmas.{read_of, tell_of}
+use Rattle.mdns_survey.proofs.SelectedLemmas.{same_selected}
 
 -- THE LAWS BELOW
 
@@ -105,29 +105,21 @@ one_text one query hearings text other first second =
     (record { into = λ hearing among. among; back = λ hearing among. among })
     first.reports (subst (λ (n : ℕ). IsReportIn query.about query.form query.ask hearings n other) (sym now) second.reports)
 
--- a survey writes the text over those hearings of all captures that count
-pub survey_of_text : (captures : List (List ℕ)) (outcomes : List (List Outcome)) (query : Query) (summaries : List Summary)
-    (text : List ℕ)
-    → AllTell captures outcomes summaries → ReportsQuery query (selected query.as_of (all_hearings outcomes)) text
-    → SurveysReport captures query summaries text
-survey_of_text captures outcomes query summaries text tell over = record { outcomes = outcomes; tell = tell; reports = over }
-
-pub one_outcomes : OneTelling → (captures : List (List ℕ)) (outcomes others : List (List Outcome)) (summaries more : List Summary)
-    → AllTell captures outcomes summaries → AllTell captures others more → outcomes ≡ others
-one_outcomes one [] [] [] [] [] first second = refl
-one_outcomes one (bytes ∷ captures) (outcomes ∷ rest) (others ∷ after) (summary ∷ summaries) (other ∷ more) first second =
-    ap (λ (os : List Outcome). os ∷ rest) (one bytes outcomes others summary.ending other.ending first.0 second.0).0
-    ∙ ap (λ (oss : List (List Outcome)). others ∷ oss) (one_outcomes one captures rest after summaries more first.2 second.2)
-one_outcomes one [] [] others [] more first second = absurd second
-one_outcomes one (bytes ∷ captures) (outcomes ∷ rest) others (summary ∷ summaries) more first second = absurd second
-one_outcomes one captures outcomes others summaries more first second = absurd first
-
--- captures have one text
-pub one_surveyed : OneTelling → OneReport
-    → (captures : List (List ℕ)) (query : Query) (summaries more : List Summary) (text other : List ℕ)
-    → SurveysReport captures query summaries text → SurveysReport captures query more other → text ≡ other
-one_surveyed one one_report captures query summaries more text other first second =
-    let same = one_outcomes one captures first.outcomes second.outcomes summaries more first.tell second.tell in
-    one_text one_report query (selected query.as_of (all_hearings first.outcomes)) text other first.reports
-    (subst (λ (os : List (List Outcome)). ReportsQuery query (selected query.as_of (all_hearings os)) other) (sym same)
-    second.reports)
+-- a report is written by the hearings that count
+pub report-by-facts : SharedReport → OneReport → (query : Query) → IsByFacts (λ captures. SurveysReport captures query)
+report-by-facts shared one query = record {
+  Writes = λ heard moments. ReportsQuery query (selected query.as_of heard);
+  to = λ captures summaries text survey.
+      let read = read_of captures survey.outcomes summaries survey.tell in
+      record { packets = read.0; outcomes = survey.outcomes; read = read.1; writes = survey.reports };
+  from = λ captures summaries text by. record {
+    outcomes = by.outcomes;
+    tell = tell_of captures by.packets by.outcomes summaries by.read;
+    reports = by.writes;
+  };
+  shared = λ heard others moments more text same writes.
+      shared_text shared query (selected query.as_of heard) (selected query.as_of others) text
+      (same_selected query.as_of heard others
+      record { into = λ hearing among. same.into (inl hearing) among; back = λ hearing among. same.back (inl hearing) among }) writes;
+  one = λ heard moments text other first second. one_text one query (selected query.as_of heard) text other first second;
+}

@@ -65,6 +65,7 @@ pub fn one_survey()
         → (summaries ≡ more) × (text ≡ other) }
 {
     one_telling();
+    one_reading();
     same_report_in();
 }
 
@@ -97,6 +98,7 @@ pub fn same_text()
         → SurveysReport captures query summaries text → SurveysReport others query more other → text ≡ other }
 {
     one_telling();
+    one_reading();
     same_report_in();
 }
 
@@ -156,6 +158,7 @@ pub fn split_text()
     cut_at_a_packet_header();
     one_packet_outcome();
     one_telling();
+    one_reading();
     same_report_in();
 }
 

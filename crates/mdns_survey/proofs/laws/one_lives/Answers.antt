@@ -1,5 +1,9 @@
-use Rattle.mdns_survey.proofs.LivesLawLemmas.{one_lives}
+use Rattle.mdns_survey.specs.Lives.{SurveysLives}
+use Rattle.mdns_survey.proofs.FactLemmas.{one-survey}
+use Rattle.mdns_survey.proofs.LivesLawLemmas.{lives-by-facts}
 use Rattle.mdns_survey.proofs.laws.one_lives.Goals as goal
 
 pub returns : goal.returns
-returns c = one_lives c.one_reading.ensures.unique c.one_telling.ensures.unique c.one_all.ensures.same
+returns c = λ which form about captures as_of.
+    one-survey c.one_reading.ensures.unique c.one_telling.ensures.unique (λ captures. SurveysLives which form about captures as_of)
+    (lives-by-facts c.one_all.ensures.shared c.one_all.ensures.same which form about as_of) captures

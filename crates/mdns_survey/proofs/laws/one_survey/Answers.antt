@@ -1,5 +1,9 @@
-use Rattle.mdns_survey.proofs.OneSurveyLemmas.{one_survey}
+use Rattle.mdns_survey.specs.Surveys.{SurveysReport}
+use Rattle.mdns_survey.proofs.FactLemmas.{one-survey}
+use Rattle.mdns_survey.proofs.TextLemmas.{report-by-facts}
 use Rattle.mdns_survey.proofs.laws.one_survey.Goals as goal
 
 pub returns : goal.returns
-returns c = one_survey c.one_telling.ensures.unique c.same_report_in.ensures.same
+returns c = λ captures query.
+    one-survey c.one_reading.ensures.unique c.one_telling.ensures.unique (λ captures. SurveysReport captures query)
+    (report-by-facts c.same_report_in.ensures.shared c.same_report_in.ensures.same query) captures

@@ -1,8 +1,14 @@
-use Rattle.mdns_survey.proofs.SameTextLemmas.{same_captures, shared_survey}
+use Rattle.mdns_survey.specs.Surveys.{SurveysReport}
+use Rattle.mdns_survey.proofs.FactLemmas.{same-captures, same-texts}
+use Rattle.mdns_survey.proofs.TextLemmas.{report-by-facts}
 use Rattle.mdns_survey.proofs.laws.same_text.Goals as goal
 
 pub returns-clause-shared : goal.returns-clause-shared
-returns-clause-shared c = shared_survey c.one_telling.ensures.unique c.same_report_in.ensures.shared
+returns-clause-shared c = λ captures others query.
+    same-captures c.one_reading.ensures.unique c.one_telling.ensures.unique (λ captures. SurveysReport captures query)
+    (report-by-facts c.same_report_in.ensures.shared c.same_report_in.ensures.same query) captures others
 
 pub returns-clause-same : goal.returns-clause-same
-returns-clause-same c = same_captures c.one_telling.ensures.unique c.same_report_in.ensures.shared c.same_report_in.ensures.same
+returns-clause-same c = λ captures others query.
+    same-texts c.one_reading.ensures.unique c.one_telling.ensures.unique (λ captures. SurveysReport captures query)
+    (report-by-facts c.same_report_in.ensures.shared c.same_report_in.ensures.same query) captures others
