@@ -28,8 +28,8 @@ use Rattle.mdns_survey.specs.declared.summary.Summary.{Summary}
 use Rattle.mdns_survey.specs.Captures.{Outcome}
 use Rattle.mdns_survey.specs.Lives.{begin_of, end_of, latest_nanos}
 use Rattle.mdns_survey.specs.Readings.{all_moments, summaries_of}
-use Rattle.mdns_survey.specs.Request.{selected}
-use Rattle.mdns_survey.specs.Surveys.{AllLeft, all_hearings}
+use Rattle.mdns_survey.specs.Filter.{counted, counted_each, filter_of}
+use Rattle.mdns_survey.specs.Surveys.{AllLeft}
 use Rattle.mdns_survey.proofs.ContainsLemmas.{contains-after, contains-cons, contains-first}
 use Rattle.mdns_survey.proofs.ListenedLemmas.{known-read}
 use Rattle.mdns_survey.proofs.LivesLawLemmas.{OneLives, same_itself}
@@ -46,7 +46,7 @@ use Rattle.mdns_page.specs.Html.{isolated}
 use Rattle.mdns_page.specs.Page.{page}
 use Rattle.mdns_page.specs.Servers.{IsServed, servers_of}
 use Rattle.mdns_page.specs.Kept.{AreRows, kept_of}
-use Rattle.mdns_page.specs.Survey.{SurveysPage, WritesPage, live_at_end, selected_each}
+use Rattle.mdns_page.specs.Survey.{SurveysPage, WritesPage, live_at_end}
 use Rattle.mdns_page.specs.Timeline.{Row, is_open, record_in}
 use Rattle.mdns_page.proofs.OneCaptureLemmas.{IsAlike, are-alike, facts-alike, lost-alike, nothing-alike, one-each}
 
@@ -216,10 +216,10 @@ module _ (one : OneReading) (telling : OneTelling) (payload : OnePayload) (never
       let dates = second.is_axis.dates ∙ lasts ∙ sym first.is_axis.dates in
       let axis : second.axis ≡ first.axis = λ i. record { start = start i; end = end i; dates = dates i } in (
         first.summed ∙ same ∙ sym second.summed,
-        one-written one_lives about names first.readings second.readings (selected_each as_of first.outcomes)
-            (selected as_of (all_hearings first.outcomes)) first.axis text other alike first.writes
-            (subst (λ (a : Axis). WritesPage about names second.readings (selected_each as_of first.outcomes)
-            (selected as_of (all_hearings first.outcomes)) a other) axis
-            (subst (λ (os : List (List Outcome)). WritesPage about names second.readings (selected_each as_of os)
-            (selected as_of (all_hearings os)) second.axis other) outcomes second.writes)),
+        one-written one_lives about names first.readings second.readings (counted_each (filter_of as_of) first.outcomes)
+            (counted (filter_of as_of) first.outcomes) first.axis text other alike first.writes
+            (subst (λ (a : Axis). WritesPage about names second.readings (counted_each (filter_of as_of) first.outcomes)
+            (counted (filter_of as_of) first.outcomes) a other) axis
+            (subst (λ (os : List (List Outcome)). WritesPage about names second.readings (counted_each (filter_of as_of) os)
+            (counted (filter_of as_of) os) second.axis other) outcomes second.writes)),
       )

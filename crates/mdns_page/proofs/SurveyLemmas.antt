@@ -7,7 +7,7 @@ use Rattle.mdns_message.specs.declared.hearing.Hearing.{Hearing}
 use Rattle.mdns_message.specs.Resource.{key_cmp}
 use Rattle.mdns_join.specs.declared.latest.Latest.{Latest}
 use Rattle.mdns_cache.specs.Live.{AreLiveRecords, record_of}
-use Rattle.mdns_lives.specs.Chronicle.{Accounts, Chronicles}
+use Rattle.mdns_lives.specs.Chronicle.{Chronicles}
 use Rattle.mdns_lives.specs.Since.{AreLiveSince, all_since_rows, live_row}
 use Rattle.mdns_lives.specs.declared.life.Life.{Life}
 use Rattle.mdns_browse.specs.declared.about.Subject.{Subject}
@@ -16,16 +16,16 @@ use Rattle.mdns_survey.specs.declared.each.EachChronicling.{EachChronicling}
 use Rattle.mdns_survey.specs.declared.reading.Reading.{Reading}
 use Rattle.mdns_survey.specs.declared.request.AsOf.{AsOf}
 use Rattle.mdns_survey.specs.Captures.{Outcome}
-use Rattle.mdns_survey.specs.Chronicling.{AllChronicle, EachChronicled}
+use Rattle.mdns_survey.specs.Chronicling.{EachChronicled}
+use Rattle.mdns_survey.specs.Filter.{counted, counted_each, filter_of}
 use Rattle.mdns_survey.specs.Question.{HearsReaders, IsAnswer}
 use Rattle.mdns_survey.specs.Readings.{all_moments, summaries_of}
-use Rattle.mdns_survey.specs.Request.{selected}
-use Rattle.mdns_survey.specs.Surveys.{AllLeft, all_hearings}
+use Rattle.mdns_survey.specs.Surveys.{AllLeft}
 use Rattle.mdns_survey.proofs.ContainsLemmas.{contains-after, contains-cons, contains-first}
 use Rattle.mdns_page.specs.Axis.{IsAxis}
 use Rattle.mdns_page.specs.declared.axis.Axis.{Axis}
 use Rattle.mdns_page.specs.Survey.{AreLiveGiven, IsSinceKnown, WritesPage, asked_page, given_of_since, last_of, live_given}
-use Rattle.mdns_page.specs.Survey.{record_given, selected_each}
+use Rattle.mdns_page.specs.Survey.{record_given}
 
 -- what holds of the value of each element
 mapped-all : {X Y : Type 0} (f : X → Y) (P : Y → Type 0) (xs : List X) → ((x : X) → Contains xs x → P (f x)) → (y : Y)
@@ -59,17 +59,9 @@ module _ (heard : List Hearing) (axis : Axis) (rows : List (Latest × List Life)
 
 -- ---- the page on captures
 
--- the chronicle of each capture tells of those of its hearings that count
-pub each-chronicled : (as_of : AsOf) (outcomes : List (List Outcome)) (chronicles : List Accounts) → AllChronicle as_of outcomes chronicles
-    → AreEach Chronicles chronicles (selected_each as_of outcomes)
-each-chronicled as_of [] [] all = tt
-each-chronicled as_of [] (chronicle ∷ chronicles) all = absurd all
-each-chronicled as_of (capture ∷ outcomes) [] all = absurd all
-each-chronicled as_of (capture ∷ outcomes) (chronicle ∷ chronicles) all = (all.0, each-chronicled as_of outcomes chronicles all.1)
-
 module _ {Heard : List (List Outcome) → Type 0} (names : List (List ℕ)) (about : List Subject) (as_of : AsOf)
     (lefts : List (Option (List ℕ))) (readings : List Reading) (each : EachChronicling) (axis : Axis) (text : List ℕ)
-    (hears : HearsReaders Heard lefts readings) (chronicled : EachChronicled as_of each hears.outcomes)
+    (hears : HearsReaders Heard lefts readings) (chronicled : EachChronicled (filter_of as_of) each hears.outcomes)
     (is_axis : IsAxis as_of (all_moments hears.packets) axis)
     (none_later : (heard : List Hearing) → Chronicles each.all heard
     → (hearing : Hearing) → Contains heard hearing → hearing.moment.nanos ≤ axis.end.nanos)
@@ -78,7 +70,7 @@ module _ {Heard : List (List Outcome) → Type 0} (names : List (List ℕ)) (abo
     → WritesPage about names readings each_heard heard axis text) where
   pub surveys-page : IsAnswer (asked_page names about as_of) lefts (summaries_of readings) text
   surveys-page captures known =
-      let heard = selected as_of (all_hearings hears.outcomes) in
+      let which = filter_of as_of in
       record {
         packets = hears.packets;
         outcomes = hears.outcomes;
@@ -87,6 +79,6 @@ module _ {Heard : List (List Outcome) → Type 0} (names : List (List ℕ)) (abo
         summed = refl;
         axis = axis;
         is_axis = is_axis;
-        writes = written (selected_each as_of hears.outcomes) heard
-            (each-chronicled as_of hears.outcomes each.captures.items chronicled.0) chronicled.1 (none_later heard chronicled.1);
+        writes = written (counted_each which hears.outcomes) (counted which hears.outcomes) chronicled.0 chronicled.1
+            (none_later (counted which hears.outcomes) chronicled.1);
       }

@@ -13,11 +13,11 @@ use Rattle.mdns_browse.specs.Services.{GivenRow}
 use Rattle.mdns_survey.specs.declared.reading.Reading.{Reading}
 use Rattle.mdns_survey.specs.declared.request.AsOf.{AsOf}
 use Rattle.mdns_survey.specs.declared.summary.Summary.{Summary}
-use Rattle.mdns_survey.specs.Captures.{Outcome, hearings_in}
+use Rattle.mdns_survey.specs.Captures.{Outcome}
+use Rattle.mdns_survey.specs.Filter.{counted, counted_each, filter_of}
 use Rattle.mdns_survey.specs.Readings.{all_moments, lost_in, summaries_of}
 use Rattle.mdns_survey.specs.Question.{Asked, asked_at_once}
-use Rattle.mdns_survey.specs.Request.{selected}
-use Rattle.mdns_survey.specs.Surveys.{AllLeft, all_hearings}
+use Rattle.mdns_survey.specs.Surveys.{AllLeft}
 use Rattle.mdns_page.specs.declared.axis.Axis.{Axis}
 use Rattle.mdns_page.specs.declared.kept.Kind.TheVariants.{Addresses, Instances, Names}
 use Rattle.mdns_page.specs.Axis.{IsAxis}
@@ -95,10 +95,6 @@ pub record WritesPage (about : List Subject) (names : List (List ℕ)) (readings
     nothing = nothing_text readings;
   })
 
--- those hearings of each capture that count
-abbrev pub selected_each : AsOf → List (List Outcome) → List (List Hearing)
-selected_each as_of outcomes = map (λ capture. selected as_of (hearings_in capture)) outcomes
-
 -- The text is the page on all captures, from their earliest packet to their end, by those hearings that count.
 pub record SurveysPage (names : List (List ℕ)) (about : List Subject) (as_of : AsOf) (captures : List (List ℕ))
     (summaries : List Summary) (text : List ℕ) : Type 0 where
@@ -109,7 +105,7 @@ pub record SurveysPage (names : List (List ℕ)) (about : List Subject) (as_of :
   pub summed : summaries ≡ summaries_of readings
   pub axis : Axis
   pub is_axis : IsAxis as_of (all_moments packets) axis
-  pub writes : WritesPage about names readings (selected_each as_of outcomes) (selected as_of (all_hearings outcomes)) axis text
+  pub writes : WritesPage about names readings (counted_each (filter_of as_of) outcomes) (counted (filter_of as_of) outcomes) axis text
 
 -- a page on captures with these names
 abbrev pub asked_page : List (List ℕ) → List Subject → AsOf → Asked

@@ -52,16 +52,17 @@ pub struct Page<'a> {
 
 impl<'a> Question for Page<'a> {
     ghost use Rattle.mdns_survey.specs.Chronicling.{EachChronicled};
+    ghost use Rattle.mdns_survey.specs.Filter.{filter_of};
     ghost use Rattle.mdns_page.specs.Survey.{asked_page};
 
     type Listener = EachChronicling;
 
     ghost asked = { λ page. asked_page (map string_bytes page.names.now) page.about page.as_of };
 
-    ghost Heard = { λ page. EachChronicled page.as_of };
+    ghost Heard = { λ page. EachChronicled (filter_of page.as_of) };
 
     fn listener(&self, alloc: Global) -> Result<EachChronicling, Want> {
-        EachChronicling::new(alloc, self.as_of)
+        EachChronicling::new(alloc, self.as_of.filter())
     }
 }
 

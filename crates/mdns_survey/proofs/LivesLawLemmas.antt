@@ -19,11 +19,12 @@ use Rattle.mdns_survey.specs.declared.request.AsOf.TheVariants.{Newest, At, Befo
 use Rattle.mdns_survey.specs.declared.summary.Summary.{Summary}
 use Rattle.mdns_survey.specs.Captures.{Outcome}
 use Rattle.mdns_survey.specs.Lives.{AllRead, SurveysLives, WritesLives, begin_of, earliest_nanos, end_of, kept_rows, latest_nanos}
-use Rattle.mdns_survey.specs.Request.{selected}
+use Rattle.mdns_survey.specs.Filter.{filter_of, selected}
+use Rattle.mdns_survey.specs.Readings.{all_moments}
 use Rattle.mdns_survey.specs.Surveys.{AllTell}
 use Rattle.mdns_survey.proofs.ContainsLemmas.{contains-after, contains-cons, contains-first}
 use Rattle.mdns_survey.proofs.FactLemmas.{IsByFacts}
-use Rattle.mdns_survey.proofs.SelectedLemmas.{same_selected}
+use Rattle.mdns_survey.proofs.SelectedLemmas.{counted-all, same_selected}
 
 -- THE LAWS BELOW
 
@@ -154,18 +155,28 @@ one_text one which form about heard begin end text other first second =
 pub lives-by-facts : SharedLives → OneLives → (which : Which) (form : Form) (about : List Subject) (as_of : AsOf)
     → IsByFacts (λ captures. SurveysLives which form about captures as_of)
 lives-by-facts shared one which form about as_of = record {
-  Writes = λ heard moments. WritesLives which form about (selected as_of heard) (begin_of as_of moments) (end_of as_of moments);
-  to = λ captures summaries text survey.
-      record { packets = survey.packets; outcomes = survey.outcomes; read = survey.read; writes = survey.writes };
-  from = λ captures summaries text by.
-      record { packets = by.packets; outcomes = by.outcomes; read = by.read; writes = by.writes };
+  Writes = λ heard moments. WritesLives which form about (selected (filter_of as_of) heard) (begin_of as_of moments) (end_of as_of moments);
+  to = λ captures summaries text survey. record {
+    packets = survey.packets;
+    outcomes = survey.outcomes;
+    read = survey.read;
+    writes = subst (λ (hs : List Hearing). WritesLives which form about hs (begin_of as_of (all_moments survey.packets))
+        (end_of as_of (all_moments survey.packets)) text) (counted-all (filter_of as_of) survey.outcomes) survey.writes;
+  };
+  from = λ captures summaries text by. record {
+    packets = by.packets;
+    outcomes = by.outcomes;
+    read = by.read;
+    writes = subst (λ (hs : List Hearing). WritesLives which form about hs (begin_of as_of (all_moments by.packets))
+        (end_of as_of (all_moments by.packets)) text) (sym (counted-all (filter_of as_of) by.outcomes)) by.writes;
+  };
   shared = λ heard others moments more text same writes.
-      shared_lives shared which form about (selected as_of heard) (selected as_of others) (begin_of as_of moments)
+      shared_lives shared which form about (selected (filter_of as_of) heard) (selected (filter_of as_of) others) (begin_of as_of moments)
       (begin_of as_of more) (end_of as_of moments) (end_of as_of more) text
-      (same_selected as_of heard others
+      (same_selected (filter_of as_of) heard others
       record { into = λ hearing among. same.into (inl hearing) among; back = λ hearing among. same.back (inl hearing) among })
       (same_begin moments more (λ m among. same.into (inr m) among) (λ m among. same.back (inr m) among) as_of)
       (same_end moments more (λ m among. same.into (inr m) among) (λ m among. same.back (inr m) among) as_of) writes;
   one = λ heard moments text other first second.
-      one_text one which form about (selected as_of heard) (begin_of as_of moments) (end_of as_of moments) text other first second;
+      one_text one which form about (selected (filter_of as_of) heard) (begin_of as_of moments) (end_of as_of moments) text other first second;
 }

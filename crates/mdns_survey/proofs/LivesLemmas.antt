@@ -35,10 +35,11 @@ use Rattle.mdns_survey.specs.Lives.{SurveysLives, WritesFirstRows}
 use Rattle.mdns_survey.specs.Lives.{begin_of, end_of, kept_rows, latest_nanos, rows_head}
 use Rattle.mdns_survey.specs.Question.{HearsReaders, IsAnswer, IsTooEarly, Refuses, WritesAnswer, asked_lives}
 use Rattle.mdns_survey.specs.Readings.{all_moments, summaries_of}
-use Rattle.mdns_survey.specs.Request.{moment_of, selected, selects}
+use Rattle.mdns_survey.specs.Filter.{counted, filter_of}
+use Rattle.mdns_survey.specs.Request.{moment_of}
 use Rattle.mdns_survey.specs.Surveys.{AllLeft, all_hearings}
 use Rattle.mdns_survey.proofs.KeptLemmas.{Row}
-use Rattle.mdns_survey.proofs.SelectedLemmas.{from-filter}
+use Rattle.mdns_survey.proofs.SelectedLemmas.{counted-among}
 use Rattle.mdns_survey.proofs.SurveyLemmas.{too-early}
 use Rattle.mdns_survey.proofs.ListenedLemmas.{known-head, known-read}
 
@@ -116,20 +117,20 @@ early-end (Before moment) moments end newest is early by = omega (arith, is, ear
 module _ {Heard : List (List Outcome) → Type 0} (lefts : List (Option (List ℕ))) (readings : List Reading)
     (hears : HearsReaders Heard lefts readings) (as_of : AsOf) where
   -- no hearing is later than the latest packet
-  latest-heard : (newest : Moment) → IsNewest (selected as_of (all_hearings hears.outcomes)) newest
+  latest-heard : (newest : Moment) → IsNewest (counted (filter_of as_of) hears.outcomes) newest
       → newest.nanos ≤ latest_nanos (all_moments hears.packets)
   latest-heard newest is_newest =
       let hearing = is_newest.hearing in
       let at_it : hearing.moment.nanos ≡ newest.nanos = ap (λ (m : Moment). m.nanos) is_newest.at_it in
       let among : Contains (all_hearings hears.outcomes) hearing =
-      (from-filter (λ h. selects as_of h.moment) (all_hearings hears.outcomes) hearing is_newest.among).0 in
+      counted-among (filter_of as_of) hears.outcomes hearing is_newest.among in
       let by : hearing.moment.nanos ≤ latest_nanos (all_moments hears.packets) =
       all-heard-by lefts hears.packets hears.outcomes readings hears.read hearing among in
       omega (arith, by, at_it)
 
   -- where the captures end before the newest hearing, that is their newest one, and a moment before it was asked for
   pub early-ended : (end newest : Moment) → end.nanos ≡ end_of as_of (all_moments hears.packets) → end.nanos < newest.nanos
-      → IsNewest (selected as_of (all_hearings hears.outcomes)) newest → IsTooEarly as_of lefts newest
+      → IsNewest (counted (filter_of as_of) hears.outcomes) newest → IsTooEarly as_of lefts newest
   early-ended end newest ends before is_newest =
       too-early lefts readings hears as_of newest
       (early-end as_of (all_moments hears.packets) end newest ends before (latest-heard newest is_newest)) is_newest
@@ -159,9 +160,9 @@ module _ {Heard : List (List Outcome) → Type 0} (query : LivesQuery) (lefts : 
     (begin end : Moment) (hears : HearsReaders Heard lefts readings)
     (begins : begin.nanos ≡ begin_of query.as_of (all_moments hears.packets))
     (ends : end.nanos ≡ end_of query.as_of (all_moments hears.packets))
-    (latest : (hearing : Hearing) → Contains (selected query.as_of (all_hearings hears.outcomes)) hearing
+    (latest : (hearing : Hearing) → Contains (counted (filter_of query.as_of) hears.outcomes) hearing
     → hearing.moment.nanos ≤ end.nanos)
-    (rows shown : List Row) (lives : AreAllLives (selected query.as_of (all_hearings hears.outcomes)) rows)
+    (rows shown : List Row) (lives : AreAllLives (counted (filter_of query.as_of) hears.outcomes) rows)
     (are : shown ≡ chosen query.which rows) (layout : Layout)
     (fits : FitsForm query.form end.nanos (kept_rows query.about shown) layout) (head text : List ℕ)
     (heads : Heads query.form readings head)

@@ -1,5 +1,5 @@
 -- Which hearings count.
-use Rattle.std.proofs.Common.{◌≡◌, ◌↔◌, ℕ, ◌+◌, ◌<◌, ◌≤◌, Bool, true, false, List, [], ◌∷◌, ◌++◌, take, drop, refl, sym}
+use Rattle.std.proofs.Common.{◌≡◌, ◌↔◌, ℕ, ◌+◌, ◌<◌, Bool, true, false, List, [], ◌∷◌, ◌++◌, take, drop, refl, sym}
 use Rattle.std.proofs.Common.{ap, ◌∙◌, subst, append-nil}
 use Rattle.std.specs.Prelude.{Contains}
 use Rattle.std.specs.List.{filter}
@@ -15,12 +15,14 @@ use Rattle.mdns_browse.specs.declared.about.Subject.{Subject}
 use Rattle.mdns_browse.specs.declared.report.Ask.{Ask}
 use Rattle.mdns_browse.specs.declared.report.Form.{Form}
 use Rattle.mdns_browse.specs.Report.{IsReportIn}
+use Rattle.mdns_survey.specs.declared.filter.Filter.{Filter}
 use Rattle.mdns_survey.specs.declared.request.AsOf.{AsOf}
 use Rattle.mdns_survey.specs.declared.request.AsOf.TheVariants.{At, Before}
 use Rattle.mdns_survey.specs.declared.summary.Summary.{Summary}
 use Rattle.mdns_survey.specs.Laws.{AreBefore}
-use Rattle.mdns_survey.specs.Request.{selected, selects}
-use Rattle.mdns_survey.specs.Surveys.{IsAsOf, ReportsBy, SurveysBy, all_hearings}
+use Rattle.mdns_survey.specs.Captures.{Outcome, hearings_in}
+use Rattle.mdns_survey.specs.Filter.{counted, counts, filter_of, selected}
+use Rattle.mdns_survey.specs.Surveys.{AllTell, IsAsOf, ReportsBy, SurveysBy, all_hearings}
 use Rattle.mdns_survey.proofs.ContainsLemmas.{contains-after, contains-first}
 
 -- SOME OF THEM
@@ -44,16 +46,35 @@ to-filter {X} p xs x (k, within, is) passes =
     (Contains-append_right (filter p (take k xs)) (filter p (x ∷ rest)) x after)
 
 -- the same hearings have the same ones that count
-pub same_selected : (as_of : AsOf) (heard others : List Hearing) → SameHearings heard others
-    → SameHearings (selected as_of heard) (selected as_of others)
-same_selected as_of heard others same =
-    let test : Hearing → Bool = λ h. selects as_of h.moment in
+pub same_selected : (which : Filter) (heard others : List Hearing) → SameHearings heard others
+    → SameHearings (selected which heard) (selected which others)
+same_selected which heard others same =
+    let test : Hearing → Bool = λ h. counts which h.moment in
     record {
       into = λ hearing among. let from = from-filter test heard hearing among in
           to-filter test others hearing (same.into hearing from.0) from.1;
       back = λ hearing among. let from = from-filter test others hearing among in
           to-filter test heard hearing (same.back hearing from.0) from.1;
     }
+
+-- those of all captures that count are those of all their hearings
+pub counted-all : (which : Filter) (outcomes : List (List Outcome)) → counted which outcomes ≡ selected which (all_hearings outcomes)
+counted-all which [] = refl
+counted-all which (capture ∷ outcomes) =
+    ap (λ (hs : List Hearing). selected which (hearings_in capture) ++ hs) (counted-all which outcomes)
+    ∙ sym (filter-append (λ (h : Hearing). counts which h.moment) (hearings_in capture) (all_hearings outcomes))
+
+-- and so they are what was heard by a filter
+pub counted-heard : (P : List Hearing → Type 0) (which other : Filter) (outcomes : List (List Outcome)) → which ≡ other
+    → P (selected which (all_hearings outcomes)) → P (counted other outcomes)
+counted-heard P which other outcomes same heard =
+    subst (λ (w : Filter). P (counted w outcomes)) same (subst P (sym (counted-all which outcomes)) heard)
+
+pub counted-among : (which : Filter) (outcomes : List (List Outcome)) (hearing : Hearing) → Contains (counted which outcomes) hearing
+    → Contains (all_hearings outcomes) hearing
+counted-among which outcomes hearing among =
+    (from-filter (λ h. counts which h.moment) (all_hearings outcomes) hearing
+    (subst (λ (hs : List Hearing). Contains hs hearing) (counted-all which outcomes) among)).0
 
 -- ALL OF THEM
 
@@ -69,75 +90,79 @@ none-pass p (first ∷ xs) fails =
     let left : filter p (first ∷ xs) ≡ filter p xs = rw (fails first (contains-first first xs)) refl in
     left ∙ none-pass p xs (λ x among. fails x (contains-after first xs x among))
 
-module _ (as_of other : AsOf) (is : as_of ≡ other) (t : Moment) (message : List ℕ) (hearings : List Hearing)
+module _ (which other : Filter) (is : which ≡ other) (t : Moment) (message : List ℕ) (hearings : List Hearing)
     (reads : MessageReads t message hearings) (P : List Hearing → Type 0) (heard : List Hearing) where
   abbrev test : Hearing → Bool
-  test h = selects other h.moment
+  test h = counts other h.moment
 
   -- each hearing of a message counts where its moment does
-  of_moment : (b : Bool) → selects as_of t ≡ b → (h : Hearing) → Contains hearings h → test h ≡ b
-  of_moment b e h among = subst (λ (u : Moment). selects other u ≡ b) (moment_in t message hearings reads h among)
-      (subst (λ (a : AsOf). selects a t ≡ b) is e)
+  of_moment : (b : Bool) → counts which t ≡ b → (h : Hearing) → Contains hearings h → test h ≡ b
+  of_moment b e h among = subst (λ (u : Moment). counts other u ≡ b) (moment_in t message hearings reads h among)
+      (subst (λ (w : Filter). counts w t ≡ b) is e)
 
-  pub selected-more : selects as_of t ≡ true → P (selected other heard ++ hearings) → P (selected other (heard ++ hearings))
+  pub selected-more : counts which t ≡ true → P (selected other heard ++ hearings) → P (selected other (heard ++ hearings))
   selected-more e p = subst P
       (sym (filter-append test heard hearings ∙ ap (λ hs. selected other heard ++ hs) (all-pass test hearings (of_moment true e)))) p
 
-  pub selected-same : selects as_of t ≡ false → P (selected other heard) → P (selected other (heard ++ hearings))
+  pub selected-same : counts which t ≡ false → P (selected other heard) → P (selected other (heard ++ hearings))
   selected-same e p = subst P
       (sym (filter-append test heard hearings ∙ ap (λ hs. selected other heard ++ hs) (none-pass test hearings (of_moment false e))
       ∙ append-nil (selected other heard))) p
 
+-- BEFORE A MOMENT
+
 -- as of a given moment all hearings count
-pub selected-at : (moment : Moment) (heard : List Hearing) → selected (At moment) heard ≡ heard
-selected-at moment heard = all-pass (λ h. selects (At moment) h.moment) heard (λ h among. refl)
+pub counted-at : (moment : Moment) (outcomes : List (List Outcome)) → counted (filter_of (At moment)) outcomes ≡ all_hearings outcomes
+counted-at moment outcomes =
+    counted-all (filter_of (At moment)) outcomes
+    ∙ all-pass (λ h. counts (filter_of (At moment)) h.moment) (all_hearings outcomes) (λ h among. refl)
 
 -- where all hearings are earlier, none is left out
-selected-before : (before : Moment) (heard : List Hearing)
-    → ((hearing : Hearing) → Contains heard hearing → hearing.moment.nanos < before.nanos)
-    → selected (Before before) heard ≡ heard
-selected-before before heard earlier =
-    all-pass (λ h. selects (Before before) h.moment) heard (λ h among. lt-ltb h.moment.nanos before.nanos (earlier h among))
+counted-before : (before : Moment) (outcomes : List (List Outcome))
+    → ((hearing : Hearing) → Contains (all_hearings outcomes) hearing → hearing.moment.nanos < before.nanos)
+    → counted (filter_of (Before before)) outcomes ≡ all_hearings outcomes
+counted-before before outcomes earlier =
+    counted-all (filter_of (Before before)) outcomes
+    ∙ all-pass (λ h. counts (filter_of (Before before)) h.moment) (all_hearings outcomes)
+    (λ h among. lt-ltb h.moment.nanos before.nanos (earlier h among))
 
 -- a hearing that counts before a moment is earlier
-pub is-earlier : (before : Moment) (heard : List Hearing) (hearing : Hearing) → Contains (selected (Before before) heard) hearing
-    → hearing.moment.nanos < before.nanos
-is-earlier before heard hearing among =
-    ltb-true hearing.moment.nanos before.nanos (from-filter (λ h. selects (Before before) h.moment) heard hearing among).1
+pub is-earlier : (before : Moment) (outcomes : List (List Outcome)) (hearing : Hearing)
+    → Contains (counted (filter_of (Before before)) outcomes) hearing → hearing.moment.nanos < before.nanos
+is-earlier before outcomes hearing among =
+    ltb-true hearing.moment.nanos before.nanos
+    (from-filter (λ h. counts (filter_of (Before before)) h.moment) (all_hearings outcomes) hearing
+    (subst (λ (hs : List Hearing). Contains hs hearing) (counted-all (filter_of (Before before)) outcomes) among)).1
 
--- a text as of one moment is one as of another where both are the same
-reports-moved : (Is : List Hearing → ℕ → List ℕ → Type 0) (as_of other : AsOf) (heard others : List Hearing) (text : List ℕ)
-    → ((now : ℕ) → IsAsOf as_of heard now → IsAsOf other others now) → heard ≡ others
-    → ReportsBy Is heard as_of text → ReportsBy Is others other text
-reports-moved Is as_of other heard others text moment same over = record {
-  now = over.now;
-  moment = moment over.now over.moment;
-  latest = subst (λ (hs : List Hearing). (hearing : Hearing) → Contains hs hearing → hearing.moment.nanos ≤ over.now) same over.latest;
-  reports = subst (λ (hs : List Hearing). Is hs over.now text) same over.reports;
-}
+-- a text as of one moment is one as of another where the same hearings count, and both are the same
+surveys-moved : (Is : List Hearing → ℕ → List ℕ → Type 0) (captures : List (List ℕ)) (as_of other : AsOf) (summaries : List Summary)
+    (text : List ℕ) → ((heard : List Hearing) (now : ℕ) → IsAsOf as_of heard now → IsAsOf other heard now)
+    → ((outcomes : List (List Outcome)) → AllTell captures outcomes summaries
+    → counted (filter_of as_of) outcomes ≡ counted (filter_of other) outcomes)
+    → SurveysBy Is captures as_of summaries text → SurveysBy Is captures other summaries text
+surveys-moved Is captures as_of other summaries text moment same survey =
+    let over = survey.reports in
+    let reports : ReportsBy Is (counted (filter_of as_of) survey.outcomes) other text = record {
+      now = over.now;
+      moment = moment (counted (filter_of as_of) survey.outcomes) over.now over.moment;
+      latest = over.latest;
+      reports = over.reports;
+    } in
+    record {
+      outcomes = survey.outcomes;
+      tell = survey.tell;
+      reports = subst (λ (hs : List Hearing). ReportsBy Is hs other text) (same survey.outcomes survey.tell) reports;
+    }
 
 -- and the report is the one as of that moment
 pub before_is_at : (captures : List (List ℕ)) (about : List Subject) (ask : Ask) (form : Form) (before : Moment)
     (summaries : List Summary) (text : List ℕ) → AreBefore captures before
     → SurveysBy (IsReportIn about form ask) captures (Before before) summaries text
     ↔ SurveysBy (IsReportIn about form ask) captures (At before) summaries text
-before_is_at captures about ask form before summaries text are_before = (
-  λ survey.
-      let all = all_hearings survey.outcomes in
-      let same : selected (Before before) all ≡ selected (At before) all =
-      selected-before before all (are_before survey.outcomes summaries survey.tell) ∙ sym (selected-at before all) in
-      record {
-        outcomes = survey.outcomes;
-        tell = survey.tell;
-        reports = reports-moved (IsReportIn about form ask) (Before before) (At before) _ _ text (λ now is. is) same survey.reports;
-      },
-  λ survey.
-      let all = all_hearings survey.outcomes in
-      let same : selected (At before) all ≡ selected (Before before) all =
-      selected-at before all ∙ sym (selected-before before all (are_before survey.outcomes summaries survey.tell)) in
-      record {
-        outcomes = survey.outcomes;
-        tell = survey.tell;
-        reports = reports-moved (IsReportIn about form ask) (At before) (Before before) _ _ text (λ now is. is) same survey.reports;
-      },
-)
+before_is_at captures about ask form before summaries text are_before =
+    let same = λ (outcomes : List (List Outcome)) (tell : AllTell captures outcomes summaries).
+    counted-before before outcomes (are_before outcomes summaries tell) ∙ sym (counted-at before outcomes) in (
+      surveys-moved (IsReportIn about form ask) captures (Before before) (At before) summaries text (λ heard now is. is) same,
+      surveys-moved (IsReportIn about form ask) captures (At before) (Before before) summaries text (λ heard now is. is)
+          (λ outcomes tell. sym (same outcomes tell)),
+    )

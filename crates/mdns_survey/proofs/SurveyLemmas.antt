@@ -29,12 +29,13 @@ use Rattle.mdns_survey.specs.declared.request.AsOf.TheVariants.{Newest, At, Befo
 use Rattle.mdns_survey.specs.declared.request.Query.{Query}
 use Rattle.mdns_survey.specs.Head.{Heads}
 use Rattle.mdns_survey.specs.Question.{HearsReaders, IsAnswer, IsTooEarly, Refuses, asked_query}
-use Rattle.mdns_survey.specs.Request.{IsEarly, at_or_newest, moment_of, plain_query, selected}
+use Rattle.mdns_survey.specs.Filter.{counted, filter_of}
+use Rattle.mdns_survey.specs.Request.{IsEarly, at_or_newest, moment_of, plain_query}
 use Rattle.mdns_survey.specs.Readings.{summaries_of}
 use Rattle.mdns_survey.specs.Surveys.{AllTell, all_hearings, IsAsOf, ReportsQuery, SurveysBy}
 use Rattle.mdns_survey.specs.Surveys.{SurveysQuery, SurveysReport}
 use Rattle.mdns_survey.proofs.ListenedLemmas.{known-head, known-told}
-use Rattle.mdns_survey.proofs.SelectedLemmas.{is-earlier, selected-at}
+use Rattle.mdns_survey.proofs.SelectedLemmas.{counted-at, is-earlier}
 use Rattle.mdns_capture.specs.Output.{Writing}
 use Rattle.mdns_survey.specs.Refusals.{IsSound, RefusesBy, RefusesReaders, RefusesReader, SparesSteady}
 use Rattle.mdns_survey.specs.Refusals.{BlamesReaders}
@@ -155,15 +156,15 @@ reports-as-of query newest heard at default now text tells is_default is_at is_n
 }
 
 -- a moment earlier than the newest of the hearings that count is one that was asked for, and earlier than all others
-pub early-selected : (as_of : AsOf) (newest : Moment) (heard : List Hearing)
-    → IsSomeAnd (moment_of as_of) (λ m. m.nanos < newest.nanos) → IsNewest (selected as_of heard) newest
-    → IsEarly as_of newest × IsNewest heard newest
-early-selected Newest newest heard early is_newest = absurd early
-early-selected (At moment) newest heard early is_newest =
-    (early, subst (λ (hs : List Hearing). IsNewest hs newest) (selected-at moment heard) is_newest)
-early-selected (Before before) newest heard early is_newest =
+pub early-counted : (as_of : AsOf) (newest : Moment) (outcomes : List (List Outcome))
+    → IsSomeAnd (moment_of as_of) (λ m. m.nanos < newest.nanos) → IsNewest (counted (filter_of as_of) outcomes) newest
+    → IsEarly as_of newest × IsNewest (all_hearings outcomes) newest
+early-counted Newest newest outcomes early is_newest = absurd early
+early-counted (At moment) newest outcomes early is_newest =
+    (early, subst (λ (hs : List Hearing). IsNewest hs newest) (counted-at moment outcomes) is_newest)
+early-counted (Before before) newest outcomes early is_newest =
     let earlier : is_newest.hearing.moment.nanos < before.nanos =
-    is-earlier before heard is_newest.hearing is_newest.among in
+    is-earlier before outcomes is_newest.hearing is_newest.among in
     let at_it : is_newest.hearing.moment.nanos ≡ newest.nanos = ap (λ (m : Moment). m.nanos) is_newest.at_it in
     absurd (omega arith)
 
@@ -182,9 +183,9 @@ module _ {Heard : List (List Outcome) → Type 0} (lefts : List (Option (List �
 
   -- a moment that was asked for, and is earlier than the newest of the hearings that count
   pub too-early : (as_of : AsOf) (newest : Moment) → IsSomeAnd (moment_of as_of) (λ m. m.nanos < newest.nanos)
-      → IsNewest (selected as_of (all_hearings hears.outcomes)) newest → IsTooEarly as_of lefts newest
+      → IsNewest (counted (filter_of as_of) hears.outcomes) newest → IsTooEarly as_of lefts newest
   too-early as_of newest asked is_newest =
-      let early = early-selected as_of newest (all_hearings hears.outcomes) asked is_newest in (
+      let early = early-counted as_of newest hears.outcomes asked is_newest in (
         early.0,
         λ captures known. record {
           outcomes = hears.outcomes;
@@ -196,7 +197,7 @@ module _ {Heard : List (List Outcome) → Type 0} (lefts : List (Option (List �
 
   -- the report on the hearings that count, after its head
   pub answers-query : (query : Query) (head report text : List ℕ) → Heads query.form readings head → text ≡ head ++ report
-      → ReportsQuery query (selected query.as_of (all_hearings hears.outcomes)) report
+      → ReportsQuery query (counted (filter_of query.as_of) hears.outcomes) report
       → IsAnswer (asked_query query) lefts (summaries_of readings) text
   answers-query query head report text heads is reports = λ captures known. (
     head,
@@ -254,7 +255,7 @@ module _ (Is Same : List Hearing → ℕ → List ℕ → Type 0)
       now = survey.reports.now;
       moment = survey.reports.moment;
       latest = survey.reports.latest;
-      reports = says (selected as_of (all_hearings survey.outcomes)) survey.reports.now text survey.reports.reports;
+      reports = says (counted (filter_of as_of) survey.outcomes) survey.reports.now text survey.reports.reports;
     };
   }
 

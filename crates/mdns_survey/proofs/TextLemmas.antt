@@ -11,11 +11,11 @@ use Rattle.mdns_browse.specs.Report.{IsReportIn}
 use Rattle.mdns_survey.specs.declared.request.AsOf.{AsOf}
 use Rattle.mdns_survey.specs.declared.request.AsOf.TheVariants.{Newest, At, Before}
 use Rattle.mdns_survey.specs.declared.request.Query.{Query}
-use Rattle.mdns_survey.specs.Request.{selected}
+use Rattle.mdns_survey.specs.Filter.{filter_of, selected}
 use Rattle.mdns_survey.specs.Surveys.{IsAsOf, ReportsQuery, SurveysReport}
 use Rattle.mdns_survey.proofs.FactLemmas.{IsByFacts}
 use Rattle.mdns_survey.proofs.LivesLawLemmas.{read_of, tell_of}
-use Rattle.mdns_survey.proofs.SelectedLemmas.{same_selected}
+use Rattle.mdns_survey.proofs.SelectedLemmas.{counted-all, same_selected}
 
 -- THE LAWS BELOW
 
@@ -108,18 +108,25 @@ one_text one query hearings text other first second =
 -- a report is written by the hearings that count
 pub report-by-facts : SharedReport → OneReport → (query : Query) → IsByFacts (λ captures. SurveysReport captures query)
 report-by-facts shared one query = record {
-  Writes = λ heard moments. ReportsQuery query (selected query.as_of heard);
+  Writes = λ heard moments. ReportsQuery query (selected (filter_of query.as_of) heard);
   to = λ captures summaries text survey.
       let read = read_of captures survey.outcomes summaries survey.tell in
-      record { packets = read.0; outcomes = survey.outcomes; read = read.1; writes = survey.reports };
+      record {
+        packets = read.0;
+        outcomes = survey.outcomes;
+        read = read.1;
+        writes = subst (λ (hs : List Hearing). ReportsQuery query hs text) (counted-all (filter_of query.as_of) survey.outcomes)
+            survey.reports;
+      };
   from = λ captures summaries text by. record {
     outcomes = by.outcomes;
     tell = tell_of captures by.packets by.outcomes summaries by.read;
-    reports = by.writes;
+    reports = subst (λ (hs : List Hearing). ReportsQuery query hs text) (sym (counted-all (filter_of query.as_of) by.outcomes))
+        by.writes;
   };
   shared = λ heard others moments more text same writes.
-      shared_text shared query (selected query.as_of heard) (selected query.as_of others) text
-      (same_selected query.as_of heard others
+      shared_text shared query (selected (filter_of query.as_of) heard) (selected (filter_of query.as_of) others) text
+      (same_selected (filter_of query.as_of) heard others
       record { into = λ hearing among. same.into (inl hearing) among; back = λ hearing among. same.back (inl hearing) among }) writes;
-  one = λ heard moments text other first second. one_text one query (selected query.as_of heard) text other first second;
+  one = λ heard moments text other first second. one_text one query (selected (filter_of query.as_of) heard) text other first second;
 }

@@ -1,52 +1,36 @@
 -- A chronicle of captures while it is filled, and while it is written.
-use Rattle.std.specs.Prelude.{◌≡◌, ◌⊎◌, ℕ, List, [], ◌∷◌, ◌++◌, Option}
+use Rattle.std.specs.Prelude.{◌≡◌, ◌⊎◌, ℕ, List, [], ◌++◌, Option}
 use Rattle.std.specs.List.{flat_map}
 use Rattle.std.specs.Io.KnownBytes.{Appends}
 use Rattle.mdns_capture.specs.Output.{AppendsPrefix, Writing}
-use Rattle.mdns_message.specs.declared.hearing.Hearing.{Hearing}
 use Rattle.mdns_join.specs.declared.latest.Latest.{Latest}
 use Rattle.mdns_lives.specs.declared.life.Life.{Life}
-use Rattle.mdns_lives.specs.Chronicle.{Accounts, Chronicles}
-use Rattle.mdns_lives.specs.Recording.{RecordsAll}
+use Rattle.mdns_lives.specs.Chronicle.{Chronicles}
+use Rattle.mdns_lives.specs.Recording.{Recorded, RecordsAll}
 use Rattle.mdns_browse.specs.declared.report.Form.{Form}
 use Rattle.mdns_browse.specs.declared.report.Form.TheVariants.{Pretty}
 use Rattle.mdns_browse.specs.declared.lives.Layout.{Layout}
 use Rattle.mdns_browse.specs.Lives.{IsLayout}
-use Rattle.mdns_survey.specs.declared.chronicling.Chronicling.{Chronicling}
+use Rattle.mdns_browse.specs.Services.{AreEach}
 use Rattle.mdns_survey.specs.declared.each.EachChronicling.{EachChronicling}
-use Rattle.mdns_survey.specs.declared.request.AsOf.{AsOf}
+use Rattle.mdns_survey.specs.declared.filter.Filter.{Filter}
 use Rattle.mdns_survey.specs.declared.survey.SurveyFault.{SurveyFault}
 use Rattle.mdns_survey.specs.declared.survey.SurveyFault.TheVariants.{File, Early, Memory, Write}
-use Rattle.mdns_survey.specs.Captures.{Outcome, hearings_in}
-use Rattle.mdns_survey.specs.Request.{selected}
-use Rattle.mdns_survey.specs.Surveys.{all_hearings}
-
--- those hearings that count are recorded
-abbrev pub ChroniclesSelected : Chronicling → Chronicling → List Hearing → Type 0
-ChroniclesSelected begun now heard =
-    (now.as_of ≡ begun.as_of) × RecordsAll now.recording.contents now.recording.memory (selected begun.as_of heard)
+use Rattle.mdns_survey.specs.Captures.{Outcome}
+use Rattle.mdns_survey.specs.Filter.{counted, counted_each}
 
 -- those hearings of all captures that count, and no others, are recorded
-abbrev pub Chronicled : AsOf → Chronicling → List (List Outcome) → Type 0
-Chronicled as_of now outcomes = RecordsAll now.recording.contents now.recording.memory (selected as_of (all_hearings outcomes))
+abbrev pub Chronicled : Filter → Recorded → List (List Outcome) → Type 0
+Chronicled which now outcomes = RecordsAll now.contents now.memory (counted which outcomes)
 
--- each chronicle tells of those hearings of its capture that count
-abbrev pub AllChronicle : AsOf → List (List Outcome) → List Accounts → Type 0
-AllChronicle as_of [] [] = Unit {0}
-AllChronicle as_of (outcomes ∷ rest) (chronicle ∷ chronicles) =
-    Chronicles chronicle (selected as_of (hearings_in outcomes)) × AllChronicle as_of rest chronicles
-AllChronicle as_of _ _ = ⊥
+-- each capture that was heard has a chronicle of its own, and all have one together, of the hearings that count
+abbrev pub EachChronicled : Filter → EachChronicling → List (List Outcome) → Type 0
+EachChronicled which now outcomes =
+    AreEach Chronicles now.captures.items (counted_each which outcomes) × Chronicles now.all (counted which outcomes)
 
--- each capture that was heard has a chronicle of its own, and all have one together
+-- they were heard to get from the first state to the second
 abbrev pub ChroniclesAll : EachChronicling → EachChronicling → List (List Outcome) → Type 0
-ChroniclesAll begun now outcomes =
-    (now.as_of ≡ begun.as_of) × AllChronicle begun.as_of outcomes now.captures.items
-    × Chronicles now.all (selected begun.as_of (all_hearings outcomes))
-
--- those hearings of all captures that count are chronicled, by capture and together
-abbrev pub EachChronicled : AsOf → EachChronicling → List (List Outcome) → Type 0
-EachChronicled as_of now outcomes =
-    AllChronicle as_of outcomes now.captures.items × Chronicles now.all (selected as_of (all_hearings outcomes))
+ChroniclesAll begun now outcomes = (now.filter ≡ begun.filter) × EachChronicled begun.filter now outcomes
 
 -- a text that waits was written and is empty now, or it goes on waiting
 abbrev pub IsTextOut : Option (List ℕ) → Option (List ℕ) → List ℕ → List ℕ → Type 0

@@ -1,6 +1,7 @@
 pub mod Answer
 pub mod Captures
 pub mod Chronicling
+pub mod Filter
 pub mod Head
 pub mod Laws
 pub mod Lines

@@ -20,9 +20,8 @@ use Rattle.mdns_survey.specs.declared.request.AsOf.TheVariants.{Newest, At, Befo
 use Rattle.mdns_survey.specs.declared.summary.Summary.{Summary}
 use Rattle.mdns_survey.specs.Captures.{AllCome, Counts, Outcome}
 use Rattle.mdns_survey.specs.Head.{IsHead}
-use Rattle.mdns_survey.specs.Request.{selected}
+use Rattle.mdns_survey.specs.Filter.{counted, filter_of}
 use Rattle.mdns_survey.specs.Readings.{all_moments}
-use Rattle.mdns_survey.specs.Surveys.{all_hearings}
 
 -- THE END OF CAPTURES
 
@@ -80,7 +79,7 @@ pub record SurveysLives (which : Which) (form : Form) (about : List Subject) (ca
   pub packets : List (List PacketAt)
   pub outcomes : List (List Outcome)
   pub read : AllRead captures packets outcomes summaries
-  pub writes : WritesLives which form about (selected as_of (all_hearings outcomes)) (begin_of as_of (all_moments packets))
+  pub writes : WritesLives which form about (counted (filter_of as_of) outcomes) (begin_of as_of (all_moments packets))
       (end_of as_of (all_moments packets)) text
 
 -- the text is those lives after the head

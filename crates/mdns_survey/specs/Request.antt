@@ -1,8 +1,6 @@
--- What is asked of captures: which hearings count, and as of when.
-use Rattle.std.specs.Prelude.{◌<◌, Bool, true, nat_lt, List, [], Option, Some, None}
-use Rattle.std.specs.List.{filter}
+-- What is asked of captures, and as of when.
+use Rattle.std.specs.Prelude.{◌<◌, [], Option, Some, None}
 use Rattle.mdns_capture.specs.declared.moment.Moment.{Moment}
-use Rattle.mdns_message.specs.declared.hearing.Hearing.{Hearing}
 use Rattle.mdns_browse.specs.declared.report.Ask.{Ask}
 use Rattle.mdns_browse.specs.declared.report.Form.TheVariants.{Lines}
 use Rattle.mdns_survey.specs.declared.request.AsOf.{AsOf}
@@ -23,15 +21,6 @@ abbrev pub moment_of : AsOf → Option Moment
 moment_of Newest = None
 moment_of (At moment) = Some moment
 moment_of (Before moment) = Some moment
-
--- a hearing at that moment counts
-abbrev pub selects : AsOf → Moment → Bool
-selects (Before before) moment = nat_lt moment.nanos before.nanos
-selects _ moment = true
-
--- the hearings that count, in order and as often as they come
-abbrev pub selected : AsOf → List Hearing → List Hearing
-selected as_of heard = filter (λ hearing. selects as_of hearing.moment) heard
 
 -- the moment asked for is earlier than that of the newest hearing; where the hearings before it count, none is newer
 abbrev pub IsEarly : AsOf → Moment → Type 0

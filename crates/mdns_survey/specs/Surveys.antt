@@ -14,7 +14,7 @@ use Rattle.mdns_survey.specs.declared.reading.Reading.{Reading}
 use Rattle.mdns_survey.specs.declared.summary.Summary.{Summary}
 use Rattle.mdns_survey.specs.Head.{IsHead}
 use Rattle.mdns_survey.specs.Listen.{IsReadingOf}
-use Rattle.mdns_survey.specs.Request.{selected}
+use Rattle.mdns_survey.specs.Filter.{counted, filter_of}
 
 -- each capture has its outcomes, which its tally counts, and its ending
 abbrev pub AllTell : List (List ℕ) → List (List Outcome) → List Summary → Type 0
@@ -45,7 +45,7 @@ pub record SurveysBy (Is : List Hearing → ℕ → List ℕ → Type 0) (captur
     (summaries : List Summary) (text : List ℕ) : Type 0 where
   pub outcomes : List (List Outcome)
   pub tell : AllTell captures outcomes summaries
-  pub reports : ReportsBy Is (selected as_of (all_hearings outcomes)) as_of text
+  pub reports : ReportsBy Is (counted (filter_of as_of) outcomes) as_of text
 
 -- the report is what the query asks for over all captures, and over some hearings
 abbrev pub SurveysReport : List (List ℕ) → Query → List Summary → List ℕ → Type 0

@@ -1,17 +1,15 @@
-//! The chronicle of those hearings of captures that count.
+//! The chronicle of hearings of captures.
 
-ghost use Rattle.std.specs.Prelude.{◌≡◌, ◌<◌, ◌≤◌, [], Contains, IfNone, IfOk, IfSome, List, Some};
+ghost use Rattle.std.specs.Prelude.{◌≡◌, ◌<◌, ◌≤◌, Contains, IfNone, IfOk, IfSome, List, Some};
 ghost use Rattle.mdns_message.specs.declared.hearing.Hearing.{Hearing};
 ghost use Rattle.mdns_cache.specs.Live.{IsNewest, NoneLater};
 ghost use Rattle.mdns_lives.specs.Chronicle.{Chronicles};
 ghost use Rattle.mdns_lives.specs.Recording.{RecordsAll};
 
 use crate::hearer::Hearer;
-use crate::request::AsOf;
 use mdns_capture::Moment;
 use mdns_lives::{Lives, Recording};
 use mdns_message::{MessageReader, Want};
-use std::alloc::Global;
 
 /// Returns the newest hearing's moment, where it is later than `end`.
 pub fn newest_after(lives: &Lives, end: Moment) -> Option<Moment>
@@ -26,43 +24,25 @@ pub fn newest_after(lives: &Lives, end: Moment) -> Option<Moment>
     if end < newest { Some(newest) } else { None }
 }
 
-/// A hearer that records the hearings that count.
-#[derive(Drop)]
-pub struct Chronicling {
-    recording: Recording,
-    as_of: AsOf,
+/// Makes the chronicle of the hearings that were recorded, sorted by record.
+pub(crate) fn finished(recording: Recording) -> Result<Lives, Want>
+    ensures { IfOk result (λ lives. (heard : List Hearing)
+        → RecordsAll recording.contents recording.memory heard → Chronicles lives heard) }
+{
+    recording.finish()?.finish()
 }
 
-impl Chronicling {
-    pub(crate) fn new(alloc: Global, as_of: AsOf) -> Chronicling
-        ensures as_of { result.as_of ≡ as_of }
-        ensures nothing { RecordsAll result.recording.contents result.recording.memory [] }
-    {
-        Chronicling {
-            recording: Recording::new(alloc),
-            as_of,
-        }
+impl Hearer for Recording {
+    ghost use Rattle.mdns_lives.specs.Recording.{RecordsAll};
+
+    ghost Stands = { λ _ recording. RecordsAll recording.contents recording.memory };
+
+    fn count(&mut self, message: &[u8]) -> Option<usize> {
+        self.count(message)
     }
-
-    /// Makes the chronicle of the hearings that counted, sorted by record.
-    pub(crate) fn finish(self) -> Result<Lives, Want>
-        ensures { IfOk result (λ lives. (heard : List Hearing)
-            → RecordsAll self.recording.contents self.recording.memory heard → Chronicles lives heard) }
-    {
-        self.recording.finish()?.finish()
-    }
-}
-
-impl Hearer for Chronicling {
-    ghost use Rattle.mdns_survey.specs.Chronicling.{ChroniclesSelected};
-
-    ghost Stands = { ChroniclesSelected };
 
     fn hear_again(&mut self, message: &[u8], moment: Moment) -> Option<usize> {
-        if self.as_of.selects(moment) {
-            return self.recording.hear_again(message, moment);
-        }
-        self.recording.count(message)
+        self.hear_again(message, moment)
     }
 
     fn hear_all(
@@ -71,9 +51,6 @@ impl Hearer for Chronicling {
         moment: Moment,
         read: &MessageReader,
     ) -> Result<(), Want> {
-        if !self.as_of.selects(moment) {
-            return Ok(());
-        }
-        self.recording.hear(message, moment, read)
+        self.hear(message, moment, read)
     }
 }

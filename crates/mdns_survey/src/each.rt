@@ -4,15 +4,15 @@ ghost use Rattle.std.specs.Prelude.{◌≡◌, ◌++◌, ◌∷◌, [], List, If
 ghost use Rattle.mdns_lives.specs.Chronicle.{Chronicles};
 ghost use Rattle.mdns_survey.specs.Captures.{Outcome, hearings_in};
 ghost use Rattle.mdns_survey.specs.Chronicling.{ChroniclesAll};
-ghost use Rattle.mdns_survey.specs.Request.{selected};
+ghost use Rattle.mdns_survey.specs.Filter.{selected};
 ghost use Rattle.mdns_survey.specs.declared.each.EachChronicling.{EachChronicling};
 
-use crate::chronicling::Chronicling;
+use crate::chronicling::finished;
+use crate::filter::{Filter, Filtered};
 use crate::listen::{ListenFault, Listener, hear_capture};
 use crate::reading::Reading;
-use crate::request::AsOf;
 use mdns_capture::Source;
-use mdns_lives::{Chronicle, Lives};
+use mdns_lives::{Chronicle, Lives, Recording};
 use mdns_message::Want;
 use std::alloc::Global;
 
@@ -22,26 +22,26 @@ use std::alloc::Global;
 pub struct EachChronicling {
     pub captures: Vec<Lives>,
     pub all: Lives,
-    as_of: AsOf,
+    filter: Filter,
 }
 
 impl EachChronicling {
     /// Makes a listener that has listened to no capture.
-    pub fn new(alloc: Global, as_of: AsOf) -> Result<EachChronicling, Want>
-        ensures as_of { IfOk result (λ chronicling. chronicling.as_of ≡ as_of) }
+    pub fn new(alloc: Global, filter: Filter) -> Result<EachChronicling, Want>
+        ensures filter { IfOk result (λ chronicling. chronicling.filter ≡ filter) }
         ensures nothing { IfOk result (λ chronicling. ChroniclesAll chronicling chronicling []) }
     {
         Ok(EachChronicling {
             captures: Vec::new(alloc),
             all: Chronicle::new(alloc).finish()?,
-            as_of,
+            filter,
         })
     }
 
     // Adds the chronicle of one more capture. After `Want` nothing is promised of the chronicles.
     fn add(&mut self, capture: Lives) -> Result<(), Want>
         ensures { OnOk result ((begun : EachChronicling) (before : List (List Outcome)) (outcomes : List Outcome)
-            → Chronicles capture (selected begun.as_of (hearings_in outcomes)) → ChroniclesAll begun self.old before
+            → Chronicles capture (selected begun.filter (hearings_in outcomes)) → ChroniclesAll begun self.old before
             → ChroniclesAll begun self.new (before ++ outcomes ∷ [])) }
     {
         self.all.join_with(&capture)?;
@@ -50,7 +50,7 @@ impl EachChronicling {
     }
 }
 
-/// Each capture is heard by a `Chronicling` of its own, since a chronicle of all doesn't tell them apart.
+/// Each capture is heard by a `Recording` of its own, since a chronicle of all doesn't tell them apart.
 impl Listener for EachChronicling {
     ghost use Rattle.mdns_survey.specs.Chronicling.{ChroniclesAll};
 
@@ -61,13 +61,16 @@ impl Listener for EachChronicling {
         alloc: Global,
         reader: R,
     ) -> Result<Reading, ListenFault> {
-        let mut chronicling = Chronicling::new(alloc, self.as_of);
-        let reading = match hear_capture(alloc, reader, &mut chronicling) {
+        let mut filtered = Filtered {
+            hearer: Recording::new(alloc),
+            filter: self.filter,
+        };
+        let reading = match hear_capture(alloc, reader, &mut filtered) {
             Ok(reading) => reading,
             // The clauses name this very fault, and `?` would convert it.
             Err(fault) => return Err(fault),
         };
-        let capture = match chronicling.finish() {
+        let capture = match finished(filtered.hearer) {
             Ok(capture) => capture,
             Err(Want) => return Err(ListenFault::Memory),
         };

@@ -1,6 +1,7 @@
 //! Consumers of hearings: a cache that is filled, or none if hearings are only counted.
 
 ghost use Rattle.std.specs.Prelude.{◌≡◌, ◌++◌, List, IfNone, IfSome, OnOk};
+ghost use Rattle.mdns_capture.specs.declared.moment.Moment.{Moment};
 ghost use Rattle.mdns_message.specs.declared.hearing.Hearing.{Hearing};
 ghost use Rattle.mdns_message.specs.Message.{MessageReads};
 ghost use Rattle.mdns_cache.specs.Repeats.{ReadsAs};
@@ -16,6 +17,11 @@ use std::alloc::Global;
 pub trait Hearer {
     // The hearings that a hearer took to get from the first state to the second.
     ghost Stands: { Self → Self → List Hearing → Type 0 };
+
+    /// Returns the number of hearings of a message that it remembers, and takes none.
+    fn count(&mut self, message: &[u8]) -> Option<usize>
+        ensures reads { (moment : Moment) → IfSome result (ReadsAs moment message.now) }
+        ensures same { self.new ≡ self.old };
 
     /// Takes the hearings of a message that it remembers, of a packet captured at `moment`, and returns their number.
     /// `None` if it doesn't remember the message, and then nothing changes.
@@ -62,6 +68,10 @@ impl Hearer for Listening {
 
     ghost Stands = { λ _ listening. StandsWith listening.contents listening.memory };
 
+    fn count(&mut self, message: &[u8]) -> Option<usize> {
+        self.count(message)
+    }
+
     fn hear_again(&mut self, message: &[u8], moment: Moment) -> Option<usize> {
         self.hear_again(message, moment)
     }
@@ -94,6 +104,10 @@ impl Forgetful {
 
 impl Hearer for Forgetful {
     ghost Stands = { λ _ _ _. Unit {0} };
+
+    fn count(&mut self, message: &[u8]) -> Option<usize> {
+        self.messages.count(message)
+    }
 
     fn hear_again(&mut self, message: &[u8], _moment: Moment) -> Option<usize> {
         self.messages.count(message)

@@ -4,6 +4,7 @@
 
 pub mod chronicling;
 pub mod each;
+pub mod filter;
 mod head;
 mod hearer;
 pub mod laws;
@@ -17,7 +18,6 @@ pub mod readings;
 pub mod request;
 pub mod run;
 pub mod saying;
-mod selection;
 pub mod skips;
 pub mod status;
 pub mod summary;

@@ -14,7 +14,8 @@ ghost use Rattle.mdns_survey.specs.Head.{Heads};
 ghost use Rattle.mdns_survey.specs.Lives.{kept_rows};
 ghost use Rattle.mdns_survey.specs.Refusals.{BlamesWriter};
 
-use crate::chronicling::{Chronicling, newest_after};
+use crate::chronicling::{finished, newest_after};
+use crate::filter::Filtered;
 use crate::head::head_in;
 use crate::question::{Answer, Question};
 use crate::reading::Reading;
@@ -25,7 +26,7 @@ use mdns_browse::about::{Subject, keeps_record};
 use mdns_browse::lives::{Layout, push_lives, push_lives_head};
 use mdns_browse::report::Form;
 use mdns_capture::{Broken, Moment, Sink, write_whole};
-use mdns_lives::{ChosenWalk, RecordLives, Which};
+use mdns_lives::{ChosenWalk, RecordLives, Recording, Which};
 use mdns_message::Want;
 use std::alloc::Global;
 
@@ -34,16 +35,20 @@ const PIECE: usize = 65_536;
 
 impl Question for LivesQuery {
     ghost use Rattle.mdns_survey.specs.Chronicling.{Chronicled};
+    ghost use Rattle.mdns_survey.specs.Filter.{filter_of};
     ghost use Rattle.mdns_survey.specs.Question.{asked_lives};
 
-    type Listener = Chronicling;
+    type Listener = Filtered<Recording>;
 
     ghost asked = { asked_lives };
 
-    ghost Heard = { λ question. Chronicled question.as_of };
+    ghost Heard = { λ question now. Chronicled (filter_of question.as_of) now.hearer };
 
-    fn listener(&self, alloc: Global) -> Result<Chronicling, Want> {
-        Ok(Chronicling::new(alloc, self.as_of))
+    fn listener(&self, alloc: Global) -> Result<Filtered<Recording>, Want> {
+        Ok(Filtered {
+            hearer: Recording::new(alloc),
+            filter: self.as_of.filter(),
+        })
     }
 }
 
@@ -58,11 +63,11 @@ impl Answer for LivesQuery {
     fn write<W: Sink>(
         self,
         alloc: Global,
-        listener: Chronicling,
+        listener: Filtered<Recording>,
         readings: &[Reading],
         out: &mut W,
     ) -> Result<(), SurveyFault> {
-        let lives = match listener.finish() {
+        let lives = match finished(listener.hearer) {
             Ok(lives) => lives,
             Err(Want) => return Err(SurveyFault::Memory),
         };

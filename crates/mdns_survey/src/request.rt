@@ -1,8 +1,10 @@
 //! What can be asked of captures.
 
 ghost use Rattle.std.specs.Prelude.{◌≡◌};
-ghost use Rattle.mdns_survey.specs.Request.{at_or_newest, selects, moment_of, plain_query, request_of};
+ghost use Rattle.mdns_survey.specs.Filter.{filter_of};
+ghost use Rattle.mdns_survey.specs.Request.{at_or_newest, moment_of, plain_query, request_of};
 
+use crate::filter::Filter;
 use mdns_browse::about::Subject;
 use mdns_browse::report::{Ask, Form};
 use mdns_capture::Moment;
@@ -116,13 +118,15 @@ impl AsOf {
         }
     }
 
-    // Returns whether a hearing at that moment counts.
-    pub(crate) fn selects(self, moment: Moment) -> bool
-        ensures { result ≡ selects self moment }
+    /// Returns which hearings count.
+    pub fn filter(self) -> Filter
+        ensures { result ≡ filter_of self }
     {
         match self {
-            AsOf::Before(before) => moment < before,
-            AsOf::Newest | AsOf::At(_) => true,
+            AsOf::Before(before) => Filter {
+                before: Some(before),
+            },
+            AsOf::Newest | AsOf::At(_) => Filter { before: None },
         }
     }
 }

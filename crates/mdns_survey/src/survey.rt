@@ -13,16 +13,16 @@ ghost use Rattle.mdns_survey.specs.Surveys.{SurveysBy, SurveysQuery, Listened};
 ghost use Rattle.mdns_survey.specs.Refusals.{BlamesReaders, BlamesWriter, LeavesOut};
 ghost use Rattle.mdns_survey.specs.Refusals.{RefusesBy, RefusesReaders};
 
+use crate::filter::Filtered;
 use crate::head::headed;
 use crate::listen::{ListenFault, Listener};
 use crate::question::{Question, TextAnswer, survey_with};
 use crate::reading::Reading;
 use crate::request::Query;
-use crate::selection::Selection;
 use crate::summary::Summary;
 use mdns_browse::laws::report_about_all;
 use mdns_browse::report::{Ask, ReportFault, report_in};
-use mdns_cache::Cache;
+use mdns_cache::{Cache, Listening};
 use mdns_capture::{Moment, Sink, Source};
 use mdns_message::Want;
 use std::alloc::Global;
@@ -105,19 +105,21 @@ pub fn survey_query<R: Source + Drop, W: Sink>(
 /// A cache of the hearings that count answers a query.
 impl Question for Query {
     ghost use Rattle.mdns_cache.specs.Repeats.{StandsWith};
+    ghost use Rattle.mdns_survey.specs.Filter.{counted, filter_of};
     ghost use Rattle.mdns_survey.specs.Question.{asked_query};
-    ghost use Rattle.mdns_survey.specs.Request.{selected};
-    ghost use Rattle.mdns_survey.specs.Surveys.{all_hearings};
 
-    type Listener = Selection;
+    type Listener = Filtered<Listening>;
 
     ghost asked = { asked_query };
 
-    ghost Heard = { λ query selection outcomes. StandsWith selection.listening.contents selection.listening.memory
-        (selected query.as_of (all_hearings outcomes)) };
+    ghost Heard = { λ query now outcomes. StandsWith now.hearer.contents now.hearer.memory
+        (counted (filter_of query.as_of) outcomes) };
 
-    fn listener(&self, alloc: Global) -> Result<Selection, Want> {
-        Ok(Selection::new(alloc, self.as_of))
+    fn listener(&self, alloc: Global) -> Result<Filtered<Listening>, Want> {
+        Ok(Filtered {
+            hearer: Listening::new(alloc),
+            filter: self.as_of.filter(),
+        })
     }
 }
 
@@ -125,10 +127,10 @@ impl TextAnswer for Query {
     fn text(
         self,
         alloc: Global,
-        listener: Selection,
+        listener: Filtered<Listening>,
         readings: &[Reading],
     ) -> Result<String, ReportFault> {
-        let cache = match listener.finish() {
+        let cache = match listener.hearer.finish() {
             Ok(cache) => cache,
             Err(Want) => return Err(ReportFault::Memory),
         };

@@ -4,8 +4,7 @@ use Rattle.mdns_message.specs.declared.hearing.Hearing.{Hearing}
 use Rattle.mdns_lives.specs.Chronicle.{Chronicles}
 use Rattle.mdns_browse.specs.Services.{AreEach}
 use Rattle.mdns_browse.specs.declared.about.Subject.{Subject}
-use Rattle.mdns_survey.specs.Request.{selected}
-use Rattle.mdns_survey.specs.Surveys.{all_hearings}
+use Rattle.mdns_survey.specs.Filter.{counted, filter_of}
 use Rattle.mdns_survey.proofs.ListenedLemmas.{have-spans}
 use Rattle.mdns_survey.proofs.LivesLemmas.{early-ended}
 use Rattle.mdns_page.specs.Survey.{WritesPage}
@@ -17,7 +16,7 @@ returns-in-Some-clause-early c = λ lefts hears.
     let is_axis = c.axis_of-axis.ensures hears.packets (have-spans lefts hears.packets hears.outcomes c.args.readings.now hears.read) in
     early-ended lefts c.args.readings.now hears c.args.self.as_of c.axis_of-axis.result.end c.in-Some.newest is_axis.ends
     c.in-Some.ensures.some.0
-    (c.in-Some.ensures.some.1 (selected c.args.self.as_of (all_hearings hears.outcomes)) hears.heard.1)
+    (c.in-Some.ensures.some.1 (counted (filter_of c.args.self.as_of) hears.outcomes) hears.heard.1)
 
 pub returns-in-Ok-clause-right : goal.returns-in-Ok-clause-right
 returns-in-Ok-clause-right c = λ lefts hears.

@@ -8,6 +8,6 @@ returns c = λ begun before outcomes.
     let new : EachChronicling = record {
       captures = c.push.new.self;
       all = c.join_with.new.self;
-      as_of = c.args.self.now.as_of;
+      filter = c.args.self.now.filter;
     } in
     chronicles-more begun c.args.self.now new c.args.capture before outcomes refl c.in_ok-push.ensures.items c.in_ok-join_with.ensures.stands

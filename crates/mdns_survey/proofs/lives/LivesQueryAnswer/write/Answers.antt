@@ -8,8 +8,7 @@ use Rattle.mdns_browse.specs.Lives.{lives_text}
 use Rattle.mdns_browse.specs.declared.about.Subject.{Subject}
 use Rattle.mdns_survey.specs.Chronicling.{FitsForm, StopsRows}
 use Rattle.mdns_survey.specs.Lives.{kept_rows}
-use Rattle.mdns_survey.specs.Request.{selected}
-use Rattle.mdns_survey.specs.Surveys.{all_hearings}
+use Rattle.mdns_survey.specs.Filter.{counted, filter_of}
 use Rattle.mdns_survey.proofs.KeptLemmas.{Row}
 use Rattle.mdns_survey.proofs.ListenedLemmas.{have-spans}
 use Rattle.mdns_survey.proofs.LivesLemmas.{early-ended, stops-lives, writes-lives}
@@ -22,7 +21,7 @@ returns-in-Some-clause-refused g c = λ lefts hears.
     early-ended lefts readings hears query.as_of c.end_of-end.result c.in-Some.newest
     (c.end_of-end.ensures hears.packets (have-spans lefts hears.packets hears.outcomes readings hears.read))
     c.in-Some.ensures.some.0
-    (c.in-Some.ensures.some.1 _ (c.in-Ok.ensures (selected query.as_of (all_hearings hears.outcomes)) hears.heard))
+    (c.in-Some.ensures.some.1 _ (c.in-Ok.ensures (counted (filter_of query.as_of) hears.outcomes) hears.heard))
 
 pub returns-clause-written : goal.returns-clause-written
 returns-clause-written g c =
@@ -36,7 +35,7 @@ returns-clause-written g c =
     on_ok_weaker c.write_rows.result
     (λ written lefts hears.
     let spans = have-spans lefts hears.packets hears.outcomes readings hears.read in
-    let heard = selected query.as_of (all_hearings hears.outcomes) in
+    let heard = counted (filter_of query.as_of) hears.outcomes in
     let told = c.in-Ok.ensures heard hears.heard in
     let fits : FitsForm query.form end.nanos (kept_rows query.about rows) layout =
     subst (λ (about : List Subject). FitsForm query.form end.nanos (kept_rows about rows) layout) c.as_slice-about.ensures
@@ -63,7 +62,7 @@ returns-clause-refused g c =
     IfErr-weaker c.write_rows.result _ _
     (λ fault stops lefts hears.
     let spans = have-spans lefts hears.packets hears.outcomes readings hears.read in
-    let heard = selected query.as_of (all_hearings hears.outcomes) in
+    let heard = counted (filter_of query.as_of) hears.outcomes in
     let told = c.in-Ok.ensures heard hears.heard in
     let fits : FitsForm query.form end.nanos (kept_rows query.about rows) layout =
     subst (λ (about : List Subject). FitsForm query.form end.nanos (kept_rows about rows) layout) c.as_slice-about.ensures

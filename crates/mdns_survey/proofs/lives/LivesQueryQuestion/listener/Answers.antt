@@ -1,10 +1,13 @@
-use Rattle.std.proofs.Common.{refl, subst}
-use Rattle.mdns_survey.specs.Chronicling.{Chronicled}
-use Rattle.mdns_survey.specs.declared.request.AsOf.{AsOf}
+use Rattle.std.proofs.Common.{refl}
+use Rattle.mdns_lives.specs.Recording.{RecordsAll}
+use Rattle.mdns_survey.specs.Filter.{filter_of}
+use Rattle.mdns_survey.proofs.SelectedLemmas.{counted-heard}
 use Rattle.mdns_survey.proofs.lives.LivesQueryQuestion.listener.Goals as goal
 
 pub returns-clause-nothing : goal.returns-clause-nothing
-returns-clause-nothing c = (refl, c.new.ensures.nothing)
+returns-clause-nothing c = (refl, c.new.ensures)
 
 pub returns-clause-heard : goal.returns-clause-heard
-returns-clause-heard c = λ now outcomes heard. subst (λ (a : AsOf). Chronicled a now outcomes) c.new.ensures.as_of heard.1
+returns-clause-heard c = λ now outcomes heard.
+    counted-heard (RecordsAll now.hearer.contents now.hearer.memory) c.filter.result (filter_of c.args.self.now.as_of) outcomes
+    c.filter.ensures heard.1

@@ -2,8 +2,7 @@ use Rattle.std.proofs.Common.{List, Option, IsSomeAnd, ◌<◌, string_bytes, su
 use Rattle.mdns_capture.specs.declared.moment.Moment.{Moment}
 use Rattle.mdns_browse.specs.Report.{IsReportIn}
 use Rattle.mdns_browse.specs.declared.about.Subject.{Subject}
-use Rattle.mdns_survey.specs.Request.{selected}
-use Rattle.mdns_survey.specs.Surveys.{all_hearings}
+use Rattle.mdns_survey.specs.Filter.{counted, filter_of}
 use Rattle.mdns_survey.proofs.SurveyLemmas.{answers-query, early-asked, early-weaker, is-newest, none-later, on-time, reports-as-of}
 use Rattle.mdns_survey.proofs.SurveyLemmas.{too-early}
 use Rattle.mdns_survey.proofs.survey.QueryTextAnswer.text.Goals as goal
@@ -12,7 +11,7 @@ pub returns-in-Ok-headed-clause-right : goal.returns-in-Ok-headed-clause-right
 returns-in-Ok-headed-clause-right c = λ lefts hears.
     let query = c.args.self in
     let now = c.unwrap_or-now.result in
-    let heard = selected query.as_of (all_hearings hears.outcomes) in
+    let heard = counted (filter_of query.as_of) hears.outcomes in
     let stands = c.in-Ok.ensures heard hears.heard in
     let tells = c.newest_or_epoch.ensures.newest heard stands in
     let report = string_bytes c.in-Ok-report_in.report in
@@ -27,7 +26,7 @@ pub returns-in-Err-report_in-clause-early : goal.returns-in-Err-report_in-clause
 returns-in-Err-report_in-clause-early c =
     early-weaker c.in-Err-report_in.fault
     (λ newest early lefts hears.
-    let heard = selected c.args.self.as_of (all_hearings hears.outcomes) in
+    let heard = counted (filter_of c.args.self.as_of) hears.outcomes in
     too-early lefts c.args.readings.now hears c.args.self.as_of newest
     (subst (λ (at : Option Moment). IsSomeAnd at (λ m. m.nanos < newest.nanos)) c.moment.ensures
     (early-asked c.moment.result _ _ _ _ c.newest_or_epoch.ensures.value c.unwrap_or-now.ensures early.0 early.1))

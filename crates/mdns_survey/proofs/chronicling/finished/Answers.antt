@@ -1,5 +1,5 @@
 use Rattle.std.proofs.lemmas.Result.{IfOk-weaker}
-use Rattle.mdns_survey.proofs.chronicling.Chronicling.finish.Goals as goal
+use Rattle.mdns_survey.proofs.chronicling.finished.Goals as goal
 
 pub returns : goal.returns
 returns c =
