@@ -6,7 +6,6 @@ use Rattle.std.proofs.lemmas.List.Concat.{flat_map-append, flat_map-cons}
 use Rattle.mdns_survey.specs.declared.summary.Tally.{Tally}
 use Rattle.mdns_survey.specs.Captures.{Counts, Outcome, heard, hearings_in, hearings_of_outcome, is_heard, is_refused}
 use Rattle.mdns_survey.specs.Captures.{is_skipped, refused, skipped}
-use Rattle.mdns_survey.proofs.OneSurveyLemmas.{tally_by}
 
 -- 1 for an outcome of the kind
 abbrev pub one_if : (Outcome → Bool) → Outcome → ℕ
@@ -46,9 +45,15 @@ all_kinds (outcome ∷ outcomes) =
 
 pub tallied : (outcomes : List Outcome) → AreFew outcomes → Tallied outcomes
 tallied outcomes few = record {
-  tally =
-      tally_by (length outcomes) (count_by is_skipped outcomes) (count_by is_refused outcomes) (count_by is_heard outcomes)
-      (length (hearings_in outcomes)) (all_kinds outcomes) few;
+  tally = record {
+    packets = length outcomes;
+    skipped = count_by is_skipped outcomes;
+    refused = count_by is_refused outcomes;
+    messages = count_by is_heard outcomes;
+    hearings = length (hearings_in outcomes);
+    whole = all_kinds outcomes;
+    few = few;
+  };
   counts = record { packets = refl; skipped = refl; refused = refl; messages = refl; hearings = refl };
 }
 

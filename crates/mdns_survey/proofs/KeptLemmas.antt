@@ -1,6 +1,6 @@
 -- The rows of the records that are about the subjects.
 use Rattle.std.proofs.Common.{◌≡◌, ◌∙◌, ℕ, true, false, List, [], ◌∷◌, ◌++◌, ◌⊎◌, Option, refl, sym, ap, subst, inl, inr}
-use Rattle.std.proofs.Common.{append_assoc, append-nil}
+use Rattle.std.proofs.Common.{append_assoc}
 use Rattle.std.specs.List.{flat_map}
 use Rattle.std.specs.Io.KnownBytes.{Appends}
 use Rattle.std.proofs.lemmas.List.Concat.{flat_map-append}
@@ -67,20 +67,6 @@ pub record LaidOut (about : List Subject) (end : ℕ) (rows left : List Row) (la
   pub fits : IsLayout end (kept_rows about taken) layout
 
 module _ (about : List Subject) (end : ℕ) where
-  -- a row more, which is about the subjects, or isn't
-  pub fits-one : (taken : List Row) (row : Row) (new : Layout) → keeps_record about row.0.resource ≡ true
-      → IsLayout end (kept_rows about taken ++ row ∷ []) new → IsLayout end (kept_rows about (taken ++ row ∷ [])) new
-  fits-one taken row new keeps fits =
-      subst (λ (rows : List Row). IsLayout end rows new)
-      (sym (kept-append about taken (row ∷ []) ∙ ap (λ (rows : List Row). kept_rows about taken ++ rows) (kept-one about row keeps))) fits
-
-  pub fits-none : (taken : List Row) (row : Row) (layout : Layout) → keeps_record about row.0.resource ≡ false
-      → IsLayout end (kept_rows about taken) layout → IsLayout end (kept_rows about (taken ++ row ∷ [])) layout
-  fits-none taken row layout keeps fits =
-      subst (λ (rows : List Row). IsLayout end rows layout)
-      (sym (kept-append about taken (row ∷ []) ∙ ap (λ (rows : List Row). kept_rows about taken ++ rows) (kept-none about row keeps)
-      ∙ append-nil (kept_rows about taken))) fits
-
   pub laid-more : (rows left : List Row) (row : Row) (more : List Row) (layout new : Layout) → LaidOut about end rows left layout
       → left ≡ row ∷ more
       → ((taken : List Row) → IsLayout end (kept_rows about taken) layout → IsLayout end (kept_rows about (taken ++ row ∷ [])) new)
@@ -90,9 +76,3 @@ module _ (about : List Subject) (end : ℕ) where
     parts = laid.parts ∙ ap (λ (xs : List Row). laid.taken ++ xs) first ∙ sym (append_assoc laid.taken (row ∷ []) more);
     fits = one laid.taken laid.fits;
   }
-
-  pub laid-all : (rows left : List Row) (layout : Layout) → LaidOut about end rows left layout → left ≡ []
-      → IsLayout end (kept_rows about rows) layout
-  laid-all rows left layout laid none =
-      subst (λ (xs : List Row). IsLayout end (kept_rows about xs) layout)
-      (sym (laid.parts ∙ ap (λ (xs : List Row). laid.taken ++ xs) none ∙ append-nil laid.taken)) laid.fits

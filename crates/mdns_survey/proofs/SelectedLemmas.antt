@@ -1,11 +1,9 @@
 -- Which hearings count.
-use Rattle.std.proofs.Common.{◌≡◌, ◌↔◌, ℕ, ◌+◌, ◌<◌, Bool, true, false, List, [], ◌∷◌, ◌++◌, take, drop, refl, sym}
-use Rattle.std.proofs.Common.{ap, ◌∙◌, subst, append-nil}
+use Rattle.std.proofs.Common.{◌≡◌, ◌↔◌, ℕ, ◌<◌, Bool, true, false, List, [], ◌∷◌, ◌++◌, refl, sym, ap, ◌∙◌, subst, append-nil}
 use Rattle.std.specs.Prelude.{Contains}
 use Rattle.std.specs.List.{filter}
 use Rattle.std.proofs.lemmas.Bool.{lt-ltb, ltb-true}
-use Rattle.std.proofs.lemmas.List.{drop_more, take-append-drop}
-use Rattle.std.proofs.lemmas.List.Elements.{All-contains, All-contains_itself, All-filter, Contains-append_right, filter-append, filter_passes}
+use Rattle.std.proofs.lemmas.List.Elements.{filter-append}
 use Rattle.mdns_capture.specs.declared.moment.Moment.{Moment}
 use Rattle.mdns_message.specs.declared.hearing.Hearing.{Hearing}
 use Rattle.mdns_message.specs.Message.{MessageReads}
@@ -23,27 +21,8 @@ use Rattle.mdns_survey.specs.Laws.{AreBefore}
 use Rattle.mdns_survey.specs.Captures.{Outcome, hearings_in}
 use Rattle.mdns_survey.specs.Filter.{counted, counts, filter_of, selected}
 use Rattle.mdns_survey.specs.Surveys.{AllTell, IsAsOf, ReportsBy, SurveysBy, all_hearings}
+use Rattle.mdns_lives.proofs.FilterLemmas.{from-filter, to-filter}
 use Rattle.mdns_survey.proofs.ContainsLemmas.{contains-after, contains-first}
-
--- SOME OF THEM
-
--- an element that is left by a filter is in the list, and passes the test
-pub from-filter : {X : Type 0} (p : X → Bool) (xs : List X) (x : X) → Contains (filter p xs) x → Contains xs x × (p x ≡ true)
-from-filter p xs x among = (
-  All-contains (Contains xs) (filter p xs) x (All-filter p (Contains xs) xs (All-contains_itself xs)) among,
-  All-contains (λ y. p y ≡ true) (filter p xs) x (filter_passes p xs) among,
-)
-
--- an element of the list that passes the test is left by the filter
-to-filter : {X : Type 0} (p : X → Bool) (xs : List X) (x : X) → Contains xs x → p x ≡ true → Contains (filter p xs) x
-to-filter {X} p xs x (k, within, is) passes =
-    let rest = drop (k + 1) xs in
-    let parts : take k xs ++ x ∷ rest ≡ xs =
-    ap (λ y. take k xs ++ y ∷ rest) (sym is) ∙ ap (λ ys. take k xs ++ ys) (sym (drop_more xs k x within)) ∙ take-append-drop k xs in
-    let kept : filter p (x ∷ rest) ≡ x ∷ filter p rest = rw passes refl in
-    let after : Contains (filter p (x ∷ rest)) x = subst (λ (ys : List X). Contains ys x) (sym kept) (contains-first x (filter p rest)) in
-    subst (λ (ys : List X). Contains ys x) (sym (filter-append p (take k xs) (x ∷ rest)) ∙ ap (filter p) parts)
-    (Contains-append_right (filter p (take k xs)) (filter p (x ∷ rest)) x after)
 
 -- the same hearings have the same ones that count
 pub same_selected : (which : Filter) (heard others : List Hearing) → SameHearings heard others

@@ -17,7 +17,6 @@ use Rattle.mdns_survey.proofs.CountLemmas.{AreFew, tallied, tallied_together}
 use Rattle.mdns_survey.proofs.FactLemmas.{AllTold, Fact, Has, IsByFacts, IsIn, IsTold, Told, has-cases, has-left, has-right, one-survey}
 use Rattle.mdns_survey.proofs.FactLemmas.{one-told, shared-survey, told-by}
 use Rattle.mdns_survey.proofs.FewLemmas.{few_come, frames_of_parts}
-use Rattle.mdns_survey.proofs.OneSurveyLemmas.{summary_by}
 use Rattle.mdns_survey.proofs.OutcomeLemmas.{OneReading, OneTelling, SomeOutcome, some_outcomes}
 
 abbrev pub NotMany : Ending â†’ Type 0
@@ -106,7 +105,7 @@ module _ (one : OneReading) (telling : OneTelling) (bytes first second : List â„
         whole = record {
           packets = front ++ back;
           outcomes = early.outcomes ++ late.outcomes;
-          summary = summary_by together.tally ending;
+          summary = record { tally = together.tally; ending = ending };
           reads = reads;
           come = come_whole;
           counts = together.counts;
@@ -197,7 +196,7 @@ module _ (one : OneReading) (telling : OneTelling) (some : SomeOutcome) (first_p
       record {
         packets = packets;
         outcomes = outcomes;
-        summary = summary_by counted.tally end;
+        summary = record { tally = counted.tally; ending = end };
         reads = reads;
         come = come;
         counts = counted.counts;
