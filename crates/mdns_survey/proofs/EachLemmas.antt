@@ -16,7 +16,8 @@ use Rattle.mdns_survey.specs.Listen.{HearsCapture, ListensTo}
 -- ONE CAPTURE MORE
 
 each-more : (chronicles : List Accounts) (each : List (List Hearing)) (chronicle : Accounts) (heard : List Hearing)
-    → AreEach Chronicles chronicles each → Chronicles chronicle heard → AreEach Chronicles (chronicles ++ chronicle ∷ []) (each ++ heard ∷ [])
+    → AreEach Chronicles chronicles each → Chronicles chronicle heard
+    → AreEach Chronicles (chronicles ++ chronicle ∷ []) (each ++ heard ∷ [])
 each-more [] [] chronicle heard all more = (more, tt)
 each-more (c ∷ cs) (hs ∷ each) chronicle heard all more = (all.0, each-more cs each chronicle heard all.1 more)
 each-more chronicles each chronicle heard all more = absurd all
@@ -31,7 +32,8 @@ chronicles-more begun old new capture before outcomes same pushed joined told al
     let of_capture : List Outcome → List Hearing = λ os. selected which (hearings_in os) in (
       same ∙ all.0,
       (
-        subst (λ (each : List (List Hearing)). AreEach Chronicles new.captures.items each) (sym (map-append of_capture before (outcomes ∷ [])))
+        subst (λ (each : List (List Hearing)). AreEach Chronicles new.captures.items each)
+            (sym (map-append of_capture before (outcomes ∷ [])))
             (subst (λ (chronicles : List Accounts). AreEach Chronicles chronicles (counted_each which before ++ of_capture outcomes ∷ []))
             (sym pushed) (each-more old.captures.items (counted_each which before) capture (of_capture outcomes) all.1.0 told)),
         subst (Chronicles new.all)

@@ -178,5 +178,6 @@ lives-by-facts shared one which form about as_of = record {
       (same_begin moments more (λ m among. same.into (inr m) among) (λ m among. same.back (inr m) among) as_of)
       (same_end moments more (λ m among. same.into (inr m) among) (λ m among. same.back (inr m) among) as_of) writes;
   one = λ heard moments text other first second.
-      one_text one which form about (selected (filter_of as_of) heard) (begin_of as_of moments) (end_of as_of moments) text other first second;
+      one_text one which form about (selected (filter_of as_of) heard) (begin_of as_of moments) (end_of as_of moments) text other first
+      second;
 }
