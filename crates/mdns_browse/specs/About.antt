@@ -1,8 +1,8 @@
 -- What is about a subject: a name, a word of data or an address for which somebody asks.
-use Rattle.std.specs.Prelude.{◌≡◌, ℕ, Bool, true, false, ◌||◌, List, [], ◌∷◌, ◌++◌, Option, Some, None, codes, string_bytes}
+use Rattle.std.specs.Prelude.{ℕ, Bool, true, false, ◌||◌, List, [], ◌∷◌, ◌++◌, Option, Some, None, codes, string_bytes}
 use Rattle.std.specs.Cmp.Lexicographic.{slice_cmp}
 use Rattle.std.specs.Fmt.{decimal}
-use Rattle.std.specs.List.{filter, list_any}
+use Rattle.std.specs.List.{list_any}
 use Rattle.std.specs.Net.Addr.{ipv4_octets, ipv6_octets}
 use Rattle.std.specs.Ordering.{is_eq, nat_cmp}
 use Rattle.std.specs.declared.net.ip_addr.IpAddr.{IpAddr}
@@ -128,9 +128,3 @@ keeps_instance about instance = keeps is_instance_about about instance
 -- by rows that were heard
 unfoldable pub keeps_heard : List Subject → List Latest → List ℕ → Bool
 keeps_heard about rows name = keeps (is_heard_about rows) about name
-
--- of the values that are right those that are kept, in their order
-pub record AreKept {X : Type 0} (keep : X → Bool) (Are : List X → Type 0) (kept : List X) : Type 0 where
-  pub values : List X
-  pub right : Are values
-  pub are : kept ≡ filter keep values

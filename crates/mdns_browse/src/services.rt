@@ -74,7 +74,7 @@ pub(crate) fn type_of<'a>(row: &Last<'a>) -> Option<&'a Name>
 /// Returns the name of the service instance that a record points to, if it does.
 #[tactic(auto, unfolding(crate::specs::Services::instance_given))]
 pub fn instance_of<'a>(row: &Last<'a>) -> Option<&'a Name>
-    ensures { option_map (λ name. name.now) result ≡ instance_given (last_lent row.now) }
+    ensures given { option_map (λ name. name.now) result ≡ instance_given (last_lent row.now) }
 {
     let Body::Ptr(name) = &row.resource.body else {
         return None;
@@ -89,7 +89,7 @@ pub fn instance_of<'a>(row: &Last<'a>) -> Option<&'a Name>
 /// Returns the name that a record of a service type points to, if it isn't one label and that type's name.
 #[tactic(auto, unfolding(crate::specs::Services::other_given))]
 pub fn other_of<'a>(row: &Last<'a>) -> Option<&'a Name>
-    ensures { option_map (λ name. name.now) result ≡ other_given (last_lent row.now) }
+    ensures given { option_map (λ name. name.now) result ≡ other_given (last_lent row.now) }
 {
     let Body::Ptr(name) = &row.resource.body else {
         return None;

@@ -18,7 +18,7 @@ loop-row-preserved-in_default c =
     let about = c.args.about.now in
     left_same (λ rows. records_about about (others_in rows)) (others_about-append about) (live_record_lent c.in-Some.row) _ _ _ _
     c.in-Some.ensures.steps
-    (ap (λ o. records_about about (cond (is_some o) (live_record_lent c.in-Some.row ∷ []) [])) (sym c.in_default.ensures))
+    (ap (λ o. records_about about (cond (is_some o) (live_record_lent c.in-Some.row ∷ []) [])) (sym c.in_default.ensures.given))
     c.loop-row.invariant
 
 pub loop-row-preserved : goal.loop-row-preserved
@@ -29,7 +29,7 @@ loop-row-preserved c =
     (c.in_ok-push_kept_record.ensures
     ∙ ap
     (λ o. map live_record_lent c.loop-row.rows.items ++ records_about about (cond (is_some o) (live_record_lent c.in-Some.row ∷ []) []))
-    c.in-Some-other_of.ensures)
+    c.in-Some-other_of.ensures.given)
     c.loop-row.invariant
 
 pub returns : goal.returns
