@@ -28,7 +28,6 @@ pub(crate) fn push_left(to: &mut String, now: Moment, row: &LiveRecord<'_>) -> R
     push_duration(to, row.end.saturating_sub(now.nanos()))
 }
 
-// Appends a word.
 fn push_word(to: &mut String, word: &str) -> Result<(), Want>
     ensures { OnOk result (string_bytes to.new ≡ string_bytes to.old ++ word.now) }
 {

@@ -93,7 +93,6 @@ fn kept_of<'a>(
     Ok(kept)
 }
 
-// Appends a live record if the instance that it gives is about the subjects.
 fn push_kept<'a>(
     to: &mut Vec<Given<'a>>,
     about: &[Subject],

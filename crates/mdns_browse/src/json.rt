@@ -27,7 +27,6 @@ pub fn push_json_name(to: &mut String, first: bool, name: &str) -> Result<(), Wa
     push_name(to, first, name)
 }
 
-// Appends the name of a member, after a comma unless it is the first.
 fn push_name(to: &mut String, first: bool, name: &str) -> Result<(), Want>
     ensures { OnOk result (string_bytes to.new
         ≡ string_bytes to.old ++ (comma_unless first ++ (json_string name.now ++ 58 ∷ []))) }
@@ -66,7 +65,6 @@ pub(crate) fn json_bool(value: bool) -> &'static str
     if value { "true" } else { "false" }
 }
 
-// Appends a text within a string.
 fn push_escaped(to: &mut String, text: &str) -> Result<(), Want>
     ensures { OnOk result (string_bytes to.new ≡ string_bytes to.old ++ escaped text.now) }
 {
@@ -76,7 +74,6 @@ fn push_escaped(to: &mut String, text: &str) -> Result<(), Want>
     Ok(())
 }
 
-// Appends a character as it stands within a string.
 fn push_character(to: &mut String, character: char) -> Result<(), Want>
     ensures { OnOk result (string_bytes to.new ≡ string_bytes to.old ++ escaped (encode_utf8 character)) }
 {

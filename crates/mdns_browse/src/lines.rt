@@ -46,7 +46,6 @@ fn prepend_hearing(text: &mut ShortText, ttl: u32, heard: Moment, until: u64)
     text.prepend(" ttl ");
 }
 
-// Appends the TTL of a live record, as heard, when it was heard and its end, and ends the line.
 fn push_live(to: &mut String, row: &LiveRecord<'_>) -> Result<(), Want>
     ensures { OnOk result (string_bytes to.new ≡ string_bytes to.old
         ++ (codes " ttl " ++ decimal row.now.last.ttl ++ codes " heard " ++ moment_text row.now.last.moment.nanos

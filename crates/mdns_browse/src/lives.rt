@@ -107,7 +107,6 @@ fn push_lines(
     Ok(())
 }
 
-// Appends the line of a life after the words of its record.
 fn push_line(text: &mut String, head: &str, end: Moment, life: &Life) -> Result<(), Want>
     ensures { OnOk result (string_bytes text.new
         ≡ string_bytes text.old ++ (head.now ++ life_words end.nanos life.now)) }
@@ -135,7 +134,6 @@ fn push_objects(
     Ok(())
 }
 
-// Appends the object of a life after the members of its record, by way of `rest`.
 fn push_object(
     text: &mut String,
     head: &str,

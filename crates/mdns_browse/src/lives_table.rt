@@ -68,7 +68,6 @@ fn called(which: Which, count: usize) -> &'static str
     }
 }
 
-// Appends the heads of the columns.
 #[tactic(auto, unfolding(crate::specs::Lives::life_heads))]
 fn push_heads(text: &mut String, width: usize) -> Result<(), Want>
     ensures { OnOk result (string_bytes text.new ≡ string_bytes text.old ++ life_heads width) }
@@ -98,7 +97,6 @@ pub(crate) fn push_rows(
     Ok(())
 }
 
-// Appends the last two columns, the type and the record, and ends the row.
 fn push_tail(text: &mut String, resource: &Resource) -> Result<(), Want>
     ensures { OnOk result (string_bytes text.new ≡ string_bytes text.old
         ++ (codes "  " ++ padded 4 (type_name (type_of resource.now.body)) ++ codes "  "
@@ -112,7 +110,6 @@ fn push_tail(text: &mut String, resource: &Resource) -> Result<(), Want>
     Ok(())
 }
 
-// Appends the row of a life, with the columns of its record at the end.
 fn push_row(
     text: &mut String,
     width: usize,

@@ -292,7 +292,6 @@ pub fn push_resource_members(
     push_text_member(to, false, "shown", shown.as_str())
 }
 
-// Appends the owner, the type and the words of the data of a record, each after a comma.
 #[tactic(auto, unfolding(crate::specs::Json::parted))]
 fn push_exact_members(
     alloc: Global,

@@ -54,7 +54,6 @@ pub(crate) fn push_others(
     push_rows(to, width, now, rows)
 }
 
-// Appends the line of each record.
 fn push_rows(
     to: &mut String,
     width: usize,
@@ -70,7 +69,6 @@ fn push_rows(
     Ok(())
 }
 
-// Appends how much longer a record lives, and the name that it points to.
 #[tactic(auto, unfolding(crate::specs::Pretty::other_row))]
 fn push_row(to: &mut String, width: usize, now: Moment, row: &LiveRecord<'_>) -> Result<(), Want>
     ensures { OnOk result (string_bytes to.new

@@ -41,7 +41,6 @@ impl Page {
     }
 }
 
-// Appends spaces before the words of a line below an instance.
 fn push_indent(to: &mut String, width: usize) -> Result<(), Want>
     ensures { OnOk result (string_bytes to.new ≡ string_bytes to.old ++ (spaces width ++ codes "    ")) }
 {
@@ -50,7 +49,6 @@ fn push_indent(to: &mut String, width: usize) -> Result<(), Want>
     Ok(())
 }
 
-// Appends a line of words below an instance.
 fn push_line(to: &mut String, width: usize, words: &str) -> Result<(), Want>
     ensures { OnOk result (string_bytes to.new
         ≡ string_bytes to.old ++ (spaces width ++ codes "    " ++ words.now ++ 10 ∷ [])) }

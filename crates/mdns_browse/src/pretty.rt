@@ -74,7 +74,6 @@ pub(crate) fn push_kept_record<'a>(
     Ok(())
 }
 
-// Appends the table of some rows.
 fn push_records(
     to: &mut String,
     alloc: Global,
@@ -92,7 +91,6 @@ fn push_records(
     push_table(to, alloc, now, rows)
 }
 
-// Appends the heads and the rows of a table.
 fn push_table(
     to: &mut String,
     alloc: Global,
@@ -107,7 +105,6 @@ fn push_table(
     push_rows(to, left, now, rows)
 }
 
-// Appends the heads of the columns.
 fn push_heads(to: &mut String, left: usize) -> Result<(), Want>
     ensures { OnOk result (string_bytes to.new ≡ string_bytes to.old ++ record_heads left 20 4) }
 {
@@ -116,7 +113,6 @@ fn push_heads(to: &mut String, left: usize) -> Result<(), Want>
     Ok(())
 }
 
-// Appends the line of each row.
 fn push_rows(to: &mut String, left: usize, now: Moment, rows: &[LiveRecord<'_>]) -> Result<(), Want>
     ensures { OnOk result (string_bytes to.new
         ≡ string_bytes to.old ++ flat_map (record_row left 20 4 now.nanos) (map live_record_lent rows.now)) }
@@ -179,7 +175,6 @@ fn type_names<'a>(
     Ok(names)
 }
 
-// Appends the name of a service type if it is about the subjects.
 fn push_kept_name<'a>(
     to: &mut Vec<&'a Name>,
     about: &[Subject],
@@ -195,7 +190,6 @@ fn push_kept_name<'a>(
     Ok(())
 }
 
-// Appends how many service types there are, and a line for each.
 fn push_types(to: &mut String, now: Moment, names: &[&Name]) -> Result<(), Want>
     ensures { OnOk result (string_bytes to.new ≡ string_bytes to.old ++ types_pretty now.nanos (map (λ name. name.now) names.now)) }
 {
@@ -207,7 +201,6 @@ fn push_types(to: &mut String, now: Moment, names: &[&Name]) -> Result<(), Want>
     push_type_rows(to, names)
 }
 
-// Appends a line for each service type.
 fn push_type_rows(to: &mut String, names: &[&Name]) -> Result<(), Want>
     ensures { OnOk result (string_bytes to.new ≡ string_bytes to.old ++ flat_map type_row (map (λ name. name.now) names.now)) }
 {

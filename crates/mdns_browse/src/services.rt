@@ -112,7 +112,6 @@ fn addresses(alloc: Global, rows: &[Last<'_>], name: &Name) -> Result<Addresses,
     Ok(InOrder::from_vec(found))
 }
 
-// Appends copies of the rows' data.
 fn push_bodies(to: &mut Vec<Body>, alloc: Global, rows: &[Last<'_>]) -> Result<(), Want>
     ensures { OnOk result (to.new.items ≡ to.old.items ++ map body_of (map last_lent rows.now)) }
 {

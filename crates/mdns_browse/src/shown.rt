@@ -115,7 +115,6 @@ fn push_shown_string(to: &mut String, string: &[u8]) -> Result<(), Want>
     push_shown(to, string)
 }
 
-// Appends the two spaces before a word.
 fn push_space(to: &mut String) -> Result<(), Want>
     ensures { OnOk result (string_bytes to.new ≡ string_bytes to.old ++ codes "  ") }
 {

@@ -225,7 +225,6 @@ fn beginnings(alloc: Global, set: &[RecordLives<'_>]) -> Result<Vec<Moment>, Wan
     Ok(begun)
 }
 
-// Appends when the lives of a record began.
 fn push_beginnings(begun: &mut Vec<Moment>, lives: &[Life]) -> Result<(), Want>
     ensures { OnOk result (nanos_of begun.new.items ≡ nanos_of begun.old.items ++ begins_of lives.now) }
 {

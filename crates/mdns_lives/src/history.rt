@@ -270,7 +270,6 @@ fn make_room(items: &mut Vec<Packed>, more: usize) -> Result<(), Want>
     Ok(())
 }
 
-// Appends a TTL heard at each of some moments, for which there is room.
 fn push_each(items: &mut Vec<Packed>, ttl: u32, moments: &[Moment])
     requires { vec_len items.old + length moments.now ≤ vec_capacity items.old }
     ensures items { items.new.items ≡ items.old.items ++ heard_each ttl moments.now }

@@ -59,7 +59,6 @@ fn push_live<'a>(
     Ok(())
 }
 
-// Appends the row of a record's life if it goes on after `now`.
 fn push_life<'a>(
     to: &mut Vec<LiveSince<'a>>,
     last: Last<'a>,

@@ -35,7 +35,6 @@ pub(crate) fn lives_of(
     Ok(lives)
 }
 
-// Appends the lives, the first of which is `life` as of the hearings before these.
 fn push_lives(
     lives: &mut Vec<Life>,
     life: Life,

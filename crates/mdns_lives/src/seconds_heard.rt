@@ -147,7 +147,6 @@ fn seconds_of(alloc: Global, heard: &[Packed]) -> Result<Vec<SecondHeard>, Want>
     Ok(seconds)
 }
 
-// Appends the seconds, the first of which is `current` as of the hearings before these.
 fn push_seconds(
     to: &mut Vec<SecondHeard>,
     current: SecondHeard,

@@ -148,7 +148,6 @@ fn push_date_before(to: &mut String, dates: Dates, nanos: u64) -> Result<(), Wan
     }
 }
 
-// Appends a date, with its year if the page needs it, and a space.
 fn push_day_and_space(to: &mut String, dates: Dates, nanos: u64) -> Result<(), Want>
     ensures { OnOk result (string_bytes to.new ≡ string_bytes to.old ++ (day_text dates nanos ++ 32 ∷ [])) }
 {

@@ -73,7 +73,6 @@ pub(crate) fn is_whole(ending: Ending) -> bool
     matches!(ending, Ending::Whole)
 }
 
-// Appends what stands before the group.
 #[tactic(auto, unfolding(crate::specs::Captures::captures_begin))]
 fn push_begin(to: &mut String) -> Result<(), Want>
     ensures { OnOk result (string_bytes to.new ≡ string_bytes to.old ++ captures_begin) }
@@ -82,7 +81,6 @@ fn push_begin(to: &mut String) -> Result<(), Want>
     Ok(())
 }
 
-// Appends the group of the captures.
 fn push_group(to: &mut String, axis: Axis, captures: &[CaptureFacts<'_>]) -> Result<(), Want>
     ensures { OnOk result (string_bytes to.new
         ≡ string_bytes to.old ++ captures_group isolated axis (map facts_lent captures.now)) }
@@ -98,7 +96,6 @@ fn push_group(to: &mut String, axis: Axis, captures: &[CaptureFacts<'_>]) -> Res
     Ok(())
 }
 
-// Appends how many captures there are.
 #[tactic(auto, unfolding(crate::specs::Captures::captures_count))]
 fn push_captures_count(to: &mut String, count: usize) -> Result<(), Want>
     ensures { OnOk result (string_bytes to.new ≡ string_bytes to.old ++ captures_count count) }
@@ -109,7 +106,6 @@ fn push_captures_count(to: &mut String, count: usize) -> Result<(), Want>
     Ok(())
 }
 
-// Appends a row for each capture.
 fn push_rows(to: &mut String, axis: Axis, captures: &[CaptureFacts<'_>]) -> Result<(), Want>
     ensures { OnOk result (string_bytes to.new ≡ string_bytes to.old
         ++ captures_from isolated axis (are_many (map facts_lent captures.now)) 0 (map facts_lent captures.now)) }
@@ -121,7 +117,6 @@ fn push_rows(to: &mut String, axis: Axis, captures: &[CaptureFacts<'_>]) -> Resu
     Ok(())
 }
 
-// Appends the row of a capture.
 #[tactic(auto, unfolding(crate::specs::Captures::capture_text))]
 fn push_row(
     to: &mut String,
@@ -143,7 +138,6 @@ fn push_row(
     push_item_end(to)
 }
 
-// Appends the number of a capture, the name of its file, and how much is in it.
 fn push_name(
     to: &mut String,
     many: bool,
@@ -176,7 +170,6 @@ pub(crate) fn push_number(to: &mut String, many: bool, index: usize) -> Result<(
     Ok(())
 }
 
-// Appends how many packets and hearings a capture has.
 #[tactic(auto, unfolding(crate::specs::Captures::sizes_text))]
 fn push_sizes(to: &mut String, tally: &Tally) -> Result<(), Want>
     ensures { OnOk result (string_bytes to.new ≡ string_bytes to.old ++ sizes_text tally.now) }
@@ -189,7 +182,6 @@ fn push_sizes(to: &mut String, tally: &Tally) -> Result<(), Want>
     Ok(())
 }
 
-// Appends the picture of when a capture recorded.
 fn push_picture(to: &mut String, axis: Axis, span: Option<Span>) -> Result<(), Want>
     ensures { OnOk result (string_bytes to.new ≡ string_bytes to.old ++ recorded_picture axis span) }
 {
@@ -214,7 +206,6 @@ fn push_recorded_path(to: &mut String, axis: Axis, span: Option<Span>) -> Result
     Ok(())
 }
 
-// Appends the stroke and its title.
 fn push_recorded_bar(to: &mut String, axis: Axis, span: Span) -> Result<(), Want>
     ensures { OnOk result (string_bytes to.new ≡ string_bytes to.old ++ recorded_bar axis span) }
 {
@@ -224,7 +215,6 @@ fn push_recorded_bar(to: &mut String, axis: Axis, span: Span) -> Result<(), Want
     Ok(())
 }
 
-// Appends what that stroke begins with.
 #[tactic(auto, unfolding(crate::specs::Captures::recorded_stroke))]
 fn push_stroke(to: &mut String, axis: Axis, span: Span) -> Result<(), Want>
     ensures { OnOk result (string_bytes to.new ≡ string_bytes to.old ++ recorded_stroke axis span) }
@@ -235,7 +225,6 @@ fn push_stroke(to: &mut String, axis: Axis, span: Span) -> Result<(), Want>
     Ok(())
 }
 
-// Appends the title of that stroke.
 fn push_stroke_title(to: &mut String, first: u64, last: u64) -> Result<(), Want>
     ensures { OnOk result (string_bytes to.new ≡ string_bytes to.old ++ recorded_title first last) }
 {
@@ -247,7 +236,6 @@ fn push_stroke_title(to: &mut String, first: u64, last: u64) -> Result<(), Want>
     Ok(())
 }
 
-// Appends when a capture recorded, how it ends, and what its packets were.
 fn push_words(to: &mut String, axis: Axis, capture: &CaptureFacts<'_>) -> Result<(), Want>
     ensures { OnOk result (string_bytes to.new ≡ string_bytes to.old ++ capture_words axis (facts_lent capture.now)) }
 {
@@ -259,7 +247,6 @@ fn push_words(to: &mut String, axis: Axis, capture: &CaptureFacts<'_>) -> Result
     push_outcomes(to, &capture.summary.tally)
 }
 
-// Appends when a capture recorded.
 fn push_recorded_words(to: &mut String, axis: Axis, span: Option<Span>) -> Result<(), Want>
     ensures { OnOk result (string_bytes to.new ≡ string_bytes to.old ++ recorded_words axis span) }
 {
@@ -272,7 +259,6 @@ fn push_recorded_words(to: &mut String, axis: Axis, span: Option<Span>) -> Resul
     push_short(to, axis, span.last.nanos())
 }
 
-// Appends how a capture ends.
 #[tactic(auto, unfolding(crate::specs::Captures::ending_words))]
 fn push_ending(to: &mut String, ending: Ending) -> Result<(), Want>
     ensures { OnOk result (string_bytes to.new ≡ string_bytes to.old ++ ending_words ending) }
@@ -285,7 +271,6 @@ fn push_ending(to: &mut String, ending: Ending) -> Result<(), Want>
     Ok(())
 }
 
-// Appends how many packets were heard, skipped and refused.
 #[tactic(auto, unfolding(crate::specs::Captures::outcomes_text))]
 fn push_outcomes(to: &mut String, tally: &Tally) -> Result<(), Want>
     ensures { OnOk result (string_bytes to.new ≡ string_bytes to.old ++ outcomes_text tally.now) }

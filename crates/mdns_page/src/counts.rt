@@ -51,7 +51,6 @@ pub(crate) fn push_commas(to: &mut String, number: u128) -> Result<(), Want>
     Ok(())
 }
 
-// Appends a comma and three digits.
 fn push_three(to: &mut String, number: u32) -> Result<(), Want>
     requires { number < 1000 }
     ensures { OnOk result (string_bytes to.new ≡ string_bytes to.old ++ 44 ∷ three_digits number) }
@@ -62,7 +61,6 @@ fn push_three(to: &mut String, number: u32) -> Result<(), Want>
     push_digit(to, number % 10)
 }
 
-// Appends a digit.
 fn push_digit(to: &mut String, digit: u32) -> Result<(), Want>
     requires { digit < 10 }
     ensures { OnOk result (string_bytes to.new ≡ string_bytes to.old ++ (48 + digit) ∷ []) }

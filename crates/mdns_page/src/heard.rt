@@ -29,7 +29,6 @@ pub(crate) fn push_heard(
     Ok(())
 }
 
-// Appends how often each capture heard a record, or those together that did where there are many.
 fn push_times_words(
     to: &mut String,
     captures: usize,
@@ -44,7 +43,6 @@ fn push_times_words(
     push_each(to, heard)
 }
 
-// Appends how often the captures that heard a record did so together, and how many they are of all.
 #[tactic(auto, unfolding(crate::specs::Heard::together_text))]
 fn push_together(to: &mut String, captures: usize, hearers: &[Vec<SecondHeard>]) -> Result<(), Want>
     ensures { OnOk result (string_bytes to.new
@@ -96,7 +94,6 @@ fn goodbyes(seconds: &[SecondHeard]) -> usize
     count
 }
 
-// Appends how often each capture heard a record.
 fn push_each(to: &mut String, captures: &[Vec<SecondHeard>]) -> Result<(), Want>
     ensures { OnOk result (string_bytes to.new ≡ string_bytes to.old ++ times_from 0 (map seconds_lent captures.now)) }
 {
@@ -106,7 +103,6 @@ fn push_each(to: &mut String, captures: &[Vec<SecondHeard>]) -> Result<(), Want>
     Ok(())
 }
 
-// Appends the number of a capture, and how often it heard a record.
 #[tactic(auto, unfolding(crate::specs::Heard::capture_times))]
 fn push_capture_times(to: &mut String, index: usize, seconds: &[SecondHeard]) -> Result<(), Want>
     requires { index < 2 ^ 63 }
@@ -118,7 +114,6 @@ fn push_capture_times(to: &mut String, index: usize, seconds: &[SecondHeard]) ->
     push_times(to, seconds.len(), goodbyes(seconds))
 }
 
-// Appends a comma, unless what follows is the first.
 fn push_comma_unless(to: &mut String, first: bool) -> Result<(), Want>
     ensures { OnOk result (string_bytes to.new ≡ string_bytes to.old ++ comma_unless first) }
 {
@@ -129,7 +124,6 @@ fn push_comma_unless(to: &mut String, first: bool) -> Result<(), Want>
     Ok(())
 }
 
-// Appends in how many seconds a capture heard a record, and in how many of them its goodbye.
 #[tactic(auto, unfolding(crate::specs::Heard::times_text))]
 fn push_times(to: &mut String, count: usize, ended: usize) -> Result<(), Want>
     ensures { OnOk result (string_bytes to.new ≡ string_bytes to.old ++ times_text count ended) }
@@ -143,7 +137,6 @@ fn push_times(to: &mut String, count: usize, ended: usize) -> Result<(), Want>
     push_goodbyes(to, ended as u128)
 }
 
-// Appends how many seconds have a goodbye, if any has.
 fn push_goodbyes(to: &mut String, count: u128) -> Result<(), Want>
     ensures { OnOk result (string_bytes to.new ≡ string_bytes to.old ++ goodbyes_text count) }
 {

@@ -17,7 +17,6 @@ pub(crate) fn push_isolated(to: &mut String, text: &str) -> Result<(), Want>
     Ok(())
 }
 
-// Appends a text, with references in place of the characters that begin or end markup.
 fn push_html(to: &mut String, text: &str) -> Result<(), Want>
     ensures { OnOk result (string_bytes to.new ≡ string_bytes to.old ++ html_text text.now) }
 {

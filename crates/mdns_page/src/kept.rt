@@ -47,7 +47,6 @@ pub(crate) fn kept_rows<'a>(
     Ok(kept)
 }
 
-// Appends a record if the page keeps it.
 fn push_kept<'a>(
     to: &mut Vec<RecordLives<'a>>,
     row: RecordLives<'a>,

@@ -24,7 +24,6 @@ pub(crate) fn push_key(to: &mut String, lanes: u32) -> Result<(), Want>
     Ok(())
 }
 
-// Appends what the strokes of a row's own lives mean.
 #[tactic(auto, unfolding(crate::specs::Key::key_lives))]
 fn push_key_lives(to: &mut String) -> Result<(), Want>
     ensures { OnOk result (string_bytes to.new ≡ string_bytes to.old ++ key_lives) }
@@ -61,7 +60,6 @@ fn push_key_lanes(to: &mut String, lanes: u32) -> Result<(), Want>
     push_key_ticks(to)
 }
 
-// Appends what the strokes of lanes mean.
 #[tactic(auto, unfolding(crate::specs::Key::key_ticks))]
 fn push_key_ticks(to: &mut String) -> Result<(), Want>
     ensures { OnOk result (string_bytes to.new ≡ string_bytes to.old ++ key_ticks) }
@@ -81,7 +79,6 @@ fn push_key_ticks(to: &mut String) -> Result<(), Want>
     Ok(())
 }
 
-// Appends strokes, and what they mean.
 #[tactic(auto, unfolding(crate::specs::Key::key_entry))]
 fn push_key_entry(to: &mut String, strokes: &str, words: &str) -> Result<(), Want>
     ensures { OnOk result (string_bytes to.new ≡ string_bytes to.old ++ key_entry strokes.now words.now) }

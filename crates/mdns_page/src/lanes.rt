@@ -98,7 +98,6 @@ pub(crate) fn push_lanes(
     push_each_lane(to, axis, lanes, captures)
 }
 
-// Appends the ticks of each capture.
 fn push_each_lane(
     to: &mut String,
     axis: Axis,
@@ -115,7 +114,6 @@ fn push_each_lane(
     Ok(())
 }
 
-// Appends the ticks of a capture.
 fn push_lane(to: &mut String, axis: Axis, top: u64, seconds: &[SecondHeard]) -> Result<(), Want>
     ensures { OnOk result (string_bytes to.new ≡ string_bytes to.old ++ lane_text axis top seconds.now) }
 {
@@ -201,7 +199,6 @@ pub(crate) fn push_bases(
     push_bases_path(to, axis, lanes, captures)
 }
 
-// Appends the lines of all lanes as one path.
 fn push_bases_path(
     to: &mut String,
     axis: Axis,
@@ -217,7 +214,6 @@ fn push_bases_path(
     Ok(())
 }
 
-// Appends the line of each capture.
 fn push_each_base(
     to: &mut String,
     axis: Axis,
@@ -248,7 +244,6 @@ fn push_base(to: &mut String, axis: Axis, top: u64, span: Option<Span>) -> Resul
     Ok(())
 }
 
-// Appends the line below a lane, for the time that its capture recorded.
 #[tactic(auto, unfolding(crate::specs::Lanes::base_line))]
 fn push_base_line(to: &mut String, axis: Axis, top: u64, span: Span) -> Result<(), Want>
     requires { top < 2 ^ 63 }

@@ -46,8 +46,6 @@ pub(crate) fn push_lead(
     push_lost_warning(to, lost)
 }
 
-// Appends how many instances were live at the end of the captures, how many of them have said goodbye, and how many had ended
-// before.
 #[tactic(auto, unfolding(crate::specs::Lead::live_line))]
 fn push_live_line(to: &mut String, axis: Axis, rows: &[CountedRow<'_>]) -> Result<(), Want>
     ensures { OnOk result (string_bytes to.new ≡ string_bytes to.old ++ live_line axis (map counted_lent rows.now)) }
@@ -65,7 +63,6 @@ fn push_live_line(to: &mut String, axis: Axis, rows: &[CountedRow<'_>]) -> Resul
     Ok(())
 }
 
-// Appends how many instances were live at the end of the captures.
 fn push_live_words(to: &mut String, end: u64, live: usize) -> Result<(), Want>
     ensures { OnOk result (string_bytes to.new ≡ string_bytes to.old ++ live_words end live) }
 {
@@ -93,7 +90,6 @@ fn push_said(to: &mut String, count: usize) -> Result<(), Want>
     push_said_words(to, count)
 }
 
-// Appends how many of them have said goodbye.
 fn push_said_words(to: &mut String, count: usize) -> Result<(), Want>
     ensures { OnOk result (string_bytes to.new ≡ string_bytes to.old ++ said_words count) }
 {
@@ -211,7 +207,6 @@ fn push_about_line(to: &mut String, about: &[Subject]) -> Result<(), Want>
     }
 }
 
-// Appends the line of subjects.
 fn push_subjects_line(to: &mut String, first: &Subject, others: &[Subject]) -> Result<(), Want>
     ensures { OnOk result (string_bytes to.new ≡ string_bytes to.old ++ subjects_line isolated first.now others.now) }
 {
@@ -222,7 +217,6 @@ fn push_subjects_line(to: &mut String, first: &Subject, others: &[Subject]) -> R
     Ok(())
 }
 
-// Appends the subjects after the first one.
 fn push_other_subjects(to: &mut String, others: &[Subject]) -> Result<(), Want>
     ensures { OnOk result (string_bytes to.new ≡ string_bytes to.old ++ flat_map (other_subject isolated) others.now) }
 {
@@ -232,7 +226,6 @@ fn push_other_subjects(to: &mut String, others: &[Subject]) -> Result<(), Want>
     Ok(())
 }
 
-// Appends one subject more.
 fn push_other_subject(to: &mut String, subject: &Subject) -> Result<(), Want>
     ensures { OnOk result (string_bytes to.new ≡ string_bytes to.old ++ other_subject isolated subject.now) }
 {
@@ -240,14 +233,12 @@ fn push_other_subject(to: &mut String, subject: &Subject) -> Result<(), Want>
     push_subject(to, subject)
 }
 
-// Appends a subject as it was given.
 fn push_subject(to: &mut String, subject: &Subject) -> Result<(), Want>
     ensures { OnOk result (string_bytes to.new ≡ string_bytes to.old ++ subject_text isolated subject.now) }
 {
     push_shown_word(to, subject.text())
 }
 
-// Appends a warning for each capture that isn't whole.
 fn push_ending_warnings(to: &mut String, captures: &[CaptureFacts<'_>]) -> Result<(), Want>
     ensures { OnOk result (string_bytes to.new
         ≡ string_bytes to.old ++ flat_map (ending_warning isolated) (map facts_lent captures.now)) }
@@ -270,7 +261,6 @@ fn push_ending_warning(to: &mut String, capture: &CaptureFacts<'_>) -> Result<()
     push_cut_warning(to, capture)
 }
 
-// Appends that a capture isn't whole, and how it ends.
 fn push_cut_warning(to: &mut String, capture: &CaptureFacts<'_>) -> Result<(), Want>
     ensures { OnOk result (string_bytes to.new ≡ string_bytes to.old ++ cut_warning isolated (facts_lent capture.now)) }
 {
@@ -282,7 +272,6 @@ fn push_cut_warning(to: &mut String, capture: &CaptureFacts<'_>) -> Result<(), W
     Ok(())
 }
 
-// Appends how the reading of a capture ended.
 fn push_ending_text(to: &mut String, ending: Ending) -> Result<(), Want>
     ensures { OnOk result (string_bytes to.new ≡ string_bytes to.old ++ ending_text ending) }
 {
@@ -290,7 +279,6 @@ fn push_ending_text(to: &mut String, ending: Ending) -> Result<(), Want>
     Ok(())
 }
 
-// Appends how many packets lost what they said, if any did.
 #[tactic(auto, unfolding(crate::specs::Lead::lost_warning))]
 fn push_lost_warning(to: &mut String, lost: u128) -> Result<(), Want>
     ensures { OnOk result (string_bytes to.new ≡ string_bytes to.old ++ lost_warning lost) }
@@ -301,7 +289,6 @@ fn push_lost_warning(to: &mut String, lost: u128) -> Result<(), Want>
     push_packets_warning(to, lost)
 }
 
-// Appends how many packets lost what they said.
 fn push_packets_warning(to: &mut String, lost: u128) -> Result<(), Want>
     ensures { OnOk result (string_bytes to.new ≡ string_bytes to.old ++ packets_warning lost) }
 {

@@ -52,7 +52,6 @@ pub(crate) fn push_live(
     Ok(())
 }
 
-// Appends what stands before the groups.
 fn push_begin(to: &mut String, axis: Axis) -> Result<(), Want>
     ensures { OnOk result (string_bytes to.new ≡ string_bytes to.old ++ live_begin axis) }
 {

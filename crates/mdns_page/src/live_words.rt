@@ -34,7 +34,6 @@ pub(crate) fn push_given(to: &mut String, axis: Axis, given: &Given<'_>) -> Resu
     push_word(to, "</small>")
 }
 
-// Appends since when an instance is live, where that is known.
 fn push_since(to: &mut String, axis: Axis, since: Option<Moment>) -> Result<(), Want>
     ensures { OnOk result (string_bytes to.new ≡ string_bytes to.old ++ since_text axis (nanos_in since)) }
 {
@@ -58,7 +57,6 @@ fn push_left(to: &mut String, now: Moment, given: &Given<'_>) -> Result<(), Want
     push_word(to, " left")
 }
 
-// Appends words of the page's own.
 fn push_word(to: &mut String, word: &str) -> Result<(), Want>
     ensures { OnOk result (string_bytes to.new ≡ string_bytes to.old ++ word.now) }
 {
@@ -84,7 +82,6 @@ pub(crate) fn push_server(
     push_word(to, "</p>")
 }
 
-// Appends text of the network as a paragraph.
 fn push_paragraph(to: &mut String, text: &str) -> Result<(), Want>
     ensures { OnOk result (string_bytes to.new ≡ string_bytes to.old ++ (codes "<p>" ++ isolated text.now ++ codes "</p>")) }
 {
@@ -108,7 +105,6 @@ pub(crate) fn push_address(
     push_word(to, "</code>")
 }
 
-// Appends a space, unless what follows is the first.
 fn push_space_unless(to: &mut String, first: bool) -> Result<(), Want>
     ensures { OnOk result (string_bytes to.new ≡ string_bytes to.old ++ space_unless first) }
 {
@@ -179,7 +175,6 @@ fn push_string(to: &mut String, first: bool, string: &[u8]) -> Result<bool, Want
     Ok(false)
 }
 
-// Appends a line feed, unless what follows is the first.
 fn push_line_feed_unless(to: &mut String, first: bool) -> Result<(), Want>
     ensures { OnOk result (string_bytes to.new ≡ string_bytes to.old ++ line_feed_unless first) }
 {

@@ -28,7 +28,6 @@ pub(crate) fn push_nothing(to: &mut String, readings: &[Reading]) -> Result<(), 
     push_packets(to, readings)
 }
 
-// Appends the table, or that there are no such packets.
 #[tactic(auto, unfolding(crate::specs::Nothing::packets_text))]
 fn push_packets(to: &mut String, readings: &[Reading]) -> Result<(), Want>
     ensures { OnOk result (string_bytes to.new ≡ string_bytes to.old ++ packets_text readings.now) }
@@ -51,7 +50,6 @@ fn untold(readings: &[Reading]) -> u128
     untold
 }
 
-// Appends the table.
 #[tactic(auto, unfolding(crate::specs::Nothing::table_text))]
 fn push_table(to: &mut String, readings: &[Reading]) -> Result<(), Want>
     ensures { OnOk result (string_bytes to.new ≡ string_bytes to.old ++ table_text readings.now) }
@@ -65,7 +63,6 @@ fn push_table(to: &mut String, readings: &[Reading]) -> Result<(), Want>
     Ok(())
 }
 
-// Appends a row for each reason of packets whose bytes weren't read.
 #[tactic(auto, unfolding(crate::specs::Nothing::unread_rows))]
 fn push_unread(to: &mut String, readings: &[Reading]) -> Result<(), Want>
     ensures { OnOk result (string_bytes to.new ≡ string_bytes to.old ++ unread_rows readings.now) }
@@ -83,7 +80,6 @@ fn push_unread(to: &mut String, readings: &[Reading]) -> Result<(), Want>
     push_warning(to, readings, Why::Frame(Cause::FragmentHeader), UNLESS_TOLD)
 }
 
-// Appends a row for each reason of packets that break a format.
 #[tactic(auto, unfolding(crate::specs::Nothing::broken_rows))]
 fn push_broken(to: &mut String, readings: &[Reading]) -> Result<(), Want>
     ensures { OnOk result (string_bytes to.new ≡ string_bytes to.old ++ broken_rows readings.now) }
@@ -94,7 +90,6 @@ fn push_broken(to: &mut String, readings: &[Reading]) -> Result<(), Want>
     push_warning(to, readings, Why::Ignored, "a broken sender")
 }
 
-// Appends the row of the packets that were skipped for a reason that needs attention.
 fn push_warning(to: &mut String, readings: &[Reading], why: Why, meaning: &str) -> Result<(), Want>
     ensures { OnOk result (string_bytes to.new
         ≡ string_bytes to.old ++ warning_row readings.now (why, meaning.now)) }
@@ -108,7 +103,6 @@ fn push_warning(to: &mut String, readings: &[Reading], why: Why, meaning: &str) 
     )
 }
 
-// Appends the row of damaged messages.
 fn push_damaged(to: &mut String, readings: &[Reading]) -> Result<(), Want>
     ensures { OnOk result (string_bytes to.new ≡ string_bytes to.old ++ damaged_row readings.now) }
 {
@@ -121,7 +115,6 @@ fn push_damaged(to: &mut String, readings: &[Reading]) -> Result<(), Want>
     )
 }
 
-// Appends a row for each other reason.
 #[tactic(auto, unfolding(crate::specs::Nothing::other_rows))]
 fn push_others(to: &mut String, readings: &[Reading]) -> Result<(), Want>
     ensures { OnOk result (string_bytes to.new ≡ string_bytes to.old ++ other_rows readings.now) }
@@ -134,7 +127,6 @@ fn push_others(to: &mut String, readings: &[Reading]) -> Result<(), Want>
     push_other(to, readings, Why::Frame(Cause::ExtensionHeader))
 }
 
-// Appends the row of the packets that were skipped for another reason.
 fn push_other(to: &mut String, readings: &[Reading], why: Why) -> Result<(), Want>
     ensures { OnOk result (string_bytes to.new
         ≡ string_bytes to.old ++ skipped_row readings.now false why (codes "normal")) }
@@ -148,7 +140,6 @@ fn push_other(to: &mut String, readings: &[Reading], why: Why) -> Result<(), Wan
     )
 }
 
-// Appends a row, if there are packets.
 #[tactic(auto, unfolding(crate::specs::Nothing::row_text))]
 fn push_row(
     to: &mut String,
@@ -166,7 +157,6 @@ fn push_row(
     push_some_row(to, count, cause, bold, meaning)
 }
 
-// Appends a row.
 fn push_some_row(
     to: &mut String,
     count: u128,
@@ -187,7 +177,6 @@ fn push_some_row(
     Ok(())
 }
 
-// Appends what a reason means, in bold where it needs attention.
 #[tactic(auto, unfolding(crate::specs::Nothing::meaning_text))]
 fn push_meaning(to: &mut String, bold: bool, meaning: &str) -> Result<(), Want>
     ensures { OnOk result (string_bytes to.new ≡ string_bytes to.old ++ meaning_text bold meaning.now) }

@@ -64,7 +64,6 @@ pub(crate) fn push_page(to: &mut String, parts: &Parts<'_>) -> Result<(), Want>
     push_end(to)
 }
 
-// Appends the head of the file, with the height of the pictures of rows.
 fn push_head(to: &mut String, axis: Axis, lanes: u32) -> Result<(), Want>
     ensures { OnOk result (string_bytes to.new ≡ string_bytes to.old ++ head axis lanes) }
 {
@@ -93,7 +92,6 @@ fn push_policy(to: &mut String) -> Result<(), Want>
     Ok(())
 }
 
-// Appends the title, which has the days of the captures.
 fn push_title(to: &mut String, axis: Axis) -> Result<(), Want>
     ensures { OnOk result (string_bytes to.new ≡ string_bytes to.old ++ title axis) }
 {
@@ -121,7 +119,6 @@ fn push_body_begin(
     Ok(())
 }
 
-// Appends the links to the sections.
 #[tactic(auto, unfolding(crate::specs::Page::links))]
 fn push_links(to: &mut String) -> Result<(), Want>
     ensures { OnOk result (string_bytes to.new ≡ string_bytes to.old ++ links) }
@@ -133,7 +130,6 @@ fn push_links(to: &mut String) -> Result<(), Want>
     Ok(())
 }
 
-// Appends what ends the file.
 #[tactic(auto, unfolding(crate::specs::Page::page_end))]
 fn push_end(to: &mut String) -> Result<(), Want>
     ensures { OnOk result (string_bytes to.new ≡ string_bytes to.old ++ page_end) }

@@ -69,7 +69,6 @@ pub(crate) fn push_bars(
     push_path(to, axis, stroke, lives)
 }
 
-// Appends a bar with a title for each of some lives.
 fn push_titled_bars(to: &mut String, axis: Axis, stroke: Stroke, lives: &[Life]) -> Result<(), Want>
     ensures { OnOk result (string_bytes to.new ≡ string_bytes to.old ++ flat_map (titled_bar axis stroke) lives.now) }
 {
@@ -79,7 +78,6 @@ fn push_titled_bars(to: &mut String, axis: Axis, stroke: Stroke, lives: &[Life])
     Ok(())
 }
 
-// Appends the bar of a life as a path of its own, with a title.
 fn push_titled_bar(to: &mut String, axis: Axis, stroke: Stroke, life: &Life) -> Result<(), Want>
     ensures { OnOk result (string_bytes to.new ≡ string_bytes to.old ++ titled_bar axis stroke life.now) }
 {
@@ -220,7 +218,6 @@ fn is_same(mark: Mark, other: Mark) -> bool
     mark.begin == other.begin && mark.end == other.end
 }
 
-// Appends what stands before the strokes of a path.
 #[tactic(auto, unfolding(crate::specs::Picture::path_begin))]
 fn push_path_begin(to: &mut String, stroke: Stroke) -> Result<(), Want>
     ensures { OnOk result (string_bytes to.new ≡ string_bytes to.old ++ path_begin stroke) }
@@ -231,7 +228,6 @@ fn push_path_begin(to: &mut String, stroke: Stroke) -> Result<(), Want>
     Ok(())
 }
 
-// Appends what ends a path.
 #[tactic(auto, unfolding(crate::specs::Picture::path_end))]
 fn push_path_end(to: &mut String) -> Result<(), Want>
     ensures { OnOk result (string_bytes to.new ≡ string_bytes to.old ++ path_end) }
@@ -258,7 +254,6 @@ fn class_of(stroke: Stroke) -> &'static str
     }
 }
 
-// Appends a stroke as a part of a path.
 #[tactic(auto, unfolding(crate::specs::Picture::mark_text))]
 fn push_mark(to: &mut String, stroke: Stroke, mark: Mark) -> Result<(), Want>
     ensures { OnOk result (string_bytes to.new ≡ string_bytes to.old ++ mark_text stroke mark) }

@@ -40,7 +40,6 @@ pub(crate) fn push_picture(
     Ok(())
 }
 
-// Appends what the picture begins with.
 #[tactic(auto, unfolding(crate::specs::RowPicture::picture_begin))]
 fn push_picture_begin(to: &mut String, lanes: u32) -> Result<(), Want>
     ensures { OnOk result (string_bytes to.new ≡ string_bytes to.old ++ picture_begin lanes) }

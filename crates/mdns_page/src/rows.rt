@@ -95,7 +95,6 @@ fn push_row(
     Ok(())
 }
 
-// Appends what a record names, by way of `scratch`, and how often each capture heard the record.
 fn push_name(
     to: &mut String,
     scratch: &mut String,
@@ -142,7 +141,6 @@ fn push_target(
     push_instance_name(to, scratch, target)
 }
 
-// Appends the name of an instance, by way of `scratch`.
 fn push_instance_name(to: &mut String, scratch: &mut String, target: &Name) -> Result<(), Want>
     ensures { OnOk result (string_bytes to.new ≡ string_bytes to.old ++ isolated (shown_instance target.now)) }
 {

@@ -188,7 +188,6 @@ fn live_of(
     Ok(text)
 }
 
-// Appends a live record if it gives an instance about the subjects.
 fn push_given<'a>(
     to: &mut Vec<Given<'a>>,
     row: &LiveSince<'a>,

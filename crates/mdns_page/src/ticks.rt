@@ -71,7 +71,6 @@ fn push_labels_and_lines(
     Ok(())
 }
 
-// Appends the line of each tick, through a picture of this height.
 fn push_grid(to: &mut String, axis: Axis, high: u64, ticks: &[u64]) -> Result<(), Want>
     ensures { OnOk result (string_bytes to.new ≡ string_bytes to.old ++ flat_map (tick_line axis high) ticks.now) }
 {
@@ -82,7 +81,6 @@ fn push_grid(to: &mut String, axis: Axis, high: u64, ticks: &[u64]) -> Result<()
     Ok(())
 }
 
-// Appends the label of each tick.
 fn push_labels(to: &mut String, axis: Axis, ticks: &[u64]) -> Result<(), Want>
     ensures { OnOk result (string_bytes to.new
         ≡ string_bytes to.old ++ flat_map (tick_label axis (step_of axis)) ticks.now) }
@@ -94,7 +92,6 @@ fn push_labels(to: &mut String, axis: Axis, ticks: &[u64]) -> Result<(), Want>
     Ok(())
 }
 
-// Appends the label of a tick, unless it would stick out at an end of the axis.
 #[tactic(auto, unfolding(crate::specs::Ticks::tick_label))]
 fn push_label(to: &mut String, axis: Axis, step: u64, tick: u64) -> Result<(), Want>
     ensures { OnOk result (string_bytes to.new ≡ string_bytes to.old ++ tick_label axis step tick) }
@@ -125,7 +122,6 @@ fn is_long(dates: Dates, tick: u64) -> bool
     }
 }
 
-// Appends the date of a tick at midnight, and of another one the time of day.
 #[tactic(auto, unfolding(crate::specs::Ticks::tick_text))]
 fn push_tick_text(to: &mut String, dates: Dates, step: u64, tick: u64) -> Result<(), Want>
     ensures { OnOk result (string_bytes to.new ≡ string_bytes to.old ++ tick_text dates step tick) }

@@ -65,7 +65,6 @@ pub(crate) fn is_open(rows: usize, addresses: usize, names: usize) -> bool
     rows <= OPEN_ROWS && addresses <= OPEN_ROWS - rows && names <= OPEN_ROWS - rows - addresses
 }
 
-// Appends what stands before the groups.
 #[tactic(auto, unfolding(crate::specs::Timeline::timeline_begin))]
 fn push_begin(to: &mut String, titled: bool, large: bool, lanes: u32) -> Result<(), Want>
     ensures { OnOk result (string_bytes to.new ≡ string_bytes to.old ++ timeline_begin titled large lanes) }
@@ -87,7 +86,6 @@ fn push_begin(to: &mut String, titled: bool, large: bool, lanes: u32) -> Result<
     Ok(())
 }
 
-// Appends how the titles of bars are read, if they have some.
 fn push_titles_note(to: &mut String, titled: bool) -> Result<(), Want>
     ensures { OnOk result (string_bytes to.new ≡ string_bytes to.old ++ titles_note titled) }
 {
@@ -97,7 +95,6 @@ fn push_titles_note(to: &mut String, titled: bool) -> Result<(), Want>
     Ok(())
 }
 
-// Appends the groups of the rows.
 fn push_groups(
     to: &mut String,
     look: Look,
@@ -117,7 +114,6 @@ fn push_groups(
     Ok(())
 }
 
-// Appends the group of the rows of a type, by way of `scratch`.
 #[tactic(auto, unfolding(crate::specs::Timeline::group_text))]
 fn push_group(
     to: &mut String,
@@ -164,7 +160,6 @@ fn push_others(
     push_others_group(to, look, opened, names, rows)
 }
 
-// Appends the group of some names, or of some addresses.
 #[tactic(auto, unfolding(crate::specs::Timeline::others_group))]
 fn push_others_group(
     to: &mut String,

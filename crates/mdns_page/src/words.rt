@@ -39,7 +39,6 @@ fn push_earlier(to: &mut String, count: usize) -> Result<(), Want>
     Ok(())
 }
 
-// Appends each of some lives.
 fn push_each(to: &mut String, axis: Axis, lives: &[Life]) -> Result<(), Want>
     ensures { OnOk result (string_bytes to.new ≡ string_bytes to.old ++ flat_map (life_words axis) lives.now) }
 {
@@ -62,7 +61,6 @@ fn push_life(to: &mut String, axis: Axis, life: &Life) -> Result<(), Want>
     Ok(())
 }
 
-// Appends when and why a life ended, or that it goes on.
 #[tactic(auto, unfolding(crate::specs::Words::end_words))]
 fn push_end(to: &mut String, axis: Axis, life: &Life) -> Result<(), Want>
     ensures { OnOk result (string_bytes to.new ≡ string_bytes to.old ++ end_words axis life.now) }

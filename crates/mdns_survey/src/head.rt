@@ -35,7 +35,6 @@ fn push_head(to: &mut String, readings: &[Reading]) -> Result<(), Want>
     push_unheard(to, hearings_in(readings))
 }
 
-// Appends the line of so many lost packets, if there are any.
 #[tactic(auto, unfolding(crate::specs::Head::lost_text))]
 fn push_lost(to: &mut String, lost: u128) -> Result<(), Want>
     ensures { OnOk result (string_bytes to.new ≡ string_bytes to.old ++ lost_text lost) }
@@ -56,7 +55,6 @@ fn word_for(count: u128) -> &'static str
     if count == 1 { "packet" } else { "packets" }
 }
 
-// Appends the line of captures with so many hearings, if there are none.
 #[tactic(auto, unfolding(crate::specs::Head::unheard_text))]
 fn push_unheard(to: &mut String, hearings: u128) -> Result<(), Want>
     ensures { OnOk result (string_bytes to.new ≡ string_bytes to.old ++ unheard_text hearings) }

@@ -202,7 +202,6 @@ fn write_rows<W: Sink>(
     }
 }
 
-// Appends the lines of a row that is about the subjects, or nothing.
 fn push_row(
     text: &mut String,
     form: Form,

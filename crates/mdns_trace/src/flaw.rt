@@ -135,7 +135,6 @@ fn push_link(to: &mut String, number: u16, name: &str) -> Result<(), Want>
     push_named(to, name)
 }
 
-// Appends a name in parentheses, unless it is empty.
 #[tactic(auto, unfolding(crate::specs::Flaw::named))]
 fn push_named(to: &mut String, name: &str) -> Result<(), Want>
     ensures { OnOk result (string_bytes to.new ≡ string_bytes to.old ++ named name.now) }

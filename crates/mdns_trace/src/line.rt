@@ -27,7 +27,6 @@ pub(crate) fn push_address(to: &mut String, address: &SourceAddress) -> Result<(
     }
 }
 
-// Appends a space, the name of a file, a space, an address, and a space.
 fn push_origin(to: &mut String, file: &str, source: &SourceAddress) -> Result<(), Want>
     ensures { OnOk result (string_bytes to.new
         ≡ string_bytes to.old ++ (32 ∷ file.now ++ 32 ∷ address_text source.now ++ 32 ∷ [])) }
@@ -40,7 +39,6 @@ fn push_origin(to: &mut String, file: &str, source: &SourceAddress) -> Result<()
     Ok(())
 }
 
-// Appends the TTL of a hearing and its cache-flush bit, and ends the line.
 fn push_life(to: &mut String, hearing: &BorrowedHearing<'_>) -> Result<(), Want>
     ensures { OnOk result (string_bytes to.new
         ≡ string_bytes to.old ++ (life_text (hearing_lent hearing.now) ++ 10 ∷ [])) }
@@ -95,7 +93,6 @@ pub(crate) fn push_hearing_lines(
     Ok(())
 }
 
-// Appends the line of a hearing in a form.
 fn push_hearing(
     alloc: Global,
     form: Form,

@@ -92,7 +92,6 @@ pub(crate) fn push_losses(
     Ok(())
 }
 
-// Appends the line of a loss, if there are packets.
 #[tactic(auto, unfolding(crate::specs::Loss::loss_text))]
 fn push_loss(to: &mut String, file: &str, reading: &Reading, loss: Loss) -> Result<(), Want>
     ensures { OnOk result (string_bytes to.new ≡ string_bytes to.old ++ loss_text file.now reading.now loss) }

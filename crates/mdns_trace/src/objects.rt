@@ -78,7 +78,6 @@ pub(crate) fn push_moment_member(
     push_text_member(to, first, name, text.as_str())
 }
 
-// Appends the address from which a message was sent.
 fn push_source_member(alloc: Global, to: &mut String, source: &SourceAddress) -> Result<(), Want>
     ensures { OnOk result (string_bytes to.new ≡ string_bytes to.old
         ++ (comma_unless false ++ text_member (codes "source") (address_text source.now))) }
@@ -88,7 +87,6 @@ fn push_source_member(alloc: Global, to: &mut String, source: &SourceAddress) ->
     push_text(to, false, "source", text.as_str())
 }
 
-// Appends whether the cache-flush bit is set.
 #[tactic(auto, unfolding(crate::specs::Objects::value_member))]
 fn push_flush_member(to: &mut String, flush: bool) -> Result<(), Want>
     ensures { OnOk result (string_bytes to.new ≡ string_bytes to.old
@@ -127,7 +125,6 @@ pub(crate) fn push_packet_json(
     Ok(())
 }
 
-// Appends what came of a packet that told nothing, and the cause.
 #[tactic(auto, unfolding(mdns_browse::specs::Json::parted))]
 fn push_found_members(to: &mut String, found: &Found) -> Result<(), Want>
     ensures { OnOk result (string_bytes to.new ≡ string_bytes to.old ++ parted false (found_members found.now)) }
@@ -142,7 +139,6 @@ fn push_found_members(to: &mut String, found: &Found) -> Result<(), Want>
     }
 }
 
-// Appends what came of a packet, and why.
 #[tactic(auto, unfolding(mdns_browse::specs::Json::parted))]
 fn push_status(to: &mut String, status: &str, cause: &str) -> Result<(), Want>
     ensures { OnOk result (string_bytes to.new
@@ -171,7 +167,6 @@ pub(crate) fn push_span_json(
     Ok(())
 }
 
-// Appends a member that is the earliest and the latest moment.
 #[tactic(auto, unfolding(crate::specs::Objects::value_member))]
 fn push_bounds_member(
     alloc: Global,

@@ -46,7 +46,6 @@ pub(crate) fn fault_at(fault: MessageFault) -> usize
     }
 }
 
-// Appends the moment of a packet, its file, and the offset of its header there.
 fn push_place(to: &mut String, file: &str, packet: &Packet<'_>) -> Result<(), Want>
     ensures { OnOk result (string_bytes to.new
         ≡ string_bytes to.old ++ place_text file.now (packet_lent packet.now)) }
@@ -70,7 +69,6 @@ pub(crate) fn push_found(to: &mut String, found: &Found) -> Result<(), Want>
     Ok(())
 }
 
-// Appends the line of words of a packet that told nothing in `file`, whose name is written as it is.
 #[tactic(auto, unfolding(crate::specs::PacketLine::packet_line))]
 fn push_packet_line(
     to: &mut String,

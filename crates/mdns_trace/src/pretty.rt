@@ -41,7 +41,6 @@ pub(crate) fn push_hearing_row(
     push_file_and_record(to, file, &hearing.heard)
 }
 
-// Appends what a hearing says of its record, and spaces up to the width of `ttl 4500 flush`.
 fn push_padded_said(
     alloc: Global,
     to: &mut String,
@@ -58,7 +57,6 @@ fn push_padded_said(
     push_padded(to, 14, said.as_str())
 }
 
-// Appends a TTL, of which 0 is a goodbye.
 fn push_ttl(to: &mut String, ttl: u32) -> Result<(), Want>
     ensures { OnOk result (string_bytes to.new
         ≡ string_bytes to.old ++ (if ttl == 0 then codes "goodbye" else codes "ttl " ++ decimal ttl)) }
@@ -71,7 +69,6 @@ fn push_ttl(to: &mut String, ttl: u32) -> Result<(), Want>
     Ok(())
 }
 
-// Appends an address, and spaces up to the width of any IPv4 address.
 fn push_padded_source(alloc: Global, to: &mut String, source: &SourceAddress) -> Result<(), Want>
     ensures { OnOk result (string_bytes to.new ≡ string_bytes to.old ++ padded 15 (source_shown source.now)) }
 {
@@ -83,7 +80,6 @@ fn push_padded_source(alloc: Global, to: &mut String, source: &SourceAddress) ->
     push_padded(to, 15, address.as_str())
 }
 
-// Appends the file, the type and the record, each after two spaces, and ends the line.
 fn push_file_and_record(
     to: &mut String,
     file: &str,
@@ -135,7 +131,6 @@ pub(crate) fn push_span_row(to: &mut String, file: &str, spanned: &Spanned) -> R
     Ok(())
 }
 
-// Appends the earliest and the latest moment, if there are any.
 fn push_shown_bounds(to: &mut String, span: Option<Span>) -> Result<(), Want>
     ensures { OnOk result (string_bytes to.new ≡ string_bytes to.old ++ bounds_shown span) }
 {

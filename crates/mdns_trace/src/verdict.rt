@@ -121,7 +121,6 @@ fn push_file(
     }
 }
 
-// Appends the lines of words of a file.
 fn push_verdict(to: &mut String, file: &str, verdict: &Verdict) -> Result<(), Want>
     ensures { OnOk result (string_bytes to.new ≡ string_bytes to.old ++ verdict_text file.now verdict.now) }
 {
@@ -133,7 +132,6 @@ fn push_verdict(to: &mut String, file: &str, verdict: &Verdict) -> Result<(), Wa
     }
 }
 
-// Appends the lines of a capture.
 #[tactic(auto, unfolding(crate::specs::Verdict::capture_text))]
 fn push_capture(to: &mut String, file: &str, reading: &Reading) -> Result<(), Want>
     ensures { OnOk result (string_bytes to.new ≡ string_bytes to.old ++ capture_text file.now reading.now) }
@@ -144,7 +142,6 @@ fn push_capture(to: &mut String, file: &str, reading: &Reading) -> Result<(), Wa
     push_silent(to, file, &reading.summary.tally)
 }
 
-// Appends the line of a capture with its counts.
 #[tactic(auto, unfolding(crate::specs::Verdict::capture_line))]
 fn push_capture_line(to: &mut String, file: &str, reading: &Reading) -> Result<(), Want>
     ensures { OnOk result (string_bytes to.new ≡ string_bytes to.old ++ capture_line file.now reading.now) }
@@ -158,7 +155,6 @@ fn push_capture_line(to: &mut String, file: &str, reading: &Reading) -> Result<(
     Ok(())
 }
 
-// Appends the line of a capture that ended before its packets did.
 #[tactic(auto, unfolding(crate::specs::Verdict::early_text))]
 fn push_early(to: &mut String, file: &str, ending: Ending, span: Option<Span>) -> Result<(), Want>
     ensures { OnOk result (string_bytes to.new ≡ string_bytes to.old ++ early_text file.now ending span) }
@@ -192,7 +188,6 @@ pub(crate) fn is_whole(ending: Ending) -> bool
     matches!(ending, Ending::Whole)
 }
 
-// Appends the name of a file, and how the reading of it ended.
 #[tactic(auto, unfolding(crate::specs::Verdict::capture_front))]
 fn push_front(to: &mut String, file: &str, ending: Ending) -> Result<(), Want>
     ensures { OnOk result (string_bytes to.new ≡ string_bytes to.old ++ capture_front file.now ending) }
@@ -201,7 +196,6 @@ fn push_front(to: &mut String, file: &str, ending: Ending) -> Result<(), Want>
     Ok(())
 }
 
-// Appends the line of a capture that has packets, but no hearings.
 #[tactic(auto, unfolding(crate::specs::Verdict::silent_text))]
 fn push_silent(to: &mut String, file: &str, tally: &Tally) -> Result<(), Want>
     ensures { OnOk result (string_bytes to.new ≡ string_bytes to.old ++ silent_text file.now tally.now) }
@@ -219,7 +213,6 @@ pub(crate) fn is_silent(tally: &Tally) -> bool
     tally.packets != 0 && tally.hearings == 0
 }
 
-// Appends the line of a file of that kind.
 #[tactic(auto, unfolding(crate::specs::Verdict::unusable_line))]
 fn push_flaw(to: &mut String, file: &str, flaw: Flaw) -> Result<(), Want>
     ensures { OnOk result (string_bytes to.new

@@ -68,7 +68,6 @@ fn kind_word(flaw: Flaw) -> &'static str
     }
 }
 
-// Appends what is known of a file beside what it is.
 fn push_verdict_members(alloc: Global, to: &mut String, verdict: &Verdict) -> Result<(), Want>
     ensures { OnOk result (string_bytes to.new ≡ string_bytes to.old ++ parted false (verdict_members verdict.now)) }
 {
@@ -80,7 +79,6 @@ fn push_verdict_members(alloc: Global, to: &mut String, verdict: &Verdict) -> Re
     }
 }
 
-// Appends what to do about a file.
 #[tactic(auto, unfolding(mdns_browse::specs::Json::parted))]
 fn push_do(to: &mut String, cure: &str) -> Result<(), Want>
     ensures { OnOk result (string_bytes to.new
@@ -89,7 +87,6 @@ fn push_do(to: &mut String, cure: &str) -> Result<(), Want>
     push_text(to, false, "do", cure)
 }
 
-// Appends the link type of a file that isn't a capture, if that is the reason, and what to do about it.
 fn push_flaw_members(to: &mut String, flaw: Flaw) -> Result<(), Want>
     ensures { OnOk result (string_bytes to.new ≡ string_bytes to.old ++ parted false (flaw_members flaw)) }
 {
@@ -111,7 +108,6 @@ fn push_link_members(to: &mut String, flaw: Flaw) -> Result<(), Want>
     }
 }
 
-// Appends the name of a link type, unless it is empty.
 #[tactic(auto, unfolding(crate::specs::VerdictObjects::name_members, mdns_browse::specs::Json::parted))]
 fn push_link_name(to: &mut String, name: &str) -> Result<(), Want>
     ensures { OnOk result (string_bytes to.new ≡ string_bytes to.old ++ parted false (name_members name.now)) }
@@ -122,7 +118,6 @@ fn push_link_name(to: &mut String, name: &str) -> Result<(), Want>
     push_text(to, false, "link_name", name)
 }
 
-// Appends what a capture has and how it ends, and what it lost.
 fn push_capture_members(alloc: Global, to: &mut String, reading: &Reading) -> Result<(), Want>
     ensures { OnOk result (string_bytes to.new ≡ string_bytes to.old ++ parted false (capture_members reading.now)) }
 {
@@ -149,7 +144,6 @@ fn push_do_members(alloc: Global, to: &mut String, reading: &Reading) -> Result<
     push_text(to, false, "do", cure.as_str())
 }
 
-// Appends what to do about a capture that has packets, but no hearings, after another cure.
 #[tactic(auto, unfolding(crate::specs::VerdictObjects::silent_after))]
 fn push_silent_after(to: &mut String, tally: &Tally) -> Result<(), Want>
     ensures { OnOk result (string_bytes to.new ≡ string_bytes to.old ++ silent_after tally.now) }
@@ -160,7 +154,6 @@ fn push_silent_after(to: &mut String, tally: &Tally) -> Result<(), Want>
     Ok(())
 }
 
-// Appends what to do about a capture that has packets, but no hearings.
 #[tactic(auto, unfolding(crate::specs::VerdictObjects::silent_members, mdns_browse::specs::Json::parted))]
 fn push_silent_members(to: &mut String, tally: &Tally) -> Result<(), Want>
     ensures { OnOk result (string_bytes to.new ≡ string_bytes to.old ++ parted false (silent_members tally.now)) }
@@ -171,7 +164,6 @@ fn push_silent_members(to: &mut String, tally: &Tally) -> Result<(), Want>
     Ok(())
 }
 
-// Appends the earliest and the latest moment of packets, if there are packets.
 #[tactic(auto, unfolding(crate::specs::VerdictObjects::bounds_members, mdns_browse::specs::Json::parted))]
 fn push_bounds_members(alloc: Global, to: &mut String, span: Option<Span>) -> Result<(), Want>
     ensures { OnOk result (string_bytes to.new ≡ string_bytes to.old ++ parted false (bounds_members span)) }
@@ -183,7 +175,6 @@ fn push_bounds_members(alloc: Global, to: &mut String, span: Option<Span>) -> Re
     push_moment_member(alloc, to, false, "last", span.last)
 }
 
-// Appends the counts of a capture.
 #[tactic(auto, unfolding(crate::specs::VerdictObjects::tally_members, mdns_browse::specs::Json::parted))]
 fn push_tally_members(to: &mut String, tally: &Tally) -> Result<(), Want>
     ensures { OnOk result (string_bytes to.new ≡ string_bytes to.old ++ parted false (tally_members tally.now)) }
@@ -195,7 +186,6 @@ fn push_tally_members(to: &mut String, tally: &Tally) -> Result<(), Want>
     push_number(to, "hearings", tally.hearings)
 }
 
-// Appends how the reading of a capture ended.
 fn push_ending_member(alloc: Global, to: &mut String, ending: Ending) -> Result<(), Want>
     ensures { OnOk result (string_bytes to.new ≡ string_bytes to.old
         ++ (comma_unless false ++ text_member (codes "ending") (ending_text ending))) }
@@ -205,7 +195,6 @@ fn push_ending_member(alloc: Global, to: &mut String, ending: Ending) -> Result<
     push_text(to, false, "ending", text.as_str())
 }
 
-// Appends what a capture lost.
 #[tactic(auto, unfolding(crate::specs::Objects::value_member))]
 fn push_lost_member(to: &mut String, reading: &Reading) -> Result<(), Want>
     ensures { OnOk result (string_bytes to.new ≡ string_bytes to.old
@@ -215,7 +204,6 @@ fn push_lost_member(to: &mut String, reading: &Reading) -> Result<(), Want>
     push_lost_json(to, reading)
 }
 
-// Appends an array of what a capture lost.
 #[tactic(auto, unfolding(crate::specs::VerdictObjects::lost_json))]
 fn push_lost_json(to: &mut String, reading: &Reading) -> Result<(), Want>
     ensures { OnOk result (string_bytes to.new ≡ string_bytes to.old ++ lost_json reading.now) }
@@ -226,7 +214,6 @@ fn push_lost_json(to: &mut String, reading: &Reading) -> Result<(), Want>
     Ok(())
 }
 
-// Appends an object for each loss of a capture, if it lost packets to it.
 #[tactic(auto, unfolding(mdns_browse::specs::Json::parted))]
 fn push_loss_objects(to: &mut String, reading: &Reading, losses: &[Loss]) -> Result<(), Want>
     ensures { OnOk result (string_bytes to.new
