@@ -3,7 +3,7 @@
 
 /// The texts of one page.
 #[derive(Clone, Copy)]
-pub struct Page {
+pub struct HelpText {
     /// What is answered, in one line.
     pub about: &'static str,
     /// The text below the options.
@@ -24,7 +24,7 @@ If a file is refused:        mdnswhy files FILE..."
 }
 
 /// `mdnsmerge --help`.
-pub const PROGRAM: Page = Page {
+pub const PROGRAM: HelpText = HelpText {
     about: "Say which Multicast DNS records and services were live, from captures of a link",
     more: page!(
         "\
@@ -35,7 +35,7 @@ Captures by several listeners that share one clock count as one:
 };
 
 /// `mdnsmerge records --help`.
-pub const RECORDS: Page = Page {
+pub const RECORDS: HelpText = HelpText {
     about: "The records that were live, a line for each",
     more: page!(
         "\
@@ -48,7 +48,7 @@ record was heard, and until when it lives, in seconds since 1970:
 };
 
 /// `mdnsmerge types --help`.
-pub const TYPES: Page = Page {
+pub const TYPES: HelpText = HelpText {
     about: "The service types that were live, a line for each",
     more: page!(
         "\
@@ -61,7 +61,7 @@ is a type that hosts listed for those who browse:
 };
 
 /// `mdnsmerge instances --help`.
-pub const INSTANCES: Page = Page {
+pub const INSTANCES: HelpText = HelpText {
     about: "The service instances that were live, with their servers and texts",
     more: page!(
         "\
@@ -74,7 +74,7 @@ Live as of the newest hearing, or of --at, which may not be earlier:
 };
 
 /// `mdnsmerge lives --help`.
-pub const LIVES: Page = Page {
+pub const LIVES: HelpText = HelpText {
     about: "When each record was live, and why it ended, a line for each life",
     more: page!(
         "\
@@ -87,7 +87,7 @@ captures, which end at their last packet, or at --at or --before:
 };
 
 /// `mdnsmerge changes --help`.
-pub const CHANGES: Page = Page {
+pub const CHANGES: HelpText = HelpText {
     about: "Which addresses and services changed, and when",
     more: page!(
         "\
@@ -100,7 +100,7 @@ another: a host's old and new address, a service's port, server or text:
 };
 
 /// `mdnsmerge page --help`.
-pub const HTML_PAGE: Page = Page {
+pub const HTML_PAGE: HelpText = HelpText {
     about: "One HTML file for people: when each instance was live, as a picture",
     more: page!(
         "\
@@ -113,7 +113,7 @@ in any browser, or print it to PDF from there:
 };
 
 /// `mdnsmerge check --help`.
-pub const CHECK: Page = Page {
+pub const CHECK: HelpText = HelpText {
     about: "What was counted in each file, and how its reading ended",
     more: page!(
         "\
@@ -125,7 +125,7 @@ damaged one. A file that ended before its packets did isn't `whole`:
 };
 
 /// `mdnswhy --help`.
-pub const WHY: Page = Page {
+pub const WHY: HelpText = HelpText {
     about: "Explain what captures tell of Multicast DNS records, and what they leave out",
     more: page!(
         "\
@@ -137,7 +137,7 @@ Captures by several listeners, sorted, are the history of a name:
 };
 
 /// `mdnswhy hearings --help`.
-pub const HEARINGS: Page = Page {
+pub const HEARINGS: HelpText = HelpText {
     about: "Each hearing of a record, a line for each, file after file",
     more: page!(
         "\
@@ -151,7 +151,7 @@ address of the sender, and a TTL of 0 is a goodbye. For people:
 };
 
 /// `mdnswhy packets --help`.
-pub const PACKETS: Page = Page {
+pub const PACKETS: HelpText = HelpText {
     about: "Each packet that told nothing, and why, a line for each",
     more: page!(
         "\
@@ -166,7 +166,7 @@ OFFSET is that of the packet in the file, N that of the fault in the message.
 };
 
 /// `mdnswhy spans --help`.
-pub const SPANS: Page = Page {
+pub const SPANS: HelpText = HelpText {
     about: "From when to when each file has packets and hearings",
     more: page!(
         "\
@@ -179,7 +179,7 @@ there is none. The listener captured at most LENGTH bytes of each packet.
 };
 
 /// `mdnswhy files --help`.
-pub const FILES: Page = Page {
+pub const FILES: HelpText = HelpText {
     about: "What each file is, what it lost, and what to do about it",
     more: page!(
         "\

@@ -5,7 +5,7 @@ ghost use Rattle.clap.specs.Words.{app_of, rule_of};
 ghost use Rattle.command_line.specs.Line.{app_of_shape, flag_rule, line_of, subcommand_shape, table_of};
 
 use crate::files::files;
-use crate::help::Page;
+use crate::help::HelpText;
 use clap::{Arg, ArgAction, Command, value_parser};
 use mdns_browse::report::Form;
 use std::alloc::{AllocError, Global};
@@ -17,7 +17,7 @@ const VERSION: &str = "0.1.0 (rattle-kit-13)";
 /// is required.
 pub struct Line<T: 'static> {
     pub name: &'static str,
-    pub page: Page,
+    pub page: HelpText,
     pub has_version: bool,
     pub subcommands: &'static [Subcommand<T>],
 }
@@ -25,7 +25,7 @@ pub struct Line<T: 'static> {
 /// A subcommand: its name, its page of help, its flags besides the files, and what it asks for.
 pub struct Subcommand<T> {
     pub name: &'static str,
-    pub page: Page,
+    pub page: HelpText,
     pub flags: &'static [Flag],
     pub asks: T,
 }

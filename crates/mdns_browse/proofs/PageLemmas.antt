@@ -12,7 +12,7 @@ use Rattle.dns_name.specs.Name.{folded}
 use Rattle.mdns_message.specs.declared.body.RecordData.TheVariants.{Srv}
 use Rattle.mdns_join.specs.declared.latest.Latest.{Latest}
 use Rattle.mdns_browse.specs.declared.instance.Server.{Server}
-use Rattle.mdns_browse.specs.declared.page.Page.{Page}
+use Rattle.mdns_browse.specs.declared.page.InstancePage.{InstancePage}
 use Rattle.mdns_browse.specs.Page.{Writes, piece_page, row_pieces, rows_pieces, type_pieces}
 use Rattle.mdns_browse.specs.Pretty.{given_left, heading, instance_row, instance_rows, instances_pretty, left_text, line_of_some}
 use Rattle.mdns_browse.specs.Pretty.{other_row, others_pretty, rows_by_type}
@@ -31,7 +31,7 @@ abbrev pub last_owner : List ℕ → List InstanceRow → List ℕ
 last_owner before [] = before
 last_owner before (row ∷ rows) = last_owner row.given.last.resource.owner rows
 
-pub record Shows (rows : List InstanceRow) (before : List ℕ) (old new : Page) : Type 0 where
+pub record Shows (rows : List InstanceRow) (before : List ℕ) (old new : InstancePage) : Type 0 where
   pub last : before ≡ last_owner [] rows
   pub taken : Writes old (rows_pieces [] rows) new
 
@@ -48,10 +48,10 @@ last_owner-more : (before : List ℕ) (rows : List InstanceRow) (row : InstanceR
 last_owner-more before [] row = refl
 last_owner-more before (first ∷ rows) row = last_owner-more first.given.last.resource.owner rows row
 
-pub shows-start : (page : Page) → Shows [] [] page page
+pub shows-start : (page : InstancePage) → Shows [] [] page page
 shows-start page = record { last = refl; taken = writes_page-laws.nothing page }
 
-pub shows-more : {rows more : List InstanceRow} {before after : List ℕ} {old mid new : Page} (row : InstanceRow) → Shows rows before old mid
+pub shows-more : {rows more : List InstanceRow} {before after : List ℕ} {old mid new : InstancePage} (row : InstanceRow) → Shows rows before old mid
     → more ≡ rows ++ row ∷ [] → after ≡ row.given.last.resource.owner → Writes mid (row_pieces before row) new → Shows more after old new
 shows-more {rows} {more} {before} {after} {old} {mid} {new} row so_far whole owner taken =
     subst (λ rows. Shows rows after old new) (sym whole) record {

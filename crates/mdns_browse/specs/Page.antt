@@ -5,7 +5,7 @@ use Rattle.std.specs.Ordering.{is_eq, nat_cmp}
 use Rattle.std.specs.List.{flat_map}
 use Rattle.dns_name.specs.Name.{folded}
 use Rattle.mdns_message.specs.declared.body.RecordData.TheVariants as body
-use Rattle.mdns_browse.specs.declared.page.Page.{Page}
+use Rattle.mdns_browse.specs.declared.page.InstancePage.{InstancePage}
 use Rattle.mdns_browse.specs.Pretty.{instance_row, spaces, text_row, type_row, words_line}
 use Rattle.mdns_browse.specs.Services.{InstanceRow}
 use Rattle.mdns_browse.specs.Sheet.{Piece, live_record, service_type, instance_begin, server_begin, server_address}
@@ -26,7 +26,7 @@ piece_page width now (instance_text text) = text_row width text
 piece_page width now instance_end = []
 
 -- the page has the text of some pieces more
-pub record Writes (old : Page) (pieces : List Piece) (new : Page) : Type 0 where
+pub record Writes (old : InstancePage) (pieces : List Piece) (new : InstancePage) : Type 0 where
   pub width : new.width ≡ old.width
   pub now : new.now ≡ old.now
   pub written : string_bytes new.text ≡ string_bytes old.text ++ flat_map (piece_page old.width old.now.nanos) pieces

@@ -19,7 +19,7 @@ use crate::about::Subject;
 use crate::columns::{left_len, left_width, push_heading, wider};
 use crate::given::given_in;
 use crate::other_names::{kept_others, push_others};
-use crate::page::Page;
+use crate::page::InstancePage;
 use crate::sheet::{Given, Sheet};
 use crate::walk::walk_instance;
 use dns_name::fold::folded_cmp;
@@ -44,7 +44,7 @@ pub(crate) fn instances_page(
     let listed = gathered.given.as_slice();
     let others = kept_others(alloc, about, cache.walk_live(now))?;
     let width = names_width(alloc, now, listed, others.as_slice())?;
-    let mut page = Page::new(alloc, now, width);
+    let mut page = InstancePage::new(alloc, now, width);
     push_heading(&mut page.text, listed.len(), "instance", "instances", now)?;
     push_instances(&mut page, gathered.rows.as_slice(), listed)?;
     push_others(&mut page.text, width, now, others.as_slice())?;
@@ -79,7 +79,11 @@ fn given_width(alloc: Global, now: Moment, given: &[Given<'_>]) -> Result<usize,
 }
 
 // Appends each instance, and before the first of a type the type's name. The servers and texts are looked up in the rows.
-fn push_instances(page: &mut Page, rows: &[Last<'_>], given: &[Given<'_>]) -> Result<(), Want>
+fn push_instances(
+    page: &mut InstancePage,
+    rows: &[Last<'_>],
+    given: &[Given<'_>],
+) -> Result<(), Want>
     ensures { OnOk result (AreAscending (map last_lent rows.now) → Writes page.old
         (rows_pieces [] (filter_map (instance_row_in (map last_lent rows.now)) (map given_lent given.now))) page.new) }
 {
@@ -97,7 +101,7 @@ fn push_instances(page: &mut Page, rows: &[Last<'_>], given: &[Given<'_>]) -> Re
 
 // Appends an instance by the record that gives it.
 fn push_instance(
-    page: &mut Page,
+    page: &mut InstancePage,
     rows: &[Last<'_>],
     given: &Given<'_>,
     name: &Name,
@@ -113,7 +117,7 @@ fn push_instance(
 }
 
 // Appends the name of a type, unless the instance before is of that type.
-fn push_type(page: &mut Page, before: &[u8], owner: &Name) -> Result<(), Want>
+fn push_type(page: &mut InstancePage, before: &[u8], owner: &Name) -> Result<(), Want>
     ensures { OnOk result (Writes page.old (type_pieces before.now owner.now) page.new) }
 {
     if folded_cmp(before, owner.wire()).is_eq() {

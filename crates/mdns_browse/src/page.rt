@@ -17,7 +17,7 @@ use std::alloc::Global;
 
 /// A page of service instances, as of a moment, with a column of this width for what is left.
 #[derive(Drop)]
-pub(crate) struct Page {
+pub(crate) struct InstancePage {
     pub(crate) text: String,
     now: Moment,
     width: usize,
@@ -25,14 +25,14 @@ pub(crate) struct Page {
     words: String,
 }
 
-impl Page {
+impl InstancePage {
     /// Makes an empty page.
-    pub(crate) fn new(alloc: Global, now: Moment, width: usize) -> Page
+    pub(crate) fn new(alloc: Global, now: Moment, width: usize) -> InstancePage
         ensures text { string_bytes result.text ≡ [] }
         ensures now { result.now ≡ now }
         ensures width { result.width ≡ width }
     {
-        Page {
+        InstancePage {
             text: String::new(alloc),
             now,
             width,
@@ -59,7 +59,7 @@ fn push_line(to: &mut String, width: usize, words: &str) -> Result<(), Want>
     Ok(())
 }
 
-impl Sheet for Page {
+impl Sheet for InstancePage {
     ghost use Rattle.mdns_browse.specs.Page.{Writes};
     ghost use Rattle.mdns_browse.specs.laws.Page.{writes_page-laws};
 

@@ -18,12 +18,12 @@ use std::marker::Model;
 /// The flush moments of record sets, in key order. As one set after another is asked for, the sets before it are
 /// dropped.
 #[derive(Drop)]
-pub(crate) struct FlushWalk<'a> {
+pub(crate) struct FlushesWalk<'a> {
     next: Option<(&'a SetKey, &'a FlushMoments)>,
     rest: Walk<'a, SetKey, FlushMoments>,
 }
 
-impl<'a> Model for FlushWalk<'a> {
+impl<'a> Model for FlushesWalk<'a> {
     ghost use Rattle.std.specs.Prelude.{List, ℕ};
     ghost use Rattle.std.specs.List.Sorted.{IsStrictlySortedBy};
     ghost use Rattle.std.specs.Map.{keys_of};
@@ -38,13 +38,13 @@ impl<'a> Model for FlushWalk<'a> {
     ghost invariant = { λ a. IsStrictlySortedBy set_key_cmp (keys_of (with_next a.next a.rest)) };
 }
 
-impl<'a> FlushWalk<'a> {
-    pub(crate) fn new(flushes: &'a JoinMap<SetKey, FlushMoments>) -> FlushWalk<'a>
+impl<'a> FlushesWalk<'a> {
+    pub(crate) fn new(flushes: &'a JoinMap<SetKey, FlushMoments>) -> FlushesWalk<'a>
         ensures { result ≡ flushes.now }
     {
         let mut rest = flushes.walk();
         let next = rest.next();
-        FlushWalk { next, rest }
+        FlushesWalk { next, rest }
     }
 
     /// Returns the flush moments of a record set, and drops those of the sets before it.

@@ -14,7 +14,7 @@ ghost use Rattle.mdns_lives.specs.Walk.{walked};
 
 use crate::account::Account;
 use crate::flush_moments::FlushMoments;
-use crate::flush_walk::FlushWalk;
+use crate::flush_walk::FlushesWalk;
 use crate::history::History;
 use crate::laws::lives_by_history;
 use crate::life::Life;
@@ -63,7 +63,7 @@ impl Lives {
         lives_by_history();
         LivesWalk {
             entries: self.records.walk(),
-            flushes: FlushWalk::new(&self.flushes),
+            flushes: FlushesWalk::new(&self.flushes),
             alloc: self.alloc,
         }
     }
@@ -75,7 +75,7 @@ pub struct LivesWalk<'a> {
     entries: Walk<'a, Key, Account>,
 
     // The flush moments of the record sets of these entries.
-    flushes: FlushWalk<'a>,
+    flushes: FlushesWalk<'a>,
     alloc: Global,
 }
 

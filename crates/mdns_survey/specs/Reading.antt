@@ -7,8 +7,8 @@ use Rattle.mdns_capture.specs.Savefile.{header_fault, PacketAt, BeginsWith, Capt
 use Rattle.mdns_capture.specs.Capture.{Standing, Leads}
 use Rattle.mdns_capture.specs.Cut.{offset_after}
 use Rattle.mdns_survey.specs.declared.listen.ListenFault.TheVariants.{Begin}
-use Rattle.mdns_survey.specs.declared.reading.ReadFault.{ReadFault}
-use Rattle.mdns_survey.specs.declared.reading.ReadFault.TheVariants.{Listen, Consumer}
+use Rattle.mdns_survey.specs.declared.reading.ReadingFault.{ReadingFault}
+use Rattle.mdns_survey.specs.declared.reading.ReadingFault.TheVariants.{Listen, Consumer}
 use Rattle.mdns_survey.specs.declared.reading.Reading.{Reading}
 use Rattle.mdns_survey.specs.declared.reading.Span.{Span}
 use Rattle.mdns_survey.specs.declared.skips.Skips.{Skips}
@@ -75,19 +75,19 @@ pub record BreaksOff {C : Type 0} (Took Broke : C → C → List PacketAt → Li
 
 -- what a consumer took before a fault: nothing where no capture begins
 abbrev pub LeavesConsumer : {C F : Type 0} → (C → C → List PacketAt → List Outcome → Type 0)
-    → (C → C → List PacketAt → List Outcome → F → Type 0) → Option (List ℕ) → C → C → ReadFault F → Type 0
+    → (C → C → List PacketAt → List Outcome → F → Type 0) → Option (List ℕ) → C → C → ReadingFault F → Type 0
 LeavesConsumer Took Broke left old new (Listen (Begin fault)) = new ≡ old
 LeavesConsumer Took Broke left old new (Listen fault) = BreaksOff Took Took left old new
 LeavesConsumer Took Broke left old new (Consumer fault) =
     BreaksOff Took (λ begun now packets outcomes. Broke begun now packets outcomes fault) left old new
 
 -- why the reading broke off, over a reader with these bytes left, where they are known
-abbrev pub HasReadFault : {F : Type 0} → Option (List ℕ) → ReadFault F → Type 0
+abbrev pub HasReadFault : {F : Type 0} → Option (List ℕ) → ReadingFault F → Type 0
 HasReadFault left (Listen fault) = HasListenFault fault left
 HasReadFault left (Consumer fault) = IfSome left (λ bytes. header_fault bytes ≡ None)
 
 -- the fault isn't a read that failed
-abbrev pub IsNoCaptureRead : {F : Type 0} → ReadFault F → Type 0
+abbrev pub IsNoCaptureRead : {F : Type 0} → ReadingFault F → Type 0
 IsNoCaptureRead (Listen fault) = IsNoReadFault fault
 IsNoCaptureRead (Consumer fault) = Unit {0}
 

@@ -7,7 +7,7 @@ ghost use Rattle.mdns_survey.specs.Captures.{Outcome};
 ghost use Rattle.mdns_survey.specs.Listen.{Listens, ListensTo, HearsCapture, HasListenFault, IsNoReadFault};
 
 use crate::hearer::Hearer;
-use crate::reading::{ReadFault, Reading, read_capture};
+use crate::reading::{Reading, ReadingFault, read_capture};
 use crate::summary::Tally;
 use mdns_cache::{Cache, Listening};
 use mdns_capture::{BeginFault, Ending, Source};
@@ -79,8 +79,8 @@ pub(crate) fn hear_capture<R: Source + Drop, H: Hearer>(
 {
     match read_capture(alloc, reader, hearer) {
         Ok(reading) => Ok(reading),
-        Err(ReadFault::Listen(fault)) => Err(fault),
-        Err(ReadFault::Consumer(Want)) => Err(ListenFault::Memory),
+        Err(ReadingFault::Listen(fault)) => Err(fault),
+        Err(ReadingFault::Consumer(Want)) => Err(ListenFault::Memory),
     }
 }
 

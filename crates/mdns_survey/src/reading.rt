@@ -72,7 +72,7 @@ pub trait Consumer {
 
 /// Why the reading of a capture broke off.
 #[derive(Drop)]
-pub enum ReadFault<F: Drop> {
+pub enum ReadingFault<F: Drop> {
     /// The capture can't be listened to.
     Listen(ListenFault),
     /// The consumer failed.
@@ -136,7 +136,7 @@ pub fn read_capture<R: Source + Drop, C: Consumer>(
     alloc: Global,
     reader: R,
     consumer: &mut C,
-) -> Result<Reading, ReadFault<C::Fault>>
+) -> Result<Reading, ReadingFault<C::Fault>>
     ensures read { IfOk result (ReadsCapture C.Took (R.remaining reader) consumer.old consumer.new) }
     ensures states { IfOk result (λ reading. IfSome (R.remaining reader) (λ bytes.
         reading.snap_length ≡ snap_length bytes)) }
@@ -148,7 +148,7 @@ pub fn read_capture<R: Source + Drop, C: Consumer>(
 {
     let mut capture = match Capture::begin(alloc, reader) {
         Ok(capture) => capture,
-        Err(fault) => return Err(ReadFault::Listen(ListenFault::Begin(fault))),
+        Err(fault) => return Err(ReadingFault::Listen(ListenFault::Begin(fault))),
     };
     let snap_length = capture.snap_length();
     let mut messages = MessageReader::new(alloc);
@@ -160,7 +160,7 @@ pub fn read_capture<R: Source + Drop, C: Consumer>(
         let packet = match capture.next() {
             Ok(Some(packet)) => packet,
             Ok(None) => break,
-            Err(_) => return Err(ReadFault::Listen(ListenFault::Read)),
+            Err(_) => return Err(ReadingFault::Listen(ListenFault::Read)),
         };
         span = Span::both(span, Some(Span::at(packet.moment)));
         match take_packet(
@@ -172,8 +172,8 @@ pub fn read_capture<R: Source + Drop, C: Consumer>(
             &mut skips,
         ) {
             Ok(Ok(())) => {}
-            Ok(Err(fault)) => return Err(ReadFault::Consumer(fault)),
-            Err(Want) => return Err(ReadFault::Listen(ListenFault::Memory)),
+            Ok(Err(fault)) => return Err(ReadingFault::Consumer(fault)),
+            Err(Want) => return Err(ReadingFault::Listen(ListenFault::Memory)),
         }
     }
     let ending = capture.ending();

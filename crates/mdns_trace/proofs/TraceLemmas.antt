@@ -10,8 +10,8 @@ use Rattle.mdns_capture.specs.Stream.{OneMoreFailed}
 use Rattle.mdns_capture.specs.declared.stream.Sink.{Ghosts as SinkGhosts}
 use Rattle.mdns_capture.specs.declared.stream.Source.{Ghosts as SourceGhosts}
 use Rattle.mdns_survey.specs.declared.listen.ListenFault.TheVariants.{Begin, Read, Memory}
-use Rattle.mdns_survey.specs.declared.reading.ReadFault.{ReadFault}
-use Rattle.mdns_survey.specs.declared.reading.ReadFault.TheVariants.{Listen as OfListen, Consumer as OfConsumer}
+use Rattle.mdns_survey.specs.declared.reading.ReadingFault.{ReadingFault}
+use Rattle.mdns_survey.specs.declared.reading.ReadingFault.TheVariants.{Listen as OfListen, Consumer as OfConsumer}
 use Rattle.mdns_survey.specs.declared.reading.Reading.{Reading}
 use Rattle.mdns_survey.specs.Captures.{Outcome, AllCome}
 use Rattle.mdns_capture.specs.Output.{AppendsPrefix}
@@ -95,7 +95,7 @@ traces-front {trace} {about} {file} {packets} {outcomes} (Some bytes) rest come 
     record { packets = packets; outcomes = outcomes; begins = begins; come = come; rest = rest; prints = prints }
 
 pub lines-stop : {R W : Type 0} (source : SourceGhosts R) (sink : SinkGhosts W) (reader : R) (old new : Lines W)
-    (fault : ReadFault TraceFault) → string_bytes old.text ≡ [] → HasReadFault (source.remaining reader) fault
+    (fault : ReadingFault TraceFault) → string_bytes old.text ≡ [] → HasReadFault (source.remaining reader) fault
     → (IsTrue (source.steady reader) → IsNoCaptureRead fault)
     → LeavesConsumer (LinesTook sink) (LinesBroke sink) (source.remaining reader) old new fault
     → (new.out.ghost_name ≡ old.out.ghost_name) × Stops source sink

@@ -15,8 +15,8 @@ use Rattle.mdns_survey.specs.declared.listen.ListenFault.TheVariants.{Begin, Mem
 use Rattle.mdns_survey.specs.declared.outcome.Found.{Found}
 use Rattle.mdns_survey.specs.declared.outcome.Found.TheVariants as found
 use Rattle.mdns_survey.specs.declared.outcome.Why.{Why}
-use Rattle.mdns_survey.specs.declared.reading.ReadFault.{ReadFault}
-use Rattle.mdns_survey.specs.declared.reading.ReadFault.TheVariants as reading
+use Rattle.mdns_survey.specs.declared.reading.ReadingFault.{ReadingFault}
+use Rattle.mdns_survey.specs.declared.reading.ReadingFault.TheVariants as reading
 use Rattle.mdns_survey.specs.declared.summary.Summary.{Summary}
 use Rattle.mdns_survey.specs.Captures.{Outcome, skipped, refused, heard, AllCome, CaptureTells, Counts}
 use Rattle.mdns_survey.specs.Reading.{CaptureBegins}
@@ -136,6 +136,6 @@ pub record LinesBroke {W : Type 0} (sink : Ghosts W) (begun now : Lines W) (pack
   pub fails : FailsLines sink begun.out.now now.out.now fault
 
 -- the fault of a trace for that of its reading
-abbrev pub trace_fault : ReadFault TraceFault → TraceFault
+abbrev pub trace_fault : ReadingFault TraceFault → TraceFault
 trace_fault (reading.Listen fault) = Listen fault
 trace_fault (reading.Consumer fault) = fault

@@ -21,7 +21,7 @@ use mdns_capture::{Broken, Moment, Packet, Sink, Source, write_whole};
 use mdns_message::Want;
 use mdns_survey::listen::ListenFault;
 use mdns_survey::outcome::Found;
-use mdns_survey::reading::{Consumer, ReadFault, Reading, Span, read_capture};
+use mdns_survey::reading::{Consumer, Reading, ReadingFault, Span, read_capture};
 use mdns_survey::summary::Summary;
 use std::alloc::Global;
 
@@ -92,8 +92,8 @@ pub(crate) fn read_spanned<R: Source + Drop>(
             reading,
             hearings: hearings.span,
         }),
-        Err(ReadFault::Listen(fault)) => Err(fault),
-        Err(ReadFault::Consumer(Want)) => Err(ListenFault::Memory),
+        Err(ReadingFault::Listen(fault)) => Err(fault),
+        Err(ReadingFault::Consumer(Want)) => Err(ListenFault::Memory),
     }
 }
 

@@ -24,7 +24,7 @@ use mdns_message::Want;
 use mdns_message::text_data::push_string;
 use mdns_survey::listen::ListenFault;
 use mdns_survey::outcome::Found;
-use mdns_survey::reading::{Consumer, ReadFault, read_capture};
+use mdns_survey::reading::{Consumer, ReadingFault, read_capture};
 use mdns_survey::summary::Summary;
 use std::alloc::Global;
 use thiserror::Error;
@@ -138,12 +138,12 @@ fn print_lines<R: Source + Drop, W: Sink>(
 }
 
 // Returns the fault of a trace for the fault of its reading.
-fn trace_fault(fault: ReadFault<TraceFault>) -> TraceFault
+fn trace_fault(fault: ReadingFault<TraceFault>) -> TraceFault
     ensures { result ≡ trace_fault fault }
 {
     match fault {
-        ReadFault::Listen(fault) => TraceFault::Listen(fault),
-        ReadFault::Consumer(fault) => fault,
+        ReadingFault::Listen(fault) => TraceFault::Listen(fault),
+        ReadingFault::Consumer(fault) => fault,
     }
 }
 

@@ -3,7 +3,7 @@ use Rattle.std.proofs.lemmas.Result.{on_ok_weaker}
 use Rattle.std.specs.String.{string_bytes}
 use Rattle.mdns_browse.specs.Shown.{shown_strings, spaced_wide}
 use Rattle.mdns_browse.proofs.PageLemmas.{text_line-some}
-use Rattle.mdns_browse.proofs.page.PageSheet.instance_text.Goals as goal
+use Rattle.mdns_browse.proofs.page.InstancePageSheet.instance_text.Goals as goal
 
 pub returns : goal.returns
 returns c =

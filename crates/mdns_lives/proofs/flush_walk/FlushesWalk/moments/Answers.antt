@@ -4,7 +4,7 @@ use Rattle.mdns_message.specs.Resource.{set_key_cmp}
 use Rattle.mdns_join.specs.Kept.{IsAscending}
 use Rattle.mdns_cache.specs.Rows.{with_next}
 use Rattle.mdns_cache.proofs.FlushWalkLemmas.{with_next-some, with_next-taken, none_left, none_of_set, next_of_set, next_dropped}
-use Rattle.mdns_lives.proofs.flush_walk.FlushWalk.moments.Goals as goal
+use Rattle.mdns_lives.proofs.flush_walk.FlushesWalk.moments.Goals as goal
 
 pub loop-self-init : goal.loop-self-init
 loop-self-init c = record { later = λ later n. ap (value_at set_key_cmp later) c.self.view_is; sorted = c.self.invariant }
