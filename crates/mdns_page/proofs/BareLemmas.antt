@@ -13,7 +13,8 @@ use Rattle.mdns_join.specs.declared.latest.Latest.{Latest}
 use Rattle.mdns_browse.specs.Services.{GivenRow, InstanceRow, instance_row_in}
 use Rattle.mdns_browse.specs.Shown.{shown_string, shown_strings}
 use Rattle.mdns_page.specs.declared.axis.Axis.{Axis}
-use Rattle.mdns_page.specs.Bare.{BareLive, BareRow, BareServer, bare_address, bare_capture, bare_end, bare_group, bare_groups, bare_instances, bare_live}
+use Rattle.mdns_page.specs.Bare.{BareLive, BareRow, BareServer, bare_address, bare_capture, bare_end}
+use Rattle.mdns_page.specs.Bare.{bare_group, bare_groups, bare_instances, bare_live}
 use Rattle.mdns_page.specs.Bare.{bare_row, bare_server, bare_text, is_some_filled, unsaid}
 use Rattle.mdns_page.specs.Captures.{Facts, are_many, capture_text, captures_from, captures_group, captures_text}
 use Rattle.mdns_page.specs.Group.{grouped}
@@ -64,7 +65,8 @@ captures-same axis captures files same =
 
 -- ---- the lead
 
-live_line-same : (axis : Axis) (rows others : List Row) → map bare_row rows ≡ map bare_row others → live_line axis rows ≡ live_line axis others
+live_line-same : (axis : Axis) (rows others : List Row) → map bare_row rows ≡ map bare_row others
+    → live_line axis rows ≡ live_line axis others
 unfolding live_line
 live_line-same axis rows others same =
     let count = λ (is : List Life → Bool).
@@ -273,7 +275,8 @@ live_row-same axis row other same =
     ) refl
 
 live_group-same : (axis : Axis) (opened : Bool) (lasts others : List Latest) (given more : List GivenRow)
-    → bare_group lasts given ≡ bare_group others more → live_group unsaid axis opened lasts given ≡ live_group unsaid axis opened others more
+    → bare_group lasts given ≡ bare_group others more
+    → live_group unsaid axis opened lasts given ≡ live_group unsaid axis opened others more
 unfolding live_group
 live_group-same axis opened lasts others given more same =
     rw (flat_map-same bare_live (live_row unsaid axis) (live_row-same axis) (filter_map (instance_row_in lasts) given)
@@ -304,7 +307,8 @@ pub page-same : (a b : Shown) (opened : Bool) (lasts others : List Latest) (live
     → length a.about ≡ length b.about → map bare_capture a.captures ≡ map bare_capture b.captures
     → bare_groups a.rows ≡ bare_groups b.rows → map bare_row a.addresses ≡ map bare_row b.addresses
     → map bare_row a.names ≡ map bare_row b.names → bare_instances lasts live ≡ bare_instances others now → page unsaid a ≡ page unsaid b
-page-same a b opened lasts others live now same_axis same_lost same_nothing written written_too same_about same_captures same_rows same_addresses
+page-same a b opened lasts others live now same_axis same_lost same_nothing
+    written written_too same_about same_captures same_rows same_addresses
     same_names same_live =
     let lanes = lanes_for (is_large (length a.rows)) (length a.captures) in
     let rows = rows-same a.rows b.rows same_rows in

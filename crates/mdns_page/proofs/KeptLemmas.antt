@@ -48,7 +48,8 @@ module _ {X : Type 0} (keep : X → Bool) where
 
 module _ {X Y : Type 0} (keep : Y → Bool) (f : X → Y) where
   -- which is kept, or isn't
-  pub filtered-taken : (x : X) (old new : List X) → true ≡ keep (f x) → new ≡ old ++ x ∷ [] → map f new ≡ map f old ++ filter keep (f x ∷ [])
+  pub filtered-taken : (x : X) (old new : List X) → true ≡ keep (f x) → new ≡ old ++ x ∷ []
+      → map f new ≡ map f old ++ filter keep (f x ∷ [])
   filtered-taken x old new is pushed =
       ap (map f) pushed ∙ map-append f old (x ∷ []) ∙ ap (λ kept. map f old ++ cond kept (f x ∷ []) []) is
 

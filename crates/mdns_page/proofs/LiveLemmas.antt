@@ -159,7 +159,8 @@ begin_by_parts old first time last a b new one two three = rw (three, two, one) 
 pub live_by_parts : (axis : Axis) (opened : Bool) (lasts : List Latest) (given : List GivenRow) (old begun new : List ℕ)
     (first last : LiveSheet)
     → begun ≡ old ++ live_begin axis → string_bytes first.text ≡ begun → first.axis ≡ axis
-    → Adds first (flat_map (live_group isolated first.axis opened lasts) (grouped type_of given)) last → new ≡ string_bytes last.text ++ codes "</div>\n"
+    → Adds first (flat_map (live_group isolated first.axis opened lasts) (grouped type_of given)) last
+    → new ≡ string_bytes last.text ++ codes "</div>\n"
     → new ≡ old ++ live_text isolated axis opened lasts given
 live_by_parts axis opened lasts given old begun new first last begin moved same groups end =
     end

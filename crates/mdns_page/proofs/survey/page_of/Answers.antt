@@ -35,7 +35,8 @@ returns c = λ each heard chronicled all latest.
     let found : map last_lent c.in_ok-heard.heard.items ≡ looked_up about walk =
     c.in_ok-heard.ensures ∙ ap (looked_up about) (c.walk.ensures.left ∙ sym c.walk-2.ensures.left) in
     let looked : map last_lent c.as_slice.result.now ≡ looked_up about walk = ap (map last_lent) c.as_slice.ensures.value ∙ found in
-    let looked_live : map last_lent c.as_slice-2.result.now ≡ looked_up about walk = ap (map last_lent) c.as_slice-2.ensures.value ∙ found in
+    let looked_live : map last_lent c.as_slice-2.result.now ≡ looked_up about walk =
+    ap (map last_lent) c.as_slice-2.ensures.value ∙ found in
     let Sorted = λ (ls : List Latest). IsStrictlySortedBy key_cmp (map record_of ls) in
     let sorted = looked_up-sorted heard walk lives about in
     let records = map row_lent c.as_slice-records.result.now in
@@ -45,7 +46,8 @@ returns c = λ each heard chronicled all latest.
     let in_order = subst (λ (rs : List (Latest × List Life)). Sorted (lasts_of rs)) (sym kept)
     (some-sorted heard walk lives (λ (row : Latest × List Life). is_kept about (looked_up about walk) row.0)) in
     let captures = subst (λ (captures : List Accounts). AreEach Chronicles captures each) (sym c.as_slice-each.ensures.value) chronicled in
-    let count : c.len.result ≡ length rows = c.len.ensures ∙ c.in_ok-rows.rows.ok.0 ∙ sym (length-map c.in_ok-rows.rows.items counted_lent) in
+    let count : c.len.result ≡ length rows =
+    c.len.ensures ∙ c.in_ok-rows.rows.ok.0 ∙ sym (length-map c.in_ok-rows.rows.items counted_lent) in
     let few : map row_lent c.unless_large-few.result.now ≡ (if is_large (length rows) then [] else records) =
     c.unless_large-few.ensures
     ∙ ap (λ (large : Bool). if large then [] else records) (c.is_large.ensures ∙ ap is_large count) in
