@@ -27,6 +27,7 @@ OTHERS = {
     ("listening.rt", "let Ok(()) = reader.read(newest, message.bytes()) else {"): "the message was read before",
     ("program.rt", "if readers.push(reader).is_err() {"): "only `push` may fail",
     ("recording.rt", "Err(_) => Err(Want),"): "the message was read before",
+    ("verdicts.rt", "| FilesFault::Memory => SurveyFault::Memory,"): "a file is judged whatever its fault, so `Listen` is `Memory`",
     ("program.rt", "if readers .push(ReadAhead::new(rt.alloc(), Through(file))) .is_err() {"): "only `push` may fail",
 }
 
