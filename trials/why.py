@@ -1,7 +1,7 @@
 """Runs of mdnswhy: over small captures, whose lines are written by hand, and over the example captures, where its lines
 must agree with what mdnsmerge says of the same files.
 
-What must come of the small ones is known from the man page and docs/definitions.md; `why.rows` has more of them."""
+What must come of the small ones is known from the man page; `why.rows` has more of them."""
 
 import ipaddress
 import re
