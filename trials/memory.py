@@ -9,7 +9,7 @@ from itertools import islice
 from typing import NamedTuple
 
 from captures import frame_of, labels, lay_out_small, write_capture
-from floods import flushes, hearings, late_flushes, records
+from floods import flushes, hearings, instances, late_flushes, records
 from link import MICROSECOND, START, Link
 from measure import become_reaper, cost_of
 from page_packets import LOCAL, at, full
@@ -51,6 +51,10 @@ FLOOD, OF_FLOOD = 400_000, 20.0
 # hearing and 12 a flush, and what any run takes.
 OF_LIVES = 32.0
 
+# Messages of a thousand PTR records of one type each, and the mebibytes that what changed of them may take: 300,000 lives, none
+# of which waits for another.
+OF_ONE_TYPE, OF_TYPE = 300, 115.0
+
 # Instances, each heard in every so manieth file; the mebibytes that a page may take for more such files, and in all.
 SCATTERED, OF_FILES, OF_PAGE = 400, 4.0, 32.0
 
@@ -87,6 +91,8 @@ def pairs():
     yield Pair(f"{FLOOD} hearings of one record within a second", "lives", ["heard.pcap"], ["heard-begin.pcap"])
     yield Pair(f"{PACKETS} packets of few records by their lives", "lives", ["few.pcap"], ["few-begin.pcap"],
                growth=OF_LIVES, ceiling=OF_LIVES)
+    yield Pair(f"{OF_ONE_TYPE} messages of instances of one type", "changes", ["instances.pcap"], ["one.pcap"], growth=OF_TYPE,
+               ceiling=OF_TYPE)
     yield Pair(f"{some} files", "records", ["one.pcap"] * some, ["one.pcap"])
     yield Pair(f"{some} files with one of {SCATTERED} instances each", "page", scattered(some), scattered(SCATTERED),
                growth=OF_FILES, ceiling=OF_PAGE)
@@ -120,6 +126,7 @@ def lay_out(folder):
     write_capture(folder / "new.pcap", "little-micro", records(NEW))
     write_capture(folder / "again.pcap", "little-micro", unique(twice(records(AGAIN), 2 * SECOND)))
     write_long(folder, "repeated", twice(long_messages(REPEATED, REPEATED_SIZE), 0))
+    write_capture(folder / "instances.pcap", "little-micro", instances(1, OF_ONE_TYPE, "ascending"))
     for number, name in enumerate(scattered(SCATTERED)):
         instance = full(at(number), b"instance-%d" % number, host=(b"host-%d" % number, LOCAL))
         write_capture(folder / name, "little-micro", [instance])
