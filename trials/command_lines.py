@@ -4,6 +4,7 @@ What is refused is said in the words of clap, version 4: they are written here f
 names in them. What is asked for shows in the answer over captures that are made for it, each cut short, so that each is
 named, in the order of the words."""
 
+import re
 from calendar import timegm
 from pathlib import Path
 from typing import NamedTuple, Optional
@@ -46,9 +47,9 @@ def listed_flags(flags):
 
 
 def newest_version():
-    """The number at the head of the changelog's newest entry."""
-    head = next(line for line in (HERE.parent / "CHANGELOG.md").read_text().splitlines() if line.startswith("## "))
-    return head.split()[1]
+    """The number in the head of mdnsmerge's man page."""
+    head = (HERE.parent / "man/mdnsmerge.1").read_text().splitlines()[0]
+    return re.search(r'"mdnsmerge (\S+)"', head)[1]
 
 
 def version_of(program):
@@ -57,11 +58,11 @@ def version_of(program):
 
 
 def outdated_pages():
-    """The man pages that aren't of that version, or not of one date."""
+    """The man pages that aren't of the version and the date of mdnsmerge's."""
     heads = {path.name: path.read_text().splitlines()[0] for path in sorted((HERE.parent / "man").glob("*.1"))}
     pages = {name: head.split(maxsplit=3)[3] for name, head in heads.items()}
     newest = pages["mdnsmerge.1"]
-    return [name for name, head in pages.items() if head != newest or f'"mdnsmerge {newest_version()}"' not in head]
+    return [name for name, head in pages.items() if head != newest]
 
 
 def misused(words, fault, usage="", tip="", program="mdnsmerge", **how):
@@ -424,7 +425,7 @@ def try_command_lines(program, folder):
         print(f"mdnsmerge {words}: the page is no screen, or lacks what all pages say")
     for name in outdated_pages():
         unfit.append(name)
-        print(f"man/{name} is of another version than the changelog, or of another date than the other page")
+        print(f"man/{name} is of another version or date than mdnsmerge's page")
     print(f"{len(cases)} command lines that are refused or ask for help or the version, {len(TOLD)} that ask for more, "
           f"{failed + len(unfit)} failed")
     return failed + len(unfit)
