@@ -112,6 +112,7 @@ const ASKED: Line<Asks> = Line {
 };
 
 /// Reads the words of a command line on which a report takes `--at` alone. The first is the program's name.
+/// No program calls it: they call `asked`.
 ///
 /// It is `records`, `types` or `instances`, with `--at SECONDS` or without it, or `check`, and then one or more
 /// files. `SECONDS` are whole seconds since 1970, at most 4,294,967,295.

@@ -27,6 +27,7 @@ pub fn life(ttl: u32) -> u64
 pub fn end_of(flushes: &[Moment], heard: Moment, ttl: u32) -> u64
     requires { IsAscending (nanos_of flushes.now) }
     ensures value { result ≡ end_of (nanos_of flushes.now) heard.nanos (heard.nanos + life_of ttl) }
+    // The greatest moment, 4294967295.999999999, and the longest life, 4,294,967,295 seconds.
     ensures bound { result ≤ 8589934590999999999 }
 {
     let by_life = heard.nanos() + life(ttl);

@@ -8,13 +8,13 @@ use std::hash::{FoldHasher, Hasher};
 const STEP: usize = 32;
 
 /// Odd numbers in whose bits no pattern is known: the first digits of the square roots of 2, 3, 5 and 7.
-const FIRST: u64 = 0x6a09_e667_f3bc_c909;
+const ROOT_OF_2: u64 = 0x6a09_e667_f3bc_c909;
 
-const SECOND: u64 = 0xbb67_ae85_84ca_a73b;
+const ROOT_OF_3: u64 = 0xbb67_ae85_84ca_a73b;
 
-const THIRD: u64 = 0x3c6e_f372_fe94_f82b;
+const ROOT_OF_5: u64 = 0x3c6e_f372_fe94_f82b;
 
-const FOURTH: u64 = 0xa54f_f53a_5f1d_36f1;
+const ROOT_OF_7: u64 = 0xa54f_f53a_5f1d_36f1;
 
 /// Hashes a message. Only speed depends on the hash.
 ///
@@ -25,17 +25,17 @@ pub(crate) fn message_hash(message: &[u8]) -> u64 {
         return short_hash(message);
     }
     let last = message.len() - STEP;
-    let mut one = FIRST ^ message.len() as u64;
-    let mut other = SECOND;
+    let mut one = ROOT_OF_2 ^ message.len() as u64;
+    let mut other = ROOT_OF_3;
     let mut at = 0;
     while at < last {
-        one = mixed(message, at, one, THIRD);
-        other = mixed(message, at + 16, other, FOURTH);
+        one = mixed(message, at, one, ROOT_OF_5);
+        other = mixed(message, at + 16, other, ROOT_OF_7);
         at += STEP;
     }
-    one = mixed(message, last, one, THIRD);
-    other = mixed(message, last + 16, other, FOURTH);
-    folded(one ^ THIRD, other ^ FOURTH)
+    one = mixed(message, last, one, ROOT_OF_5);
+    other = mixed(message, last + 16, other, ROOT_OF_7);
+    folded(one ^ ROOT_OF_5, other ^ ROOT_OF_7)
 }
 
 // Hashes a message that is shorter than a step.

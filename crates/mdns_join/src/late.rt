@@ -16,7 +16,7 @@ use std::marker::Model;
 
 /// Among how many moments one more is put at once. They fill eight cache lines of 64 bytes, and moving them takes no
 /// longer than looking up their record set.
-const FEW: usize = 64;
+const AT_ONCE: usize = 64;
 
 /// Flush moments of one record set. The value is the moments that `Moments` keeps of them. Adding n moments costs about
 /// n log n in all, in whatever order they come.
@@ -93,7 +93,7 @@ fn may_wait(kept: &Moments, late: &[Moment], more: usize) -> bool
     ensures { OnTrue result (length late.now + more ≤ length kept.now) }
 {
     let kept = kept.all().len();
-    kept > FEW && late.len() <= kept && more <= kept - late.len()
+    kept > AT_ONCE && late.len() <= kept && more <= kept - late.len()
 }
 
 // Joins the moments that wait into those that are kept. After `Want` both are as before.

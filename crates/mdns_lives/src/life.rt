@@ -14,7 +14,7 @@ pub struct Heard {
 /// Why a life ends.
 #[derive(Clone, Copy)]
 pub enum Reason {
-    /// The TTL of its last hearing ran out.
+    /// The TTL of its last hearing ran out. Texts say `expired`.
     RanOut,
     /// Its last hearing was a goodbye, one second before (RFC 6762, section 10.1).
     Goodbye,

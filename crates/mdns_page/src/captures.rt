@@ -24,8 +24,8 @@ use mdns_survey::{Summary, Tally};
 use people_text::moments::push_millis;
 use people_text::shown::push_shown;
 
-/// The most captures that have circled digits for their numbers.
-pub(crate) const CIRCLED: usize = 4;
+/// The most captures that have circled digits for their numbers, and ticks for what they heard.
+pub(crate) const FEW_CAPTURES: usize = 4;
 
 /// The circled digit one.
 const CIRCLED_ONE: usize = 0x2460;
@@ -110,7 +110,7 @@ fn push_rows(to: &mut String, axis: Axis, captures: &[CaptureFacts<'_>]) -> Resu
     ensures { OnOk result (string_bytes to.new ≡ string_bytes to.old
         ++ captures_from isolated axis (are_many (map facts_lent captures.now)) 0 (map facts_lent captures.now)) }
 {
-    let many = captures.len() > CIRCLED;
+    let many = captures.len() > FEW_CAPTURES;
     for (index, capture) in captures.iter().enumerate() {
         push_row(to, axis, many, index, capture)?;
     }

@@ -14,7 +14,7 @@ ghost use Rattle.mdns_page.specs.Kept.{is_of, lasts_of};
 ghost use Rattle.mdns_page.specs.Servers.{IsServed};
 ghost use Rattle.mdns_page.specs.Timeline.{counted_lent, record_in, seconds_lent};
 
-use crate::captures::CIRCLED;
+use crate::captures::FEW_CAPTURES;
 use crate::kept::{Kind, is_of};
 use crate::servers::servers_of;
 use mdns_lives::{Lives, RecordLives, SecondHeard};
@@ -90,7 +90,7 @@ fn heard_by(
     ensures { IfOk result (λ heard. (each : List (List Hearing)) → AreEach Chronicles captures.now each
         → AreShownBy (nat_lt 4 (length captures.now)) each (key_of resource.now) (map seconds_lent heard.items)) }
 {
-    let many = captures.len() > CIRCLED;
+    let many = captures.len() > FEW_CAPTURES;
     let mut heard = Vec::new(alloc);
     for capture in captures {
         push_shown(&mut heard, many, capture.seconds_heard(resource)?)?;

@@ -6,7 +6,7 @@ ghost use Rattle.mdns_page.specs.Heard.{capture_times, comma_unless, goodbyes, g
 ghost use Rattle.mdns_page.specs.Heard.{times_from, times_text, times_words, together_text};
 ghost use Rattle.mdns_page.specs.Timeline.{seconds_lent};
 
-use crate::captures::{CIRCLED, push_number};
+use crate::captures::{FEW_CAPTURES, push_number};
 use crate::counts::push_commas;
 use crate::lanes::is_goodbye;
 use mdns_lives::SecondHeard;
@@ -37,7 +37,7 @@ fn push_times_words(
     ensures { OnOk result (string_bytes to.new
         ≡ string_bytes to.old ++ times_words captures (map seconds_lent heard.now)) }
 {
-    if captures > CIRCLED {
+    if captures > FEW_CAPTURES {
         return push_together(to, captures, heard);
     }
     push_each(to, heard)

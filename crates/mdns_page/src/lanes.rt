@@ -9,7 +9,7 @@ ghost use Rattle.mdns_page.specs.Lanes.{lane_top, lanes_for, lanes_from, lanes_n
 ghost use Rattle.mdns_page.specs.Timeline.{seconds_lent};
 
 use crate::axis::Axis;
-use crate::captures::{CIRCLED, CaptureFacts};
+use crate::captures::{FEW_CAPTURES, CaptureFacts};
 use crate::picture::{Mark, Stroke, push_next, push_path_last};
 use mdns_lives::{Heard, SecondHeard};
 use mdns_message::Want;
@@ -31,7 +31,7 @@ pub(crate) fn lanes_for(large: bool, captures: usize) -> u32
     if large {
         return 0;
     }
-    if captures > CIRCLED {
+    if captures > FEW_CAPTURES {
         return 1;
     }
     captures as u32

@@ -39,7 +39,7 @@ pub struct Heard {
 }
 
 /// Listens to a capture: reads its packets and hears their messages. It stops after 4,294,967,295 packets. On an error
-/// the reader and the hearings are dropped.
+/// the reader and the hearings are dropped. No program calls it: they survey several captures.
 pub fn listen<R: Source + Drop>(alloc: Global, reader: R) -> Result<Heard, ListenFault>
     ensures heard { IfOk result (λ heard. IfSome (R.remaining reader) (λ bytes. Listens bytes heard)) }
     ensures fault { IfErr result (λ fault. HasListenFault fault (R.remaining reader)) }

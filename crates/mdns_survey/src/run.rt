@@ -22,7 +22,8 @@ use std::alloc::Global;
 /// Writes the report or the check of the captures `names`, read by `readers`, to `out`, and error lines to `err`.
 /// Returns the exit status: `WHOLE`, `DAMAGED` or `REFUSED` of `status`.
 ///
-/// After a failed write to `err` nothing more is written there; the status stays the same.
+/// After a failed write to `err` nothing more is written there; the status stays the same. No program calls it: they
+/// call `answer_request` or `answer_with`.
 pub fn answer<R: Source + Drop, O: Sink, E: Sink>(
     alloc: Global,
     what: What,

@@ -47,7 +47,7 @@ pub enum SurveyFault {
 
 /// Listens to each reader in order, into one cache, and writes the report to `out`: as of `at`, or if that is
 /// `None` as of the newest hearing's moment, or of 0 where nothing was heard. Returns one summary for each
-/// reader, in order.
+/// reader, in order. No program calls it: they call `survey_with`.
 ///
 /// # Errors
 ///
