@@ -52,11 +52,7 @@ zero_tells n false e = (λ t. absurd (false≢true t), λ z. absurd (false≢tru
 -- a comparison of two vectors of 16 bytes tells whether they are the same
 vectors_tell : (xs ys : List ℕ) → length xs ≡ 16 → length ys ≡ 16
     → IsTrue (not (not (eqb (mask_of xs ys) 0))) ↔ (xs ≡ ys)
-vectors_tell xs ys l m =
-    let is = zero_tells (mask_of xs ys) (eqb (mask_of xs ys) 0) refl in (
-      λ t. same_bytes xs ys (l ∙ sym m) (sym (differ_mask xs ys l m) ∙ is.0 t),
-      λ e. is.1 (differ_mask xs ys l m ∙ ap (λ zs. mask_l (zip2 differ xs zs)) (sym e) ∙ none_differ xs),
-    )
+vectors_tell xs ys l m = grind (arith, zero_tells, same_bytes, differ_mask, none_differ)
 
 -- two parts of 16 bytes, taken as vectors
 pub words_tell : (xs ys : List ℕ) (at : ℕ) → at + 16 ≤ length xs → at + 16 ≤ length ys
