@@ -1,7 +1,7 @@
 -- Forms, one label at a time.
-use Rattle.std.proofs.Common.{◌≡◌, ℕ, zero, suc, ◌+◌, List, [], ◌∷◌, ◌++◌, length, take, drop, refl, sym, ap, ◌∙◌}
+use Rattle.std.proofs.Common.{◌≡◌, ℕ, zero, suc, ◌+◌, List, [], ◌∷◌, ◌++◌, length, drop, refl, sym, ap, ◌∙◌}
 use Rattle.std.proofs.Common.{subst, arith, length-append, slice_get, Some, ◌-◌}
-use Rattle.std.proofs.Math.Seq.{drop-append_seam, take-append_seam}
+use Rattle.std.proofs.Math.Seq.{drop-append_seam}
 use Rattle.dns_name.specs.Name.{IsForm, IsLabel, AreLabels, wire_of, pieces_of, labels_of}
 
 -- the zero octet alone is a form
@@ -23,10 +23,7 @@ same_back a b x y n e =
 less_of : (label rest : List ℕ) → IsLabel label → (labels : List (List ℕ)) → AreLabels labels
     → length label ∷ (label ++ rest) ≡ wire_of labels → IsForm rest
 less_of label rest is [] sized e = let n : length label ≡ 0 = cc in let some = is.some_bytes in absurd (omega arith)
-less_of label rest is (first ∷ labels) sized e =
-    let n : length label ≡ length first = cc in
-    let tails : label ++ rest ≡ first ++ wire_of labels = cc in
-    record { labels = labels; sized = sized.1; wire = same_back label first rest (wire_of labels) n tails }
+less_of label rest is (first ∷ labels) sized e = grind (arith, same_back)
 
 -- what follows a label of a form is a form
 pub IsForm-less : (label rest : List ℕ) → IsLabel label → IsForm (length label ∷ (label ++ rest)) → IsForm rest
@@ -70,9 +67,7 @@ labels_back (label ∷ labels) sized = labels_of-more label (wire_of labels) siz
 
 -- the labels of a form, which spell it
 pub labels_of-form : (bytes : List ℕ) → IsForm bytes → AreLabels (labels_of bytes) × (wire_of (labels_of bytes) ≡ bytes)
-labels_of-form bytes form =
-    let same = ap labels_of form.wire ∙ labels_back form.labels form.sized in
-    (subst AreLabels (sym same) form.sized, ap wire_of same ∙ sym form.wire)
+labels_of-form bytes form = grind (arith, labels_back)
 
 -- the labels of a form are those that it was made of
 pub labels_of-wire_of : (labels : List (List ℕ)) → AreLabels labels → labels_of (wire_of labels) ≡ labels
@@ -95,6 +90,4 @@ first_label label labels all index at zeroth = ap (slice_get all) zeroth ∙ ap 
 pub later_label : (label : List ℕ) (labels all : List (List ℕ)) (index : ℕ) → all ≡ label ∷ labels → (index ≡ 0 → ⊥)
     → slice_get labels (index - 1) ≡ slice_get all index
 later_label label labels all zero at later = absurd (later refl)
-later_label label labels all (suc index) at later =
-    let back : suc index - 1 ≡ index = omega arith in
-    ap (slice_get labels) back ∙ sym (ap (λ some. slice_get some (suc index)) at)
+later_label label labels all (suc index) at later = grind (arith, slice_get)

@@ -1,6 +1,6 @@
 -- Faults in names: at most one is the first, and none comes where there is a name. Two rows of the
 -- order of checks never meet, since each fixes the octet at the offset.
-use Rattle.std.proofs.Common.{◌≡◌, ℕ, ◌+◌, ◌≤◌, List, ◌++◌, length, sym, ◌∙◌, ap, subst, arith, length-append}
+use Rattle.std.proofs.Common.{◌≡◌, ℕ, ◌+◌, ◌≤◌, List, ◌++◌, length, sym, ◌∙◌, subst, arith, length-append}
 use Rattle.std.specs.Prelude.{slice_range}
 use Rattle.dns_name.specs.NameAt.{NameStands, NameReads, LabelAt}
 use Rattle.dns_name.specs.NameAt.NameStands.{root, label, pointer}
@@ -86,18 +86,12 @@ one_first_fault m {u = u} {g = g} (after_pointer t a l d) (after_pointer o b h c
 -- a name that begins with a label of k octets has two octets more at least
 label_name_length : (m : List ℕ) {p s k : ℕ} {n rest : List ℕ} {q : ℕ} → LabelAt m p k
     → NameStands m (p + 1 + k) s rest q → n ≡ slice_range m p (p + 1 + k) ++ rest → k + 2 ≤ length n
-label_name_length m {p} {s} {k} {n} {rest} a d e =
-    let h : length (slice_range m p (p + 1 + k)) ≡ k + 1 = label_length m p k a in
-    let one : 1 ≤ length rest = name_some m d in
-    rw e (rw length-append (omega arith))
+label_name_length m {p} {s} {k} {n} {rest} a d e = grind (arith, label_length, name_some, length-append)
 
 -- where a name fits after u octets, its rest fits after its first label
 rest_fits : (m : List ℕ) (p k u : ℕ) (n rest : List ℕ) → LabelAt m p k → n ≡ slice_range m p (p + 1 + k) ++ rest
     → u + length n ≤ 256 → u + k + 1 + length rest ≤ 256
-rest_fits m p k u n rest a e h =
-    let part : length (slice_range m p (p + 1 + k)) ≡ k + 1 = label_length m p k a in
-    let whole : length n ≡ length (slice_range m p (p + 1 + k)) + length rest = ap length e ∙ length-append _ _ in
-    omega arith
+rest_fits m p k u n rest a e h = grind (arith, label_length, length-append)
 
 -- a name that fits after u octets meets no fault
 pub no_fault_in_name : (m : List ℕ) {p s : ℕ} {n : List ℕ} {q u : ℕ} {f : NameReadFault} → NameStands m p s n q
@@ -112,10 +106,7 @@ no_fault_in_name m (root a e g) n (after_label j b h c) = absurd (omega arith)
 no_fault_in_name m (root a e g) n (after_pointer o b h c) = absurd (omega arith)
 no_fault_in_name m (label k rest a d e) n (no_octet b i) = absurd (omega arith)
 no_fault_in_name m (label k rest a d e) n (label_cut j b1 b2 b3 b4 b5 i) = absurd (omega arith)
-no_fault_in_name m {p} (label k rest a d e) n (label_long j b h i) =
-    let same : j ≡ k = label_unique m p j k b a in
-    let sum : k + 2 ≤ length _ = label_name_length m a d e in
-    absurd (omega arith)
+no_fault_in_name m {p} (label k rest a d e) n (label_long j b h i) = grind (arith, label_unique, label_name_length)
 no_fault_in_name m (label k rest a d e) n (label_form b1 b2 b3 i) = absurd (omega arith)
 no_fault_in_name m (label k rest a d e) n (pointer_cut b1 b2 b3 i) = absurd (omega arith)
 no_fault_in_name m (label k rest a d e) n (pointer_target o b h i) = absurd (omega arith)

@@ -63,9 +63,7 @@ target_stands : (m : List ℕ) {p t : ℕ} {n : List ℕ} {q : ℕ} → PointerA
     → (after : ℕ) × NameStands m t t n after
 target_stands m b (root a e g) = absurd (omega arith)
 target_stands m b (label k rest a d e) = absurd (omega arith)
-target_stands m {p} {t} {n} b (pointer u after a leads d e) =
-    let P : ℕ → Type 0 = λ x. NameStands m x x n after in
-    (after, subst P (pointer_unique m p u t a b) d)
+target_stands m {p} {t} {n} b (pointer u after a leads d e) = grind (arith, pointer_unique)
 
 -- and the name that is read at the pointer is the one where it leads
 pub name_at_target : (m : List ℕ) (p t : ℕ) (n : List ℕ) (q : ℕ) → PointerLeads m p p t → NameReads m p n q

@@ -94,8 +94,4 @@ outcome_by m (suc fuel) = λ p s u fits enough. outcome_step m fuel p s u fits (
 -- at each offset a name is read, or reading meets a first fault
 pub name_outcome : (m : List ℕ) (p : ℕ) → ((n : List ℕ) × (q : ℕ) × NameReads m p n q) ⊎ ((f : NameReadFault) × NameFails m p f)
 unfolding NameOutcome OutcomesBelow
-name_outcome m p =
-    elim (outcome_by m (p + 257) p p 0 (omega arith) (omega arith)) [
-      | inl read ↦ inl (read.0, read.1, record { stands = read.2; short = let sum : 0 + length read.0 ≤ 256 = read.3 in omega arith })
-      | inr fault ↦ inr fault
-    ]
+name_outcome m p = grind (arith, outcome_by m (p + 257) p p 0 (omega arith) (omega arith))

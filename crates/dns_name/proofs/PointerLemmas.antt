@@ -1,7 +1,5 @@
 -- Where chains of pointers lead, each pointer at the target of the one before.
-use Rattle.std.proofs.Common.{◌≡◌, ℕ, ◌+◌, ◌<◌, ◌≤◌, List, [], ◌∷◌, ◌++◌, length, refl, sym, subst, arith, length-append}
-use Rattle.std.specs.Prelude.{slice_index}
-use borrow.Author.Count.{below_more}
+use Rattle.std.proofs.Common.{◌≡◌, ℕ, ◌+◌, ◌≤◌, List, [], ◌∷◌, ◌++◌, length, refl, subst, arith, length-append}
 use Rattle.std.proofs.Math.ListN.{get_or-append}
 use Rattle.std.proofs.Math.Seq.{get_or-append_seam}
 use Rattle.dns_name.specs.NameAt.{NameStands, PointerLeads}
@@ -42,16 +40,7 @@ ends_along m p t e (a, l) d = record { lead = along t a l d.lead; last = d.last 
 -- one offset more
 pub ends_more : (m ends longer : List ℕ) (e : ℕ) → EndsHold m ends → PointersEnd m (length ends) e
     → longer ≡ ends ++ e ∷ [] → EndsHold m longer
-ends_more m ends longer e hold d same =
-    let P : ℕ → Type 0 = λ p. PointersEnd m p (slice_index longer p) in
-    let Q : ℕ → ℕ → Type 0 = λ p i. PointersEnd m p i in
-    let count : length longer ≡ length ends + 1 = rw (same, length-append) refl in
-    let before : (p : ℕ) → p < length ends → P p = λ p h.
-    let i : slice_index longer p ≡ slice_index ends p = rw (same, get_or-append ends (e ∷ []) 0 p h) refl in
-    subst (Q p) (sym i) (hold.each p h) in
-    let i : slice_index longer (length ends) ≡ e = rw (same, get_or-append_seam ends e [] 0) refl in
-    let last : P (length ends) = subst (Q (length ends)) (sym i) d in
-    record { each = λ p h. below_more P (length ends) before last p (rw count at h) }
+ends_more m ends longer e hold d same = grind (arith, length-append, get_or-append, get_or-append_seam ends e [] 0)
 
 -- `ends` has an entry for each offset before p, and no other
 pub record Remembered (m ends : List ℕ) (p : ℕ) : Type 0 where

@@ -109,9 +109,7 @@ no_part : (m : List ℕ) (a : ℕ) → slice_range m a a ≡ []
 no_part m a = let none : a - a ≡ 0 = omega arith in rw none refl
 
 root_part : (m : List ℕ) (p : ℕ) → RootAt m p → slice_range m p (p + 1) ≡ 0 ∷ []
-root_part m p a =
-    let one : p + 1 - p ≡ 1 = omega arith in
-    rw (one, drop_more m p 0 a.whole, a.octet) refl
+root_part m p a = grind (arith, drop_more)
 
 -- the octets of a name were read up to `offset`, `used` of them: those in `bytes` after `before`, and those of the
 -- run that begins at `start`, which are still to be appended

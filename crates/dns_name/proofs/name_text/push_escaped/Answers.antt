@@ -1,3 +1,4 @@
+use Rattle.std.proofs.Common.{arith}
 use Rattle.std.proofs.Common.{ap}
 use Rattle.std.proofs.lemmas.Result.{err_from_is_err_and}
 use Rattle.dns_name.specs.Name.{bytes_text}
@@ -11,6 +12,4 @@ returns-in_err-push_byte-clause-err c =
     rw p.1 (stops-at _ _ _ _ _ _ _ c.loop-byte.invariant split c.in_err-push_byte.ensures.err)
 
 pub loop-byte-preserved : goal.loop-byte-preserved
-loop-byte-preserved c =
-    let split = ap (bytes_text c.args.dots) (drop_one c.args.bytes.now c.loop-byte.byte-index c.loop-byte-test.true) in
-    Reaches-more _ _ _ _ _ _ _ c.loop-byte.invariant split c.in_ok-push_byte.ensures.ok
+loop-byte-preserved c = grind (arith, drop_one, Reaches-more)

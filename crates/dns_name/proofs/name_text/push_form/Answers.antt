@@ -1,3 +1,5 @@
+use Rattle.std.proofs.lemmas.Grind.{common_steps}
+use Rattle.std.proofs.Common.{arith}
 use Rattle.std.proofs.Common.{◌≡◌, ◌∷◌, [], ◌++◌, ℕ, List, ap, string_bytes, sym, subst}
 use Rattle.std.proofs.lemmas.Result.{err_from_is_err_and, on_ok_weaker, on_err_weaker}
 use Rattle.dns_name.specs.Name.{HasFront, labels_text, name_text}
@@ -17,10 +19,7 @@ push_further-requires c = IsForm-after _ _ _ c.in-Some.ensures.label c.requires
 
 pub returns-in_ok-push_escaped-in-Some-clause-ok : goal.returns-in_ok-push_escaped-in-Some-clause-ok
 returns-in_ok-push_escaped-in-Some-clause-ok c =
-    let split = ap labels_text (labels_of-after _ _ _ c.in-Some.ensures.label) in
-    let first = Reaches-more _ _ _ _ _ _ _ (Reaches-start (string_bytes c.args.to.now) (name_text c.args.form.now)) split
-    c.in_ok-push_escaped-in-Some.ensures.ok in
-    on_ok_weaker c.push_further.result (Reaches-last _ _ _ _ _ first) c.push_further.ensures.ok
+    grind (arith, common_steps, labels_of-after, Reaches-more, Reaches-start, string_bytes, on_ok_weaker, Reaches-last)
 
 pub returns-in_ok-push_escaped-in-Some-clause-err : goal.returns-in_ok-push_escaped-in-Some-clause-err
 returns-in_ok-push_escaped-in-Some-clause-err c =

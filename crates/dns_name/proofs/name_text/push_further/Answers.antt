@@ -1,3 +1,5 @@
+use Rattle.std.proofs.lemmas.Grind.{common_steps}
+use Rattle.std.proofs.Common.{arith}
 use Rattle.std.proofs.Common.{◌∷◌, [], ap, refl, string_bytes, subst}
 use Rattle.std.proofs.lemmas.Result.{err_from_is_err_and}
 use Rattle.dns_name.specs.Name.{further_text, labels_of}
@@ -19,13 +21,7 @@ returns-in_err-push_escaped-clause-err c =
     rw p.1 (stops-at _ _ _ _ _ _ _ dotted refl c.in_err-push_escaped.ensures.err)
 
 pub loop-label-preserved : goal.loop-label-preserved
-loop-label-preserved c =
-    let split = ap further_text (labels_of-after _ _ _ c.in-Some.ensures.label) in
-    let dotted = Reaches-more _ _ _ _ _ (46 ∷ []) _ c.loop-label.invariant.pushed split c.in_ok-push_ascii.ensures.ok in
-    record {
-      form = IsForm-after _ _ _ c.in-Some.ensures.label c.loop-label.invariant.form;
-      pushed = Reaches-more _ _ _ _ _ _ _ dotted refl c.in_ok-push_escaped.ensures.ok;
-    }
+loop-label-preserved c = grind (arith, common_steps, labels_of-after, Reaches-more, IsForm-after)
 
 pub returns-clause-ok : goal.returns-clause-ok
 returns-clause-ok c =
