@@ -1,8 +1,8 @@
 -- The sums of the calendar in closed form, and the one date with so many days before it.
-use Rattle.std.proofs.Common.{◌≡◌, refl, ◌∙◌, ap, ℕ, zero, suc, ◌+◌, ◌-◌, ◌*◌, ◌/◌, ◌<◌, ◌≤◌, nat_le, ◌==◌}
-use Rattle.std.proofs.Common.{Bool, true, false, cond, arith, ◌⊎◌, inl, inr}
+use Rattle.std.proofs.Common.{◌≡◌, refl, ◌∙◌, ap, ℕ, zero, suc, ◌+◌, ◌-◌, ◌*◌, ◌/◌, ◌<◌, ◌≤◌, nat_le}
+use Rattle.std.proofs.Common.{Bool, true, false, arith, ◌⊎◌, inl, inr}
 use Rattle.std.proofs.lemmas.Bool.Decides.{nat_tests}
-use Rattle.people_text.specs.Calendar.{IsDate, day_of, days_of_months, days_of_years, is_leap, last_begun}
+use Rattle.people_text.specs.Calendar.{IsDate, day_of, days_of_months, days_of_years, last_begun}
 use Rattle.people_text.specs.Calendar.{month_length, month_of, year_length, year_of}
 
 -- ---- years
@@ -42,11 +42,7 @@ months-none year = refl
 -- twelve months are a year
 pub months-year : (year : ℕ) → days_of_months year 12 ≡ year_length year
 unfolding days_of_months
-months-year year = leap (is_leap year)
-  where
-    leap : (t : Bool) → (0 + 31 + cond t 29 28 + 31 + 30 + 31 + 30 + 31 + 31 + 30 + 31 + 30 + 31) ≡ cond t 366 365
-    leap true = refl
-    leap false = refl
+months-year year = grind arith
 
 pub years-more : (year : ℕ) → days_of_years (year + 1) ≡ days_of_years year + year_length year
 unfolding days_of_years
@@ -58,21 +54,7 @@ years-next year = refl
 
 pub month_within : (year month day left : ℕ) → 1 ≤ month → month ≤ 12 → day < days_of_months year 12
     → day ≡ days_of_months year (month - 1) + left → month_length year month ≤ left → month + 1 ≤ 12
-month_within year month day left low high within is long = go (cases (month == 12) refl)
-  where
-    cases : (t : Bool) → (month == 12) ≡ t → (month ≡ 12) ⊎ (month < 12)
-    cases true test = inl (grind (arith, nat_tests))
-    cases false test = inr (grind (arith, nat_tests))
-
-    last : month ≡ 12 → month + 1 ≤ 12
-    last twelve =
-        let more = months-more year month low in
-        let whole : days_of_months year month ≡ days_of_months year 12 = ap (λ m. days_of_months year m) twelve in
-        absurd (omega arith)
-
-    go : (month ≡ 12) ⊎ (month < 12) → month + 1 ≤ 12
-    go (inl twelve) = last twelve
-    go (inr less) = omega arith
+month_within year month day left low high within is long = grind (arith, nat_tests, months-more)
 
 -- ---- the last that has begun
 
@@ -162,21 +144,14 @@ month_of-date days year month day date =
 
 pub day_of-date : (days year month day : ℕ) → IsDate days year month day → day_of days ≡ day
 unfolding day_of
-day_of-date days year month day date =
-    rw (month_of-date days year month day date, year_of-date days year month day date)
-    (omega (arith, date.days_are, date.day_is.0))
+day_of-date days year month day date = grind (arith, month_of-date, year_of-date)
 
 -- ---- each day has its date
 
 begun_by : (begin : ℕ → ℕ) (day n : ℕ) → begin 0 ≤ day → (begin (last_begun begin day n) ≤ day) × (last_begun begin day n ≤ n)
 unfolding last_begun
 begun_by begin day zero first = (first, omega arith)
-begun_by begin day (suc n) first =
-    elim (step_le (nat_le (begin (suc n)) day) (begin (suc n)) day refl)
-    as (λ _. (begin (last_begun begin day (suc n)) ≤ day) × (last_begun begin day (suc n) ≤ suc n)) [
-      | inl h ↦ rw h.0 (h.1, omega arith)
-      | inr h ↦ rw h.0 (let at = begun_by begin day n first in (at.0, omega (arith, at.1)))
-    ]
+begun_by begin day (suc n) first = grind (arith, step_le, nat_le, begun_by begin day n first)
 
 not_begun : (begin : ℕ → ℕ) (day n j : ℕ) → last_begun begin day n < j → j ≤ n → day < begin j
 unfolding last_begun

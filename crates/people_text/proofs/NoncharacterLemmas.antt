@@ -1,5 +1,5 @@
 -- Every noncharacter is in a hidden range.
-use Rattle.std.proofs.Common.{◌≡◌, refl, subst, ℕ, zero, suc, ◌+◌, ◌*◌, ◌/◌, ◌<◌, ◌≤◌, Bool, true, false, inl, inr}
+use Rattle.std.proofs.Common.{◌≡◌, refl, ℕ, zero, suc, ◌+◌, ◌*◌, ◌/◌, ◌≤◌, Bool, true, false, inl, inr}
 use Rattle.std.proofs.Common.{◌&&◌, ◌||◌, nat_le, nat_lt, List, [], ◌∷◌, arith}
 use Rattle.std.proofs.lemmas.Bool.Decides.{nat_tests}
 use Rattle.people_text.specs.Shown.{IsNoncharacter, hidden_ranges, in_ranges, is_hidden}
@@ -20,9 +20,7 @@ either_true false = refl
 one_covered : (t : Bool) (first last low high c : ℕ) (more others : Bool) → more ≡ t
     → ((nat_le first low && nat_le high last) || more) ≡ true → low ≤ c → c ≤ high → (more ≡ true → others ≡ true)
     → ((nat_le first c && nat_le c last) || others) ≡ true
-one_covered true first last low high c more others same is from to deeper =
-    let found : others ≡ true = deeper same in
-    rw found (either_true (nat_le first c && nat_le c last))
+one_covered true first last low high c more others same is from to deeper = grind (arith, either_true, nat_le)
 one_covered false first last low high c more others same is from to deeper =
     here first last low high c others (rw same at is) from to
 
@@ -48,13 +46,8 @@ both_true false other is = absurd (cc)
 
 ends-step : (t : Bool) (last plane : ℕ) → nat_lt last plane ≡ t → plane ≤ suc last → ends (suc last) ≡ true
     → (plane ≤ last → ends plane ≡ true) → ends plane ≡ true
-ends-step true last plane later within at deeper =
-    let more : last < plane = grind (arith, nat_tests, later) in
-    let same : suc last ≡ plane = omega (arith, more, within) in
-    subst (λ p. ends p ≡ true) same at
-ends-step false last plane later within at deeper =
-    let less : plane ≤ last = grind (arith, nat_tests, later) in
-    deeper less
+ends-step true last plane later within at deeper = grind (arith, nat_tests, ends)
+ends-step false last plane later within at deeper = grind (arith, nat_tests)
 
 ends-each : (last plane : ℕ) → all_ends last ≡ true → plane ≤ last → ends plane ≡ true
 unfolding all_ends

@@ -71,9 +71,7 @@ first-scalar bs some = (let text = valid-utf8 bs in go text.0 text.1.0 text.1.1)
     )
 
 pub first-char : (c : ℕ) (rest : List ℕ) → IsScalar c → get_or (chars (encode_utf8 c ++ rest)) 0 0 ≡ c
-first-char c rest is =
-    let utf8 = IsUtf8-encode c is in
-    rw (chars-append (encode_utf8 c) rest utf8, chars_past_char (encode_utf8 c) [] c utf8 (sym (append-nil (encode_utf8 c)))) refl
+first-char c rest is = grind (arith, IsUtf8-encode c is, chars-append, chars_past_char, append-nil (encode_utf8 c))
 
 text_after-drop : (dots : Bool) (taken : ℕ) (bytes : List ℕ) → text_after dots taken bytes ≡ text_after dots 0 (drop taken bytes)
 text_after-drop dots zero bytes = refl
@@ -98,11 +96,7 @@ scalar-shown dots c rest is = go (encode_utf8 c ++ rest) refl
 pub byte-shown : (dots : Bool) (b : ℕ) (rest : List ℕ) → StartsWithNoChar (b ∷ rest)
     → bytes_shown dots (b ∷ rest) ≡ escaped_byte b ++ bytes_shown dots rest
 unfolding bytes_shown
-byte-shown dots b rest none = rw (test (utf8_valid_len (b ∷ rest)) refl) refl
-  where
-    test : (n : ℕ) → utf8_valid_len (b ∷ rest) ≡ n → begins_none (b ∷ rest) ≡ true
-    test zero is = grind (arith, nat_tests)
-    test (suc n) is = let first = first-scalar (b ∷ rest) (omega arith) in absurd (none first.0 first.1 first.2 first.3)
+byte-shown dots b rest none = grind (arith, nat_tests, first-scalar)
 
 pub shown-none : (dots : Bool) (bs : List ℕ) → length bs ≡ 0 → bytes_shown dots bs ≡ []
 unfolding bytes_shown
@@ -123,10 +117,7 @@ text-shown dots (c ∷ cs) rest are =
 
 -- a byte that can only go on a scalar's UTF-8 begins none
 goes_on-none : (bs : List ℕ) → IsInRange 0x80 0xBF (get_or bs 0 0) → StartsWithNoChar bs
-goes_on-none bs on c rest is same =
-    let first : get_or bs 0 0 ≡ get_or (encode_utf8 c) 0 0
-    = ap (λ xs. get_or xs 0 0) same ∙ get_or_append_left (encode_utf8 c) rest 0 0 (encode-some c) in
-    absurd (omega (arith, on, first, (IsCharBoundary-start (encode_utf8 c) (IsUtf8-encode c is)).1 (encode-some c)))
+goes_on-none bs on c rest is same = grind (arith, get_or_append_left, encode-some, IsCharBoundary-start, IsUtf8-encode)
 
 run-shown : (dots : Bool) (run rest : List ℕ) → ((k : ℕ) → k < length run → IsInRange 0x80 0xBF (get_or (run ++ rest) k 0))
     → bytes_shown dots (run ++ rest) ≡ escaped run ++ bytes_shown dots rest

@@ -30,8 +30,7 @@ in_ranges-apart : (ranges : List (ℕ × ℕ)) (c : ℕ) → apart ranges ≡ tr
 unfolding apart
 in_ranges-apart [] c is low high = refl
 in_ranges-apart (range ∷ ranges) c is low high =
-    let rest = in_ranges-apart ranges c (others_apart _ (apart ranges) is) low high in
-    one_apart range.0 range.1 c (apart ranges) (in_ranges ranges c) is low high rest
+    grind (arith, others_apart, apart, one_apart, in_ranges-apart ranges c (others_apart _ (apart ranges) is) low high)
 
 pub ascii-shown : (c : ℕ) → 32 ≤ c → c < 127 → is_hidden c ≡ false
 unfolding is_hidden apart hidden_ranges
@@ -43,9 +42,7 @@ ascii-shown c low high = in_ranges-apart hidden_ranges c refl low high
 pub label-moved : (old dotted new label whole : List ℕ) (labels : List (List ℕ)) → old ++ further_shown labels ≡ whole
     → (after : List (List ℕ)) → labels ≡ label ∷ after → dotted ≡ old ++ 46 ∷ [] → new ≡ dotted ++ label_shown label
     → new ++ further_shown after ≡ whole
-label-moved old dotted new label whole labels at after first dot more =
-    rw (more, dot)
-    (rw (append_assoc, append_assoc) refl ∙ sym (ap (λ these. old ++ further_shown these) first) ∙ at)
+label-moved old dotted new label whole labels at after first dot more = grind (arith, append_assoc)
 
 -- ---- plain ASCII
 

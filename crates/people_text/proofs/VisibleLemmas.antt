@@ -1,5 +1,5 @@
 -- Shown text has visible scalars alone.
-use Rattle.std.proofs.Common.{◌≡◌, ◌≢◌, refl, ◌∙◌, ap, ap₂, subst, ℕ, zero, suc, ◌+◌, ◌-◌, ◌/◌, ◌%◌, ◌<◌, ◌≤◌, Bool, true, false, cond}
+use Rattle.std.proofs.Common.{◌≡◌, ◌≢◌, refl, ◌∙◌, ap, subst, ℕ, zero, suc, ◌+◌, ◌-◌, ◌/◌, ◌%◌, ◌<◌, ◌≤◌, Bool, true, false, cond}
 use Rattle.std.proofs.Common.{◌||◌, List, [], ◌∷◌, ◌++◌, get_or, length, take, arith, append-nil, inl, inr}
 use Rattle.std.proofs.lemmas.Bool.{cases_lt, cond_both}
 use Rattle.std.proofs.lemmas.Bool.Decides.{nat_tests}
@@ -12,7 +12,7 @@ use Rattle.std.specs.Str.{IsUtf8, NoCharPasses, NonePass, all_scalars, chars, en
 use Rattle.std.specs.Str.Lossy.{utf8_valid_len}
 use Rattle.dns_name.specs.Name.{labels_of, pieces_of}
 use Rattle.people_text.specs.Shown.{AreBytes, IsPrinted, IsVisible, IsVisibleText, begins_none, bytes_shown, escaped, escaped_byte}
-use Rattle.people_text.specs.Shown.{further_shown, hidden_ranges, in_range, is_hidden, is_marked, label_shown, labels_shown, name_shown}
+use Rattle.people_text.specs.Shown.{further_shown, hidden_ranges, is_hidden, is_marked, label_shown, labels_shown, name_shown}
 use Rattle.people_text.specs.Shown.{scalar_text, text_after}
 use Rattle.people_text.proofs.ScalarLemmas.{first-char, first-scalar, scalar-shown}
 use Rattle.people_text.proofs.ShownLemmas.{ascii-shown}
@@ -23,12 +23,8 @@ text-nil : IsVisibleText []
 text-nil = record { scalars = []; visible = All-nil IsVisible; encoded = refl }
 
 text-append : (xs ys : List ℕ) → IsVisibleText xs → IsVisibleText ys → IsVisibleText (xs ++ ys)
-text-append xs ys one other = record {
-  scalars = one.scalars ++ other.scalars;
-  visible = All-append IsVisible one.scalars other.scalars one.visible other.visible;
-  encoded = encodes-append one.scalars other.scalars ∙ ap (λ text. text ++ encode_utf8_all other.scalars) one.encoded
-      ∙ ap (λ text. xs ++ text) other.encoded;
-}
+text-append xs ys one other =
+    grind (arith, All-append IsVisible one.scalars other.scalars one.visible other.visible, encodes-append one.scalars other.scalars)
 
 text-ascii : (c : ℕ) → 32 ≤ c → c < 127 → IsVisibleText (c ∷ [])
 text-ascii c low high =
@@ -143,17 +139,12 @@ IsPlain c = IsVisible c × (c ≢ 92)
 
 plain-text : (c : ℕ) → IsPlain c → scalar_text false c ≡ encode_utf8 c
 unfolding scalar_text
-plain-text c plain =
-    let mark : is_marked false c ≡ false = grind (arith, nat_tests) in
-    rw (plain.0.1, mark) refl
+plain-text c plain = grind (arith, nat_tests)
 
 pub plain-shown : (cs : List ℕ) → All IsPlain cs → bytes_shown false (encode_utf8_all cs) ≡ encode_utf8_all cs
 unfolding bytes_shown
 plain-shown [] are = refl
-plain-shown (c ∷ cs) are =
-    let plain = All-head IsPlain c cs are in
-    scalar-shown false c (encode_utf8_all cs) plain.0.0
-    ∙ ap₂ (λ text more. text ++ more) (plain-text c plain) (plain-shown cs (All-tail IsPlain c cs are))
+plain-shown (c ∷ cs) are = grind (arith, All-head, scalar-shown, plain-text, All-tail, plain-shown cs (All-tail IsPlain c cs are))
 
 -- ---- what visible text has
 
@@ -170,12 +161,7 @@ or_false false b is = (refl, is)
 
 no_control : (c : ℕ) → is_hidden c ≡ false → IsPrinted c
 unfolding is_hidden hidden_ranges
-no_control c shown =
-    let first = or_false (in_range (0, 31) c) _ shown in
-    let second = or_false (in_range (127, 160) c) _ first.1 in
-    let low : in_range (0, 31) c ≡ false = first.0 in
-    let delete : in_range (127, 160) c ≡ false = second.0 in
-    (grind (arith, nat_tests, low), λ is. grind (arith, nat_tests, delete, is))
+no_control c shown = grind (arith, or_false, nat_tests)
 
 none-hidden : (cs : List ℕ) → All IsVisible cs → NonePass is_hidden cs
 none-hidden [] are = tt

@@ -3,7 +3,4 @@ use Rattle.people_text.proofs.CalendarLemmas.{months-year, years-more}
 use Rattle.people_text.proofs.calendar.date_of.Goals as goal
 
 pub month_and_day-requires : goal.month_and_day-requires
-month_and_day-requires c =
-    let year = months-year c.year_of-year.result in
-    let next = years-more c.year_of-year.result in
-    record { within = omega arith }
+month_and_day-requires c = grind (arith, months-year, years-more)

@@ -1,4 +1,4 @@
-use Rattle.std.proofs.Common.{◌≡◌, ◌++◌, ap, ℕ, refl, string_bytes, arith}
+use Rattle.std.proofs.Common.{◌≡◌, ℕ, refl, string_bytes, arith}
 use Rattle.std.proofs.lemmas.Result.{IfOk-equal}
 use Rattle.people_text.specs.Calendar.{IsDate}
 use Rattle.people_text.specs.Moments.{days_to, month_day_text, month_day_written}
@@ -12,13 +12,7 @@ written nanos days year month day at is =
     rw (← at, month_of-date days year month day is, day_of-date days year month day is) refl
 
 pub push_month_day_written-requires : goal.push_month_day_written-requires
-push_month_day_written-requires c =
-    let date = c.date_of.ensures.date in
-    let few = month_length-few c.date_of.result.year c.date_of.result.month in
-    record { month = omega (arith, date.month_is.1); day = omega (arith, date.day_is.1) }
+push_month_day_written-requires c = grind (arith, month_length-few)
 
 pub returns : goal.returns
-returns c =
-    IfOk-equal c.push_month_day_written.result _ _ _ c.push_month_day_written.ensures
-    (ap (λ text. string_bytes c.args.to.now ++ text)
-    (written c.args.nanos c.day_of.result _ _ _ c.day_of.ensures.days c.date_of.ensures.date))
+returns c = grind (arith, IfOk-equal, string_bytes, written)

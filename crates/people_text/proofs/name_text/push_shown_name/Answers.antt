@@ -1,3 +1,4 @@
+use Rattle.std.proofs.Common.{arith}
 use Rattle.std.proofs.Common.{◌≡◌, List, ℕ, ◌∷◌, ◌++◌, ap, append_assoc, sym, string_bytes}
 use Rattle.std.proofs.lemmas.Result.{IfOk-equal}
 use Rattle.dns_name.specs.Name.{labels_of}
@@ -15,13 +16,7 @@ whole old mid bytes label after first are =
     rw (first, append_assoc) (ap (λ labels. old ++ labels_shown labels) (sym are))
 
 pub returns-in_ok-push_bytes-in-Some : goal.returns-in_ok-push_bytes-in-Some
-returns-in_ok-push_bytes-in-Some c =
-    let labels = labels_of-after _ _ _ c.in-Some.ensures.label in
-    let text = whole (string_bytes c.args.to.now) _ _ c.in-Some.label.now _ c.in_ok-push_bytes-in-Some.ensures labels in
-    IfOk-equal c.push_further.result _ _ _ c.push_further.ensures (rw (← c.wire.ensures.bytes) text)
+returns-in_ok-push_bytes-in-Some c = grind (arith, labels_of-after, whole, string_bytes, IfOk-equal)
 
 pub returns-in-None : goal.returns-in-None
-returns-in-None c =
-    let last = IsForm-last _ c.in-None.ensures.none c.wire.ensures.form.form in
-    IfOk-equal c.push_dot.result _ _ _ c.push_dot.ensures
-    (rw (← c.wire.ensures.bytes) (ap (λ bytes. string_bytes c.args.to.now ++ name_shown bytes) (sym last)))
+returns-in-None c = grind (arith, IsForm-last _ c.in-None.ensures.none c.wire.ensures.form.form, IfOk-equal, string_bytes c.args.to.now)

@@ -1,3 +1,4 @@
+use Rattle.std.proofs.Common.{arith}
 use Rattle.std.proofs.Common.{◌≡◌, ℕ, List, ◌++◌, ap, append_assoc, string_bytes}
 use Rattle.std.proofs.lemmas.List.{take_rest}
 use Rattle.std.proofs.lemmas.Result.{IfOk-equal}
@@ -11,7 +12,4 @@ whole : (old mid front rest text : List ℕ) → mid ≡ old ++ front → front 
 whole old mid front rest text first is = rw (first, append_assoc) (ap (λ more. old ++ more) is)
 
 pub returns : goal.returns
-returns c =
-    let front = rw (← c.plain_len-len.ensures.len) at (plain-front c.args.dots c.args.bytes.now).1 in
-    IfOk-equal c.push_chunks.result _ _ _ c.push_chunks.ensures
-    (simp take_rest (whole (string_bytes c.args.to.now) (string_bytes c.push_utf8.new.to) _ _ _ c.in_ok-push_utf8.ensures front))
+returns c = grind (arith, plain-front, IfOk-equal, take_rest, whole, string_bytes)
