@@ -1,7 +1,9 @@
 -- Lemmas on the state of a capture that is being read.
-use Rattle.std.proofs.Common.{◌≡◌, ◌≢◌, ◌↔◌, ℕ, ◌+◌, ◌<◌, ◌≤◌, Bool, false, eqb, IsTrue, List, [], ◌∷◌, ◌++◌, Option}
+use Rattle.std.proofs.lemmas.Grind.{common_steps}
+use Rattle.std.proofs.Common.{rules}
+use Rattle.std.proofs.Common.{◌≡◌, ◌≢◌, ◌↔◌, ℕ, ◌+◌, ◌<◌, ◌≤◌, Bool, IsTrue, List, [], ◌∷◌, ◌++◌, Option}
 use Rattle.std.proofs.Common.{Some, None, IfSome, Result, Ok, Err, OnOk, OnErr, arith, eq-eqb, length, take, refl}
-use Rattle.std.proofs.Common.{sym, ap, ◌∙◌, subst, append_assoc}
+use Rattle.std.proofs.Common.{◌∙◌, subst, append_assoc}
 use Rattle.std.specs.Io.KnownBytes.{Consumes}
 use Rattle.std.proofs.KnownBytes.{Consumes-nil}
 use Rattle.std.proofs.lemmas.List.{take-append-le, take-take, length-take-le}
@@ -14,11 +16,10 @@ use Rattle.mdns_capture.specs.declared.savefile.Ending.{Ending}
 use Rattle.mdns_capture.specs.declared.capture.ReadFault.{ReadFault}
 use Rattle.mdns_capture.specs.declared.savefile.Ending.TheVariants.{Going, Whole, Cut, Fraction, Long, Many, Failed}
 use Rattle.mdns_capture.specs.Stream.{TakesAtMost, OneMoreFailed}
-use Rattle.mdns_capture.specs.Savefile.{PacketAt, header_fault, snap_length, snap_length_of, stop_of, IsFileHeader}
+use Rattle.mdns_capture.specs.Savefile.{PacketAt, snap_length, snap_length_of, stop_of, IsFileHeader}
 use Rattle.mdns_capture.specs.Savefile.{IsPacketHeader, PacketsRead, CaptureReads}
 use Rattle.mdns_capture.specs.Capture.{Shown, Standing, IsOver, IsDamaged, IsShown, shown as shown_of, IsPacketOrEnd}
 use Rattle.mdns_capture.specs.Capture.{Goes, Leads, Begins, Moves, Advances}
-use Rattle.mdns_capture.specs.declared.savefile.Order.TheVariants.{Big}
 use Rattle.mdns_capture.proofs.HeaderLemmas.{header_fault-append}
 use Rattle.mdns_capture.proofs.FramePartLemmas.{number-within}
 use Rattle.mdns_capture.proofs.OneReadingLemmas.{same_header, format_fault-header}
@@ -26,20 +27,11 @@ use Rattle.mdns_capture.proofs.OneReadingLemmas.{same_header, format_fault-heade
 begin_reads : (format : Format) (header rest bytes : List ℕ) → IsFileHeader format header → bytes ≡ header ++ rest
     → (packets : List PacketAt) (ending : Ending)
     → (PacketsRead format 0 24 rest packets ending ↔ CaptureReads bytes packets ending)
-begin_reads format header rest bytes heads whole packets ending = (
-  (λ reads. record { format = format; header = header; rest = rest; heads = heads; whole = whole; reads = reads }),
-  (λ (reads : CaptureReads bytes packets ending).
-      let same = same_header reads.format format reads.header header reads.rest rest reads.heads heads (sym reads.whole ∙ whole) in
-      let here = subst (λ (f : Format). PacketsRead f 0 24 reads.rest packets ending) same.0 reads.reads in
-      subst (λ (l : List ℕ). PacketsRead format 0 24 l packets ending) same.1 here),
-)
+begin_reads format header rest bytes heads whole packets ending = grind (arith, same_header)
 
 snap_length-begins : (format : Format) (header rest bytes : List ℕ) → IsFileHeader format header
     → bytes ≡ header ++ rest → snap_length bytes ≡ snap_length_of format header
-snap_length-begins format header rest bytes heads whole =
-    let size = heads.size in
-    rw (whole, number-within Big 4 0 header rest (omega (arith, size)), heads.magic)
-    (number-within format.order 4 16 header rest (omega (arith, size)))
+snap_length-begins format header rest bytes heads whole = grind (arith, number-within)
 
 over_of : (ending : Ending) → ending ≢ Going → ending ≢ Failed → IsOver ending
 over_of Going going failed = absurd (going refl)
@@ -100,19 +92,13 @@ module _ {R : Type 0} (snap : ℕ) where
     states = tt;
   }
   Begins-begun reader (Some bytes) None was steady before failures format header heads states takes steadily unfailed = absurd takes
-  Begins-begun reader (Some bytes) (Some rest) was steady before failures format header heads states takes steadily unfailed = record {
-    header = header;
-    takes = takes;
-    heads = heads;
-    steadily = steadily;
-    unfailed = unfailed;
-    going = refl;
-    none_yet = refl;
-    offset = refl;
-    reads = begin_reads format header rest bytes heads takes;
-    sound = ap header_fault takes ∙ header_fault-append header rest heads.size ∙ format_fault-header format header heads;
-    states = states ∙ sym (snap_length-begins format header rest bytes heads takes);
-  }
+  Begins-begun reader (Some bytes) (Some rest) was steady before failures format header heads states takes steadily unfailed = grind (
+    arith,
+    begin_reads format header rest bytes heads takes,
+    header_fault-append header rest heads.size,
+    format_fault-header format header heads,
+    snap_length-begins format header rest bytes heads takes,
+  )
 
   -- a capture that has ended leads to no packet and to its ending
   ended_leads : (reader : R) (left : Option (List ℕ)) (steady : Bool) (failures : Option ℕ) (format : Format)
@@ -136,20 +122,7 @@ module _ {R : Type 0} (snap : ℕ) where
       (standing snap reader left steady failures format count offset ending None)
   Moves-ended reader left steady failures format count offset ending current going failed (Some packet) shows = absurd shows
   Moves-ended reader left steady failures format count offset ending current going failed None shows =
-      let over = over_of ending going failed in
-      record {
-        answers = record { over = over; leads = ended_leads reader left steady failures format count offset ending current over };
-        most = ([], Consumes-nil left, omega arith);
-        damaged = λ d. ([], Consumes-nil left, omega arith);
-        snap = refl;
-        steadily = λ h. h;
-        steady = λ _ _. refl;
-        unfailed = λ _. refl;
-        fails = λ e. absurd (false≢true e);
-        ended = λ _. (refl, (refl, refl, refl));
-        failed = λ e. absurd (failed e);
-        full = λ e. absurd (going e);
-      }
+      grind (arith, over_of ending going failed, ended_leads, Consumes-nil left)
 
   full_leads : (reader : R) (left : Option (List ℕ)) (steady : Bool) (failures : Option ℕ) (format : Format)
       (count offset : ℕ) (current : Option Shown)
@@ -164,9 +137,7 @@ module _ {R : Type 0} (snap : ℕ) where
       → Leads (standing snap reader left steady failures format count offset Going current) [] ending
   unfolding Leads Goes
   stop_leads reader None steady failures format count offset ending current more stops = tt
-  stop_leads reader (Some bytes) steady failures format count offset ending current more stops =
-      let on : eqb count 4294967295 ≡ false = grind (arith, nat_tests) in
-      rw on stops
+  stop_leads reader (Some bytes) steady failures format count offset ending current more stops = search (rules, nat_tests)
 
   packet_leads : (reader next : R) (old new : Option (List ℕ)) (was steady : Bool) (before failures : Option ℕ)
       (format : Format) (count offset captured : ℕ) (current now : Option Shown) (header : List ℕ) (packet : PacketAt)
@@ -180,15 +151,8 @@ module _ {R : Type 0} (snap : ℕ) where
       few heads at size takes packets ending leads = tt
   packet_leads reader next (Some bytes) None was steady before failures format count offset captured current now
       header packet few heads at size takes packets ending leads = absurd takes
-  packet_leads reader next (Some bytes) (Some rest) was steady before failures format count offset captured current
-      now header packet few heads at size takes packets ending leads = (
-        few,
-        (
-          rest,
-          record { header = header; heads = heads; offset = at; whole = takes ∙ append_assoc header packet.frame rest },
-          subst (λ (n : ℕ). PacketsRead format (count + 1) (offset + (16 + n)) rest packets ending) size leads,
-        ),
-      )
+  packet_leads reader next (Some bytes) (Some rest) was steady before failures format count offset captured current now header packet few heads at size takes packets ending leads =
+      grind (arith, append_assoc header packet.frame rest)
 
   -- after the last packet that is read
   pub Moves-full : (reader : R) (left : Option (List ℕ)) (steady : Bool) (failures : Option ℕ) (format : Format)
@@ -197,20 +161,7 @@ module _ {R : Type 0} (snap : ℕ) where
       → Moves (standing snap reader left steady failures format count offset Going current) (Ok packet)
       (standing snap reader left steady failures format count offset (Many offset) None)
   Moves-full reader left steady failures format count offset current last (Some packet) shows = absurd shows
-  Moves-full reader left steady failures format count offset current last None shows =
-      record {
-        answers = record { over = tt; leads = full_leads reader left steady failures format count offset current last };
-        most = ([], Consumes-nil left, omega arith);
-        damaged = λ d. absurd d;
-        snap = refl;
-        steadily = λ h. h;
-        steady = λ _ _. refl;
-        unfailed = λ _. refl;
-        fails = λ e. absurd (false≢true e);
-        ended = λ over. absurd over;
-        failed = λ e. cc;
-        full = λ _ _. (refl, refl, refl);
-      }
+  Moves-full reader left steady failures format count offset current last None shows = grind (arith, full_leads, Consumes-nil)
 
   -- where no packet begins
   pub Moves-stop : (reader next : R) (old new : Option (List ℕ)) (was steady : Bool) (before failures : Option ℕ)
@@ -223,21 +174,8 @@ module _ {R : Type 0} (snap : ℕ) where
       (standing snap next new steady failures format count offset ending None)
   Moves-stop reader next old new was steady before failures format count offset ending current more over stops few
       takes steadily unfailed (Some packet) shows = absurd shows
-  Moves-stop reader next old new was steady before failures format count offset ending current more over stops few
-      takes steadily unfailed None shows =
-      record {
-        answers = record { over = over; leads = stop_leads reader old was before format count offset ending current more stops };
-        most = takes;
-        damaged = few;
-        snap = refl;
-        steadily = steadily;
-        steady = λ _ _. refl;
-        unfailed = λ _. unfailed;
-        fails = λ e. absurd (false≢true e);
-        ended = λ over. absurd over;
-        failed = λ e. cc;
-        full = λ _ last. absurd (more last);
-      }
+  Moves-stop reader next old new was steady before failures format count offset ending current more over stops few takes steadily unfailed None shows =
+      search (rules, stop_leads)
 
   -- a packet
   pub Moves-packet : (reader next : R) (old new : Option (List ℕ)) (was steady : Bool) (before failures : Option ℕ)
@@ -250,40 +188,8 @@ module _ {R : Type 0} (snap : ℕ) where
       (Some (record { nanos = moment; at = offset; frame = frame })))
   Moves-packet reader next old new was steady before failures format count offset moment captured frame current more
       few header heads size takes most steadily unfailed None shows = absurd shows
-  Moves-packet reader next old new was steady before failures format count offset moment captured frame current more
-      few header heads size takes most steadily unfailed (Some packet) shows =
-      let length_is : length packet.frame ≡ captured = ap length shows.2 ∙ size in
-      let heads_it : IsPacketHeader format header packet.moment.nanos (length packet.frame) =
-      subst (λ (n : ℕ). IsPacketHeader format header n (length packet.frame)) (sym shows.0)
-      (subst (λ (n : ℕ). IsPacketHeader format header moment n) (sym length_is) heads) in
-      record {
-        answers = record {
-          was_going = refl;
-          going = refl;
-          counted = refl;
-          bounded = omega arith;
-          format = refl;
-          at_offset = shows.1;
-          offset = ap (λ n. offset + (16 + n)) (sym length_is);
-          short = omega (arith, heads.limit);
-          header = header;
-          heads = heads_it;
-          takes = subst (λ (f : List ℕ). Consumes old new (header ++ f)) (sym shows.2) takes;
-          leads = packet_leads reader next old new was steady before failures format count offset captured current _
-              header packet (omega arith) heads_it shows.1 (sym length_is)
-              (subst (λ (f : List ℕ). Consumes old new (header ++ f)) (sym shows.2) takes);
-        };
-        most = most;
-        damaged = λ d. absurd d;
-        snap = refl;
-        steadily = steadily;
-        steady = λ _ _. refl;
-        unfailed = λ _. unfailed;
-        fails = λ e. absurd (false≢true e);
-        ended = λ over. absurd over;
-        failed = λ e. cc;
-        full = λ _ last. absurd (more last);
-      }
+  Moves-packet reader next old new was steady before failures format count offset moment captured frame current more few header heads size takes most steadily unfailed (Some packet) shows =
+      grind (arith, common_steps, packet_leads)
 
   -- the same three where the reading is known to go on, and the bytes left after it
 
@@ -292,9 +198,7 @@ module _ {R : Type 0} (snap : ℕ) where
       → ending ≡ Going → (count ≡ 4294967295) × (after ≡ Many offset) → (packet : Option PacketAt) → IsShown packet None
       → Moves (standing snap reader left steady failures format count offset ending current) (Ok packet)
       (standing snap reader left steady failures format count offset after None)
-  Moves-full_going reader left steady failures format count offset ending after current going last packet shows =
-      let ends = last.1 in
-      rw (going, ends) (Moves-full reader left steady failures format count offset current last.0 packet shows)
+  Moves-full_going reader left steady failures format count offset ending after current going last packet shows = grind (arith, Moves-full)
 
   pub Moves-stop_going : (reader next : R) (old new : Option (List ℕ)) (was steady : Bool)
       (before failures : Option ℕ) (format : Format) (count offset : ℕ) (ending after stop : Ending)
@@ -306,11 +210,8 @@ module _ {R : Type 0} (snap : ℕ) where
       → (packet : Option PacketAt) → IsShown packet None
       → Moves (standing snap reader old was before format count offset ending current) (Ok packet)
       (standing snap next new steady failures format count offset after None)
-  Moves-stop_going reader next old new was steady before failures format count offset ending after stop current going
-      ends few stops takes steadily unfailed packet shows =
-      let more : count ≢ 4294967295 = λ last. absurd (omega arith) in
-      rw (going, ends) (Moves-stop reader next old new was steady before failures format count offset stop current
-      more stops.0 stops.1 stops.2 takes steadily unfailed packet shows)
+  Moves-stop_going reader next old new was steady before failures format count offset ending after stop current going ends few stops takes steadily unfailed packet shows =
+      grind (arith, Moves-stop)
 
   pub Moves-packet_going : (reader next : R) (old new : Option (List ℕ)) (was steady : Bool)
       (before failures : Option ℕ) (format : Format) (count offset beyond : ℕ) (head : PacketHeader)
@@ -322,14 +223,8 @@ module _ {R : Type 0} (snap : ℕ) where
       → (packet : Option PacketAt) → IsShown packet (Some (shown_of offset shown head))
       → Moves (standing snap reader old was before format count offset ending current) (Ok packet)
       (standing snap next new steady failures format (count + 1) beyond after (Some (shown_of offset shown head)))
-  Moves-packet_going reader next old new was steady before failures format count offset beyond head buffer shown
-      ending after current going goes_on moves few steps same room most steadily unfailed packet shows =
-      let more : count ≢ 4294967295 = λ last. absurd (omega arith) in
-      rw (going, goes_on, moves)
-      (Moves-packet reader next old new was steady before failures format count offset head.moment.nanos head.captured
-      (take head.captured shown) current more (omega arith) steps.1.0 steps.1.1
-      (length-take-le head.captured shown room) (subst (λ (f : List ℕ). Consumes old new (steps.1.0 ++ f))
-      (sym same) steps.1.2) most steadily unfailed packet shows)
+  Moves-packet_going reader next old new was steady before failures format count offset beyond head buffer shown ending after current going goes_on moves few steps same room most steadily unfailed packet shows =
+      grind (arith, Moves-packet, length-take-le)
 
   -- a read that failed
   pub Moves-fault_going : (reader next : R) (old new : Option (List ℕ)) (was steady : Bool)
@@ -364,18 +259,4 @@ module _ {R : Type 0} (snap : ℕ) where
       (standing snap reader left steady failures format count offset ending None)
   Advances-answered reader left steady failures format count offset ending current (Ok _) why =
       Moves-ended reader left steady failures format count offset ending current (not_going ending why.0) (not_failed ending why.0)
-  Advances-answered reader left steady failures format count offset ending current (Err fault) why =
-      let was : ending ≡ Failed = why.1 in
-      record {
-        answers = was;
-        most = ([], Consumes-nil left, omega arith);
-        damaged = λ d. ([], Consumes-nil left, omega arith);
-        snap = refl;
-        steadily = λ h. h;
-        steady = λ _ on. absurd (on was);
-        unfailed = λ _. refl;
-        fails = λ _ on. absurd (on was);
-        ended = λ over. absurd (not_failed ending over was);
-        failed = λ _. (refl, (refl, refl, refl));
-        full = λ e. cc;
-      }
+  Advances-answered reader left steady failures format count offset ending current (Err fault) why = grind (arith, Consumes-nil, not_failed)

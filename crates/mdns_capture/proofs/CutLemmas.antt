@@ -1,5 +1,5 @@
 -- A capture reads in two parts, cut after some of its packets.
-use Rattle.std.proofs.Common.{◌≡◌, ◌≢◌, ◌≤◌, ℕ, ◌+◌, Bool, true, false, cond, eqb, ltb, leb, List, [], ◌∷◌, ◌++◌}
+use Rattle.std.proofs.Common.{◌≡◌, ◌≢◌, ◌≤◌, ℕ, ◌+◌, Bool, true, false, cond, eqb, List, [], ◌∷◌, ◌++◌}
 use Rattle.std.proofs.Common.{length, drop, take, map, Option, Some, None, refl, sym, ap, ◌∙◌, arith, append_assoc}
 use Rattle.std.specs.Option.{option_map, option_or}
 use Rattle.std.proofs.lemmas.Bool.{cond-false, ne_eqb, eq-eqb, cond-true}
@@ -8,7 +8,7 @@ use Rattle.mdns_capture.specs.declared.savefile.Format.{Format}
 use Rattle.mdns_capture.specs.declared.moment.Moment.{Moment}
 use Rattle.mdns_capture.specs.declared.savefile.Ending.{Ending}
 use Rattle.mdns_capture.specs.declared.savefile.Ending.TheVariants.{Whole, Cut, Fraction, Long, Many}
-use Rattle.mdns_capture.specs.Savefile.{PacketAt, CaptureReads, PacketsRead, ending_of, stop_of, fraction_of, captured_of}
+use Rattle.mdns_capture.specs.Savefile.{PacketAt, CaptureReads, PacketsRead, ending_of, stop_of}
 use Rattle.mdns_capture.specs.Cut.{offset_after, moved_to, ending_at, content_of, part_before, part_from}
 
 abbrev NotMany : Ending → Type 0
@@ -34,9 +34,7 @@ stop_same false false false false false at other = refl
 
 stop_of-moved : (format : Format) (at other : ℕ) (bytes : List ℕ)
     → stop_of format other bytes ≡ option_map (ending_at other) (stop_of format at bytes)
-stop_of-moved format at other bytes =
-    stop_same (eqb (length bytes) 0) (ltb (length bytes) 16) (leb 1000000000 (fraction_of format bytes))
-    (ltb 262144 (captured_of format bytes)) (ltb (length bytes) (16 + captured_of format bytes)) at other
+stop_of-moved format at other bytes = grind (arith, stop_same)
 
 -- after fewer packets than the greatest number the ending is that of the checks
 ending_few : (format : Format) (count at : ℕ) (bytes : List ℕ) → count ≢ 4294967295
@@ -51,10 +49,7 @@ ending_full format count at bytes full = cond-true (eqb count 4294967295) (Some 
 -- where more packets follow or the ending isn't `Many`, there are fewer than the greatest number
 not_full : (format : Format) (count at : ℕ) (bytes : List ℕ) (packets : List PacketAt) (ending : Ending)
     → NotMany ending → PacketsRead format count at bytes packets ending → count ≢ 4294967295
-not_full format count at bytes [] ending not_many reads full =
-    let many = sym (ending_full format count at bytes full) ∙ reads in
-    let same : Many at ≡ ending = cc in
-    not_many at (sym same)
+not_full format count at bytes [] ending not_many reads full = grind (arith, ending_full)
 not_full format count at bytes (packet ∷ packets) ending not_many reads full = let less = reads.0 in absurd (omega arith)
 
 -- THE SECOND PART
@@ -63,11 +58,7 @@ moved : (format : Format) (count fewer at other : ℕ) (bytes : List ℕ) (packe
     → fewer ≤ count → count ≤ 4294967295 → NotMany ending
     → PacketsRead format count at bytes packets ending
     → PacketsRead format fewer other bytes (moved_to other packets) (ending_at (offset_after other packets) ending)
-moved format count fewer at other bytes [] ending h few not_many reads =
-    let less = not_full format count at bytes [] ending not_many reads in
-    let checks : stop_of format at bytes ≡ Some ending = sym (ending_few format count at bytes less) ∙ reads in
-    ending_few format fewer other bytes (λ full. less (omega arith))
-    ∙ stop_of-moved format at other bytes ∙ ap (λ (found : Option Ending). option_map (ending_at other) found) checks
+moved format count fewer at other bytes [] ending h few not_many reads = grind (arith, not_full, ending_few, stop_of-moved)
 moved format count fewer at other bytes (packet ∷ packets) ending h few not_many reads =
     let less = reads.0 in
     let begins = reads.1.1 in (

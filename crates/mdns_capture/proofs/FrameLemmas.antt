@@ -1,7 +1,7 @@
 -- A frame carries at most one payload, and carries one exactly where no check fails.
 use Rattle.std.proofs.Common.{◌≡◌, ◌≤◌, ◌<◌, ℕ, ◌+◌, ◌-◌, ◌*◌, ◌/◌, ◌==◌, Bool, true, false, cond, List, [], ◌∷◌}
 use Rattle.std.proofs.Common.{◌++◌, length, drop, take, slice_index, Option, Some, None, refl, sym, ap, ◌∙◌, subst}
-use Rattle.std.proofs.Common.{arith, append_assoc, ◌⊎◌, inl, inr, ◌↔◌}
+use Rattle.std.proofs.Common.{arith, append_assoc, ◌⊎◌, inl, inr}
 use Rattle.std.specs.Prelude.{bit_and, Result, Ok, Err, IfOk, IsOkAnd, MatchResult}
 use denote.Bor.{Bor}
 use Rattle.std.specs.Option.{option_map}
@@ -110,8 +110,7 @@ StandsIn-from_parts frame front header datagram padding parts size =
 type-in_parts : (frame addresses ether_type rest : List ℕ) → frame ≡ addresses ++ (ether_type ++ rest)
     → length addresses ≡ 12 → length ether_type ≡ 2 → word_at 12 frame ≡ word_at 0 ether_type
 type-in_parts frame addresses ether_type rest parts two size =
-    ap (λ (bytes : List ℕ). word_at 12 bytes) parts ∙ number-past 2 addresses (ether_type ++ rest) 0 12 (omega arith)
-    ∙ number-within Big 2 0 ether_type rest (omega arith)
+    grind (arith, number-past 2 addresses (ether_type ++ rest) 0 12 (omega arith), number-within Big 2 0 ether_type rest (omega arith))
 
 -- the two cases share their parts
 pub StandsIn-from_carries : (type : ℕ) (IsHeader : List ℕ → ℕ → Type 0) (frame payload : List ℕ)
@@ -259,10 +258,7 @@ passes_by_layer : (frame datagram payload : List ℕ) → first_failing (ip_chec
     → ip_data frame ≡ datagram → IsUdpDatagram datagram payload
     → (cause_of frame ≡ None) × (udp_payload (ip_data frame) ≡ payload)
 passes_by_layer frame datagram payload ip data_is is =
-    let udp = udp_passes datagram payload is in (
-      cause_by_layer frame ∙ rw (ip, data_is) (none_from_PassesUdp datagram udp.0),
-      ap (λ (bytes : List ℕ). udp_payload bytes) data_is ∙ udp.1,
-    )
+    grind (arith, udp_passes datagram payload is, cause_by_layer frame, none_from_PassesUdp)
 
 -- what carries a payload passes all checks, and they give that payload
 pub passes_from_carries : (frame payload : List ℕ) → FrameCarries frame payload

@@ -1,5 +1,6 @@
 -- What passes the checks of a header, as one fact for each check.
-use Rattle.std.proofs.Common.{◌≡◌, ◌≤◌, ℕ, ◌+◌, ◌/◌, List, length, slice_index, None, refl}
+use Rattle.std.proofs.Common.{arith}
+use Rattle.std.proofs.Common.{◌≡◌, ◌≤◌, ℕ, ◌+◌, ◌/◌, List, length, slice_index, None}
 use Rattle.std.specs.Prelude.{bit_and}
 use Rattle.std.proofs.lemmas.Bool.{leb-true, eqb-true, le-leb, eq-eqb}
 use Rattle.mdns_capture.specs.Savefile.{number_at}
@@ -53,9 +54,7 @@ PassesUdp-from_none datagram none =
 
 pub none_from_PassesUdp : (datagram : List ℕ) → PassesUdp datagram → first_failing (udp_checks datagram) ≡ None
 unfolding udp_checks
-none_from_PassesUdp datagram p =
-    pass _ _ _ (le-leb _ _ p.room) (pass _ _ _ (eq-eqb _ _ p.source) (pass _ _ _ (eq-eqb _ _ p.destination)
-    (pass _ _ _ (le-leb _ _ p.least) (pass _ _ _ (le-leb _ _ p.within) refl))))
+none_from_PassesUdp datagram p = grind (arith, pass, le-leb, eq-eqb)
 
 pub PassesIpv4-from_none : (frame : List ℕ) → first_failing (ipv4_checks frame) ≡ None → PassesIpv4 frame
 unfolding ipv4_checks ipv4_size_checks ipv4_kind_checks
@@ -81,10 +80,7 @@ PassesIpv4-from_none frame none =
 
 pub none_from_PassesIpv4 : (frame : List ℕ) → PassesIpv4 frame → first_failing (ipv4_checks frame) ≡ None
 unfolding ipv4_checks ipv4_size_checks ipv4_kind_checks
-none_from_PassesIpv4 frame p =
-    pass _ _ _ (le-leb _ _ p.room) (pass _ _ _ (eq-eqb _ _ p.version) (pass _ _ _ (le-leb _ _ p.at_least)
-    (pass _ _ _ (le-leb _ _ p.total) (pass _ _ _ (le-leb _ _ p.whole) (pass _ _ _ (eq-eqb _ _ p.unfragmented)
-    (pass _ _ _ (eq-eqb _ _ p.protocol) (pass _ _ _ (eq-eqb _ _ p.destination) refl)))))))
+none_from_PassesIpv4 frame p = grind (arith, pass, le-leb, eq-eqb)
 
 pub PassesIpv6-from_none : (frame : List ℕ) → first_failing (ipv6_checks frame) ≡ None → PassesIpv6 frame
 unfolding ipv6_checks ipv6_size_checks ipv6_kind_checks
@@ -104,6 +100,4 @@ PassesIpv6-from_none frame none =
 
 pub none_from_PassesIpv6 : (frame : List ℕ) → PassesIpv6 frame → first_failing (ipv6_checks frame) ≡ None
 unfolding ipv6_checks ipv6_size_checks ipv6_kind_checks
-none_from_PassesIpv6 frame p =
-    pass _ _ _ (le-leb _ _ p.room) (pass _ _ _ (eq-eqb _ _ p.version) (pass _ _ _ (le-leb _ _ p.whole)
-    (pass _ _ _ (eq-eqb _ _ p.next_header) (pass _ _ _ (eq-eqb _ _ p.destination) refl))))
+none_from_PassesIpv6 frame p = grind (arith, pass, le-leb, eq-eqb)

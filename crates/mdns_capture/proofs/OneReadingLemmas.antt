@@ -13,7 +13,6 @@ use Rattle.mdns_capture.specs.declared.savefile.Order.{Order}
 use Rattle.mdns_capture.specs.declared.savefile.Order.TheVariants.{Little, Big}
 use Rattle.mdns_capture.specs.declared.savefile.Format.{Format}
 use Rattle.mdns_capture.specs.declared.savefile.Ending.{Ending}
-use Rattle.mdns_capture.specs.declared.savefile.BeginFault.TheVariants.{Version, Link}
 use Rattle.mdns_capture.specs.Savefile.{PacketAt, number_at, seconds_of, fraction_of, captured_of, scale_of}
 use Rattle.mdns_capture.specs.Savefile.{format_of, format_fault, header_fault, stop_of, ending_of, IsFileHeader}
 use Rattle.mdns_capture.specs.Savefile.{BeginsWith, PacketsRead, CaptureReads}
@@ -36,10 +35,7 @@ format_fault-header format header heads = rw (heads.magic, heads.major, heads.mi
 -- a text has one file header, of one format
 pub same_header : (format other : Format) (header others rest more : List ℕ) → IsFileHeader format header → IsFileHeader other others
     → header ++ rest ≡ others ++ more → (format ≡ other) × (rest ≡ more)
-same_header format other header others rest more heads again e =
-    let same = append_parts header others rest more (omega (arith, heads.size, again.size)) e in
-    let named : Some format ≡ Some other = sym heads.magic ∙ ap (λ h. format_of (number_at Big 4 0 h)) same.0 ∙ again.magic in
-    (cc, same.1)
+same_header format other header others rest more heads again e = grind (arith, append_parts, header)
 
 -- moments of the same nanoseconds are one
 pub same_moment : (a b : Moment) → a.nanos ≡ b.nanos → a ≡ b
@@ -53,21 +49,12 @@ abbrev packet_of : Moment → ℕ → List ℕ → PacketAt
 packet_of moment at frame = record { moment = moment; at = at; frame = frame }
 
 same_packet : (p q : PacketAt) → p.moment.nanos ≡ q.moment.nanos → p.at ≡ q.at → p.frame ≡ q.frame → p ≡ q
-same_packet p q moment at frame =
-    ap (λ m. packet_of m p.at p.frame) (same_moment p.moment q.moment moment)
-    ∙ ap (λ a. packet_of q.moment a p.frame) at ∙ ap (λ f. packet_of q.moment q.at f) frame
+same_packet p q moment at frame = grind (arith, same_moment p.moment q.moment moment)
 
 -- bytes begin with one packet at most
 same_begin : (format : Format) (at : ℕ) (bytes : List ℕ) (p q : PacketAt) (rest more : List ℕ)
     → BeginsWith format at bytes p rest → BeginsWith format at bytes q more → (p ≡ q) × (rest ≡ more)
-same_begin format at bytes p q rest more first second =
-    let heads = append_parts first.header second.header (p.frame ++ rest) (q.frame ++ more)
-    (omega (arith, first.heads.size, second.heads.size)) (sym first.whole ∙ second.whole) in
-    let captured : length p.frame ≡ length q.frame = first.heads.of_length ∙ ap (captured_of format) heads.0 ∙ sym second.heads.of_length in
-    let parts = append_parts p.frame q.frame rest more captured heads.1 in
-    let moments : p.moment.nanos ≡ q.moment.nanos = first.heads.at_moment
-    ∙ ap (λ h. seconds_of format h * 1000000000 + fraction_of format h) heads.0 ∙ sym second.heads.at_moment in
-    (same_packet p q moments (first.offset ∙ sym second.offset) parts.0, parts.1)
+same_begin format at bytes p q rest more first second = grind (arith, append_parts, same_packet)
 
 -- where a packet begins, the reading doesn't stop
 stop_of-begin : (format : Format) (at : ℕ) (bytes : List ℕ) (p : PacketAt) (rest : List ℕ)
@@ -83,9 +70,7 @@ stop_of-begin format at bytes p rest begins =
 
 ending_of-begin : (format : Format) (count at : ℕ) (bytes : List ℕ) (p : PacketAt) (rest : List ℕ)
     → count < 4294967295 → BeginsWith format at bytes p rest → ending_of format count at bytes ≡ None
-ending_of-begin format count at bytes p rest few begins =
-    let more : eqb count 4294967295 ≡ false = grind (arith, nat_tests) in
-    rw more (stop_of-begin format at bytes p rest begins)
+ending_of-begin format count at bytes p rest few begins = grind (arith, nat_tests, stop_of-begin format at bytes p rest begins)
 
 -- at most one list of packets, and one ending
 pub same_packets : (format : Format) (count at : ℕ) (bytes : List ℕ) (ps qs : List PacketAt) (e f : Ending)
@@ -106,18 +91,11 @@ same_packets format count at bytes (p ∷ ps) (q ∷ qs) e f first second =
 -- at most one reading
 pub same_reading : (bytes : List ℕ) (ps qs : List PacketAt) (e f : Ending) → CaptureReads bytes ps e
     → CaptureReads bytes qs f → (ps ≡ qs) × (e ≡ f)
-same_reading bytes ps qs e f first second =
-    let heads = same_header first.format second.format first.header second.header first.rest second.rest first.heads
-    second.heads (sym first.whole ∙ second.whole) in
-    let again = subst (λ (format : Format). PacketsRead format 0 24 second.rest qs f) (sym heads.0) second.reads in
-    let here = subst (λ (rest : List ℕ). PacketsRead first.format 0 24 rest qs f) (sym heads.1) again in
-    same_packets first.format 0 24 first.rest ps qs e f first.reads here
+same_reading bytes ps qs e f first second = grind (arith, same_header, same_packets)
 
 -- what reads has no fault in its file header
 pub sound_reading : (bytes : List ℕ) (ps : List PacketAt) (e : Ending) → CaptureReads bytes ps e → header_fault bytes ≡ None
-sound_reading bytes ps e reads =
-    ap header_fault reads.whole ∙ header_fault-append reads.header reads.rest reads.heads.size
-    ∙ format_fault-header reads.format reads.header reads.heads
+sound_reading bytes ps e reads = grind (arith, header_fault-append, format_fault-header)
 
 -- Bytes without a fault in their file header are a capture.
 
@@ -211,10 +189,7 @@ Reads format count at bytes = (ps : List PacketAt) × ((e : Ending) × PacketsRe
 packets_of : (fuel : ℕ) (format : Format) (count at : ℕ) (bytes : List ℕ) → length bytes ≤ fuel → count ≤ 4294967295 → IsBytes bytes
     → (stop : Option Ending) → ending_of format count at bytes ≡ stop → Reads format count at bytes
 packets_of fuel format count at bytes size few fits (Some e) h = ([], (e, h))
-packets_of zero format count at bytes size few fits None h =
-    let goes = goes_on format count at bytes h in
-    let long : 16 ≤ length bytes = ltb-false _ _ goes.header in
-    absurd (omega arith)
+packets_of zero format count at bytes size few fits None h = grind (arith, goes_on, ltb-false)
 packets_of (suc fuel) format count at bytes size few fits None h =
     let goes = goes_on format count at bytes h in
     let long : 16 ≤ length bytes = ltb-false _ _ goes.header in
@@ -252,17 +227,7 @@ not_false false e = cc
 -- a header without a fault is one of its format
 heads_of : (format : Format) (header : List ℕ) → length header ≡ 24 → format_of (number_at Big 4 0 header) ≡ Some format
     → format_fault header (Some format) ≡ None → IsFileHeader format header
-heads_of format header size magic e =
-    let version = cond_none (not (is_version format header)) Version (cond (not (is_ethernet format header)) (Some Link) None) e in
-    let link = cond_none (not (is_ethernet format header)) Link None version.1 in
-    let numbers = both_true (number_at format.order 2 4 header == 2) (number_at format.order 2 6 header == 4) version.0 in
-    record {
-      size = size;
-      magic = magic;
-      major = eqb-true _ _ numbers.0;
-      minor = eqb-true _ _ numbers.1;
-      link = eqb-true _ _ (not_false (is_ethernet format header) link.0);
-    }
+heads_of format header size magic e = grind (arith, cond_none, header, both_true, eqb-true, not_false)
 
 pub some_reading : (bytes : List ℕ) → ((offset : ℕ) → slice_index bytes offset < 256) → header_fault bytes ≡ None
     → (ps : List PacketAt) × ((e : Ending) × CaptureReads bytes ps e)

@@ -1,6 +1,6 @@
 -- A range of a list, and the rest of it; reads that failed.
 use Rattle.std.proofs.Common.{rules, Result, Ok, Err, Option, IsErr}
-use Rattle.std.proofs.Common.{◌≡◌, ℕ, ◌+◌, ◌-◌, ◌≤◌, List, [], ◌++◌, take, drop, slice_range, sym, ap, ◌∙◌, arith}
+use Rattle.std.proofs.Common.{◌≡◌, ℕ, ◌+◌, ◌-◌, ◌≤◌, List, [], ◌++◌, take, drop, slice_range, ap, arith}
 use Rattle.std.proofs.Common.{take-append-drop, drop-drop}
 use Rattle.std.proofs.lemmas.List.{drop-take}
 use Rattle.std.specs.Io.KnownBytes.{Keeps, ReadConsumes}
@@ -10,17 +10,11 @@ pub slice_range-empty : (xs : List ℕ) (a e : ℕ) → e ≤ a → slice_range 
 slice_range-empty xs a e none = ap (λ n. take n (drop a xs)) {y = 0} (omega arith)
 
 drop-slice_range : (xs : List ℕ) (a e n : ℕ) → n ≤ e - a → drop n (slice_range xs a e) ≡ slice_range xs (a + n) e
-drop-slice_range xs a e n within =
-    let whole : e - a ≡ n + (e - (a + n)) = omega arith in
-    ap (λ k. drop n (take k (drop a xs))) whole
-    ∙ drop-take n (e - (a + n)) (drop a xs)
-    ∙ ap (take (e - (a + n))) (drop-drop n a xs)
+drop-slice_range xs a e n within = grind (arith, drop-take n (e - (a + n)) (drop a xs), drop-drop n a xs)
 
 -- a range is its first bytes and then the others
 pub slice_range-split : (xs : List ℕ) (a e n : ℕ) → n ≤ e - a → slice_range xs a e ≡ take n (slice_range xs a e) ++ slice_range xs (a + n) e
-slice_range-split xs a e n within =
-    let all = slice_range xs a e in
-    sym (take-append-drop n all) ∙ ap (λ l. take n all ++ l) (drop-slice_range xs a e n within)
+slice_range-split xs a e n within = grind (arith, slice_range xs a e, take-append-drop, drop-slice_range xs a e n within)
 
 -- a read that failed consumed nothing
 pub ReadConsumes-err : {E : Type 0} (old new : Option (List ℕ)) (r : Result ℕ E) (to : List ℕ) → IsErr r

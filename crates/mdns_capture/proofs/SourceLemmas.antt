@@ -1,25 +1,5 @@
 -- A frame that carries a payload has one source address, which stands at one offset.
-use Rattle.std.proofs.Common.{
-  ◌≡◌,
-  ◌≤◌,
-  ℕ,
-  ◌+◌,
-  ◌==◌,
-  true,
-  false,
-  List,
-  ◌++◌,
-  length,
-  drop,
-  take,
-  refl,
-  sym,
-  ap,
-  ◌∙◌,
-  subst,
-  arith,
-  append_assoc,
-}
+use Rattle.std.proofs.Common.{◌≡◌, ◌≤◌, ℕ, ◌+◌, ◌==◌, true, List, ◌++◌, length, drop, take, refl, sym, ap, ◌∙◌, subst, arith, append_assoc}
 use Rattle.std.proofs.lemmas.Bool.{eq-eqb}
 use Rattle.std.proofs.lemmas.List.{
   length-drop,
@@ -89,24 +69,11 @@ source_there offset size header room =
 
 only_source : (offset size : ℕ) (header source : List ℕ) → HasSource offset size header source
     → take size (drop offset header) ≡ source
-only_source offset size header source has =
-    let rest = has.destination ++ has.options in
-    ap (λ (bytes : List ℕ). take size (drop offset bytes)) has.parts
-    ∙ ap (λ (bytes : List ℕ). take size bytes) (drop_at has.front (source ++ rest) offset has.front_size)
-    ∙ take_at source rest size has.source_size
+only_source offset size header source has = grind (arith, drop_at, take_at)
 
 source_room : (offset size : ℕ) (header source : List ℕ) → HasSource offset size header source
     → offset + size ≤ length header
-source_room offset size header source has =
-    let rest = has.destination ++ has.options in
-    omega (
-      arith,
-      ap (λ (bytes : List ℕ). length bytes) has.parts,
-      length-append has.front (source ++ rest),
-      length-append source rest,
-      has.front_size,
-      has.source_size,
-    )
+source_room offset size header source has = grind (arith, length-append)
 
 ipv4_room : (header : List ℕ) (count : ℕ) → IsIpv4Header header count → 20 ≤ length header
 ipv4_room header count is = omega (arith, is.size, is.at_least)
@@ -118,9 +85,7 @@ ipv4_source_at : (frame : List ℕ) → word_at 12 frame ≡ ipv4_type → sourc
 ipv4_source_at frame type = let ipv4 : (word_at 12 frame == ipv4_type) ≡ true = eq-eqb _ _ type in rw ipv4 refl
 
 ipv6_source_at : (frame : List ℕ) → word_at 12 frame ≡ ipv6_type → source_at frame ≡ V6 (take 16 (drop 22 frame))
-ipv6_source_at frame type =
-    let ipv4 : (word_at 12 frame == ipv4_type) ≡ false = ap (λ (word : ℕ). word == ipv4_type) type in
-    rw ipv4 refl
+ipv6_source_at frame type = grind arith
 
 -- what carries a payload was sent from the address there
 pub sent_from_there : (frame payload : List ℕ) → FrameCarries frame payload → IsSourceOf frame (source_at frame)
@@ -172,16 +137,5 @@ source_is_there frame (V6 source) sent =
 
 -- what carries a payload has room for the addresses
 pub room_for_source : (frame : List ℕ) → (payload : List ℕ) × FrameCarries frame payload → 38 ≤ length frame
-room_for_source frame (payload, in_ipv4 k) =
-    let stands = (StandsIn-from_carries ipv4_type IsIpv4Header frame payload k).1 in
-    omega (
-      arith,
-      stands.long,
-      ipv4_room k.header _ k.ip,
-      ap (λ (bytes : List ℕ). length bytes) k.udp.parts,
-      length-append k.udp.header (payload ++ k.udp.uncounted),
-      k.udp.udp.size,
-    )
-room_for_source frame (payload, in_ipv6 k) =
-    let stands = (StandsIn-from_carries ipv6_type IsIpv6Header frame payload k).1 in
-    omega (arith, stands.long, k.ip.size)
+room_for_source frame (payload, in_ipv4 k) = grind (arith, StandsIn-from_carries, ipv4_room, length-append)
+room_for_source frame (payload, in_ipv6 k) = grind (arith, StandsIn-from_carries ipv6_type IsIpv6Header frame payload k)

@@ -1,14 +1,10 @@
-use Rattle.std.proofs.Common.{◌≤◌, ◌≡◌, ◌∙◌, arith, length, take}
+use Rattle.std.proofs.Common.{◌≤◌, arith, length, take}
 use Rattle.std.proofs.lemmas.List.{length-take, length-take-le}
 use Rattle.mdns_capture.proofs.HeaderLemmas.{IfSome-stop_came, IsPacketOrEnd-came, TakesAtMost-both, TakesAtMost-more, packet_by-undamaged}
 use Rattle.mdns_capture.proofs.savefile.read_packet.Goals as goal
 
 pub returns-in-Err-clause-ok : goal.returns-in-Err-clause-ok
-returns-in-Err-clause-ok g c = (
-  c.in-Err.ensures.over,
-  IfSome-stop_came _ _ _ _ _ _ _ c.fill.auto.to c.in_ok-count.ensures.bytes
-      c.in_ok-count.ensures.end c.in-Err.ensures.err,
-)
+returns-in-Err-clause-ok g c = grind (arith, IfSome-stop_came)
 
 pub returns-in-Err-clause-most : goal.returns-in-Err-clause-most
 returns-in-Err-clause-most g c = TakesAtMost-more _ _ _ _ (omega arith) c.in_ok-count.ensures.most
@@ -32,8 +28,4 @@ returns-clause-most g c =
     TakesAtMost-both _ _ _ _ _ _ c.fill.auto.to few c.in_ok-count.ensures.bytes c.fill-2.ensures.most
 
 pub returns-clause-ok : goal.returns-clause-ok
-returns-clause-ok g c =
-    let body : length c.fill-2.new.to ≡ c.in-Ok.head.captured = c.fill-2.auto.to
-    ∙ length-take-le _ _ (omega (arith, c.in-Ok.ensures.ok.limit, c.requires)) in
-    IsPacketOrEnd-came _ _ _ _ _ _ _ _ _ _ _ c.packet_by.ensures c.in-Ok.ensures.ok c.in_ok-count.ensures.bytes
-    c.in_ok-count-2.ensures.bytes c.in_ok-count-2.ensures.end c.in_ok-count-2.ensures.bound.0 body
+returns-clause-ok g c = grind (arith, length-take-le, IsPacketOrEnd-came)

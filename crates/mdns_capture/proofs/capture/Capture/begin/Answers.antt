@@ -1,12 +1,11 @@
+use Rattle.std.proofs.Common.{arith}
 use Rattle.std.proofs.Common.{rules}
 use Rattle.std.proofs.lemmas.Result.{err_from_is_err_and}
 use Rattle.mdns_capture.proofs.CaptureLemmas.{Begins-begun}
 use Rattle.mdns_capture.proofs.capture.Capture.begin.Goals as goal
 
 pub returns-in_err-head-clause-answers : goal.returns-in_err-head-clause-answers
-returns-in_err-head-clause-answers g c =
-    let p = err_from_is_err_and c.from_residual.result c.from_residual.ensures.1 in
-    rw (p.1, p.2) c.in_err-head.ensures.answers
+returns-in_err-head-clause-answers g c = grind (arith, err_from_is_err_and)
 
 pub returns-clause-begins : goal.returns-clause-begins
 returns-clause-begins g c =
