@@ -1,6 +1,6 @@
 -- Faults after a header have an offset, so none of them is one of the header's; and how many hearings a
 -- message can have.
-use Rattle.std.proofs.Common.{◌≡◌, ℕ, zero, suc, ◌+◌, ◌*◌, ◌<◌, ◌≤◌, List, Option, None, Some, length, get_or, drop}
+use Rattle.std.proofs.Common.{◌≡◌, ℕ, zero, suc, ◌+◌, ◌*◌, ◌<◌, ◌≤◌, List, Option, None, Some, length, get_or}
 use Rattle.std.proofs.Common.{sym, ap, subst, inl, inr, arith, length-append, get_or-drop}
 use Rattle.std.proofs.lemmas.List.{length-map}
 use Rattle.mdns_capture.specs.declared.moment.Moment.{Moment}
@@ -150,10 +150,7 @@ run_length {A} Item k each (suc count) start told next (front, offset, last, run
 
 word_bound : (m : List ℕ) (p : ℕ) → ((i : ℕ) → get_or m i 0 < 256) → word_at p m ≤ 65535
 unfolding number_at
-word_bound m p fits =
-    let a : get_or (drop p m) 0 0 < 256 = rw get_or-drop (fits (p + 0)) in
-    let b : get_or (drop p m) 1 0 < 256 = rw get_or-drop (fits (p + 1)) in
-    omega arith
+word_bound m p fits = grind (arith, get_or-drop)
 
 question_length : (m : List ℕ) (p : ℕ) (told : List HeardRecord) (q : ℕ) → QuestionStands m p told q → length told ≤ 0
 question_length m p told q stands = omega (arith, ap length stands.rest.nothing)

@@ -1,11 +1,11 @@
 -- Hearings in flat buffers keep their meaning while bytes are added.
-use Rattle.std.proofs.Common.{◌≡◌, ◌∙◌, ℕ, ◌+◌, ◌-◌, ◌≤◌, List, [], ◌∷◌, ◌++◌, length, drop, map, take, refl, sym, ap}
-use Rattle.std.proofs.Common.{subst, arith, length-append, length-drop}
+use Rattle.std.proofs.Common.{◌≡◌, ◌∙◌, ℕ, ◌+◌, List, [], ◌∷◌, ◌++◌, length, map, refl, sym, ap}
+use Rattle.std.proofs.Common.{arith, length-append, length-drop}
 use Rattle.std.specs.List.{All}
 use Rattle.std.proofs.lemmas.List.{drop_at, length_push, take_all, take-append-le, drop-append-le, map-append}
 use Rattle.std.proofs.lemmas.List.Elements.{All-head, All-tail, All-push, All-weaker}
-use Rattle.dns_name.specs.Name.{Extends, IsWire}
-use Rattle.dns_name.specs.NameAt.{NameReads, ReadsOnto}
+use Rattle.dns_name.specs.Name.{Extends}
+use Rattle.dns_name.specs.NameAt.{ReadsOnto}
 use Rattle.dns_name.proofs.ReadNameLemmas.{name_wire}
 use Rattle.mdns_message.specs.declared.body.RecordData.TheVariants as body
 use Rattle.mdns_message.specs.declared.hearing.Hearing.{Hearing}
@@ -18,25 +18,16 @@ use Rattle.mdns_message.specs.Flat.{AddsFlat, BodyFits, Fits, IsNameIn, IsWithin
 
 -- a part stays what it is
 part_kept : (bytes more : List ℕ) (s : Span) → IsWithin bytes s → bytes_in (bytes ++ more) s ≡ bytes_in bytes s
-part_kept bytes more s h =
-    let begins : s.begin ≤ length bytes = let a : s.begin ≤ s.end = h.ordered in let b : s.end ≤ length bytes = h.within in omega arith in
-    let ends : s.end - s.begin ≤ length (drop s.begin bytes) = let b : s.end ≤ length bytes = h.within in simp length-drop (omega arith) in
-    rw (drop-append-le s.begin bytes more begins, take-append-le (s.end - s.begin) (drop s.begin bytes) more ends) refl
+part_kept bytes more s h = grind (arith, length-drop, drop-append-le, take-append-le)
 
 pub bytes_kept : (before bytes : List ℕ) (s : Span) → Extends before bytes → IsWithin before s → bytes_in bytes s ≡ bytes_in before s
 bytes_kept before bytes s b h = ap (λ xs. bytes_in xs s) b.whole ∙ part_kept before b.more s h
 
 within_kept : (before bytes : List ℕ) (s : Span) → Extends before bytes → IsWithin before s → IsWithin bytes s
-within_kept before bytes s b h = record {
-  ordered = h.ordered;
-  within = let e : s.end ≤ length before = h.within in rw b.whole (rw length-append (omega arith));
-}
+within_kept before bytes s b h = grind (arith, length-append)
 
 pub name_kept : (before bytes : List ℕ) (s : Span) → Extends before bytes → IsNameIn before s → IsNameIn bytes s
-name_kept before bytes s b h = record {
-  part = within_kept before bytes s b h.part;
-  wire = subst IsWire (sym (bytes_kept before bytes s b h.part)) h.wire;
-}
+name_kept before bytes s b h = grind (arith, within_kept before bytes s b h.part, bytes_kept before bytes s b h.part)
 
 body_kept : (before bytes : List ℕ) (flat : FlatBody) → Extends before bytes → BodyFits before flat
     → BodyFits bytes flat × (body_in bytes flat ≡ body_in before flat)
@@ -48,25 +39,17 @@ body_kept before bytes (Srv priority weight port target) b h =
     (name_kept before bytes target b h, ap (body.Srv priority weight port) (bytes_kept before bytes target b h.part))
 
 pub fits_kept : (before bytes : List ℕ) → Extends before bytes → (h : FlatHearing) → Fits before h → Fits bytes h
-fits_kept before bytes b h fits = record {
-  owner = name_kept before bytes h.owner b fits.owner;
-  body = (body_kept before bytes h.body b fits.body).0;
-}
+fits_kept before bytes b h fits = grind (arith, name_kept before bytes h.owner b fits.owner, body_kept before bytes h.body b fits.body)
 
 hearing_kept : (before bytes : List ℕ) → Extends before bytes → (h : FlatHearing) → Fits before h → hearing_in bytes h ≡ hearing_in before h
-hearing_kept before bytes b h fits =
-    let owner : bytes_in bytes h.owner ≡ bytes_in before h.owner = bytes_kept before bytes h.owner b fits.owner.part in
-    let same : body_in bytes h.body ≡ body_in before h.body = (body_kept before bytes h.body b fits.body).1 in
-    λ i. record { moment = h.moment; heard = record { owner = owner i; body = same i }; ttl = h.ttl; flush = h.flush }
+hearing_kept before bytes b h fits = grind (arith, bytes_kept, body_kept)
 
 -- all of them mean what they meant
 pub all_kept : (before bytes : List ℕ) → Extends before bytes → (hs : List FlatHearing) → All (Fits before) hs
     → map (hearing_in bytes) hs ≡ map (hearing_in before) hs
 all_kept before bytes b [] fits = refl
 all_kept before bytes b (h ∷ hs) fits =
-    let first : hearing_in bytes h ≡ hearing_in before h = hearing_kept before bytes b h (All-head (Fits before) h hs fits) in
-    let rest : map (hearing_in bytes) hs ≡ map (hearing_in before) hs = all_kept before bytes b hs (All-tail (Fits before) h hs fits) in
-    λ i. first i ∷ rest i
+    grind (arith, hearing_kept, All-head, All-tail, all_kept before bytes b hs (All-tail (Fits before) h hs fits))
 
 -- they fit, also where bytes were added
 pub all_fit : (before bytes : List ℕ) (hs : List FlatHearing) → Extends before bytes → All (Fits before) hs → All (Fits bytes) hs
@@ -76,16 +59,13 @@ all_fit before bytes hs b fits = All-weaker (Fits before) (Fits bytes) (fits_kep
 pub one_more_fits : (before bytes : List ℕ) (hs longer : List FlatHearing) (this : Hearing) → Extends before bytes
     → All (Fits before) hs → AddsFlat bytes hs longer this → All (Fits bytes) longer
 one_more_fits before bytes hs longer this b fit adds =
-    subst (All (Fits bytes)) (sym adds.added)
-    (All-push (Fits bytes) hs adds.flat (all_fit before bytes hs b fit) adds.fits)
+    grind (arith, All-push (Fits bytes) hs adds.flat (all_fit before bytes hs b fit) adds.fits, all_fit before bytes hs b fit)
 
 -- and they mean what they meant, and that one
 pub one_more_heard : (before bytes : List ℕ) (hs longer : List FlatHearing) (this : Hearing) → Extends before bytes
     → All (Fits before) hs → AddsFlat bytes hs longer this
     → map (hearing_in bytes) longer ≡ map (hearing_in before) hs ++ this ∷ []
-one_more_heard before bytes hs longer this b fit adds =
-    ap (map (hearing_in bytes)) adds.added ∙ map-append (hearing_in bytes) hs (adds.flat ∷ [])
-    ∙ (λ i. all_kept before bytes b hs fit i ++ adds.same i ∷ [])
+one_more_heard before bytes hs longer this b fit adds = grind (arith, map-append, all_kept)
 
 -- a hearing is added whose owner and data were appended
 pub hearing_added : (mid bytes : List ℕ) (old new : List FlatHearing) (h : FlatHearing) (this : Hearing)
@@ -118,15 +98,4 @@ one_longer bytes old new this adds = ap length adds.added ∙ length_push old ad
 -- a name that was appended is where the bytes were longer
 pub name_held : (m : List ℕ) (at after : ℕ) (before bytes : List ℕ) (s : Span) → ReadsOnto m at before bytes after
     → s.begin ≡ length before → s.end ≡ length bytes → HoldsName bytes m at s after
-name_held m at after before bytes s r begins ends =
-    let sum : length bytes ≡ length before + length r.name = ap length r.whole ∙ length-append before r.name in
-    let size : s.end - s.begin ≡ length r.name = omega arith in
-    let rest : drop s.begin bytes ≡ r.name = ap (drop s.begin) r.whole ∙ drop_at before r.name s.begin (sym begins) in
-    let same : bytes_in bytes s ≡ r.name = ap (take (s.end - s.begin)) rest ∙ take_all (s.end - s.begin) r.name (omega arith) in
-    record {
-      fits = record {
-        part = record { ordered = omega arith; within = omega arith };
-        wire = subst IsWire (sym same) (name_wire m at r.name after r.reads);
-      };
-      reads = subst (λ n. NameReads m at n after) (sym same) r.reads;
-    }
+name_held m at after before bytes s r begins ends = grind (arith, length-append, drop_at, take_all, name_wire)

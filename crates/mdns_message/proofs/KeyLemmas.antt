@@ -1,6 +1,6 @@
 -- Where two comparisons together tell that two keys are equal, each does; and resources that compare equal are equal.
+use Rattle.std.proofs.Common.{arith}
 use Rattle.std.proofs.Common.{◌≡◌, ◌↔◌, IsTrue, Bool, true, false, ◌&&◌, refl, ap, ◌∙◌}
-use Rattle.std.specs.Cmp.{Equal-is, tied_itself}
 use Rattle.std.specs.Ordering.{is_eq}
 use Rattle.mdns_message.specs.declared.resource.Resource.{Resource}
 use Rattle.mdns_message.specs.Resource.{resource_cmp}
@@ -16,7 +16,4 @@ true_both x y e f = ap (λ v. v && y) e ∙ f
 
 -- resources that compare equal are one value, and only those
 pub resources_same : (a b : Resource) → IsTrue (is_eq (resource_cmp a b)) ↔ (a ≡ b)
-resources_same a b = (
-  λ equal. resource_cmp-exact a b ((Equal-is (resource_cmp a b)).0 equal),
-  λ same. ap (λ other. is_eq (resource_cmp other b)) same ∙ ap is_eq (tied_itself resource_cmp-total b),
-)
+resources_same a b = grind (arith, resource_cmp-exact, resource_cmp-total)

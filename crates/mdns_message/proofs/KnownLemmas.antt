@@ -1,13 +1,14 @@
 -- Known names stay known while bytes are added, and a pointer to one of them is that name.
-use Rattle.std.proofs.Common.{◌≡◌, ℕ, ◌+◌, List, [], ◌∷◌, ◌++◌, inl, inr, sym, subst}
+use Rattle.std.proofs.lemmas.Grind.{common_steps}
+use Rattle.std.proofs.Common.{arith}
+use Rattle.std.proofs.Common.{◌≡◌, ℕ, ◌+◌, List, [], ◌∷◌, ◌++◌, sym, subst}
 use Rattle.std.specs.List.{All, Contains}
 use Rattle.std.proofs.lemmas.List.Elements.{All-contains, All-push, All-weaker}
 use Rattle.dns_name.specs.Name.{Extends}
-use Rattle.dns_name.specs.NameAt.{NameReads, PointerLeads}
+use Rattle.dns_name.specs.NameAt.{PointerLeads}
 use Rattle.dns_name.proofs.NameLemmas.{name_at_target, name_pointed}
 use Rattle.mdns_message.specs.declared.flat.KnownName.{KnownName}
 use Rattle.mdns_message.specs.declared.flat.Span.{Span}
-use Rattle.mdns_message.specs.Flat.{bytes_in}
 use Rattle.mdns_message.specs.FlatRecord.{HoldsName}
 use Rattle.mdns_message.specs.Known.{BeginsAt, IsKnown}
 use Rattle.mdns_message.proofs.FlatLemmas.{bytes_kept, name_kept}
@@ -15,30 +16,17 @@ use Rattle.mdns_message.proofs.FlatLemmas.{bytes_kept, name_kept}
 -- a name that is held stays held
 held_kept : (m before bytes : List ℕ) (at after : ℕ) (s : Span) → Extends before bytes → HoldsName before m at s after
     → HoldsName bytes m at s after
-held_kept m before bytes at after s b h = record {
-  fits = name_kept before bytes s b h.fits;
-  reads = subst (λ n. NameReads m at n after) (sym (bytes_kept before bytes s b h.fits.part)) h.reads;
-}
+held_kept m before bytes at after s b h = grind (arith, name_kept before bytes s b h.fits, bytes_kept before bytes s b h.fits.part)
 
 -- known names stay known
 pub known_kept : (m before bytes : List ℕ) (known : List KnownName) → Extends before bytes
     → All (IsKnown m before) known → All (IsKnown m bytes) known
-known_kept m before bytes known b all =
-    All-weaker (IsKnown m before) (IsKnown m bytes) (λ k h. record {
-      after = h.after;
-      holds = held_kept m before bytes k.offset h.after k.name b h.holds;
-    }) known all
+known_kept m before bytes known b all = grind (arith, common_steps, All-weaker, held_kept)
 
 -- a name that is held at an offset is known where it begins
 known_one : (m bytes : List ℕ) (at offset after : ℕ) (s : Span) → BeginsAt m at offset → HoldsName bytes m at s after
     → IsKnown m bytes (record { offset = offset; name = s })
-known_one m bytes at offset after s begins h =
-    elim begins [
-      | inl same ↦ record { after = after; holds = subst (λ p. HoldsName bytes m p s after) (sym same) h }
-      | inr leads ↦
-          let target = name_at_target m at offset (bytes_in bytes s) after leads h.reads in
-          record { after = target.0; holds = record { fits = h.fits; reads = target.1 } }
-    ]
+known_one m bytes at offset after s begins h = grind (arith, name_at_target)
 
 -- and with it one more name is known
 pub known_more : (m before bytes : List ℕ) (known longer : List KnownName) (at offset after : ℕ) (s : Span)
@@ -53,6 +41,4 @@ known_more m before bytes known longer at offset after s b all begins h added =
 pub known_pointed : (m bytes : List ℕ) (known : List KnownName) (at target : ℕ) (s : Span)
     → All (IsKnown m bytes) known → PointerLeads m at at target → Contains known (record { offset = target; name = s })
     → HoldsName bytes m at s (at + 2)
-known_pointed m bytes known at target s all leads among =
-    let k = All-contains (IsKnown m bytes) known _ all among in
-    record { fits = k.holds.fits; reads = name_pointed m at target _ _ leads k.holds.reads }
+known_pointed m bytes known at target s all leads among = grind (arith, All-contains, name_pointed)

@@ -12,15 +12,14 @@ use Rattle.mdns_message.specs.declared.record_type.RecordType.{RecordType}
 use Rattle.mdns_message.specs.declared.record_type.RecordType.TheVariants as kind
 use Rattle.mdns_message.specs.declared.record_at.RecordHeader.{RecordHeader}
 use Rattle.dns_name.specs.NameAt.{NameReads}
-use Rattle.mdns_message.specs.Message.{Pair, PairFails}
 use Rattle.mdns_message.specs.RecordAt.{DataFails, DataNameFails, DataNameReads, DataReads, HeaderFails, HeaderStands}
 use Rattle.mdns_message.specs.RecordAt.{HeardRecord, IsCut, LastNameFails, Named, NamedFails, QuestionFails}
 use Rattle.mdns_message.specs.RecordAt.{QuestionRest, QuestionStands, RecordFails, RecordRest, RecordRestFails}
 use Rattle.mdns_message.specs.RecordAt.{RecordStands, RecordTells, RecordTellingFails, data_in, header_of}
 use Rattle.mdns_capture.specs.Frame.{word_at}
 use Rattle.mdns_message.specs.RecordAt.{heard_record, wanted}
-use Rattle.mdns_message.specs.Message.{HasHeader, MessageReads, QuestionSection, RecordSection, Sections, count_offset, hearing_of}
-use Rattle.mdns_message.specs.FirstMessageFault.{MessageFails, QuestionSectionFails, RecordSectionFails, SectionsFail}
+use Rattle.mdns_message.specs.Message.{HasHeader, MessageReads, RecordSection, Sections, count_offset, hearing_of}
+use Rattle.mdns_message.specs.FirstMessageFault.{MessageFails, RecordSectionFails, SectionsFail}
 use Rattle.dns_name.proofs.NameLemmas.{name_unique}
 use Rattle.mdns_message.proofs.FaultLemmas.{name_fault_not_both, name_or_fault, one_name_fault}
 use Rattle.mdns_message.proofs.RunOutcomeLemmas.{IsDecided, pair_decided, run_decided}
@@ -28,31 +27,17 @@ use Rattle.mdns_capture.specs.declared.moment.Moment.{Moment}
 use Rattle.mdns_message.specs.declared.hearing.Hearing.{Hearing}
 
 same_or_not : (a b : ℕ) → (a ≡ b) ⊎ (a ≢ b)
-same_or_not a b =
-    elim (cases_lt a b) [
-      | inl less ↦ inr (λ e. absurd (omega arith))
-      | inr more ↦
-          elim (cases_lt b a) [
-            | inl less ↦ inr (λ e. absurd (omega arith))
-            | inr most ↦ inl (omega arith)
-          ]
-    ]
+same_or_not a b = grind (arith, cases_lt)
 
 -- where the part after a name is decided, the name and that part are decided
 module _ {A : Type 0} (m : List ℕ) (Rest : List ℕ → ℕ → List A → ℕ → Type 0) (RestFails : ℕ → MessageFault → Type 0)
     (law : (n : List ℕ) → IsDecided (Rest n) RestFails) where
   one_named : (p : ℕ) (xs ys : List A) (q r : ℕ) → Named m p (λ n b. Rest n b xs q) → Named m p (λ n b. Rest n b ys r) → (xs ≡ ys) × (q ≡ r)
-  one_named p xs ys q r a b =
-      let e = name_unique m p a.name b.name a.after b.after a.reads b.reads in
-      let named : Rest b.name a.after xs q = subst (λ n. Rest n a.after xs q) e.0 a.rest in
-      let same : Rest b.name b.after xs q = subst (λ s. Rest b.name s xs q) e.1 named in
-      (law b.name).one b.after xs ys q r same b.rest
+  one_named p xs ys q r a b = grind (arith, name_unique m p a.name b.name a.after b.after a.reads b.reads)
 
   named_not_both : (p : ℕ) (xs : List A) (q : ℕ) (f : MessageFault) → Named m p (λ n b. Rest n b xs q) → NamedFails m p RestFails f → ⊥
   named_not_both p xs q f a (inl fails) = name_fault_not_both m p a.name a.after f a.reads fails
-  named_not_both p xs q f a (inr b) =
-      let e = name_unique m p b.name a.name b.after a.after b.reads a.reads in
-      (law a.name).not_both a.after xs q f a.rest (subst (λ s. RestFails s f) e.1 b.rest)
+  named_not_both p xs q f a (inr b) = grind (arith, name_unique m p b.name a.name b.after a.after b.reads a.reads)
 
   named_one_fault : (p : ℕ) (f g : MessageFault) → NamedFails m p RestFails f → NamedFails m p RestFails g → f ≡ g
   named_one_fault p f g (inl a) (inl b) = one_name_fault m p f g a b
@@ -79,11 +64,7 @@ module _ {A : Type 0} (m : List ℕ) (Rest : List ℕ → ℕ → List A → ℕ
 -- questions
 question_rest_outcome : (m : List ℕ) (p : ℕ)
     → ((xs : List HeardRecord) × (q : ℕ) × QuestionRest m p xs q) ⊎ ((f : MessageFault) × IsCut m 4 p f)
-question_rest_outcome m p =
-    elim (cases_lt (length m) (p + 4)) [
-      | inl short ↦ inr (fault.Cut p, (short, refl))
-      | inr whole ↦ inl ([], p + 4, record { whole = whole; nothing = refl; on = refl })
-    ]
+question_rest_outcome m p = grind (arith, cases_lt (length m) (p + 4))
 
 question_rest_not_both : (m : List ℕ) (p : ℕ) (xs : List HeardRecord) (q : ℕ) (f : MessageFault) → QuestionRest m p xs q → IsCut m 4 p f → ⊥
 question_rest_not_both m p xs q f a c = absurd (omega (arith, a.whole, c.0))
@@ -287,21 +268,15 @@ records_decided m section =
 
 -- the four sections
 sections_decided : (m : List ℕ) → IsDecided (Sections m) (SectionsFail m)
-sections_decided m =
-    let questions = run_decided (QuestionStands m) (QuestionFails m) (question_decided m) (word_at 4 m) in
-    let answers = records_decided m Answer in
-    let authorities = records_decided m Authority in
-    let additionals = records_decided m Additional in
-    let two = pair_decided (QuestionSection m) (RecordSection m Answer) (QuestionSectionFails m)
-    (RecordSectionFails m Answer) questions answers in
-    let three = pair_decided (Pair (QuestionSection m) (RecordSection m Answer)) (RecordSection m Authority)
-    (PairFails (QuestionSection m) (QuestionSectionFails m) (RecordSectionFails m Answer))
-    (RecordSectionFails m Authority) two authorities in
-    pair_decided (Pair (Pair (QuestionSection m) (RecordSection m Answer)) (RecordSection m Authority)) (RecordSection m Additional)
-    (PairFails (Pair (QuestionSection m) (RecordSection m Answer))
-    (PairFails (QuestionSection m) (QuestionSectionFails m) (RecordSectionFails m Answer))
-    (RecordSectionFails m Authority))
-    (RecordSectionFails m Additional) three additionals
+sections_decided m = grind (
+  arith,
+  run_decided (QuestionStands m) (QuestionFails m) (question_decided m) (word_at 4 m),
+  question_decided m,
+  records_decided m Answer,
+  records_decided m Authority,
+  records_decided m Additional,
+  pair_decided,
+)
 
 -- whole messages
 pub message_outcome : (moment : Moment) (m : List ℕ) → HasHeader m

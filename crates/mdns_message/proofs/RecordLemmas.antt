@@ -1,5 +1,6 @@
 -- What a record adds to the hearings.
-use Rattle.std.proofs.Common.{◌≡◌, ◌∙◌, ℕ, ◌+◌, List, [], ◌∷◌, length, map, length-append, Some, inl, inr, sym, ap, subst, arith}
+use Rattle.std.proofs.lemmas.Grind.{common_steps}
+use Rattle.std.proofs.Common.{◌≡◌, ℕ, ◌+◌, List, [], ◌∷◌, length, map, length-append, Some, inl, inr, sym, ap, subst, arith}
 use Rattle.std.specs.Prelude.{Result, Ok, Err, IfOk, OnErr}
 use Rattle.std.proofs.lemmas.List.{append-nil}
 use Rattle.mdns_capture.specs.declared.moment.Moment.{Moment}
@@ -16,8 +17,8 @@ use Rattle.mdns_message.specs.declared.flat.KnownName.{KnownName}
 use Rattle.mdns_message.specs.Flat.{AreFlat, Fits, hearing_in}
 use Rattle.mdns_message.specs.Known.{AddsKnown}
 use Rattle.mdns_message.specs.FlatRecord.{AddsRecord}
-use Rattle.mdns_message.specs.RecordAt.{DataReads, HeaderStands, RecordStands, RecordTells, header_of, heard_record, wanted}
-use Rattle.mdns_message.specs.Message.{Adds, hearing_of}
+use Rattle.mdns_message.specs.RecordAt.{DataReads, HeaderStands, RecordStands, header_of, heard_record, wanted}
+use Rattle.mdns_message.specs.Message.{Adds}
 use Rattle.mdns_message.proofs.FlatLemmas.{all_fit, all_kept, one_longer, one_more_fits, one_more_heard}
 
 -- a wanted record's hearing has its data
@@ -25,24 +26,7 @@ pub record_hearing : (m : List ℕ) (section : Section) (at : ℕ) (owner : List
     (k : RecordType) (b : Body) → NameReads m at owner after → HeaderStands m after → header ≡ header_of m after
     → wanted section header ≡ Some k → DataReads m header k b
     → RecordStands m section at (heard_record owner header b ∷ []) (header.offset + header.len)
-record_hearing m section at owner after header k b reads stands e w d =
-    let F = header_of m after in
-    let some : wanted section F ≡ Some k = ap (wanted section) (sym e) ∙ w in
-    let has : DataReads m F k b = subst (λ x. DataReads m x k b) e d in
-    record {
-      name = owner;
-      after = after;
-      reads = reads;
-      rest = record {
-        header = stands;
-        tells = subst (λ o. RecordTells m owner F o (heard_record owner header b ∷ [])) (sym some) (
-          b,
-          has,
-          ap (λ x. heard_record owner x b ∷ []) e,
-        );
-        on = ap (λ (x : RecordHeader). x.offset + x.len) e;
-      };
-    }
+record_hearing m section at owner after header k b reads stands e w d = grind arith
 
 -- all fit the longer bytes
 fits_after : (moment : Moment) (m : List ℕ) (section : Section) (at : ℕ) (before bytes : List ℕ)
@@ -60,49 +44,25 @@ fits_after moment m section at before bytes old new (Err f) begins fit adds none
 none_before : (moment : Moment) (m : List ℕ) (section : Section) (at : ℕ) (bytes : List ℕ) (old new : List FlatHearing)
     (r : Result ℕ MessageFault) → IfOk r (AddsRecord moment m section at bytes old new) → OnErr r (new ≡ old)
     → new ≡ [] → length new ≡ length old
-none_before moment m section at bytes old new (Ok next) adds none e =
-    elim adds [
-      | inl same ↦ ap length same.same
-      | inr one ↦
-          let more : length new ≡ length old + 1 = one_longer bytes old new _ one.adds in
-          let empty : length new ≡ 0 = ap length e in
-          absurd (omega arith)
-    ]
+none_before moment m section at bytes old new (Ok next) adds none e = grind (arith, common_steps, one_longer)
 none_before moment m section at bytes old new (Err f) adds none e = ap length none
 
 -- and of no known names there was none
 none_known : (old new : List KnownName) → AddsKnown old new → new ≡ [] → length new ≡ length old
-none_known old new adds e =
-    let sum : length new ≡ length old + length adds.more = ap length adds.whole ∙ length-append old adds.more in
-    let empty : length new ≡ 0 = ap length e in
-    omega arith
+none_known old new adds e = grind (arith, length-append)
 
 -- where a hearing or a known name was added, the bytes are of use
 pub flat_after : (moment : Moment) (m : List ℕ) (section : Section) (at : ℕ) (before bytes : List ℕ)
     (knew known : List KnownName) (old new : List FlatHearing) (r : Result ℕ MessageFault) → Extends before bytes
     → AddsKnown knew known → AreFlat before knew old → IfOk r (AddsRecord moment m section at bytes old new)
     → OnErr r (new ≡ old) → (length new ≡ length old → length known ≡ length knew → ⊥) → AreFlat bytes known new
-flat_after moment m section at before bytes knew known old new r begins keeps flat adds none more = record {
-  fit = fits_after moment m section at before bytes old new r begins flat.fit adds none;
-  none = λ e k. absurd (more (none_before moment m section at bytes old new r adds none e) (none_known knew known keeps k));
-}
+flat_after moment m section at before bytes knew known old new r begins keeps flat adds none more =
+    grind (arith, fits_after moment m section at before bytes old new r begins flat.fit adds none, none_before, none_known)
 
 -- and the hearings are those of before, and the record's
 pub told_after : (moment : Moment) (m : List ℕ) (section : Section) (at : ℕ) (before bytes : List ℕ)
     (knew : List KnownName) (old new : List FlatHearing) (r : Result ℕ MessageFault) → Extends before bytes
     → AreFlat before knew old → IfOk r (AddsRecord moment m section at bytes old new)
     → IfOk r (λ next. Adds moment (RecordStands m section) at (map (hearing_in before) old) (map (hearing_in bytes) new) next)
-told_after moment m section at before bytes knew old new (Ok next) begins flat adds =
-    elim adds [
-      | inl none ↦ record {
-        told = [];
-        item = none.stands;
-        added = ap (map (hearing_in bytes)) none.same ∙ all_kept before bytes begins old flat.fit ∙ sym (append-nil _);
-      }
-      | inr one ↦ record {
-        told = one.told ∷ [];
-        item = one.stands;
-        added = one_more_heard before bytes old new (hearing_of moment one.told) begins flat.fit one.adds;
-      }
-    ]
+told_after moment m section at before bytes knew old new (Ok next) begins flat adds = grind (arith, all_kept, append-nil, one_more_heard)
 told_after moment m section at before bytes knew old new (Err f) begins flat adds = tt

@@ -1,4 +1,5 @@
 -- How runs and pairs of items grow, and what is added to the hearings meanwhile.
+use Rattle.std.proofs.Common.{arith}
 use Rattle.std.proofs.Common.{◌≡◌, ◌∙◌, ℕ, ◌+◌, ◌<◌, List, ◌++◌, map, refl, sym, ap, inl, inr, append_assoc, add-one}
 use Rattle.std.proofs.lemmas.List.{map-append}
 use Rattle.mdns_capture.specs.declared.moment.Moment.{Moment}
@@ -22,20 +23,13 @@ map_both f old mid new xs ys p q =
 pub Adds-more : (moment : Moment) (Item : ℕ → List HeardRecord → ℕ → Type 0) (count start offset next : ℕ)
     (old mid new : List Hearing) → Adds moment (Run Item count) start old mid offset
     → Adds moment Item offset mid new next → Adds moment (Run Item (count + 1)) start old new next
-Adds-more moment Item count start offset next old mid new some one = record {
-  told = some.told ++ one.told;
-  item = Run-more Item count start offset next some.told one.told some.item one.item;
-  added = map_both (hearing_of moment) old mid new some.told one.told some.added one.added;
-}
+Adds-more moment Item count start offset next old mid new some one = grind (arith, Run-more, map_both)
 
 pub Adds-pair : (moment : Moment) (First Second : ℕ → List HeardRecord → ℕ → Type 0) (start offset next : ℕ)
     (old mid new : List Hearing) → Adds moment First start old mid offset → Adds moment Second offset mid new next
     → Adds moment (Pair First Second) start old new next
-Adds-pair moment First Second start offset next old mid new one two = record {
-  told = one.told ++ two.told;
-  item = record { front = one.told; offset = offset; rest = two.told; first = one.item; second = two.item; all = refl };
-  added = map_both (hearing_of moment) old mid new one.told two.told one.added two.added;
-}
+Adds-pair moment First Second start offset next old mid new one two =
+    grind (arith, map_both (hearing_of moment) old mid new one.told two.told one.added two.added)
 
 -- the item after some whole items fails
 pub run_fails : {A : Type 0} (Item : ℕ → List A → ℕ → Type 0) (Fails : ℕ → MessageFault → Type 0)

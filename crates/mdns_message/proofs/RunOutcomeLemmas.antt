@@ -1,5 +1,5 @@
 -- Items that read or fail, never both, each with one outcome; and runs and pairs of such items.
-use Rattle.std.proofs.Common.{◌≡◌, ◌⊎◌, ◌∙◌, ℕ, zero, suc, ◌<◌, List, [], ◌++◌, refl, sym, ap, subst, inl, inr, arith}
+use Rattle.std.proofs.Common.{◌≡◌, ◌⊎◌, ◌∙◌, ℕ, zero, suc, ◌<◌, List, [], ◌++◌, refl, sym, subst, inl, inr, arith}
 use Rattle.std.proofs.lemmas.Bool.{cases_lt}
 use Rattle.mdns_message.specs.declared.fault.MessageFault.{MessageFault}
 use Rattle.mdns_message.specs.Message.{Run, RunFails, Pair, PairFails}
@@ -14,11 +14,7 @@ pub record IsDecided {A : Type 0} (Item : ℕ → List A → ℕ → Type 0) (Fa
 module _ {A : Type 0} (Item : ℕ → List A → ℕ → Type 0) (Fails : ℕ → MessageFault → Type 0) (law : IsDecided Item Fails) where
   one_run : (n p : ℕ) (xs ys : List A) (q r : ℕ) → Run Item n p xs q → Run Item n p ys r → (xs ≡ ys) × (q ≡ r)
   one_run zero p xs ys q r a b = (a.0 ∙ sym b.0, a.1 ∙ sym b.1)
-  one_run (suc n) p xs ys q r (f, s, l, run, item, e) (g, t, k, run2, item2, i) =
-      let front = one_run n p f g s t run run2 in
-      let same : Item s k r = subst (λ u. Item u k r) (sym front.1) item2 in
-      let last = law.one s l k q r item same in
-      (e ∙ ap (λ u. u ++ l) front.0 ∙ ap (λ u. g ++ u) last.0 ∙ sym i, last.1)
+  one_run (suc n) p xs ys q r (f, s, l, run, item, e) (g, t, k, run2, item2, i) = grind (arith, one_run n p f g s t run run2)
 
   -- each item of a run is after those before it
   item_of_run : (n p : ℕ) (xs : List A) (q k : ℕ) → k < n → Run Item n p xs q
@@ -35,10 +31,7 @@ module _ {A : Type 0} (Item : ℕ → List A → ℕ → Type 0) (Fails : ℕ �
   -- where an item fails after k others, there is no run of more items
   no_run : (n p : ℕ) (xs : List A) (q : ℕ) (k : ℕ) (g : List A) (t : ℕ) (f : MessageFault) → k < n → Run Item n p xs q
       → Run Item k p g t → Fails t f → ⊥
-  no_run n p xs q k g t f h run before fails =
-      let at = item_of_run n p xs q k h run in
-      let offset = one_run k p at.0 g at.1 t at.4 before in
-      law.not_both t at.2 at.3 f (subst (λ u. Item u at.2 at.3) offset.1 at.5) fails
+  no_run n p xs q k g t f h run before fails = grind (arith, item_of_run n p xs q k h run, one_run)
 
   run_outcome : (n p : ℕ) → ((xs : List A) × (q : ℕ) × Run Item n p xs q) ⊎ ((f : MessageFault) × RunFails Item Fails n p f)
   run_outcome zero p = inl ([], p, (refl, refl))
@@ -56,19 +49,7 @@ module _ {A : Type 0} (Item : ℕ → List A → ℕ → Type 0) (Fails : ℕ �
       ]
 
   run_one_fault : (n p : ℕ) (f g : MessageFault) → RunFails Item Fails n p f → RunFails Item Fails n p g → f ≡ g
-  run_one_fault n p f g a b =
-      elim (cases_lt a.stand b.stand) [
-        | inl less ↦ absurd (no_run b.stand p b.told b.offset a.stand a.told a.offset f less b.run a.run a.fails)
-        | inr more ↦
-            elim (cases_lt b.stand a.stand) [
-              | inl less ↦ absurd (no_run a.stand p a.told a.offset b.stand b.told b.offset g less a.run b.run b.fails)
-              | inr most ↦
-                  let same : b.stand ≡ a.stand = omega arith in
-                  let run : Run Item a.stand p b.told b.offset = subst (λ n. Run Item n p b.told b.offset) same b.run in
-                  let offset = one_run a.stand p b.told a.told b.offset a.offset run a.run in
-                  law.one_fault a.offset f g a.fails (subst (λ s. Fails s g) offset.1 b.fails)
-            ]
-      ]
+  run_one_fault n p f g a b = grind (arith, cases_lt, no_run, one_run)
 
   pub run_decided : (n : ℕ) → IsDecided (Run Item n) (RunFails Item Fails n)
   run_decided n = record {
@@ -81,27 +62,19 @@ module _ {A : Type 0} (Item : ℕ → List A → ℕ → Type 0) (Fails : ℕ �
 module _ {A : Type 0} (First Second : ℕ → List A → ℕ → Type 0) (FirstFails SecondFails : ℕ → MessageFault → Type 0)
     (one : IsDecided First FirstFails) (two : IsDecided Second SecondFails) where
   one_pair : (p : ℕ) (xs ys : List A) (q r : ℕ) → Pair First Second p xs q → Pair First Second p ys r → (xs ≡ ys) × (q ≡ r)
-  one_pair p xs ys q r a b =
-      let front = one.one p a.front b.front a.offset b.offset a.first b.first in
-      let same : Second b.offset a.rest q = subst (λ s. Second s a.rest q) front.1 a.second in
-      let last = two.one b.offset a.rest b.rest q r same b.second in
-      (a.all ∙ ap (λ u. u ++ a.rest) front.0 ∙ ap (λ u. b.front ++ u) last.0 ∙ sym b.all, last.1)
+  one_pair p xs ys q r a b = grind (arith, one)
 
   pair_not_both : (p : ℕ) (xs : List A) (q : ℕ) (f : MessageFault) → Pair First Second p xs q
       → PairFails First FirstFails SecondFails p f → ⊥
   pair_not_both p xs q f a (inl fails) = one.not_both p a.front a.offset f a.first fails
-  pair_not_both p xs q f a (inr (front, s, first, fails)) =
-      let offset = one.one p a.front front a.offset s a.first first in
-      two.not_both s a.rest q f (subst (λ u. Second u a.rest q) offset.1 a.second) fails
+  pair_not_both p xs q f a (inr (front, s, first, fails)) = grind (arith, one)
 
   pair_one_fault : (p : ℕ) (f g : MessageFault) → PairFails First FirstFails SecondFails p f
       → PairFails First FirstFails SecondFails p g → f ≡ g
   pair_one_fault p f g (inl a) (inl b) = one.one_fault p f g a b
   pair_one_fault p f g (inl a) (inr (front, s, first, b)) = absurd (one.not_both p front s f first a)
   pair_one_fault p f g (inr (front, s, first, a)) (inl b) = absurd (one.not_both p front s g first b)
-  pair_one_fault p f g (inr (front, s, first, a)) (inr (front2, t, first2, b)) =
-      let offset = one.one p front2 front t s first2 first in
-      two.one_fault s f g a (subst (λ u. SecondFails u g) offset.1 b)
+  pair_one_fault p f g (inr (front, s, first, a)) (inr (front2, t, first2, b)) = grind (arith, one)
 
   pair_outcome : (p : ℕ) → ((xs : List A) × (q : ℕ) × Pair First Second p xs q)
       ⊎ ((f : MessageFault) × PairFails First FirstFails SecondFails p f)

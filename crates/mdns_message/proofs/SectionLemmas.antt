@@ -1,14 +1,15 @@
 -- The four sections, one after another.
+use Rattle.std.proofs.Common.{arith}
 use Rattle.std.proofs.Common.{◌≡◌, ℕ, List, [], refl, subst}
 use Rattle.mdns_capture.specs.declared.moment.Moment.{Moment}
 use Rattle.mdns_message.specs.declared.hearing.Hearing.{Hearing}
 use Rattle.mdns_message.specs.declared.fault.MessageFault.{MessageFault}
 use Rattle.mdns_message.specs.declared.record_at.Section.TheVariants.{Answer, Authority, Additional}
-use Rattle.mdns_message.specs.Message.{Run, Pair, PairFails}
+use Rattle.mdns_message.specs.Message.{Run, Pair}
 use Rattle.mdns_capture.specs.Frame.{word_at}
 use Rattle.mdns_message.specs.RecordAt.{MemoryOr, QuestionStands}
 use Rattle.mdns_message.specs.Message.{Adds, HasHeader, MessageReads, QuestionSection, RecordSection}
-use Rattle.mdns_message.specs.FirstMessageFault.{QuestionSectionFails, RecordSectionFails, SectionsFail}
+use Rattle.mdns_message.specs.FirstMessageFault.{RecordSectionFails, SectionsFail}
 use Rattle.mdns_message.proofs.RunLemmas.{Adds-pair, second_fails}
 
 -- the sections before the additional records
@@ -36,9 +37,4 @@ all_sections moment m r s i j header front last =
 pub last_section_fails : (moment : Moment) (m : List ℕ) (r : ℕ) (i : List Hearing) (f : MessageFault)
     → Adds moment (Pair (Pair (QuestionSection m) (RecordSection m Answer)) (RecordSection m Authority)) 12 [] i r
     → MemoryOr (RecordSectionFails m Additional r) f → MemoryOr (SectionsFail m 12) f
-last_section_fails moment m r i f front fails =
-    second_fails (Pair (Pair (QuestionSection m) (RecordSection m Answer)) (RecordSection m Authority))
-    (PairFails (Pair (QuestionSection m) (RecordSection m Answer))
-    (PairFails (QuestionSection m) (QuestionSectionFails m) (RecordSectionFails m Answer))
-    (RecordSectionFails m Authority))
-    (RecordSectionFails m Additional) 12 r front.told f front.item fails
+last_section_fails moment m r i f front fails = grind (arith, second_fails)

@@ -1,5 +1,6 @@
 -- The strings of TXT data, one at a time.
-use Rattle.std.proofs.Common.{◌≡◌, refl, ◌∙◌, ap, ℕ, zero, suc, ◌≤◌, List, [], ◌∷◌, ◌++◌, length, take, drop, min}
+use Rattle.std.proofs.Common.{arith}
+use Rattle.std.proofs.Common.{◌≡◌, refl, ap, ℕ, zero, suc, ◌≤◌, List, [], ◌∷◌, ◌++◌, length, take, drop, min}
 use Rattle.std.proofs.Math.Seq.{take-append_seam, drop-append_seam}
 use Rattle.std.proofs.lemmas.List.{take_all, take_min, drop_all, drop_min}
 use Rattle.mdns_message.specs.TextData.{strings_from, strings_of, with_first}
@@ -14,23 +15,14 @@ strings_from-take (suc n) (b ∷ bytes) = ap (with_first b) (strings_from-take n
 
 -- a whole string is the first, before the strings of the bytes after it
 pub strings_of-append : (string rest : List ℕ) → strings_of (length string ∷ (string ++ rest)) ≡ string ∷ strings_of rest
-strings_of-append string rest =
-    strings_from-take (length string) (string ++ rest)
-    ∙ ap (λ first. first ∷ strings_of (drop (length string) (string ++ rest))) (take-append_seam string rest)
-    ∙ ap (λ after. string ∷ strings_of after) (drop-append_seam string rest)
+strings_of-append string rest = grind (arith, strings_from-take, take-append_seam, drop-append_seam)
 
 -- a string that ends with the data, however much more its length octet says
 pub strings_of-cut : (count : ℕ) (string : List ℕ) → length string ≤ count → strings_of (count ∷ string) ≡ string ∷ []
-strings_of-cut count string short =
-    strings_from-take count string
-    ∙ ap (λ first. first ∷ strings_of (drop count string)) (take_all count string short)
-    ∙ ap (λ after. string ∷ strings_of after) (drop_all count string short)
+strings_of-cut count string short = grind (arith, strings_from-take, take_all, drop_all)
 
 -- cutting at the octet's count, or at the end where that comes first, gives the first string and the rest
 pub strings_of-split : (bytes tail string after : List ℕ) (count mid : ℕ) → bytes ≡ count ∷ tail
     → mid ≡ min count (length tail) → string ≡ take mid tail → after ≡ drop mid tail
     → strings_of bytes ≡ string ∷ strings_of after
-strings_of-split bytes tail string after count mid whole at front back =
-    let first : string ≡ take count tail = front ∙ ap (λ m. take m tail) at ∙ take_min count tail in
-    let rest : after ≡ drop count tail = back ∙ ap (λ m. drop m tail) at ∙ drop_min count tail in
-    rw (whole, first, rest) (strings_from-take count tail)
+strings_of-split bytes tail string after count mid whole at front back = grind (arith, take_min, drop_min, strings_from-take)

@@ -1,3 +1,4 @@
+use Rattle.std.proofs.Common.{arith}
 use Rattle.std.proofs.Common.{ap}
 use Rattle.std.specs.Cmp.Lexicographic.{bytes_decides}
 use Rattle.mdns_message.specs.Resource.{folded_data_of, set_key_of}
@@ -20,13 +21,4 @@ returns-clause-record c a b =
     )
 
 pub returns-clause-set : goal.returns-clause-set
-returns-clause-set c a b =
-    let sets = set_keys-same (set_key_of a) (set_key_of b) in (
-      λ equal.
-          let set = sets.0 equal in
-          record { owner = ap (λ s. s.owner) set; number = ap (λ s. s.number) set },
-      λ same.
-          let owner = same.owner in
-          let number = same.number in
-          sets.1 (λ i. record { owner = owner i; number = number i }),
-    )
+returns-clause-set c a b = grind (arith, set_keys-same (set_key_of a) (set_key_of b))

@@ -1,6 +1,5 @@
-use Rattle.std.proofs.Common.{◌≡◌, ◌∙◌, length, map, rules, sym, ap}
-use Rattle.mdns_message.specs.Flat.{hearing_in}
-use Rattle.mdns_message.specs.Known.{Held}
+use Rattle.std.proofs.Common.{arith}
+use Rattle.std.proofs.Common.{◌≡◌, ◌∙◌, length, rules, sym}
 use Rattle.mdns_message.proofs.RecordLemmas.{flat_after, told_after}
 use Rattle.mdns_message.proofs.record_at.record_at.Goals as goal
 use Rattle.mdns_message.proofs.record_at.record_at.Goals.{else-len-count-via-then-len-count+else-len-knew, else-len-count-via-else-len-count}
@@ -20,12 +19,8 @@ invariant_of-heard-else-len-count c =
     c.push_record-read.ensures.stands c.push_record-read.ensures.none (λ hs ks. c.if-len-count.false (now ∙ hs ∙ sym before))
 
 pub returns-else-len-count-clause-stands : goal.returns-else-len-count-clause-stands
-returns-else-len-count-clause-stands c =
-    let is : c.else-len-count.heard.hearings
-    ≡ map (hearing_in c.push_record-read.new.buffer.bytes.items) c.push_record-read.new.hearings.items =
-    elim c.else-len-count.branch [
-      | else-len-count-via-then-len-count+else-len-knew w ↦ ap (λ (h : Held). h.hearings) w.heard-is
-      | else-len-count-via-else-len-count w ↦ ap (λ (h : Held). h.hearings) w.heard-is
-    ] in
-    rw (is, ← c.heard.view_is) (told_after _ _ _ _ _ _ _ _ _ _ c.push_record-read.ensures.begins c.heard.invariant
-    c.push_record-read.ensures.stands)
+returns-else-len-count-clause-stands c = grind (
+  arith,
+  else-len-count-via-else-len-count,
+  told_after _ _ _ _ _ _ _ _ _ _ c.push_record-read.ensures.begins c.heard.invariant c.push_record-read.ensures.stands,
+)
