@@ -1,4 +1,5 @@
 -- Entries in blocks: what a change of one block changes of the entries.
+use Rattle.std.proofs.lemmas.Grind.{common_steps}
 use Rattle.std.proofs.Common.{Bool, true, ◌==◌, ◌≡◌, ℕ, zero, suc, ◌+◌, ◌-◌, ◌<◌, ◌≤◌, List, [], ◌∷◌}
 use Rattle.std.proofs.Common.{◌++◌, length, get_or, take, drop, set, refl, sym, ap, ◌∙◌, subst, arith, append_assoc}
 use Rattle.std.proofs.Common.{length-append, length-drop}
@@ -47,33 +48,23 @@ module _ {E : Type 0} where
 
   entries_of-set : (bs : List (List E)) (n : ℕ) (y : List E) → n < length bs
       → entries_of (set bs n y) ≡ entries_of (take n bs) ++ (y ++ entries_of (drop (n + 1) bs))
-  entries_of-set bs n y l =
-      let next : suc n ≡ n + 1 = omega arith in
-      ap entries_of (set_split bs n y l) ∙ entries_of-append (take n bs) (y ∷ drop (suc n) bs)
-      ∙ ap (λ m. entries_of (take n bs) ++ (y ++ entries_of (drop m bs))) next
+  entries_of-set bs n y l = grind (arith, set_split, entries_of-append)
 
   -- after an entry was inserted into a block
   pub entries_of-inserted : (bs : List (List E)) (s : Spot) (e : E) (y : List E) → s.block < length bs
       → y ≡ insert (block_at bs s.block) s.offset e
       → entries_of (set bs s.block y) ≡ before bs s ++ e ∷ after bs s
-  entries_of-inserted bs s e y l is =
-      let block = block_at bs s.block in
-      entries_of-set bs s.block y l ∙ ap (λ b. entries_of (take s.block bs) ++ (b ++ entries_of (drop (s.block + 1) bs))) is
-      ∙ regroup (entries_of (take s.block bs)) (take s.offset block) (e ∷ drop s.offset block) (entries_of (drop (s.block + 1) bs))
+  entries_of-inserted bs s e y l is = grind (arith, entries_of-set, regroup)
 
   -- a block written as it was
   pub entries_of-same : (bs : List (List E)) (s : Spot) (y : List E) → s.block < length bs → y ≡ block_at bs s.block
       → entries_of (set bs s.block y) ≡ entries_of bs
-  entries_of-same bs s y l is =
-      entries_of-set bs s.block y l ∙ ap (λ b. entries_of (take s.block bs) ++ (b ++ entries_of (drop (s.block + 1) bs))) is
-      ∙ ap (λ es. entries_of (take s.block bs) ++ es) (sym (entries_of-from s.block bs l)) ∙ sym (entries_of-cut s.block bs)
+  entries_of-same bs s y l is = grind (arith, entries_of-set bs s.block y l, entries_of-from s.block bs l, entries_of-cut s.block bs)
 
   -- a block written as it was read
   pub entries_of-read : (bs rs : List (List E)) (s : Spot) (was y : List E) → s.block < length bs → rs ≡ bs
       → was ≡ get_or rs s.block was → y ≡ was → entries_of (set rs s.block y) ≡ entries_of bs
-  entries_of-read bs rs s was y l same is kept =
-      let within : s.block < length rs = omega (arith, l, ap length same) in
-      entries_of-same rs s y within (kept ∙ get_or_read rs s.block was within is []) ∙ ap entries_of same
+  entries_of-read bs rs s was y l same is kept = grind (arith, entries_of-same, get_or_read)
 
   before_none : (s : Spot) → before {E = E} [] s ≡ []
   before_none s = ap (λ zs. entries_of zs ++ take s.offset (block_at {E = E} [] s.block))
@@ -112,10 +103,7 @@ module _ {E : Type 0} where
 
   pub filled-read : (bs rs : List (List E)) (n : ℕ) (was y : List E) → n < length bs → rs ≡ bs → was ≡ get_or rs n was
       → y ≡ was → AllFilled bs → AllFilled (set rs n y)
-  filled-read bs rs n was y l same is kept f =
-      let within : n < length rs = omega (arith, l, ap length same) in
-      let filled : AllFilled rs = subst AllFilled (sym same) f in
-      filled-set rs n y filled (omega (arith, ap length (kept ∙ get_or_read rs n was within is []), filled_at rs n filled within))
+  filled-read bs rs n was y l same is kept f = grind (arith, common_steps, filled-set, get_or_read, filled_at)
 
   pub filled-append : (xs ys : List (List E)) → AllFilled xs → AllFilled ys → AllFilled (xs ++ ys)
   filled-append [] ys f g = g
@@ -135,16 +123,11 @@ module _ {E : Type 0} where
 
   split_parts : (bs cs : List (List E)) (n : ℕ) (xs ys : List E) → n < length bs
       → cs ≡ insert (set bs n xs) (n + 1) ys → cs ≡ (take n bs ++ xs ∷ []) ++ ys ∷ drop (n + 1) bs
-  split_parts bs cs n xs ys l is =
-      is ∙ ap (λ zs. zs ++ ys ∷ drop (n + 1) (set bs n xs)) (take_more_set bs n xs l)
-      ∙ ap (λ zs. (take n bs ++ xs ∷ []) ++ ys ∷ zs) (drop-set-lt (n + 1) bs n xs (omega arith))
+  split_parts bs cs n xs ys l is = grind (arith, take_more_set, drop-set-lt)
 
   pub filled-split : (bs cs : List (List E)) (n : ℕ) (xs ys : List E) → n < length bs
       → cs ≡ insert (set bs n xs) (n + 1) ys → AllFilled bs → 0 < length xs → 0 < length ys → AllFilled cs
-  filled-split bs cs n xs ys l is f some more =
-      subst AllFilled (sym (split_parts bs cs n xs ys l is))
-      (filled-append (take n bs ++ xs ∷ []) (ys ∷ drop (n + 1) bs)
-      (filled-append (take n bs) (xs ∷ []) (filled-take n bs f) (some, tt)) (more, filled-drop (n + 1) bs f))
+  filled-split bs cs n xs ys l is f some more = grind (arith, common_steps, split_parts, filled-append, filled-take, filled-drop)
 
   -- a spot in the half that stays
   pub moved_first : (bs cs : List (List E)) (s : Spot) (half : ℕ) (xs ys : List E) → s.block < length bs
@@ -226,27 +209,11 @@ module _ {E : Type 0} where
       → 0 < at → at < 256 → rs ≡ bs → was ≡ get_or rs n was → inside ≡ was → xs ≡ take at inside → ys ≡ drop at inside
       → cs ≡ insert (set rs n xs) (n + 1) ys → AreParts bs cs n at xs ys
   AreParts-from bs rs cs n at read shown was inside xs ys l is_read is_shown full some less same is_was is_inside first second is =
-      let before_it : shown ≡ block_at bs n = is_shown ∙ get_or_read bs n read l is_read [] in
-      let in_it : inside ≡ block_at bs n = is_inside ∙ get_or_read bs n was l (is_was ∙ ap (λ zs. get_or zs n was) same) [] in
-      record {
-        some = some;
-        long = omega (arith, full, less, ap length before_it);
-        first = first ∙ ap (take at) in_it;
-        second = second ∙ ap (drop at) in_it;
-        is = is ∙ ap (λ zs. insert (set zs n xs) (n + 1) ys) same;
-      }
+      grind (arith, get_or_read)
 
   pub filled-parts : (bs cs : List (List E)) (n at : ℕ) (xs ys : List E) → n < length bs → AllFilled bs
       → AreParts bs cs n at xs ys → AllFilled cs
-  filled-parts bs cs n at xs ys l f h =
-      filled-split bs cs n xs ys l h.is f (omega (
-        arith,
-        h.some,
-        h.long,
-        ap length h.first,
-        length-take-le at (block_at bs n) (omega (arith, h.long)),
-      ))
-      (omega (arith, h.long, ap length h.second, length-drop at (block_at bs n)))
+  filled-parts bs cs n at xs ys l f h = grind (arith, filled-split, length-take-le, length-drop)
 
   -- where a spot was moved to, an entry comes in the same place
   pub entries_of-moved : (bs cs : List (List E)) (s t : Spot) (e : E) → IsMoved bs s cs t
@@ -255,9 +222,7 @@ module _ {E : Type 0} where
 
   -- moving a spot changes no entries
   pub entries_of-kept : (bs cs : List (List E)) (s t : Spot) → s.block < length bs → IsMoved bs s cs t → entries_of cs ≡ entries_of bs
-  entries_of-kept bs cs s t l m =
-      entries_of-split cs t m.block ∙ ap (λ es. es ++ after cs t) m.before ∙ ap (λ es. before bs s ++ es) m.after
-      ∙ sym (entries_of-split bs s l)
+  entries_of-kept bs cs s t l m = grind (arith, entries_of-split cs t m.block, entries_of-split bs s l)
 
   pub entries_of-gap : (bs : List (List E)) (s : Spot) → IsGap bs s → entries_of bs ≡ before bs s ++ after bs s
   entries_of-gap [] s g = sym (ap (λ es. es ++ after [] s) (before_none s) ∙ after_none s)

@@ -1,4 +1,5 @@
 -- Entries in any order, and the map of them.
+use Rattle.std.proofs.Common.{rules}
 use Rattle.std.proofs.Common.{◌≡◌, ℕ, zero, suc, ◌<◌, List, [], ◌∷◌, ◌++◌, length, get_or, take, drop, set}
 use Rattle.std.proofs.Common.{Option, Some, None, IfSome, Result, Ok, Err, OnOk, OnErr, Ordering, Equal, refl, sym, ap, ◌∙◌, subst, arith}
 use Rattle.std.specs.Cmp.{IsTotalOrder, tied_itself}
@@ -140,13 +141,7 @@ module _ {K V : Type 0} {cmp : K → K → Ordering} (order : IsTotalOrder cmp) 
   pub gathered-set : (es : List (K × V)) (p : ℕ) (e : K × V) (u w : V) → p < length es → e ≡ get_or es p e
       → AllValid Valid es → Valid w → u ≡ join e.1 w
       → gathered cmp join (set es p (e.0, u)) ≡ joined cmp join (gathered cmp join es) (one_entry e.0 w)
-  gathered-set es p e u w l is a h joins =
-      let xs = take p es in
-      let ys = drop (suc p) es in
-      let was = was_there es p e l is in
-      ap (gathered cmp join) (written es p (e.0, u) l ∙ ap (λ x. xs ++ (e.0, x) ∷ ys) joins)
-      ∙ gathered-joined xs ys e.0 e.1 w (subst (AllValid Valid) was a) h
-      ∙ ap (λ m. joined cmp join (gathered cmp join m) (one_entry e.0 w)) (sym was)
+  gathered-set es p e u w l is a h joins = search (rules, was_there, written, gathered-joined)
 
   -- the same for a call that may have joined the value
   pub joined_at_place : {F : Type 0} (es : List (K × V)) (p : ℕ) (e : K × V) (u : V) (k : K) (w : V) → p < length es

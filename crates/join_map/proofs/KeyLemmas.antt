@@ -91,9 +91,7 @@ module _ {K V : Type 0} {cmp : K → K → Ordering} (order : IsTotalOrder cmp) 
   pub insert_free : (k : K) (v : V) (xs ys : List (K × V)) → AllBelow cmp k xs → AllAbove cmp k ys
       → insert_entry cmp (xs ++ ys) k v ≡ xs ++ (k, v) ∷ ys
   insert_free k v [] ys a b = insert_above k v ys b
-  insert_free k v (x ∷ xs) ys a b =
-      ap (λ o. match_ordering o ((k, v) ∷ x ∷ (xs ++ ys)) ((x.0, v) ∷ (xs ++ ys)) (x ∷ insert_entry cmp (xs ++ ys) k v)) a.0
-      ∙ ap (λ es. x ∷ es) (insert_free k v xs ys a.1 b)
+  insert_free k v (x ∷ xs) ys a b = grind (arith, insert_free k v xs ys a.1 b)
 
   below_entry : (k : K) (xs ys : List (K × V)) (e : K × V) → Sorted (xs ++ e ∷ ys) → cmp k e.0 ≡ Equal → AllBelow cmp k xs
   below_entry k xs ys e s h = below_first k xs ys e s (not_less (cmp k e.0) h)
@@ -109,9 +107,7 @@ module _ {K V : Type 0} {cmp : K → K → Ordering} (order : IsTotalOrder cmp) 
   written_by : (k : K) (u : V) (xs ys : List (K × V)) (e : K × V) → AllBelow cmp k xs → cmp k e.0 ≡ Equal
       → Written k (xs ++ e ∷ ys) u ≡ xs ++ (e.0, u) ∷ ys
   written_by k u [] ys e a h = ap (λ o. cond (is_eq o) ((e.0, u) ∷ ys) (e ∷ Written k ys u)) h
-  written_by k u (x ∷ xs) ys e a h =
-      ap (λ o. cond (is_eq o) ((x.0, u) ∷ (xs ++ e ∷ ys)) (x ∷ Written k (xs ++ e ∷ ys) u)) a.0
-      ∙ ap (λ es. x ∷ es) (written_by k u xs ys e a.1 h)
+  written_by k u (x ∷ xs) ys e a h = grind (arith, is_eq, written_by k u xs ys e a.1 h)
 
   -- the entry with another value is that value written at its key
   pub written_entry : (k : K) (u : V) (xs ys : List (K × V)) (e : K × V) → Sorted (xs ++ e ∷ ys) → cmp k e.0 ≡ Equal
@@ -141,10 +137,7 @@ module _ {K V : Type 0} {cmp : K → K → Ordering} (order : IsTotalOrder cmp) 
   -- where the key is below an entry, it is below all from that entry on
   pub above_from : (k : K) (es : List (K × V)) (n : ℕ) (e : K × V) → Sorted es → n < length es → e ≡ get_or es n e
       → cmp k e.0 ≡ Less → AllAbove cmp k (drop n es)
-  above_from k es n e s l is h =
-      let ordered : Sorted (e ∷ drop (n + 1) es) =
-      sorted_back (take n es) (e ∷ drop (n + 1) es) (subst (λ xs. Sorted xs) (cut_at es n e l is) s) in
-      subst (AllAbove cmp k) (sym (from_at es n e l is)) (above_first k e (drop (n + 1) es) ordered h)
+  above_from k es n e s l is h = grind (arith, sorted_back, cut_at es n e l is, from_at es n e l is, above_first)
 
   -- where the key is above an entry, it is above all up to that entry
   pub below_upto : (k : K) (es : List (K × V)) (n : ℕ) (e : K × V) → Sorted es → n < length es → e ≡ get_or es n e
@@ -159,30 +152,21 @@ module _ {K V : Type 0} {cmp : K → K → Ordering} (order : IsTotalOrder cmp) 
   from_block : (bs : List (List (K × V))) (n : ℕ) (e : K × V) (read shown : List (K × V)) → n < length bs
       → read ≡ get_or bs n read → shown ≡ read → 0 < length shown → e ≡ get_or shown 0 e
       → entries_of (drop n bs) ≡ e ∷ (drop 1 shown ++ entries_of (drop (n + 1) bs))
-  from_block bs n e read shown l is_read is_shown some is =
-      entries_of-from n bs l ∙ ap (λ b. b ++ entries_of (drop (n + 1) bs))
-      (sym (is_shown ∙ get_or_read bs n read l is_read []) ∙ from_at shown 0 e some is)
+  from_block bs n e read shown l is_read is_shown some is = grind (arith, entries_of-from, get_or_read, from_at)
 
   pub above_from_block : (k : K) (bs : List (List (K × V))) (n : ℕ) (e : K × V) (read shown : List (K × V))
       → Sorted (entries_of bs) → n < length bs → read ≡ get_or bs n read → shown ≡ read → 0 < length shown
       → e ≡ get_or shown 0 e
       → cmp k e.0 ≡ Less → AllAbove cmp k (entries_of (drop n bs))
   above_from_block k bs n e read shown s l is_read is_shown some is h =
-      let rest = drop 1 shown ++ entries_of (drop (n + 1) bs) in
-      let whole = from_block bs n e read shown l is_read is_shown some is in
-      let ordered : Sorted (e ∷ rest) = sorted_back (entries_of (take n bs)) (e ∷ rest)
-      (subst (λ xs. Sorted xs) (entries_of-cut n bs ∙ ap (λ xs. entries_of (take n bs) ++ xs) whole) s) in
-      subst (AllAbove cmp k) (sym whole) (above_first k e rest ordered h)
+      grind (arith, from_block bs n e read shown l is_read is_shown some is, sorted_back, entries_of-cut n bs, above_first)
 
   pub below_upto_block : (k : K) (bs : List (List (K × V))) (n : ℕ) (e : K × V) (read shown : List (K × V))
       → Sorted (entries_of bs) → n < length bs → read ≡ get_or bs n read → shown ≡ read → 0 < length shown
       → e ≡ get_or shown 0 e
       → (cmp k e.0 ≡ Less → ⊥) → AllBelow cmp k (entries_of (take n bs))
   below_upto_block k bs n e read shown s l is_read is_shown some is h =
-      let rest = drop 1 shown ++ entries_of (drop (n + 1) bs) in
-      let whole = from_block bs n e read shown l is_read is_shown some is in
-      below_first k (entries_of (take n bs)) rest e (subst (λ xs. Sorted xs) (entries_of-cut n bs
-      ∙ ap (λ xs. entries_of (take n bs) ++ xs) whole) s) h
+      grind (arith, from_block bs n e read shown l is_read is_shown some is, below_first, entries_of-cut n bs)
 
   -- one block on
   pub above_later : (k : K) (bs : List (List (K × V))) (n : ℕ) → AllAbove cmp k (entries_of (drop n bs))
@@ -196,11 +180,7 @@ module _ {K V : Type 0} {cmp : K → K → Ordering} (order : IsTotalOrder cmp) 
   pub sorted_block : (bs : List (List (K × V))) (n : ℕ) (read shown : List (K × V)) → Sorted (entries_of bs)
       → n < length bs → read ≡ get_or bs n read → shown ≡ read → Sorted shown
   sorted_block bs n read shown s l is_read is_shown =
-      let at : shown ≡ block_at bs n = is_shown ∙ get_or_read bs n read l is_read [] in
-      let cut = entries_of-cut n bs ∙ ap (λ xs. entries_of (take n bs) ++ xs) (entries_of-from n bs l) in
-      subst (λ xs. Sorted xs) (sym at) (sorted_front (block_at bs n) (entries_of (drop (n + 1) bs))
-      (sorted_back (entries_of (take n bs)) (block_at bs n ++ entries_of (drop (n + 1) bs))
-      (subst (λ xs. Sorted xs) cut s)))
+      grind (arith, get_or_read bs n read l is_read [], entries_of-cut n bs, entries_of-from n bs l, sorted_front, sorted_back)
 
   pub IsAt-offset : (bs zs : List (List (K × V))) (k : K) (s : Spot) (read shown : List (K × V)) → zs ≡ bs
       → s.block < length zs → read ≡ get_or bs s.block read → shown ≡ read → IsOffset cmp shown k s.offset
@@ -219,18 +199,7 @@ module _ {K V : Type 0} {cmp : K → K → Ordering} (order : IsTotalOrder cmp) 
       → s.block < length zs → read ≡ get_or bs s.block read → shown ≡ read
       → AllBelow cmp k (entries_of (take s.block zs)) → AllAbove cmp k (entries_of (drop (s.block + 1) zs))
       → (s.offset ≤ length shown) × AllBelow cmp k (take s.offset shown) × AllAbove cmp k (drop s.offset shown) → IsFree cmp bs k s
-  IsFree-offset bs zs k s read shown same l is_read is_shown below above free =
-      let l' : s.block < length bs = omega (arith, l, ap length same) in
-      let at : shown ≡ block_at bs s.block = is_shown ∙ get_or_read bs s.block read l' is_read [] in
-      record {
-        gap = (λ some. l', omega (arith, free.0, ap length at));
-        below = below_both k (entries_of (take s.block bs)) (take s.offset (block_at bs s.block))
-            (subst (λ bs. AllBelow cmp k (entries_of (take s.block bs))) same below)
-            (subst (λ es. AllBelow cmp k (take s.offset es)) at free.1);
-        above = above_both k (drop s.offset (block_at bs s.block)) (entries_of (drop (s.block + 1) bs))
-            (subst (λ es. AllAbove cmp k (drop s.offset es)) at free.2)
-            (subst (λ bs. AllAbove cmp k (entries_of (drop (s.block + 1) bs))) same above);
-      }
+  IsFree-offset bs zs k s read shown same l is_read is_shown below above free = grind (arith, get_or_read, below_both, above_both)
   -- ---- the entries around a spot
 
 pub middle_below : (low high : ℕ) → low < high → (low ≤ low + (high - low) / 2) × (low + (high - low) / 2 < high)

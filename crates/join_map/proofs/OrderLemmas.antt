@@ -72,11 +72,7 @@ part-length order part a k moved =
 
 pub ArePlaces-order : {E : Type 0} (es : List E) (ps : List ℕ) (bs : List (List ℕ)) → IsOrder (length es) ps
     → entries_of bs ≡ ps → AllFilled bs → ArePlaces es bs
-ArePlaces-order es ps bs o is filled = record {
-  filled = filled;
-  within = subst (AllWithin (length es)) (sym is) o.within;
-  all = o.all ∙ ap length (sym is);
-}
+ArePlaces-order es ps bs o is filled = grind arith
 
 -- the places from i on
 pub place_next : (ps : List ℕ) (i p : ℕ) → i < length ps → p ≡ get_or ps i p → drop i ps ≡ p ∷ drop (i + 1) ps
@@ -85,13 +81,7 @@ place_next ps i p l is = drop_more ps i p l ∙ ap (λ q. q ∷ drop (i + 1) ps)
 -- the first n of the places that are left go to a block
 pub cut-more : (bs cs : List (List ℕ)) (ps rest front back : List ℕ) (n : ℕ) → entries_of bs ++ rest ≡ ps
     → front ≡ take n rest → back ≡ drop n rest → cs ≡ bs ++ front ∷ [] → entries_of cs ++ back ≡ ps
-cut-more bs cs ps rest front back n was first second is =
-    ap (λ zs. entries_of zs ++ back) is
-    ∙ ap (λ zs. zs ++ back) (entries_of-append bs (front ∷ []) ∙ ap (λ zs. entries_of bs ++ zs) (append-nil front))
-    ∙ append_assoc (entries_of bs) front back
-    ∙ ap (λ zs. entries_of bs ++ zs) (ap (λ zs. zs ++ back) first ∙ ap (λ zs. take n rest ++ zs) second
-    ∙ take-append-drop n rest)
-    ∙ was
+cut-more bs cs ps rest front back n was first second is = grind (arith, entries_of-append, append-nil, append_assoc, take-append-drop)
 
 pub filled-more : (bs cs : List (List ℕ)) (front : List ℕ) → AllFilled bs → 0 < length front → cs ≡ bs ++ front ∷ [] → AllFilled cs
 filled-more bs cs front f some is = subst AllFilled (sym is) (filled-append bs (front ∷ []) f (some, tt))
@@ -166,10 +156,7 @@ module _ {K V : Type 0} {cmp : K → K → Ordering} (order : IsTotalOrder cmp) 
 
   pub ascend-more : (es : List (K × V)) (p q : ℕ) (e f : K × V) (ps : List ℕ) → p < length es → q < length es
       → e ≡ get_or es p e → f ≡ get_or es q f → cmp e.0 f.0 ≡ Less → Ascend es (q ∷ ps) → Ascend es (p ∷ q ∷ ps)
-  ascend-more es p q e f ps l m is_e is_f less s =
-      let one = one_of es q f ps m is_f in
-      subst (λ xs. IsStrictlySortedBy cmp (keys_of xs)) (sym (one_of es p e (q ∷ ps) l is_e ∙ ap (λ xs. e ∷ xs) one))
-      (sorted_more e f (picked es ps) less (subst (λ xs. IsStrictlySortedBy cmp (keys_of xs)) one s))
+  ascend-more es p q e f ps l m is_e is_f less s = grind (arith, one_of es q f ps m is_f, one_of es p e (q ∷ ps) l is_e, sorted_more)
 
   pub ascend-none : (es : List (K × V)) (ps : List ℕ) → length ps ≡ 0 → Ascend es ps
   unfolding IsStrictlySortedBy
@@ -179,23 +166,14 @@ module _ {K V : Type 0} {cmp : K → K → Ordering} (order : IsTotalOrder cmp) 
   ascend-one : (es : List (K × V)) (p : ℕ) → p < length es → Ascend es (p ∷ [])
   unfolding IsStrictlySortedBy
   ascend-one [] p l = absurd (omega (arith, l))
-  ascend-one (e ∷ es) p l =
-      let f = get_or (e ∷ es) p e in
-      subst (λ xs. IsStrictlySortedBy cmp (keys_of xs)) (sym (one_of (e ∷ es) p f [] l (get_or_default (e ∷ es) p e f l))) (tt, tt)
+  ascend-one (e ∷ es) p l = grind (arith, one_of, get_or_default)
 
   -- a step of a walk over places of which those after `last` are still to come
   pub ascend-step : (W : Type 0) (es : List (K × V)) (ps : List ℕ) (i last p : ℕ) (e f : K × V) → i < length ps
       → p ≡ get_or ps i p → last < length es → AllWithin (length es) (drop i ps) → e ≡ get_or es last e
       → f ≡ get_or es p f → cmp e.0 f.0 ≡ Less → (Ascend es (last ∷ drop i ps) → W)
       → (p < length es) × AllWithin (length es) (drop (i + 1) ps) × (Ascend es (p ∷ drop (i + 1) ps) → W)
-  ascend-step W es ps i last p e f l is in_es w is_e is_f less leads =
-      let next = place_next ps i p l is in
-      let w' = subst (AllWithin (length es)) next w in (
-        w'.0,
-        w'.1,
-        λ s. leads (subst (λ qs. Ascend es (last ∷ qs)) (sym next)
-            (ascend-more es last p e f (drop (i + 1) ps) in_es w'.0 is_e is_f less s)),
-      )
+  ascend-step W es ps i last p e f l is in_es w is_e is_f less leads = grind (arith, place_next, ascend-more)
 
   pub ascend-end : (W : Type 0) (es : List (K × V)) (ps : List ℕ) (i last : ℕ) → length ps ≤ i → last < length es
       → (Ascend es (last ∷ drop i ps) → W) → W

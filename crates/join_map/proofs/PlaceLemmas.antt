@@ -1,4 +1,5 @@
 -- Entries by their places.
+use Rattle.std.proofs.lemmas.Grind.{common_steps}
 use Rattle.std.proofs.Common.{◌≡◌, ◌≢◌, ℕ, zero, suc, ◌+◌, ◌<◌, ◌≤◌}
 use Rattle.std.proofs.Common.{List, [], ◌∷◌, ◌++◌, length, get_or, take, drop, set, refl, sym, ap, ◌∙◌}
 use Rattle.std.proofs.Common.{subst, arith, append_assoc, length-append, Ordering, Less, Equal, Greater}
@@ -49,11 +50,7 @@ pub place-within : (n : ℕ) (bs : List (List ℕ)) (s : Spot) (p : ℕ) (read s
     → s.block < length bs → read ≡ get_or bs s.block read → shown ≡ read → s.offset < length shown
     → p ≡ get_or shown s.offset p → p < n
 place-within n bs s p read shown w l is_read is_shown o is =
-    let at : shown ≡ block_at bs s.block = is_shown ∙ get_or_read bs s.block read l is_read [] in
-    let inside : AllWithin n (p ∷ drop (s.offset + 1) shown) =
-    subst (AllWithin n) (drop_more shown s.offset p o ∙ ap (λ q. q ∷ drop (s.offset + 1) shown) (sym is))
-    (within-drop n s.offset shown (subst (AllWithin n) (sym at) (within-block n bs s.block w))) in
-    inside.0
+    grind (arith, get_or_read bs s.block read l is_read [], drop_more shown s.offset p o, within-drop, within-block n bs s.block w)
 
 module _ {E : Type 0} where
   one_at : (es : List E) (p : ℕ) (e : E) → p < length es → take 1 (drop p es) ≡ get_or es p e ∷ []
@@ -70,12 +67,7 @@ module _ {E : Type 0} where
 
   pub length-picked : (es : List E) (ps : List ℕ) → AllWithin (length es) ps → length (picked es ps) ≡ length ps
   length-picked es [] w = refl
-  length-picked es (p ∷ ps) w = omega (
-    arith,
-    length-append (take 1 (drop p es)) (picked es ps),
-    length-one es p w.0,
-    length-picked es ps w.1,
-  )
+  length-picked es (p ∷ ps) w = grind (arith, length-append, length-one, length-picked es ps w.1)
 
   pub rows-entries : (es : List E) (bs : List (List ℕ)) → entries_of (rows es bs) ≡ picked es (entries_of bs)
   rows-entries es [] = refl
@@ -111,51 +103,31 @@ module _ {E : Type 0} where
   picked-take es ps zero w = refl
   picked-take es [] (suc n) w = refl
   picked-take [] (p ∷ ps) (suc n) w = absurd (omega (arith, w.0))
-  picked-take (e ∷ es) (p ∷ ps) (suc n) w =
-      take_one (take 1 (drop p (e ∷ es))) (picked (e ∷ es) ps) (get_or (e ∷ es) p e) n (one_at (e ∷ es) p e w.0)
-      ∙ ap (λ xs. take 1 (drop p (e ∷ es)) ++ xs) (picked-take (e ∷ es) ps n w.1)
+  picked-take (e ∷ es) (p ∷ ps) (suc n) w = grind (arith, common_steps, take_one, one_at, picked-take (e ∷ es) ps n w.1)
 
   pub picked-drop : (es : List E) (ps : List ℕ) (n : ℕ) → AllWithin (length es) ps → drop n (picked es ps) ≡ picked es (drop n ps)
   picked-drop es ps zero w = refl
   picked-drop es [] (suc n) w = refl
   picked-drop [] (p ∷ ps) (suc n) w = absurd (omega (arith, w.0))
-  picked-drop (e ∷ es) (p ∷ ps) (suc n) w =
-      drop_one (take 1 (drop p (e ∷ es))) (picked (e ∷ es) ps) (get_or (e ∷ es) p e) n (one_at (e ∷ es) p e w.0)
-      ∙ picked-drop (e ∷ es) ps n w.1
+  picked-drop (e ∷ es) (p ∷ ps) (suc n) w = grind (arith, common_steps, drop_one, one_at, picked-drop (e ∷ es) ps n w.1)
 
   -- the entry at a place in a list of places
   pub picked-at : (es : List E) (ps : List ℕ) (o p : ℕ) (e : E) → AllWithin (length es) ps
       → drop o ps ≡ p ∷ drop (o + 1) ps → e ≡ get_or es p e → drop o (picked es ps) ≡ e ∷ drop (o + 1) (picked es ps)
-  picked-at es ps o p e w at is =
-      let inside : AllWithin (length es) (p ∷ drop (o + 1) ps) = subst (AllWithin (length es)) at (within-drop (length es) o ps w) in
-      picked-drop es ps o w ∙ ap (picked es) at ∙ ap (λ xs. xs ++ picked es (drop (o + 1) ps)) (one_at es p e inside.0
-      ∙ ap (λ x. x ∷ []) (sym is))
-      ∙ ap (λ xs. e ∷ xs) (sym (picked-drop es ps (o + 1) w))
+  picked-at es ps o p e w at is = grind (arith, within-drop, picked-drop, one_at)
 
   pub before-rows : (es : List E) (bs : List (List ℕ)) (s : Spot) → AllWithin (length es) (block_at bs s.block)
       → before (rows es bs) s ≡ picked es (before bs s)
-  before-rows es bs s w =
-      ap (λ xs. entries_of xs ++ take s.offset (block_at (rows es bs) s.block)) (rows-take es bs s.block)
-      ∙ ap (λ xs. entries_of (rows es (take s.block bs)) ++ take s.offset xs) (rows-at es bs s.block)
-      ∙ ap (λ xs. xs ++ take s.offset (picked es (block_at bs s.block))) (rows-entries es (take s.block bs))
-      ∙ ap (λ xs. picked es (entries_of (take s.block bs)) ++ xs) (picked-take es (block_at bs s.block) s.offset w)
-      ∙ sym (picked-append es (entries_of (take s.block bs)) (take s.offset (block_at bs s.block)))
+  before-rows es bs s w = grind (arith, rows-take, rows-at, rows-entries, picked-take, picked-append)
 
   pub after-rows : (es : List E) (bs : List (List ℕ)) (s : Spot) → AllWithin (length es) (block_at bs s.block)
       → after (rows es bs) s ≡ picked es (after bs s)
-  after-rows es bs s w =
-      ap (λ xs. drop s.offset (block_at (rows es bs) s.block) ++ entries_of xs) (rows-drop es bs (s.block + 1))
-      ∙ ap (λ xs. drop s.offset xs ++ entries_of (rows es (drop (s.block + 1) bs))) (rows-at es bs s.block)
-      ∙ ap (λ xs. drop s.offset (picked es (block_at bs s.block)) ++ xs) (rows-entries es (drop (s.block + 1) bs))
-      ∙ ap (λ xs. xs ++ picked es (entries_of (drop (s.block + 1) bs))) (picked-drop es (block_at bs s.block) s.offset w)
-      ∙ sym (picked-append es (drop s.offset (block_at bs s.block)) (entries_of (drop (s.block + 1) bs)))
+  after-rows es bs s w = grind (arith, rows-drop, rows-at, rows-entries, picked-drop, picked-append)
 
   pub filled-rows : (es : List E) (bs : List (List ℕ)) → AllFilled bs → AllWithin (length es) (entries_of bs) → AllFilled (rows es bs)
   filled-rows es [] f w = tt
-  filled-rows es (b ∷ bs) f w = (
-    omega (arith, f.0, length-picked es b (within-front (length es) b (entries_of bs) w)),
-    filled-rows es bs f.1 (within-back (length es) b (entries_of bs) w),
-  )
+  filled-rows es (b ∷ bs) f w =
+      grind (arith, length-picked, within-front, within-back, filled-rows es bs f.1 (within-back (length es) b (entries_of bs) w))
 
   -- ---- one entry more
 
@@ -170,10 +142,7 @@ module _ {E : Type 0} where
   pub picked-more : (es : List E) (e : E) (ps : List ℕ) → AllWithin (length es) ps → picked (es ++ e ∷ []) ps ≡ picked es ps
   picked-more es e [] w = refl
   picked-more es e (p ∷ ps) w =
-      let l : p < length (es ++ e ∷ []) = omega (arith, w.0, length-append es (e ∷ [])) in
-      ap (λ xs. xs ++ picked (es ++ e ∷ []) ps) (one_at (es ++ e ∷ []) p e l
-      ∙ ap (λ x. x ∷ []) (get_or-front es e e p w.0) ∙ sym (one_at es p e w.0))
-      ∙ ap (λ xs. take 1 (drop p es) ++ xs) (picked-more es e ps w.1)
+      grind (arith, length-append es (e ∷ []), one_at, get_or-front es e e p w.0, one_at es p e w.0, picked-more es e ps w.1)
 
 -- ---- a value rewritten at its place
 
@@ -213,14 +182,12 @@ module _ {K V : Type 0} where
 
   pub spot-rows : (es : List (K × V)) (bs : List (List ℕ)) (s : Spot) → ArePlaces es bs → IsSpot (rows es bs) s
       → (s.block < length bs) × (s.offset < length (block_at bs s.block))
-  spot-rows es bs s a i = (
-    omega (arith, i.0, length-rows es bs),
-    omega (
-      arith,
-      i.1,
-      ap length (rows-at es bs s.block),
-      length-picked es (block_at bs s.block) (within-block (length es) bs s.block a.within),
-    ),
+  spot-rows es bs s a i = grind (
+    arith,
+    length-rows es bs,
+    rows-at es bs s.block,
+    length-picked es (block_at bs s.block) (within-block (length es) bs s.block a.within),
+    within-block (length es) bs s.block a.within,
   )
 
   pub count-rows : (es : List (K × V)) (bs : List (List ℕ)) (n : ℕ) → ArePlaces es bs
@@ -326,30 +293,21 @@ module _ {K V : Type 0} {cmp : K → K → Ordering} (order : IsTotalOrder cmp) 
 
 module _ {K V : Type 0} where
   pub gap-rows : (es : List (K × V)) (bs : List (List ℕ)) (s : Spot) → ArePlaces es bs → IsGap (rows es bs) s → IsGap bs s
-  gap-rows es bs s a g = (
-    λ some. let l = g.0 (omega (arith, some, length-rows es bs)) in omega (arith, l, length-rows es bs),
-    omega (arith, g.1, count-rows es bs s.block a),
-  )
+  gap-rows es bs s a g = grind (arith, length-rows, count-rows)
 
   pub ArePlaces-more : (es : List (K × V)) (bs cs : List (List ℕ)) (s : Spot) (e : K × V) (p : ℕ) → ArePlaces es bs
       → IsGap bs s → p ≡ length es → entries_of cs ≡ before bs s ++ p ∷ after bs s → AllFilled cs
       → ArePlaces (es ++ e ∷ []) cs
-  ArePlaces-more es bs cs s e p a g last is filled =
-      let longer : length (es ++ e ∷ []) ≡ length es + 1 = length-append es (e ∷ []) ∙ omega arith in
-      let le : length es ≤ length (es ++ e ∷ []) = omega (arith, longer) in
-      let all = subst (AllWithin (length es)) (entries_of-gap bs s g) a.within in
-      record {
-        filled = filled;
-        within = subst (AllWithin (length (es ++ e ∷ []))) (sym is)
-            (within-both (length (es ++ e ∷ [])) (before bs s) (p ∷ after bs s)
-            (within-more (length es) (length (es ++ e ∷ [])) (before bs s) le
-            (within-front (length es) (before bs s) (after bs s) all)) (
-              omega (arith, last, longer),
-              within-more (length es) (length (es ++ e ∷ [])) (after bs s) le
-                  (within-back (length es) (before bs s) (after bs s) all),
-            ));
-        all = omega (arith, longer, a.all, length-inserted bs s p (entries_of cs) g is);
-      }
+  ArePlaces-more es bs cs s e p a g last is filled = grind (
+    arith,
+    length-append es (e ∷ []),
+    entries_of-gap bs s g,
+    within-both,
+    within-more,
+    within-front,
+    within-back,
+    length-inserted bs s p (entries_of cs) g is,
+  )
 
   pub inserted-rows : (es : List (K × V)) (bs cs : List (List ℕ)) (s : Spot) (e : K × V) (p : ℕ) → ArePlaces es bs
       → IsGap bs s → p ≡ length es → entries_of cs ≡ before bs s ++ p ∷ after bs s
@@ -370,21 +328,10 @@ module _ {K V : Type 0} where
 
   pub ArePlaces-kept : (es fs : List (K × V)) (bs cs : List (List ℕ)) → ArePlaces es bs → fs ≡ es
       → entries_of cs ≡ entries_of bs → AllFilled cs → ArePlaces fs cs
-  ArePlaces-kept es fs bs cs a same is filled =
-      subst (λ xs. ArePlaces xs cs) (sym same) (record {
-        filled = filled;
-        within = subst (AllWithin (length es)) (sym is) a.within;
-        all = a.all ∙ ap length (sym is);
-      })
+  ArePlaces-kept es fs bs cs a same is filled = grind arith
 
   pub ArePlaces-set : (es : List (K × V)) (bs : List (List ℕ)) (p : ℕ) (x : K × V) → ArePlaces es bs → ArePlaces (set es p x) bs
-  ArePlaces-set es bs p x a =
-      let same : length es ≡ length (set es p x) = sym (length-set es p x) in
-      record {
-        filled = a.filled;
-        within = subst (λ n. AllWithin n (entries_of bs)) same a.within;
-        all = sym same ∙ a.all;
-      }
+  ArePlaces-set es bs p x a = grind (arith, length-set)
 
   pub kept-rows : (es fs : List (K × V)) (bs cs : List (List ℕ)) → fs ≡ es → entries_of cs ≡ entries_of bs
       → entries_of (rows fs cs) ≡ entries_of (rows es bs)

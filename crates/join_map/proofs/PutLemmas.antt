@@ -1,4 +1,5 @@
 -- A map after one value in it was joined with another, and a walk that joins entry by entry.
+use Rattle.std.proofs.Common.{arith}
 use Rattle.std.proofs.Common.{◌≡◌, Bool, true, false, cond, List, [], ◌∷◌, Option, Some, None, Result, Ok, Err, OnOk}
 use Rattle.std.proofs.Common.{OnErr, IsSome, is_some, Ordering, Equal, refl, sym, ap, ◌∙◌, subst, is_eq}
 use Rattle.std.specs.Cmp.{IsTotalOrder, eq_by_cmp_equiv, Equal-is}
@@ -28,9 +29,7 @@ module _ {K V : Type 0} {cmp : K → K → Ordering} (order : IsTotalOrder cmp) 
 
   pub valid_written : (k : K) (u : V) (es : List (K × V)) → Valid u → AllValid Valid es → AllValid Valid (Written k es u)
   valid_written k u [] h a = tt
-  valid_written k u (e ∷ es) h a =
-      let P : List (K × V) → Type 0 = AllValid Valid in
-      cond_both (is_eq (cmp k e.0)) _ _ P (λ _. (h, a.1)) (λ _. (a.0, valid_written k u es h a.1))
+  valid_written k u (e ∷ es) h a = grind (arith, cond_both, is_eq, valid_written k u es h a.1)
 
   from_old_at : (b : Bool) (o : Option V) (u w : V) → (b ≡ true → o ≡ Some w) → ValidAt Valid o → IsAtMost join w u
       → joined_at join o (cond b (Some u) o) ≡ cond b (Some u) o

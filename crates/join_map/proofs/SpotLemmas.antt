@@ -1,9 +1,10 @@
 -- What a map has at a key, and how it changes there, by the spot of the key.
-use Rattle.std.proofs.Common.{◌≡◌, ◌+◌, List, ◌∷◌, ◌++◌, drop, Some, None, Result, Ok, Err, OnOk}
+use Rattle.std.proofs.Common.{arith}
+use Rattle.std.proofs.Common.{◌≡◌, List, ◌∷◌, ◌++◌, Some, None, Result, Ok, Err, OnOk}
 use Rattle.std.proofs.Common.{OnErr, Ordering, Equal, sym, ap, ◌∙◌, subst}
 use Rattle.std.specs.BTreeMap.{insert_entry}
 use Rattle.std.specs.Cmp.{IsTotalOrder}
-use Rattle.join_map.specs.Blocks.{entries_of, before, after, block_at, IsEntry, IsAt, IsFree, IsRewritten, JoinsAt}
+use Rattle.join_map.specs.Blocks.{entries_of, before, after, IsEntry, IsAt, IsFree, IsRewritten, JoinsAt}
 use Rattle.join_map.specs.declared.blocks.Spot.{Spot}
 use Rattle.join_map.specs.Entries.{value_at, IsJoinMap, put_entry, joined, one_entry}
 use Rattle.join_map.specs.laws.Entries.{insert_entry-put, joined-laws, IsJoinMap-one, IsJoinMap-put}
@@ -25,12 +26,7 @@ module _ {K V : Type 0} {cmp : K → K → Ordering} (order : IsTotalOrder cmp) 
   -- the value at a key is that at its spot
   pub value_at-spot : (bs : List (List (K × V))) (k : K) (s : Spot) (e : K × V) → Sorted order exact (entries_of bs)
       → IsAt cmp bs k s → IsEntry bs s e → value_at cmp k (entries_of bs) ≡ Some e.1
-  value_at-spot bs k s e o a is =
-      let rest = drop (s.offset + 1) (block_at bs s.block) ++ entries_of (drop (s.block + 1) bs) in
-      let was : entries_of bs ≡ before bs s ++ e ∷ rest = entries_of-split bs s a.spot.0
-      ∙ ap (λ es. before bs s ++ (es ++ entries_of (drop (s.block + 1) bs))) is in
-      ap (value_at cmp k) was ∙ value_at-entry order exact k (before bs s) rest e
-      (subst (λ xs. Sorted order exact xs) was o) (key_at cmp bs k s e a is)
+  value_at-spot bs k s e o a is = grind (arith, entries_of-split bs s a.spot.0, value_at-entry, key_at cmp bs k s e a is)
 
   in_order : (bs cs : List (List (K × V))) (s : Spot) (e : K × V) (u : V) → Sorted order exact (entries_of bs)
       → (r : IsRewritten bs cs s e u) → Sorted order exact (before bs s ++ e ∷ r.rest)
@@ -39,17 +35,12 @@ module _ {K V : Type 0} {cmp : K → K → Ordering} (order : IsTotalOrder cmp) 
   value_at-rewritten : (bs cs : List (List (K × V))) (k : K) (s : Spot) (e : K × V) (u : V)
       → Sorted order exact (entries_of bs) → IsAt cmp bs k s → IsRewritten bs cs s e u
       → value_at cmp k (entries_of bs) ≡ Some e.1
-  value_at-rewritten bs cs k s e u m a r =
-      ap (value_at cmp k) r.was ∙ value_at-entry order exact k (before bs s) r.rest e (in_order bs cs s e u m r)
-      (key_at cmp bs k s e a r.is)
+  value_at-rewritten bs cs k s e u m a r = grind (arith, value_at-entry, in_order, key_at)
 
   is_written : (bs cs : List (List (K × V))) (k : K) (s : Spot) (e : K × V) (u : V)
       → Sorted order exact (entries_of bs) → IsAt cmp bs k s → IsRewritten bs cs s e u
       → entries_of cs ≡ Written order exact k (entries_of bs) u
-  is_written bs cs k s e u m a r =
-      r.now ∙ sym (ap (λ es. Written order exact k es u) r.was
-      ∙ written_entry order exact k u (before bs s) r.rest e (in_order bs cs s e u m r)
-      (key_at cmp bs k s e a r.is))
+  is_written bs cs k s e u m a r = grind (arith, written_entry, in_order, key_at)
 
   sorted_rewritten : (bs cs : List (List (K × V))) (s : Spot) (e : K × V) (u : V) → Sorted order exact (entries_of bs)
       → IsRewritten bs cs s e u → Sorted order exact (entries_of cs)

@@ -1,35 +1,18 @@
-use Rattle.std.proofs.Common.{ℕ, List, ◌≡◌, ◌<◌, ◌≤◌, ◌+◌, ◌-◌, ◌/◌, length, drop, take, refl, sym, ap, ◌∙◌, subst, arith}
+use Rattle.std.proofs.Common.{ℕ, List, ◌≡◌, ◌<◌, ◌≤◌, ◌+◌, ◌-◌, ◌/◌, length, drop, take, refl, sym, ◌∙◌, subst, arith}
 use Rattle.std.proofs.lemmas.List.{drop_all}
-use Rattle.join_map.specs.Blocks.{AllAbove, AllBelow, AllFilled, ArePlaces, block_at, entries_of, rows}
+use Rattle.join_map.specs.Blocks.{AllAbove, AllBelow, ArePlaces, block_at, entries_of, rows}
 use Rattle.join_map.proofs.BlockLemmas.{filled_at}
 use Rattle.join_map.proofs.KeyLemmas.{above_from_block, below_upto_block, above_later, middle_below, Less-from, not_Less-from}
 use Rattle.join_map.proofs.PlaceLemmas.{entry_is, filled-rows, length-rows, row_is}
 use Rattle.join_map.proofs.blocks.Blocks.block_of.Goals as goal
 
 pub loop-low-init : goal.loop-low-init
-loop-low-init g c =
-    let all : c.len-high.result ≡ length c.args.self.now =
-    omega (
-      arith,
-      c.len-high.ensures,
-      c.self.inside.blocks.ok.0,
-      ap length c.self.view_is,
-      length-rows c.self.inside.entries.items c.self.inside.blocks.items,
-    ) in (
-      omega arith,
-      omega (arith, all),
-      tt,
-      subst (λ xs. AllAbove g.K.Ord.cmp c.args.key.now (entries_of xs))
-          (sym (drop_all c.len-high.result c.args.self.now (omega (arith, all)))) tt,
-    )
+loop-low-init g c = grind (arith, length-rows, drop_all)
 
 spot_at : {K V : Type 0} (low high : ℕ) (es : List (K × V)) (bs : List (List ℕ)) (now : List (List (K × V)))
     → low < high → high ≤ length now → rows es bs ≡ now → ArePlaces es bs
     → (low + (high - low) / 2 < length now) × (0 < length (block_at now (low + (high - low) / 2)))
-spot_at low high es bs now t h is a =
-    let m = middle_below low high t in
-    let l : low + (high - low) / 2 < length now = omega (arith, m.1, h) in
-    (l, filled_at now (low + (high - low) / 2) (subst AllFilled is (filled-rows es bs a.filled a.within)) l)
+spot_at low high es bs now t h is a = grind (arith, middle_below, filled_at, filled-rows)
 
 pub entry-requires : goal.entry-requires
 entry-requires g c = spot_at c.loop-low.low c.loop-low.high c.self.inside.entries.items c.self.inside.blocks.items

@@ -6,34 +6,13 @@ use Rattle.join_map.proofs.PlaceLemmas.{IsEntry-rows, place-within, spot-rows}
 use Rattle.join_map.proofs.blocks.Blocks.entry.Goals as goal
 
 pub index-requires : goal.index-requires
-index-requires g c =
-    let spot = spot-rows c.self.inside.entries.items c.self.inside.blocks.items c.args.spot c.self.invariant
-    (subst (λ bs. IsSpot bs c.args.spot) (sym c.self.view_is) c.requires) in
-    omega (arith, spot.0, c.self.inside.blocks.ok.0)
+index-requires g c = grind (arith, spot-rows)
 
 pub offset_bounds-places-spot : goal.offset_bounds-places-spot
-offset_bounds-places-spot g c =
-    let spot = spot-rows c.self.inside.entries.items c.self.inside.blocks.items c.args.spot c.self.invariant
-    (subst (λ bs. IsSpot bs c.args.spot) (sym c.self.view_is) c.requires) in
-    let o : c.args.spot.offset < length c.places.result.now =
-    omega (
-      arith,
-      spot.1,
-      ap length (c.places.ensures ∙ get_or_read c.self.inside.blocks.items c.args.spot.block c.index.result.now
-          spot.0 c.index.ensures []),
-    ) in
-    search rules
+offset_bounds-places-spot g c = grind (arith, spot-rows, get_or_read)
 
 pub bounds-places-spot : goal.bounds-places-spot
-bounds-places-spot g c =
-    let spot = spot-rows c.self.inside.entries.items c.self.inside.blocks.items c.args.spot c.self.invariant
-    (subst (λ bs. IsSpot bs c.args.spot) (sym c.self.view_is) c.requires) in
-    omega (
-      arith,
-      spot.1,
-      ap length (c.places.ensures ∙ get_or_read c.self.inside.blocks.items c.args.spot.block c.index.result.now
-          spot.0 c.index.ensures []),
-    )
+bounds-places-spot g c = grind (arith, spot-rows, get_or_read)
 
 pub index-requires-2 : goal.index-requires-2
 index-requires-2 g c =
@@ -56,18 +35,4 @@ index-requires-2 g c =
     )
 
 pub returns : goal.returns
-returns g c =
-    let spot = spot-rows c.self.inside.entries.items c.self.inside.blocks.items c.args.spot c.self.invariant
-    (subst (λ bs. IsSpot bs c.args.spot) (sym c.self.view_is) c.requires) in
-    let o : c.args.spot.offset < length c.places.result.now =
-    omega (
-      arith,
-      spot.1,
-      ap length (c.places.ensures ∙ get_or_read c.self.inside.blocks.items c.args.spot.block c.index.result.now
-          spot.0 c.index.ensures []),
-    ) in
-    let place = slice_index_or c.places.result.now c.args.spot.offset 0 in
-    rw (← c.self.view_is)
-    (IsEntry-rows c.self.inside.entries.items c.self.inside.blocks.items c.args.spot place c.index-2.result.now
-    c.index.result.now c.places.result.now c.self.invariant spot.0 c.index.ensures c.places.ensures o
-    (get_or_default c.places.result.now c.args.spot.offset 0 place o) c.index-2.ensures)
+returns g c = search (rules, spot-rows, get_or_read, IsEntry-rows, get_or_default)

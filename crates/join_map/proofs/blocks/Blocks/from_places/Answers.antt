@@ -1,3 +1,4 @@
+use Rattle.std.proofs.Common.{arith}
 use Rattle.std.proofs.Common.{◌∙◌, ap}
 use Rattle.join_map.specs.Blocks.{picked}
 use Rattle.join_map.proofs.OrderLemmas.{ArePlaces-order}
@@ -5,9 +6,7 @@ use Rattle.join_map.proofs.PlaceLemmas.{rows-entries}
 use Rattle.join_map.proofs.blocks.Blocks.from_places.Goals as goal
 
 pub invariant_of-result : goal.invariant_of-result
-invariant_of-result g c =
-    ArePlaces-order c.args.entries.items c.args.places.now c.in_ok-blocks.blocks.items c.requires
-    c.in_ok-blocks.ensures.all c.in_ok-blocks.ensures.filled
+invariant_of-result g c = grind (arith, ArePlaces-order)
 
 pub returns : goal.returns
 returns g c =

@@ -1,4 +1,4 @@
-use Rattle.std.proofs.Common.{◌<◌, ◌∙◌, [], length, ap, sym, subst, arith, rules}
+use Rattle.std.proofs.Common.{◌<◌, ◌∙◌, [], length, ap, sym, subst, arith}
 use Rattle.std.specs.List.Sorted.{IsStrictlySortedBy}
 use Rattle.std.specs.Map.{keys_of}
 use Rattle.std.specs.Prelude.{slice_index_or}
@@ -8,34 +8,13 @@ use Rattle.join_map.proofs.PlaceLemmas.{ArePlaces-set, IsRewritten-rows, place-w
 use Rattle.join_map.proofs.blocks.Blocks.join_at.Goals as goal
 
 pub index-requires : goal.index-requires
-index-requires g c =
-    let spot = spot-rows c.self.inside.entries.items c.self.inside.blocks.items c.args.spot c.self.invariant
-    (subst (λ bs. IsSpot bs c.args.spot) (sym c.self.view_is) c.requires.spot) in
-    omega (arith, spot.0, c.self.inside.blocks.ok.0)
+index-requires g c = grind (arith, spot-rows)
 
 pub offset_bounds-places-spot : goal.offset_bounds-places-spot
-offset_bounds-places-spot g c =
-    let spot = spot-rows c.self.inside.entries.items c.self.inside.blocks.items c.args.spot c.self.invariant
-    (subst (λ bs. IsSpot bs c.args.spot) (sym c.self.view_is) c.requires.spot) in
-    let o : c.args.spot.offset < length c.places.result.now =
-    omega (
-      arith,
-      spot.1,
-      ap length (c.places.ensures ∙ get_or_read c.self.inside.blocks.items c.args.spot.block c.index.result.now
-          spot.0 c.index.ensures []),
-    ) in
-    search rules
+offset_bounds-places-spot g c = grind (arith, spot-rows, get_or_read)
 
 pub bounds-places-spot : goal.bounds-places-spot
-bounds-places-spot g c =
-    let spot = spot-rows c.self.inside.entries.items c.self.inside.blocks.items c.args.spot c.self.invariant
-    (subst (λ bs. IsSpot bs c.args.spot) (sym c.self.view_is) c.requires.spot) in
-    omega (
-      arith,
-      spot.1,
-      ap length (c.places.ensures ∙ get_or_read c.self.inside.blocks.items c.args.spot.block c.index.result.now
-          spot.0 c.index.ensures []),
-    )
+bounds-places-spot g c = grind (arith, spot-rows, get_or_read)
 
 pub index_mut-entry-requires : goal.index_mut-entry-requires
 index_mut-entry-requires g c =

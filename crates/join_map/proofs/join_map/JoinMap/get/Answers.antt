@@ -1,3 +1,4 @@
+use Rattle.std.proofs.Common.{arith}
 use Rattle.std.proofs.Common.{sym}
 use Rattle.join_map.specs.Blocks.{entries_of}
 use Rattle.join_map.specs.laws.Entries.{IsJoinMap-value}
@@ -18,7 +19,4 @@ returns-in-Ok-clause-valid g c =
     c.entry.result.now c.self.invariant.sorted c.in-Ok.ensures.found c.entry.ensures)
 
 pub returns-in-Err-clause-value : goal.returns-in-Err-clause-value
-returns-in-Err-clause-value g c =
-    rw (← c.self.view_is)
-    (sym (value_at-gap g.met.K.Ord.total g.met.K.Copied.exact c.self.inside.blocks c.args.key.now c.in-Err.field-0
-    c.in-Err.ensures.free))
+returns-in-Err-clause-value g c = grind (arith, value_at-gap)

@@ -1,3 +1,4 @@
+use Rattle.std.proofs.Common.{arith}
 use Rattle.join_map.specs.Blocks.{entries_of}
 use Rattle.std.proofs.lemmas.Result.{on_ok_weaker, on_err_weaker}
 use Rattle.join_map.proofs.SpotLemmas.{inserted_map, joined_ok, joined_err, joined_map, put_ok_at, kept_part}
@@ -10,18 +11,13 @@ invariant_of-self g c =
     c.in-Ok.ensures.found c.join_at.ensures
 
 pub returns-in-Ok-clause-ok : goal.returns-in-Ok-clause-ok
-returns-in-Ok-clause-ok g c =
-    rw (← c.self.view_is)
-    (joined_ok g.met.K.Ord.total g.met.K.Copied.exact g.met.V.Join.laws c.join_at.result c.self.inside.blocks
-    c.join_at.new.self c.args.key.now c.in-Ok.spot (g.O.JoinInto.value c.args.other.now) c.self.invariant
-    c.in-Ok.ensures.found c.join_at.ensures)
+returns-in-Ok-clause-ok g c = grind (arith, joined_ok)
 
 pub returns-in-Ok-clause-err : goal.returns-in-Ok-clause-err
-returns-in-Ok-clause-err g c =
-    rw (← c.self.view_is)
-    (joined_err g.met.K.Ord.total g.met.K.Copied.exact g.met.V.Join.laws c.join_at.result c.self.inside.blocks
-    c.join_at.new.self c.args.key.now c.in-Ok.spot (g.O.JoinInto.value c.args.other.now) c.self.invariant
-    c.in-Ok.ensures.found c.join_at.ensures)
+returns-in-Ok-clause-err g c = grind (
+  arith,
+  joined_err g.met.K.Ord.total g.met.K.Copied.exact g.met.V.Join.laws c.join_at.result c.self.inside.blocks c.join_at.new.self c.args.key.now c.in-Ok.spot (g.O.JoinInto.value c.args.other.now) c.self.invariant c.in-Ok.ensures.found c.join_at.ensures,
+)
 
 pub returns-in-Ok-clause-valid : goal.returns-in-Ok-clause-valid
 returns-in-Ok-clause-valid g c =
@@ -36,18 +32,10 @@ invariant_of-self-in-Err g c =
     c.self.invariant c.insert_new.ensures.valid c.in-Err.ensures.free c.insert_new.ensures.ok c.insert_new.ensures.err
 
 pub returns-in-Err-clause-ok : goal.returns-in-Err-clause-ok
-returns-in-Err-clause-ok g c =
-    rw (← c.self.view_is)
-    (on_ok_weaker c.insert_new.result (put_ok_at g.met.K.Ord.total g.met.K.Copied.exact g.met.V.Join.laws
-    c.self.inside.blocks c.args.key.now c.in-Err.spot (g.O.JoinInto.value c.args.other.now)
-    (entries_of c.insert_new.new.blocks) c.in-Err.ensures.free) c.insert_new.ensures.ok)
+returns-in-Err-clause-ok g c = grind (arith, on_ok_weaker, put_ok_at)
 
 pub returns-in-Err-clause-err : goal.returns-in-Err-clause-err
-returns-in-Err-clause-err g c =
-    rw (← c.self.view_is)
-    (on_err_weaker c.insert_new.result (kept_part g.met.K.Ord.total g.met.K.Copied.exact g.met.V.Join.laws
-    c.args.key.now (g.O.JoinInto.value c.args.other.now) (entries_of c.self.inside.blocks)
-    (entries_of c.insert_new.new.blocks) c.self.invariant c.insert_new.ensures.valid) c.insert_new.ensures.err)
+returns-in-Err-clause-err g c = grind (arith, on_err_weaker, kept_part)
 
 pub returns-in-Err-clause-valid : goal.returns-in-Err-clause-valid
 returns-in-Err-clause-valid g c =

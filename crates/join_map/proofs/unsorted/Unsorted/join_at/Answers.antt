@@ -1,24 +1,14 @@
+use Rattle.std.proofs.Common.{arith}
 use Rattle.std.proofs.Common.{◌≡◌, ◌<◌, length, get_or, sym, subst, rules}
 use Rattle.join_map.specs.Entries.{AllFit}
 use Rattle.join_map.proofs.GatherLemmas.{fits-at, fits-set, joined_at_place, valid-set}
 use Rattle.join_map.proofs.unsorted.Unsorted.join_at.Goals as goal
 
 pub invariant_of-self-2 : goal.invariant_of-self-2
-invariant_of-self-2 g c =
-    valid-set g.V.Join.Valid c.self.inside.entries.items c.args.place (
-      c.in_ok-entry.entry.now.0,
-      c.join_own-joined.new.held,
-    ) c.self.invariant c.valid.ensures
+invariant_of-self-2 g c = grind (arith, valid-set)
 
 pub returns-clause-fits : goal.returns-clause-fits
-returns-clause-fits g c =
-    let es = c.self.inside.entries.items in
-    let e = c.in_ok-entry.entry.now in
-    let l : c.args.place < length es = search rules in
-    let is : e ≡ get_or es c.args.place e = search rules in
-    let fits = subst (AllFit g.O.JoinOwn.Fits) (sym c.self.view_is) c.requires in
-    fits-set g.O.JoinOwn.Fits es c.args.place (e.0, c.join_own-joined.new.held) fits
-    (c.join_own-joined.ensures.fits (fits-at g.O.JoinOwn.Fits es c.args.place e l is fits))
+returns-clause-fits g c = grind (arith, fits-set, fits-at)
 
 pub returns-clause-ok : goal.returns-clause-ok
 returns-clause-ok g c =
