@@ -1,5 +1,6 @@
 -- Accounts that were joined, or joined in part.
-use Rattle.std.proofs.Common.{◌≡◌, Result, Ok, Err, OnErr, sym, subst}
+use Rattle.std.proofs.Common.{arith}
+use Rattle.std.proofs.Common.{◌≡◌, Result, OnErr}
 use Rattle.mdns_message.specs.declared.hearing.Hearing.{Hearing}
 use Rattle.join_map.specs.Join.{IsPartOfJoin}
 use Rattle.join_map.specs.laws.Join.{IsPartOfJoin-old, IsPartOfJoin-join}
@@ -19,29 +20,15 @@ one_account h = IsSeconds-only (heard_of h)
 -- a part of the join of two accounts, by its parts
 part_of_both : (old other : Account) (l : Latest) (h : Seconds) → IsPartOfJoin later old.latest other.latest l
     → IsPartOfJoin join_seconds old.history other.history h → IsPartOfJoin join_account old other (account l h)
-part_of_both old other l h p q = record {
-  from_old = λ i. account (p.from_old i) (q.from_old i);
-  to_join = λ i. account (p.to_join i) (q.to_join i);
-}
+part_of_both old other l h p q = grind arith
 
 module _ {T E : Type 0} (r : Result T E) (old other : Account) where
   -- the hearings were joined in part, and the last hearing wasn't
   pub part_history : (h : Seconds) → IsPartOfJoin join_seconds old.history other.history h
       → OnErr r (IsPartOfJoin join_account old other (account old.latest h))
-  part_history h part = by r (part_of_both old other old.latest h (IsPartOfJoin-old later-laws old.latest other.latest tt tt) part)
-    where
-      by : {P : Type 0} (s : Result T E) → P → OnErr s P
-      by (Ok x) p = tt
-      by (Err x) p = p
+  part_history h part = grind (arith, part_of_both, IsPartOfJoin-old, later-laws)
 
   -- the hearings were joined, and the last hearing in part
   pub part_latest : (l : Latest) (h : Seconds) → IsAccount old → IsAccount other → h ≡ join_seconds old.history other.history
       → OnErr r (IsPartOfJoin later old.latest other.latest l) → OnErr r (IsPartOfJoin join_account old other (account l h))
-  part_latest l h u v same part = by r part
-    where
-      by : (s : Result T E) → OnErr s (IsPartOfJoin later old.latest other.latest l)
-          → OnErr s (IsPartOfJoin join_account old other (account l h))
-      by (Ok x) p = tt
-      by (Err x) p = part_of_both old other l h p
-          (subst (IsPartOfJoin join_seconds old.history other.history) (sym same)
-          (IsPartOfJoin-join seconds-laws old.history other.history u v))
+  part_latest l h u v same part = grind (arith, part_of_both, IsPartOfJoin-join, seconds-laws)

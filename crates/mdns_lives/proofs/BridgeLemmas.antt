@@ -1,16 +1,13 @@
 -- The lives of a record by its history are those by all hearings.
-use Rattle.std.proofs.Common.{◌≡◌, ◌≢◌, ℕ, ◌+◌, ◌<◌, ◌≤◌, List, Contains, refl, sym, ap, ◌∙◌, subst, inl, inr, arith}
+use Rattle.std.proofs.Common.{rules}
+use Rattle.std.proofs.Common.{◌≡◌, ◌≢◌, ℕ, ◌+◌, ◌<◌, ◌≤◌, List, Contains, refl, sym, ap, ◌∙◌, subst, arith}
 use Rattle.std.proofs.Common.{leb-true, le-leb}
 use Rattle.std.specs.Prelude.{nat_le}
-use Rattle.std.specs.Ordering.{nat_cmp, ordering_then}
-use Rattle.std.specs.Cmp.{nat_cmp_is}
-use Rattle.std.specs.declared.cmp.Ordering.{Ordering}
-use Rattle.std.specs.declared.cmp.Ordering.TheVariants.{Equal, Greater}
+use Rattle.std.specs.declared.cmp.Ordering.TheVariants.{Greater}
 use Rattle.std.proofs.lemmas.Bool.{cases_lt}
 use Rattle.mdns_capture.specs.Limits.{second}
 use Rattle.mdns_message.specs.declared.hearing.Hearing.{Hearing}
 use Rattle.mdns_message.specs.declared.key.Key.{Key}
-use Rattle.mdns_message.specs.Resource.{resource_cmp}
 use Rattle.mdns_join.specs.declared.latest.Latest.{Latest}
 use Rattle.mdns_join.specs.Latest.{latest_cmp, latest_of}
 use Rattle.mdns_join.specs.Kept.{IsStruckBy}
@@ -45,20 +42,7 @@ abbrev pub heard_as : Latest → Heard
 heard_as l = record { moment = l.moment; ttl = l.ttl }
 
 pub IsUpTo-from_cmp : (a b : Latest) → latest_cmp a b ≢ Greater → IsUpTo (heard_as a) (heard_as b)
-IsUpTo-from_cmp a b n =
-    let rest = ordering_then (nat_cmp a.ttl b.ttl) (resource_cmp a.resource b.resource) in
-    elim (cases_lt a.moment.nanos b.moment.nanos) [
-      | inl l ↦ inl l
-      | inr g ↦ elim (cases_lt b.moment.nanos a.moment.nanos) [
-        | inl l ↦ absurd (n (ap (λ (o : Ordering). ordering_then o rest) (sym (nat_cmp_is a.moment.nanos b.moment.nanos Greater l))))
-        | inr k ↦ (let same : a.moment.nanos ≡ b.moment.nanos = omega (arith, g, k) in
-            elim (cases_lt b.ttl a.ttl) [
-              | inl l ↦ absurd (n (ap (λ (o : Ordering). ordering_then o rest) (sym (nat_cmp_is a.moment.nanos b.moment.nanos Equal same))
-                  ∙ ap (λ (o : Ordering). ordering_then o (resource_cmp a.resource b.resource)) (sym (nat_cmp_is a.ttl b.ttl Greater l))))
-              | inr l ↦ inr (same, l)
-            ])
-      ]
-    ]
+IsUpTo-from_cmp a b n = search (rules, cases_lt)
 
 -- each record that was heard has a last hearing
 abbrev pub SomeLast : Type 0

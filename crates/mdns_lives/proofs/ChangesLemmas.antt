@@ -14,28 +14,20 @@ all-later : (from m low : ℕ) (lives : List Life) → from ≤ low → AreApart
     → list_all (λ (own : Life). nat_le from own.from.nanos || nat_lt own.from.nanos m) lives ≡ true
 all-later from m low [] l a = refl
 all-later from m low (own ∷ lives) l a =
-    let rest = all-later from m own.until lives (omega (arith, l, a.0, a.1)) a.2 in
-    let here : nat_le from own.from.nanos ≡ true = le-leb from own.from.nanos (omega (arith, l, a.0)) in
-    λ i. (here i || nat_lt own.from.nanos m) && rest i
+    grind (arith, nat_le, le-leb, nat_lt, all-later from m own.until lives (omega (arith, l, a.0, a.1)) a.2)
 
 -- nor do moments that aren't before the life
 none-before : (lives : List Life) (life : Life) (low : ℕ) (begun : List ℕ) → life.from.nanos ≤ low → IsAscendingAbove low begun
     → list_any (is_between lives life) begun ≡ false
 none-before lives life low [] l a = refl
-none-before lives life low (m ∷ begun) l a =
-    let rest = none-before lives life m begun (omega (arith, l, a.0)) a.1 in
-    let up : life.from.nanos ≤ m = omega (arith, l, a.0) in
-    grind (arith, nat_tests, rest, up)
+none-before lives life low (m ∷ begun) l a = grind (arith, nat_tests, none-before lives life m begun (omega (arith, l, a.0)) a.1)
 
 module _ (life : Life) (lives : List Life) where
   -- nor does an earlier life where the moments are later
   one-less : (later : Life) (low : ℕ) (begun : List ℕ) → life.from.nanos ≤ low → IsAscendingAbove low begun
       → list_any (is_between (life ∷ lives) later) begun ≡ list_any (is_between lives later) begun
   one-less later low [] l a = refl
-  one-less later low (m ∷ begun) l a =
-      let rest = one-less later m begun (omega (arith, l, a.0)) a.1 in
-      let up : life.from.nanos < m = omega (arith, l, a.0) in
-      grind (arith, nat_tests, rest, up)
+  one-less later low (m ∷ begun) l a = grind (arith, nat_tests, one-less later m begun (omega (arith, l, a.0)) a.1)
 
   -- the first moment is that of the first life
   first-less : (low : ℕ) (begun : List ℕ) (some : List Life) → life.from.nanos ≤ low → IsAscendingAbove life.from.nanos begun
@@ -44,10 +36,7 @@ module _ (life : Life) (lives : List Life) where
       ≡ list_any (λ (later : Life). list_any (is_between lives later) begun) some
   first-less low begun [] l a apart = refl
   first-less low begun (later ∷ some) l a apart =
-      let rest = first-less later.until begun some (omega (arith, l, apart.0, apart.1)) a apart.2 in
-      let up : life.from.nanos < later.from.nanos = omega (arith, l, apart.0) in
-      let here = one-less later life.from.nanos begun (omega arith) a in
-      grind (arith, nat_tests, rest, here, up)
+      grind (arith, one-less, nat_tests, first-less later.until begun some (omega (arith, l, apart.0, apart.1)) a apart.2)
 
 -- the lives began at some of these moments
 abbrev pub BeganAt : List ℕ → List Life → Type 0
@@ -57,11 +46,7 @@ began-later : (m low : ℕ) (begun : List ℕ) (lives : List Life) → m ≤ low
     → BeganAt begun lives
 began-later m low begun [] l apart began = tt
 began-later m low begun (life ∷ lives) l apart began =
-    let up : m < life.from.nanos = omega (arith, l, apart.0) in
-    let here = began.0 in (
-      grind (arith, nat_tests, here, up),
-      began-later m life.until begun lives (omega (arith, l, apart.0, apart.1)) apart.2 began.1,
-    )
+    grind (arith, nat_tests, began-later m life.until begun lives (omega (arith, l, apart.0, apart.1)) apart.2 began.1)
 
 apart-rest : (low : ℕ) (lives : List Life) → AreApartAfter low lives → AreApart lives
 apart-rest low [] apart = tt

@@ -26,7 +26,7 @@ use Rattle.mdns_lives.specs.declared.life.Which.{Which}
 use Rattle.mdns_lives.specs.declared.life.Which.TheVariants.{All, Changes}
 use Rattle.mdns_lives.specs.declared.record_lives.RecordLives.{RecordLives}
 use Rattle.mdns_lives.specs.Changes.{AreOf, AreOfOne, begins_in, begins_of, by_sets, changes_in, chosen, comes_back, goes_on, has_change}
-use Rattle.mdns_lives.specs.Changes.{has_changed, is_between, is_of_set, is_shared, kept_if, left_of, rows_of_set, strays}
+use Rattle.mdns_lives.specs.Changes.{has_changed, is_between, is_of_set, is_shared, kept_if, left_of, strays}
 use Rattle.mdns_lives.specs.Lives.{AreApart}
 use Rattle.mdns_lives.specs.Rows.{row_lent}
 use Rattle.mdns_lives.proofs.ChangesLemmas.{BeganAt, changes-stray}
@@ -76,15 +76,10 @@ none-of set (row ∷ rows) none = λ i. cond (out (is_in set row) refl i) (row �
     out true e = absurd (none.0 (same-set set (set_in row) e))
 
 changed-right : (set : RecordSet) (xs ys : List Row) → NoneOf set xs → has_changed (xs ++ ys) set ≡ has_changed ys set
-changed-right set xs ys none =
-    let own = filter-append (is_in set) xs ys ∙ ap (λ (rows : List Row). rows ++ filter (is_in set) ys) (none-of set xs none) in
-    ap (has_change set) own
+changed-right set xs ys none = grind (arith, filter-append, none-of)
 
 changed-left : (set : RecordSet) (xs ys : List Row) → NoneOf set ys → has_changed (xs ++ ys) set ≡ has_changed xs set
-changed-left set xs ys none =
-    let own = filter-append (is_in set) xs ys ∙ ap (λ (rows : List Row). filter (is_in set) xs ++ rows) (none-of set ys none)
-    ∙ append-nil (filter (is_in set) xs) in
-    ap (has_change set) own
+changed-left set xs ys none = grind (arith, filter-append, none-of, append-nil)
 
 -- ---- a set, and rows of others
 
@@ -110,14 +105,7 @@ is_shared_set set = set.number == 12
 -- of a set of PTR records no rows have a change
 as-changed : (all some : List Row) (set : RecordSet) → (is_shared_set set ≡ false → has_changed all set ≡ has_changed some set)
     → has_changed all set ≡ has_changed some set
-as-changed all some set same = by (is_shared_set set) refl
-  where
-    never : (rows : List Row) → is_shared_set set ≡ true → has_changed rows set ≡ false
-    never rows shared = ap (λ b. not b && list_any (comes_back (begins_in (rows_of_set set rows))) (rows_of_set set rows)) shared
-
-    by : (b : Bool) → is_shared_set set ≡ b → has_changed all set ≡ has_changed some set
-    by true e = never all e ∙ sym (never some e)
-    by false e = same e
+as-changed all some set same = grind arith
 
 module _ (set : RecordSet) (xs more : List Row) (own : AllOf set xs) (none : is_shared_set set ≡ false → NoneOf set more) where
   first-rows : (rows : List Row) → AllOf set rows → map (changed_in (xs ++ more)) rows ≡ map (changed_in xs) rows
@@ -141,12 +129,7 @@ module _ (set : RecordSet) (xs more : List Row) (own : AllOf set xs) (none : is_
 -- ---- one set after another
 
 less-on : (a b c : RecordSet) → set_key_cmp a b ≡ Less → set_key_cmp b c ≢ Greater → set_key_cmp a c ≡ Less
-less-on a b c less more = by (set_key_cmp b c) refl
-  where
-    by : (o : Ordering) → set_key_cmp b c ≡ o → set_key_cmp a c ≡ Less
-    by Less e = set_key_cmp-total.trans a b c less e
-    by Equal e = ap (set_key_cmp a) (sym (set_key_cmp-exact b c e)) ∙ less
-    by Greater e = absurd (more e)
+less-on a b c less more = grind (arith, set_key_cmp-total, set_key_cmp-exact)
 
 less-other : (a b : RecordSet) → set_key_cmp a b ≡ Less → a ≢ b
 less-other a b less same = true≢false (sym (of-itself a b same) ∙ ap is_eq less)
@@ -206,9 +189,7 @@ sets-all (row ∷ rows) sorted = sets-from row [] rows (refl, tt) sorted
 pub left-whole : (which : Which) (changed : Bool) (set : List RecordLives) (walk rows : List Row) → set ≡ [] → walk ≡ rows
     → IsStrictlySortedBy key_cmp (map row_record walk) → left_of which changed (map row_lent set) [] (Some walk) ≡ chosen which rows
 left-whole All changed set walk rows none same sorted = same
-left-whole Changes changed set walk rows none same sorted =
-    ap (λ (rs : List RecordLives). map (kept_if changed) (map row_lent rs) ++ by_sets [] walk) none ∙ sets-all walk sorted
-    ∙ ap changes_in same
+left-whole Changes changed set walk rows none same sorted = grind (arith, sets-all)
 
 -- ---- reading a set
 
@@ -217,12 +198,7 @@ some-first row rows none = cc
 
 sets-some : (x : Row) (xs rows : List Row) → by_sets (x ∷ xs) rows ≢ []
 sets-some x xs [] = some-first _ _
-sets-some x xs (row ∷ rows) = by (goes_on (x ∷ xs) row.0) (sets-some x (xs ++ row ∷ []) rows)
-  where
-    by : (b : Bool) → by_sets (x ∷ xs ++ row ∷ []) rows ≢ []
-        → (if b then by_sets (x ∷ xs ++ row ∷ []) rows else changes_in (x ∷ xs) ++ by_sets (row ∷ []) rows) ≢ []
-    by true more = more
-    by false more = λ none. some-first _ _ none
+sets-some x xs (row ∷ rows) = grind (arith, some-first, sets-some x (xs ++ row ∷ []) rows)
 
 -- where nothing is left there are no rows
 pub none-left : (set rows : List Row) → by_sets set rows ≡ [] → (set ≡ []) × (rows ≡ [])
@@ -232,11 +208,7 @@ none-left (x ∷ set) rows none = absurd (sets-some x set rows none)
 
 is-set : (set key : RecordSet) (is : Bool) → (IsTrue is ↔ (set ≡ key)) → is ≡ is_eq (set_key_cmp set key)
 is-set set key true test = sym (of-itself set key (test.0 refl))
-is-set set key false test = by (is_eq (set_key_cmp set key)) refl
-  where
-    by : (is : Bool) → is_eq (set_key_cmp set key) ≡ is → false ≡ is
-    by false e = refl
-    by true e = test.1 (same-set set key e)
+is-set set key false test = grind (arith, same-set)
 
 is-held : (shared : Bool) (set key : RecordSet) (is : Bool) → (IsTrue is ↔ ((shared ≡ false) × (set ≡ key)))
     → is ≡ (not shared && is_eq (set_key_cmp set key))

@@ -1,10 +1,11 @@
 -- The hearings that the contents of a chronicle stand for.
+use Rattle.std.proofs.Common.{rules}
+use Rattle.std.proofs.Common.{arith}
 use Rattle.std.proofs.Common.{◌≡◌, ◌↔◌, ◌⊎◌, ℕ, Bool, true, false, cond, List, [], ◌∷◌, ◌++◌, Option, None, Some, Contains, refl}
 use Rattle.std.proofs.Common.{sym, ap, ◌∙◌}
-use Rattle.std.proofs.Common.{subst, inl, inr, if◌then◌else◌, true≢false}
+use Rattle.std.proofs.Common.{subst, inl, inr, if◌then◌else◌}
 use Rattle.std.specs.Prelude.{MatchOption}
 use Rattle.std.specs.Ordering.{nat_cmp, is_eq}
-use Rattle.std.specs.Cmp.{tied_itself}
 use Rattle.std.proofs.lemmas.List.Elements.{Contains-append_left, Contains-append_right, Contains-append_cases}
 use Rattle.mdns_message.specs.declared.hearing.Hearing.{Hearing}
 use Rattle.mdns_message.specs.declared.key.Key.{Key}
@@ -19,7 +20,7 @@ use Rattle.mdns_join.specs.Latest.{later}
 use Rattle.mdns_join.specs.Kept.{has, union, IsAscending}
 use Rattle.mdns_join.specs.laws.Kept.{kept-one, union_parts, union_left, union_right}
 use Rattle.mdns_cache.specs.Contents.{kept_of}
-use Rattle.mdns_cache.specs.Live.{IsUnheard, IsLast, IsFlushedAt, is_flush_of, flush_moments}
+use Rattle.mdns_cache.specs.Live.{IsUnheard, IsLast, IsFlushedAt, flush_moments}
 use Rattle.mdns_cache.proofs.StandsPartLemmas.{Contains-nil, Contains-head, Contains-cases, lasts-append, IsFlushedAt-from_has}
 use Rattle.mdns_cache.proofs.StandsPartLemmas.{has-from_flushed}
 use Rattle.mdns_cache.proofs.StandsForLemmas.{newest-append}
@@ -108,19 +109,12 @@ module _ (xs ys : List (Key × Account)) (sorted : IsJoinMap key_cmp IsAccount x
   histories-joined : (key : Key) (s : ℕ) → ends_at s (history_in (value_at key_cmp key (joined key_cmp join_account xs ys)))
       ≡ joined_at join_ends (ends_at s (history_in (value_at key_cmp key xs))) (ends_at s (history_in (value_at key_cmp key ys)))
   histories-joined key s =
-      ap (λ (o : Option Account). ends_at s (history_in o)) (at_key key)
-      ∙ ap (ends_at s) (history_in-joined (value_at key_cmp key xs) (value_at key_cmp key ys))
-      ∙ ends_at-joined s (history_in (value_at key_cmp key xs)) (history_in (value_at key_cmp key ys))
-      (history_in-valid (value_at key_cmp key xs) (valid_at key_cmp-total key_cmp-exact account-laws key xs sorted.valid))
-      (history_in-valid (value_at key_cmp key ys) (valid_at key_cmp-total key_cmp-exact account-laws key ys others.valid))
+      search (rules, at_key, history_in-joined, ends_at-joined, history_in-valid, valid_at, key_cmp-total, key_cmp-exact, account-laws)
 
 flush_in-joined : (o p : Option (List ℕ)) (m : ℕ) → IsFlushIn (joined_at union o p) m ↔ (IsFlushIn o m ⊎ IsFlushIn p m)
 flush_in-joined None p m = (λ h. inr h, λ w. elim w [ inl h ↦ absurd h | inr h ↦ h ])
 flush_in-joined (Some a) None m = (λ h. inl h, λ w. elim w [ inl h ↦ h | inr h ↦ absurd h ])
-flush_in-joined (Some a) (Some b) m = (
-  λ h. union_parts a b m h,
-  λ w. elim w [ inl h ↦ union_left a b m h | inr h ↦ union_right a b m h ],
-)
+flush_in-joined (Some a) (Some b) m = grind (arith, union_parts, union_left, union_right)
 
 -- ---- contents
 
@@ -175,20 +169,14 @@ module _ (c d : Accounts) (gs hs : List Hearing) (u : Chronicles c gs) (v : Chro
 
 latest_in-one : (key k : Key) (a : Account)
     → latest_in (value_at key_cmp key (one_entry k a)) ≡ value_at key_cmp key (one_entry k a.latest)
-latest_in-one key k a = by (is_eq (key_cmp key k))
-  where
-    by : (b : Bool) → latest_in (cond b (Some a) None) ≡ cond b (Some a.latest) None
-    by true = refl
-    by false = refl
+latest_in-one key k a = grind arith
 
 only_hearing : (g h : Hearing) → Contains (h ∷ []) g → g ≡ h
 only_hearing g h m = elim (Contains-cases h [] g m) [ inl same ↦ sym same | inr rest ↦ absurd (Contains-nil g rest) ]
 
 -- the record of one hearing was heard as it says, and no other was heard
 heard_as-one : (h : Hearing) (key : Key) (x : Heard) → IsHeardAs (h ∷ []) key x → (key ≡ key_of h.heard) × (heard_of h ≡ x)
-heard_as-one h key x w =
-    let is = only_hearing w.hearing h w.among in
-    (sym w.of_record ∙ ap (λ (g : Hearing). key_of g.heard) is, sym (ap heard_of is) ∙ w.gives)
+heard_as-one h key x w = grind (arith, only_hearing)
 
 one_history : (h : Hearing) (key : Key) (s : ℕ) (b : Bool) → is_eq (key_cmp key (key_of h.heard)) ≡ b
     → AreEndsIn (IsHeardAs (h ∷ []) key) s (ends_at s (history_in (cond b (Some (account_of h)) None)))
@@ -197,22 +185,12 @@ one_history h key s true e =
     ends-alike {P = λ x. heard_of h ≡ x} {Q = IsHeardAs (h ∷ []) key}
     (λ x gives. record { hearing = h; among = Contains-head h []; of_record = sym same; gives = gives })
     (λ x w. (heard_as-one h key x w).1) s (value_at nat_cmp s (only (heard_of h))) (at-only (heard_of h) s)
-one_history h key s false e = λ x w _.
-    absurd (true≢false (sym (ap is_eq (tied_itself key_cmp-total key))
-    ∙ ap (λ (k : Key). is_eq (key_cmp key k)) (heard_as-one h key x w).0 ∙ e))
+one_history h key s false e = grind (arith, key_cmp-total, heard_as-one)
 
 -- the flush moments of one hearing
 flush_in-kept : (h : Hearing) (set : RecordSet) (m : ℕ)
     → IsFlushIn (kept_of (flush_moments (h ∷ []) set)) m ↔ (has (flush_moments (h ∷ []) set) m ≡ true)
-flush_in-kept h set m = by (is_flush_of set h)
-  where
-    by : (b : Bool) → IsFlushIn (kept_of (if b then h.moment.nanos ∷ [] else [])) m
-        ↔ (has (if b then h.moment.nanos ∷ [] else []) m ≡ true)
-    by true = (
-      λ e. subst (λ xs. has xs m ≡ true) (kept-one h.moment.nanos) e,
-      λ e. subst (λ xs. has xs m ≡ true) (sym (kept-one h.moment.nanos)) e,
-    )
-    by false = (λ e. absurd e, λ e. absurd (true≢false (sym e)))
+flush_in-kept h set m = grind (arith, kept-one)
 
 flushes-valid : (h : Hearing) (b : Bool)
     → IsJoinMap set_key_cmp IsAscending (if b then one_entry (set_key_of h.heard) (h.moment.nanos ∷ []) else [])
@@ -238,14 +216,9 @@ chronicles-one h = record {
 
 pub chronicles-more : (c new : Accounts) (h : Hearing) → new ≡ join_accounts c (accounts_of h)
     → (heard : List Hearing) → Chronicles c heard → Chronicles new (heard ++ h ∷ [])
-chronicles-more c new h is heard s =
-    subst (λ (t : Accounts). Chronicles t (heard ++ h ∷ [])) (sym is)
-    (chronicles-join c (accounts_of h) heard (h ∷ []) s (chronicles-one h))
+chronicles-more c new h is heard s = grind (arith, chronicles-join c (accounts_of h) heard (h ∷ []) s (chronicles-one h), chronicles-one h)
 
 -- contents that are those of both tell of the hearings of both
 pub chronicles-both : (old other c d new : Accounts) → c ≡ old → d ≡ other → new ≡ join_accounts c d
     → (heard others : List Hearing) → Chronicles old heard → Chronicles other others → Chronicles new (heard ++ others)
-chronicles-both old other c d new is others_is joined heard others u v =
-    subst (λ (t : Accounts). Chronicles t (heard ++ others)) (sym joined)
-    (chronicles-join c d heard others (subst (λ (t : Accounts). Chronicles t heard) (sym is) u)
-    (subst (λ (t : Accounts). Chronicles t others) (sym others_is) v))
+chronicles-both old other c d new is others_is joined heard others u v = grind (arith, chronicles-join)

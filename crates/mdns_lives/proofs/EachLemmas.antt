@@ -1,6 +1,7 @@
 -- A hearing at each of some moments: what its contents stand for.
+use Rattle.std.proofs.Common.{rules}
 use Rattle.std.proofs.Common.{◌≡◌, ◌≢◌, ◌↔◌, ℕ, ◌≤◌, Bool, true, false, ◌&&◌, cond, List, [], ◌∷◌, ◌++◌, Option, None, Some}
-use Rattle.std.proofs.Common.{Contains, MatchOption, Result, OnOk, OnErr, refl, sym, ap, ◌∙◌, subst, inl, inr, arith, length}
+use Rattle.std.proofs.Common.{Contains, MatchOption, Result, OnOk, OnErr, refl, sym, ap, ◌∙◌, subst, arith}
 use Rattle.std.proofs.Common.{if◌then◌else◌, true≢false}
 use Rattle.std.specs.declared.cmp.Ordering.TheVariants.{Greater}
 use Rattle.std.specs.Ordering.{nat_cmp, is_eq}
@@ -41,10 +42,7 @@ use Rattle.mdns_lives.proofs.SecondsLemmas.{ends-alike, at-seconds_of, IsSeconds
 -- more hearings in the same room
 pub room_appended : (hs gs more : List Heard) (room same : ℕ) → gs ≡ hs ++ more → same ≡ room
     → IsRoomFor (seconds_of hs) room → IsRoomFor (seconds_of gs) same
-room_appended hs gs more room same is kept bound =
-    let longer = length-join (seconds_of hs) (seconds_of more) in
-    let length_is = ap length (ap seconds_of is ∙ seconds_of-append hs more) in
-    elim bound [ inl l ↦ inl (omega (arith, l, kept)) | inr l ↦ inr (omega (arith, l, kept, longer, length_is)) ]
+room_appended hs gs more room same is kept bound = grind (arith, length-join, seconds_of-append)
 
 pub each_account : (h : Hearing) (ts : List Moment) → IsAccount (account_each h ts)
 each_account h ts = IsSeconds-of (heard_each h.ttl ts)
@@ -56,10 +54,7 @@ each_flushes h ts true = IsJoinMap-one set_key_cmp-total set_key_cmp-exact union
 each_flushes h ts false = IsJoinMap-none set_key_cmp-total set_key_cmp-exact union-laws
 
 pub accounts_each-valid : (h : Hearing) (ts : List Moment) → AreAccounts (accounts_each h ts)
-accounts_each-valid h ts = record {
-  records = IsJoinMap-one key_cmp-total key_cmp-exact account-laws (key_of h.heard) (account_each h ts) (each_account h ts);
-  flushes = each_flushes h ts h.flush;
-}
+accounts_each-valid h ts = search (rules, IsJoinMap-one, key_cmp-total, key_cmp-exact, account-laws, each_account, each_flushes)
 
 -- ---- what they stand for
 
@@ -112,12 +107,8 @@ module _ (h : Hearing) (ts : List Moment) (latest : IsLatestIn ts h.moment) wher
       → flush_moments (at_each us h) set ≡ cond b (nanos_of us) []
   flushed set true e [] = refl
   flushed set false e [] = refl
-  flushed set true e (u ∷ us) =
-      ap (λ b. if b then u.nanos ∷ flush_moments (at_each us h) set else flush_moments (at_each us h) set) e
-      ∙ ap (λ ns. u.nanos ∷ ns) (flushed set true e us)
-  flushed set false e (u ∷ us) =
-      ap (λ b. if b then u.nanos ∷ flush_moments (at_each us h) set else flush_moments (at_each us h) set) e
-      ∙ flushed set false e us
+  flushed set true e (u ∷ us) = grind (arith, flushed set true e us)
+  flushed set false e (u ∷ us) = grind (arith, flushed set false e us)
 
   value_in : (set : RecordSet) (f : Bool)
       → value_at set_key_cmp set (if f then one_entry (set_key_of h.heard) (ascending (nanos_of ts)) else [])
@@ -159,8 +150,7 @@ module _ (h : Hearing) (ts : List Moment) (latest : IsLatestIn ts h.moment) wher
   pub chronicles-at_each : (c new : Accounts) → new ≡ join_accounts c (accounts_each h ts)
       → (heard : List Hearing) → Chronicles c heard → Chronicles new (heard ++ at_each ts h)
   chronicles-at_each c new is heard s =
-      subst (λ (t : Accounts). Chronicles t (heard ++ at_each ts h)) (sym is)
-      (chronicles-join c (accounts_each h ts) heard (at_each ts h) s stands-at_each)
+      grind (arith, chronicles-join c (accounts_each h ts) heard (at_each ts h) s stands-at_each, stands-at_each)
 
 -- ---- entries in any order
 

@@ -96,10 +96,7 @@ module _ (flushes : List ℕ) where
   ends-late : (last : Heard) (end : ℕ) (reason : Reason) → IsEndBy flushes last end reason → last.moment.nanos + second ≤ end
   ends-late last end RanOut e = let long = life-second last.ttl in omega (arith, long, e.1)
   ends-late last end Goodbye e = let long = life-second last.ttl in omega (arith, long, e.1)
-  ends-late last end Flushed e =
-      let later : last.moment.nanos + second < e.1.flush = e.1.later in
-      let at : e.1.flush + second ≡ end = e.1.at_it in
-      omega (arith, later, at)
+  ends-late last end Flushed e = grind arith
 
 module _ (flushes : List ℕ) (hs es : List Heard) (are : AreEndsOf hs es) where
   -- one of the ends, less than a second before the moment, counts no more than h
@@ -162,11 +159,7 @@ module _ (flushes : List ℕ) (hs es : List Heard) (are : AreEndsOf hs es) where
 
   ends-into : (life : Life) → EndsBy hs flushes life → EndsBy es flushes life
   ends-into life w =
-      elim (last_or_young life.until life.last w.is_last) [
-        | inl at ↦ record { is_last = at; ends = w.ends }
-        | inr y ↦ (let late = ends-late flushes life.last life.until life.reason w.ends in
-            let up = no_later y.end life.last y.up_to in absurd (omega (arith, late, up, y.young)))
-      ]
+      grind (arith, last_or_young life.until life.last w.is_last, ends-late flushes life.last life.until life.reason w.ends, no_later)
 
   ends-from : (life : Life) → EndsBy es flushes life → EndsBy hs flushes life
   ends-from life w =

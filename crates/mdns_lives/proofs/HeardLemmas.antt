@@ -1,4 +1,5 @@
 -- The seconds that a walk over hearings in order gives, and those that are held.
+use Rattle.std.proofs.Common.{rules}
 use Rattle.std.proofs.Common.{◌≡◌, ℕ, ◌<◌, ◌≤◌, true, false, Bool, ◌==◌, List, [], ◌∷◌, map, Option, None, Some, Contains}
 use Rattle.std.proofs.Common.{◌⊎◌, refl, sym, ap, ◌∙◌, subst, inl, inr, arith, if◌then◌else◌, eqb-true, eq-eqb}
 use Rattle.std.specs.declared.cmp.Ordering.TheVariants.{Less}
@@ -136,10 +137,7 @@ module _ (current : SecondHeard) (h : Heard) (hs : List Heard) (b : IsBegun curr
 
   -- a hearing that is there is of this second, or it is left
   where_is : (x : Heard) → There x → IsHere x ⊎ Contains (h ∷ hs) x
-  where_is =
-      let up = b.in_order.0 in
-      from-cases (λ x. IsHere x ⊎ Contains (h ∷ hs) x) current (h ∷ hs) (inl (refl, IsUpTo-itself current.first, up))
-      (inl (sym b.same, up, IsUpTo-itself current.last)) (λ x m. inr m)
+  where_is = grind (arith, from-cases, IsUpTo-itself)
 
   number-after : (s : SecondHeard) → Contains seconds s → number_of current < number_of s
   number-after s m = after s.first (once-left s.first (rest.each s m).least_there)
@@ -193,9 +191,7 @@ seconds_from-over current = refl
 pub seconds_from-on : (current : SecondHeard) (h : Heard) (hs : List Heard) → second_of h ≡ number_of current
     → seconds_from current (h ∷ hs) ≡ seconds_from (heard_again current h) hs
 unfolding seconds_from
-seconds_from-on current h hs same =
-    ap (λ (b : Bool). if b then seconds_from (heard_again current h) hs else current ∷ seconds_from (heard_once h) hs)
-    (eq-eqb (second_of h) (number_of current) same)
+seconds_from-on current h hs same = grind (arith, eq-eqb, same)
 
 pub seconds_from-anew : (current : SecondHeard) (h : Heard) (hs : List Heard) → (second_of h == number_of current) ≡ false
     → seconds_from current (h ∷ hs) ≡ current ∷ seconds_from (heard_once h) hs
@@ -223,9 +219,7 @@ again-between current h hs b same =
 
 again-among : (current : SecondHeard) (h : Heard) (hs : List Heard) (x : Heard)
     → Contains (all_from (heard_again current h) hs) x → Contains (all_from current (h ∷ hs)) x
-again-among current h hs = from-cases (Contains (all_from current (h ∷ hs))) (heard_again current h) hs
-    (Contains-head current.first (current.last ∷ h ∷ hs)) (left-among current (h ∷ hs) h (Contains-head h hs))
-    (λ x m. left-among current (h ∷ hs) x (Contains-later h hs x m))
+again-among current h hs = search (rules, from-cases, Contains-head, left-among, Contains-later)
 
 AreSecondsOf-from : (hs : List Heard) (current : SecondHeard) → IsBegun current hs
     → AreSecondsOf (Contains (all_from current hs)) (seconds_from current hs)
@@ -256,11 +250,7 @@ AreSecondsOf-from (h ∷ hs) current b = by (second_of h == number_of current) r
 
 pub AreSecondsOf-walked : (hs : List Heard) → AreInOrder hs → AreSecondsOf (Contains hs) (seconds_walked hs)
 unfolding IsStrictlySortedBy
-AreSecondsOf-walked [] o = record {
-  ascending = tt;
-  each = λ s m. absurd (Contains-nil s m);
-  all = λ x m. absurd (Contains-nil x m);
-}
+AreSecondsOf-walked [] o = grind (arith, Contains-nil)
 AreSecondsOf-walked (h ∷ hs) o =
     seconds-between {P = Contains (h ∷ h ∷ hs)} {Q = Contains (h ∷ hs)}
     (λ x m. elim (Contains-cases h (h ∷ hs) x m) [
@@ -286,8 +276,7 @@ held-from hs seconds w = record {
 pub AreSecondsHeld-walked : (hs : List Heard) (value : Seconds) (seconds : List SecondHeard) → AreInOrder hs → seconds_of hs ≡ value
     → seconds ≡ seconds_walked hs → AreSecondsHeld value seconds
 AreSecondsHeld-walked hs value seconds o view are =
-    subst (λ (v : Seconds). AreSecondsHeld v seconds) view (subst (AreSecondsHeld (seconds_of hs)) (sym are)
-    (held-from hs (seconds_walked hs) (AreSecondsOf-walked hs o)))
+    grind (arith, held-from hs (seconds_walked hs) (AreSecondsOf-walked hs o), AreSecondsOf-walked hs o)
 
 -- the seconds that are held of hearings are theirs
 pub AreSecondsOf-held : (P : Heard → Type 0) (held : Seconds) (seconds : List SecondHeard)
@@ -306,11 +295,7 @@ AreSecondsOf-held P held seconds at w = record {
 -- where nothing is held, nothing was heard
 pub AreSecondsOf-none : (P : Heard → Type 0) → ((s : ℕ) → AreEndsIn P s None) → AreSecondsOf P []
 unfolding IsStrictlySortedBy
-AreSecondsOf-none P at = record {
-  ascending = tt;
-  each = λ s m. absurd (Contains-nil s m);
-  all = λ x p. absurd (at (second_of x) x p refl);
-}
+AreSecondsOf-none P at = grind (arith, Contains-nil)
 
 -- ---- a record of a chronicle
 

@@ -1,4 +1,6 @@
 -- The hearings of a message at some moments, and that contents depend only on which hearings there are.
+use Rattle.std.proofs.lemmas.Grind.{common_steps}
+use Rattle.std.proofs.Common.{arith}
 use Rattle.std.proofs.Common.{◌≡◌, ◌↔◌, ℕ, List, [], ◌∷◌, ◌++◌, Option, None, Some, Contains, refl}
 use Rattle.std.proofs.Common.{ap, ◌∙◌, subst, inl, inr, map, MatchOption}
 use Rattle.std.proofs.lemmas.List.Elements.{Contains-append_left, Contains-append_right, Contains-append_cases}
@@ -76,10 +78,7 @@ heard_at t h = record { moment = t; heard = h.heard; ttl = h.ttl; flush = h.flus
 
 pub Contains-mapped : {X Y : Type 0} (f : X → Y) (xs : List X) (x : X) → Contains xs x → Contains (map f xs) (f x)
 Contains-mapped f [] x m = absurd (Contains-nil x m)
-Contains-mapped f (y ∷ ys) x m = elim (Contains-cases y ys x m) [
-  | inl e ↦ subst (λ z. Contains (map f (y ∷ ys)) (f z)) e (Contains-head (f y) (map f ys))
-  | inr r ↦ Contains-later (f y) (map f ys) (f x) (Contains-mapped f ys x r)
-]
+Contains-mapped f (y ∷ ys) x m = grind (arith, common_steps, Contains-cases, Contains-head, Contains-later)
 
 pub from-mapped : {X Y : Type 0} (f : X → Y) (xs : List X) (y : Y) → Contains (map f xs) y → (x : X) × (f x ≡ y) × Contains xs x
 from-mapped f [] y m = absurd (Contains-nil y m)
@@ -111,14 +110,7 @@ module _ (t : Moment) (message : List ℕ) (hs : List Hearing) (reads : MessageR
       ap (λ (x : Hearing). x.moment) w.1
 
   pub IsHearingAt-read : (ts : List Moment) → Contains ts t → (h : Hearing) → Contains hs h → IsHearingAt message ts h
-  IsHearingAt-read ts came h m =
-      let e = at_moment h m in
-      record {
-        hearings = hs;
-        reads = subst (λ (u : Moment). MessageReads u message hs) e reads;
-        among = m;
-        came = subst (λ (u : Moment). Contains ts u) e came;
-      }
+  IsHearingAt-read ts came h m = grind (arith, at_moment h m)
 
   pub read-IsHearingAt : ReadsOnce → (ts : List Moment) (h : Hearing) → IsHearingAt message ts h → t ≡ h.moment → Contains hs h
   read-IsHearingAt once ts h w e = subst (λ (xs : List Hearing). Contains xs h)

@@ -1,5 +1,5 @@
 -- The hearings that seconds hold, as a list in order, give the lives by all hearings.
-use Rattle.std.proofs.Common.{◌≡◌, ℕ, ◌<◌, true, List, [], ◌∷◌, Option, None, Some, Contains, refl, subst, inl, inr, arith}
+use Rattle.std.proofs.Common.{◌≡◌, ℕ, true, List, [], ◌∷◌, Option, None, Some, Contains, refl, subst, inl, inr, arith}
 use Rattle.std.specs.declared.cmp.Ordering.TheVariants.{Less}
 use Rattle.std.specs.Ordering.{nat_cmp, eq_by_cmp}
 use Rattle.std.specs.Cmp.{nat_cmp_total}
@@ -50,11 +50,7 @@ module _ (P : Heard → Type 0) where
   up e a = (a.between e.1.least a.least_there a.least_in).1
 
   onward : (e f : ℕ × Ends) → nat_cmp e.0 f.0 ≡ Less → AreEnds P e.0 e.1 → AreEnds P f.0 f.1 → IsUpTo e.1.greatest f.1.least
-  onward e f l a b =
-      let less : e.0 < f.0 = search (arith, l) in
-      let first = a.greatest_in in
-      let second = b.least_in in
-      inl (omega (arith, less, first, second))
+  onward e f l a b = grind arith
 
   in_order : (entries : Seconds) → IsStrictlySortedBy nat_cmp (keys_of entries) → AllEnds entries → AreInOrder (listed_ends entries)
   unfolding IsStrictlySortedBy

@@ -1,4 +1,5 @@
 -- As of a moment that no hearing is later than, the lives that go on after it are those of the records that are live then.
+use Rattle.std.proofs.lemmas.Grind.{common_steps}
 use Rattle.std.proofs.Common.{◌≡◌, ◌⊎◌, ℕ, zero, suc, ◌<◌, ◌≤◌, Bool, nat_lt, List, [], ◌∷◌, ◌++◌, map}
 use Rattle.std.proofs.Common.{Contains, refl, sym, ap, ◌∙◌, subst}
 use Rattle.std.proofs.Common.{inl, inr, arith}
@@ -96,14 +97,7 @@ from_shown (x ∷ xs) l m end c =
 to_shown : (lives : List Life) (l : Latest) (life : Life) → Contains lives life
     → Contains (shown_as l lives) (l, life.until)
 to_shown [] l life c = absurd (Contains-nil life c)
-to_shown (x ∷ xs) l life c =
-    elim (Contains-cases x xs life c) [
-      | inl same ↦ (let first : Latest × ℕ = (l, x.until) in
-          subst (λ (y : Life). Contains (shown_as l (x ∷ xs)) (l, y.until)) same (Contains-head first (shown_as l xs)))
-      | inr rest ↦ (let first : Latest × ℕ = (l, x.until) in
-          let last : Latest × ℕ = (l, life.until) in
-          Contains-later first (shown_as l xs) last (to_shown xs l life rest))
-    ]
+to_shown (x ∷ xs) l life c = grind (arith, common_steps, Contains-cases, life, Contains-head, Contains-later)
 
 -- the row and the life of an entry
 record IsShown (now : ℕ) (rows : List Row) (l : Latest) (end : ℕ) : Type 0 where

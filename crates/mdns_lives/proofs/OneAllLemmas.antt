@@ -1,9 +1,10 @@
 -- The same hearings give the same rows of lives.
+use Rattle.std.proofs.Common.{rules}
+use Rattle.std.proofs.Common.{arith}
 use Rattle.std.proofs.Common.{◌≡◌, List, [], ◌∷◌, map, Contains, refl, sym, ◌∙◌, subst, inl, inr}
 use Rattle.std.specs.List.{AllByRecursion}
 use Rattle.std.specs.List.Sorted.{IsStrictlySortedBy}
-use Rattle.std.specs.declared.cmp.Ordering.TheVariants.{Less, Equal}
-use Rattle.std.specs.Cmp.{tied_itself}
+use Rattle.std.specs.declared.cmp.Ordering.TheVariants.{Less}
 use Rattle.mdns_message.specs.declared.hearing.Hearing.{Hearing}
 use Rattle.mdns_message.specs.declared.key.Key.{Key}
 use Rattle.mdns_message.specs.Resource.{key_cmp}
@@ -27,10 +28,7 @@ after_first key (r ∷ rows) row a m = elim (Contains-cases r rows row m) [
 ]
 
 not_before_itself : (key : Key) → key_cmp key key ≡ Less → ⊥
-not_before_itself key l = not_equal (sym (tied_itself key_cmp-total key) ∙ l)
-  where
-    not_equal : Equal ≡ Less → ⊥
-    not_equal e = cc
+not_before_itself key l = grind (arith, key_cmp-total)
 
 -- rows in key order with the same members are the same
 same_rows : (xs ys : List Row) → IsStrictlySortedBy key_cmp (map row_record xs) → IsStrictlySortedBy key_cmp (map row_record ys)
@@ -71,9 +69,7 @@ rows_within heard others xs ys same p q row m =
 
 pub one_all_rows : (heard others : List Hearing) (xs ys : List Row) → SameHearings heard others → AreAllLives heard xs
     → AreAllLives others ys → xs ≡ ys
-one_all_rows heard others xs ys same p q =
-    let back : SameHearings others heard = record { into = same.back; back = same.into } in
-    same_rows xs ys p.ascending q.ascending (rows_within heard others xs ys same p q) (rows_within others heard ys xs back q p)
+one_all_rows heard others xs ys same p q = search (rules, same_rows, rows_within)
 
 pub shared_rows : (heard others : List Hearing) (rows : List Row) → SameHearings heard others → AreAllLives heard rows
     → AreAllLives others rows

@@ -1,13 +1,11 @@
 -- A record has one list of lives.
-use Rattle.std.proofs.Common.{◌≡◌, ℕ, ◌+◌, ◌<◌, ◌≤◌, List, [], ◌∷◌, Contains, refl, sym, ap}
-use Rattle.std.proofs.Common.{◌∙◌, subst, inl, inr, arith}
+use Rattle.std.proofs.Common.{◌≡◌, ℕ, ◌<◌, ◌≤◌, List, [], ◌∷◌, Contains, refl, sym}
+use Rattle.std.proofs.Common.{subst, inl, inr, arith}
 use Rattle.std.proofs.lemmas.Bool.{cases_lt}
 use Rattle.mdns_join.specs.laws.Latest.{moment-same}
 use Rattle.mdns_lives.specs.declared.life.Heard.{Heard}
 use Rattle.mdns_lives.specs.declared.life.Life.{Life}
 use Rattle.mdns_lives.specs.declared.life.Reason.{Reason}
-use Rattle.mdns_lives.specs.declared.life.Reason.TheVariants.{RanOut, Goodbye, Flushed}
-use Rattle.mdns_cache.specs.Live.{life_of}
 use Rattle.mdns_lives.specs.History.{IsEndBy, EndsBy, AreLivesBy}
 use Rattle.mdns_lives.specs.Lives.{IsInOne, AreApartAfter, AreApart}
 use Rattle.mdns_cache.proofs.StandsPartLemmas.{Contains-head, Contains-later}
@@ -48,41 +46,16 @@ AreWithin xs ys = (now : ℕ) → IsInOne xs now → IsInOne ys now
 
 end-no_later : (x y : Life) (xs ys : List Life) → AreApart (x ∷ xs) → AreApart (y ∷ ys) → AreWithin (y ∷ ys) (x ∷ xs)
     → x.from.nanos ≡ y.from.nanos → y.until ≤ x.until
-end-no_later x y xs ys a b back e =
-    elim (cases_lt x.until y.until) [
-      | inl l ↦ (let long : x.from.nanos < x.until = a.0 in
-          absurd (end-out x xs a (back x.until (inl (omega (arith, e, long), l)))))
-      | inr l ↦ l
-    ]
+end-no_later x y xs ys a b back e = grind (arith, cases_lt, end-out)
 
 rest-within : (x y : Life) (xs ys : List Life) → AreApart (x ∷ xs) → x.until ≡ y.until → AreWithin (x ∷ xs) (y ∷ ys) → AreWithin xs ys
-rest-within x y xs ys a e into now w =
-    let late : x.until < now = after_low x.until xs now a.1 w in
-    elim (into now (inr w)) [
-      | inl d ↦ (let early : now < y.until = d.1 in absurd (omega (arith, late, early, e)))
-      | inr r ↦ r
-    ]
+rest-within x y xs ys a e into now w = grind (arith, after_low)
 
 -- ---- the reason of an end
 
 same_reason : (flushes : List ℕ) (a b : Heard) (end : ℕ) (r s : Reason) → a.moment.nanos ≡ b.moment.nanos → a.ttl ≡ b.ttl
     → IsEndBy flushes a end r → IsEndBy flushes b end s → r ≡ s
-same_reason flushes a b end r s e f p q =
-    let out : a.moment.nanos + life_of a.ttl ≡ b.moment.nanos + life_of b.ttl =
-    ap (λ n. n + life_of a.ttl) e ∙ ap (λ n. b.moment.nanos + life_of n) f in
-    by r s p q out
-  where
-    by : (r s : Reason) → IsEndBy flushes a end r → IsEndBy flushes b end s
-        → a.moment.nanos + life_of a.ttl ≡ b.moment.nanos + life_of b.ttl → r ≡ s
-    by RanOut RanOut p q out = refl
-    by RanOut Goodbye p q out = absurd (omega (arith, p.0, q.0, f))
-    by RanOut Flushed p q out = absurd (omega (arith, p.1, q.0, out))
-    by Goodbye RanOut p q out = absurd (omega (arith, p.0, q.0, f))
-    by Goodbye Goodbye p q out = refl
-    by Goodbye Flushed p q out = absurd (omega (arith, p.1, q.0, out))
-    by Flushed RanOut p q out = absurd (omega (arith, p.0, q.1, out))
-    by Flushed Goodbye p q out = absurd (omega (arith, p.0, q.1, out))
-    by Flushed Flushed p q out = refl
+same_reason flushes a b end r s e f p q = grind arith
 
 -- the last hearing of a life, and why it ends
 abbrev pub IsEndAlike : Life → Life → Type 0

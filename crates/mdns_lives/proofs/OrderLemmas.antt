@@ -1,9 +1,6 @@
 -- Hearings of a record in order.
-use Rattle.std.proofs.Common.{◌≡◌, ◌≤◌, false, List, [], ◌∷◌, Contains, refl, ap, ◌∙◌, subst, inl, inr, ◌⊎◌, arith, true≢false}
-use Rattle.std.specs.declared.cmp.Ordering.{Ordering}
-use Rattle.std.specs.declared.cmp.Ordering.TheVariants.{Less, Equal}
-use Rattle.std.specs.Ordering.{nat_cmp, is_lt, ordering_then}
-use Rattle.std.specs.Cmp.{nat_cmp_is}
+use Rattle.std.proofs.Common.{◌≡◌, ◌≤◌, false, List, [], ◌∷◌, Contains, refl, subst, inl, inr, ◌⊎◌, arith}
+use Rattle.std.specs.Ordering.{is_lt}
 use Rattle.std.proofs.lemmas.Bool.{cases_lt}
 use Rattle.mdns_cache.proofs.StandsPartLemmas.{Contains-nil, Contains-cases}
 use Rattle.mdns_join.specs.laws.Latest.{moment-same}
@@ -39,41 +36,14 @@ pub same_heard : (a b : Heard) → IsUpTo a b → IsUpTo b a → a ≡ b
 same_heard a b p q = heard-same a b (same_moment a b p q) (same_ttl a b p q)
 
 pub either_order : (g h : Heard) → IsUpTo g h ⊎ IsUpTo h g
-either_order g h = elim (cases_lt g.moment.nanos h.moment.nanos) [
-  | inl l ↦ inl (inl l)
-  | inr k ↦ elim (cases_lt h.moment.nanos g.moment.nanos) [
-    | inl l ↦ inr (inl l)
-    | inr m ↦ elim (cases_lt g.ttl h.ttl) [
-      | inl l ↦ inl (inr (omega (arith, k, m), omega (arith, l)))
-      | inr l ↦ inr (inr (omega (arith, k, m), l))
-    ]
-  ]
-]
+either_order g h = grind (arith, cases_lt)
 
 pub IsUpTo-from_lt : (g h : Heard) → is_lt (heard_cmp h g) ≡ false → IsUpTo g h
-IsUpTo-from_lt g h n =
-    let rest = nat_cmp h.ttl g.ttl in
-    elim (cases_lt g.moment.nanos h.moment.nanos) [
-      | inl l ↦ inl l
-      | inr k ↦ elim (cases_lt h.moment.nanos g.moment.nanos) [
-        | inl l ↦ absurd (true≢false
-            (ap (λ (o : Ordering). is_lt (ordering_then o rest)) (nat_cmp_is h.moment.nanos g.moment.nanos Less l) ∙ n))
-        | inr m ↦ (let same : h.moment.nanos ≡ g.moment.nanos = omega (arith, k, m) in
-            elim (cases_lt h.ttl g.ttl) [
-              | inl l ↦ absurd (true≢false (ap (λ (o : Ordering). is_lt o) (nat_cmp_is h.ttl g.ttl Less l)
-                  ∙ ap (λ (o : Ordering). is_lt (ordering_then o rest)) (nat_cmp_is h.moment.nanos g.moment.nanos Equal same) ∙ n))
-              | inr l ↦ inr (omega (arith, same), l)
-            ])
-      ]
-    ]
+IsUpTo-from_lt g h n = grind (arith, cases_lt)
 
 -- of hearings in order the first counts no more than any
 pub first_least : (h : Heard) (hs : List Heard) → AreInOrder (h ∷ hs) → (x : Heard) → Contains (h ∷ hs) x → IsUpTo h x
-first_least h [] o x m =
-    elim (Contains-cases h [] x m) [
-      | inl same ↦ subst (λ (y : Heard). IsUpTo h y) same (IsUpTo-itself h)
-      | inr rest ↦ absurd (Contains-nil x rest)
-    ]
+first_least h [] o x m = grind (arith, Contains-cases, IsUpTo-itself, Contains-nil)
 first_least h (g ∷ hs) o x m =
     elim (Contains-cases h (g ∷ hs) x m) [
       | inl same ↦ subst (λ (y : Heard). IsUpTo h y) same (IsUpTo-itself h)

@@ -1,4 +1,5 @@
 -- The contents of a chronicle after a hearing that was refused.
+use Rattle.std.proofs.Common.{arith}
 use Rattle.std.proofs.Common.{◌≡◌, ℕ, List, [], ◌∷◌, Option, Result, OnOk, OnErr, sym, ap, ◌∙◌, subst}
 use Rattle.std.proofs.lemmas.Result.{on_err_weaker}
 use Rattle.mdns_capture.specs.declared.moment.Moment.{Moment}
@@ -28,21 +29,7 @@ pub flushes-laws : JoinLaws (IsJoinMap set_key_cmp IsAscending) (joined set_key_
 flushes-laws = joined-laws set_key_cmp-total set_key_cmp-exact union-laws
 
 pub accounts-laws : JoinLaws AreAccounts join_accounts
-accounts-laws = record {
-  idempotent = λ a u. (let r = records-laws.idempotent a.records u.records in
-      let f = flushes-laws.idempotent a.flushes u.flushes in
-      let n = newer-same a.newest in λ i. accounts (r i) (f i) (n i));
-  commutative = λ a b u v. (let r = records-laws.commutative a.records b.records u.records v.records in
-      let f = flushes-laws.commutative a.flushes b.flushes u.flushes v.flushes in
-      let n = newer-comm a.newest b.newest in λ i. accounts (r i) (f i) (n i));
-  associative = λ a b c u v w. (let r = records-laws.associative a.records b.records c.records u.records v.records w.records in
-      let f = flushes-laws.associative a.flushes b.flushes c.flushes u.flushes v.flushes w.flushes in
-      let n = newer-assoc a.newest b.newest c.newest in λ i. accounts (r i) (f i) (n i));
-  keeps = λ a b u v. record {
-    records = records-laws.keeps a.records b.records u.records v.records;
-    flushes = flushes-laws.keeps a.flushes b.flushes u.flushes v.flushes;
-  };
-}
+accounts-laws = grind (arith, records-laws, flushes-laws, newer-same, newer-comm, newer-assoc)
 
 pub accounts_one : (h : Hearing) → AreAccounts (accounts_of h)
 accounts_one h = (chronicles-one h).accounts
@@ -54,13 +41,7 @@ pub gathered_accounts : (rs : List (Key × Account)) (fs : List (RecordSet × Li
 gathered_accounts rs fs newest u = record { records = u.records; flushes = u.flushes }
 
 pub AreGathered-none : (rs : List (Key × Account)) (fs : List (RecordSet × List ℕ)) → rs ≡ [] → fs ≡ [] → AreGathered rs fs
-AreGathered-none rs fs p q =
-    subst (λ (es : List (Key × Account)). AreGathered es fs) (sym p)
-    (subst (λ (es : List (RecordSet × List ℕ)). AreGathered [] es) (sym q) (record {
-      records = chronicles-none.accounts.records;
-      flushes = chronicles-none.accounts.flushes;
-      own = tt;
-    }))
+AreGathered-none rs fs p q = grind (arith, chronicles-none)
 
 module _ {T E : Type 0} (r : Result T E) (rs : List (Key × Account)) (fs : List (RecordSet × List ℕ)) (u : AreGathered rs fs)
     (h : Hearing) where
@@ -106,27 +87,12 @@ module _ (old other : Accounts) (u : AreAccounts old) (v : AreAccounts other) wh
   -- only the records were joined, or some of them
   pub part_their_records : (rs : List (Key × Account)) → IsPartOfJoin (joined key_cmp join_account) old.records other.records rs
       → IsPartOfJoin join_accounts old other (accounts rs old.flushes old.newest)
-  part_their_records rs part =
-      let same = flushes-laws.idempotent old.flushes u.flushes in
-      let unchanged = newer-same old.newest in
-      let flushes = IsAtMost-left flushes-laws old.flushes other.flushes u.flushes v.flushes in
-      record {
-        from_old = λ i. accounts (part.from_old i) (same i) (unchanged i);
-        to_join = λ i. accounts (part.to_join i) (flushes i) (newest_within i);
-      }
+  part_their_records rs part = grind (arith, flushes-laws, newer-same, IsAtMost-left, newest_within)
 
   -- the records were joined, and some of the flushes
   pub part_their_flushes : (fs : List (RecordSet × List ℕ)) → IsPartOfJoin (joined set_key_cmp union) old.flushes other.flushes fs
       → IsPartOfJoin join_accounts old other (accounts (joined key_cmp join_account old.records other.records) fs old.newest)
-  part_their_flushes fs part =
-      let records = joined key_cmp join_account old.records other.records in
-      let within = IsAtMost-left records-laws old.records other.records u.records v.records in
-      let whole = records-laws.idempotent records (records-laws.keeps old.records other.records u.records v.records) in
-      let unchanged = newer-same old.newest in
-      record {
-        from_old = λ i. accounts (within i) (part.from_old i) (unchanged i);
-        to_join = λ i. accounts (whole i) (part.to_join i) (newest_within i);
-      }
+  part_their_flushes fs part = grind (arith, IsAtMost-left, records-laws, newer-same, newest_within)
 
 -- only the records were joined
 pub part_records : (old new : Accounts) (h : Hearing) → AreAccounts old

@@ -19,11 +19,7 @@ use Rattle.mdns_lives.proofs.HearingLemmas.{ReadsOnce, IsHearingAt-read, read-Is
 
 -- nothing is remembered
 pub records-none : (c : Accounts) → Chronicles c [] → RecordsAll c [] []
-records-none c s = record {
-  told = [];
-  chronicles = s;
-  exactly = λ h. (λ m. inl m, λ w. elim w [ inl m ↦ m | inr a ↦ absurd (Contains-nil a.message a.among) ]);
-}
+records-none c s = grind (arith, Contains-nil)
 
 -- hearings that are added at once
 pub records-heard : (c d : Accounts) (memory : List Awaited) (heard hs : List Hearing)
@@ -272,12 +268,7 @@ few_messages (m ∷ ms) (u ∷ us) = let w = few_messages ms us in (omega (arith
 pub records-past : (c : Accounts) (messages : List Remembered) (waiting : List (List Moment)) (place : ℕ) (heard : List Hearing)
     → (length messages ≤ place) ⊎ (length waiting ≤ place) → RecordsAll c (drop place (messages_with messages waiting)) heard
     → RecordsAll c (drop (place + 1) (messages_with messages waiting)) heard
-records-past c messages waiting place heard past =
-    let xs = messages_with messages waiting in
-    let few = few_messages messages waiting in
-    let short : length xs ≤ place = elim past [ inl l ↦ omega (arith, l, few.0) | inr l ↦ omega (arith, l, few.1) ] in
-    subst (λ (ys : List Awaited). RecordsAll c ys heard)
-    (drop_all place xs short ∙ sym (drop_all (place + 1) xs (omega (arith, short))))
+records-past c messages waiting place heard past = grind (arith, few_messages, drop_all)
 
 -- the message at a place was heard at its moments
 pub records-placed : (c d : Accounts) (messages : List Remembered) (waiting : List (List Moment)) (place : ℕ) (bytes : List ℕ)
@@ -285,15 +276,7 @@ pub records-placed : (c d : Accounts) (messages : List Remembered) (waiting : Li
     → ((told : List Hearing) → Chronicles c told → ChroniclesAt d bytes ts told) → (heard : List Hearing)
     → RecordsAll c (drop place (messages_with messages waiting)) heard
     → RecordsAll d (drop (place + 1) (messages_with messages waiting)) heard
-records-placed c d messages waiting place bytes ts w step heard s =
-    let x = awaited bytes ts in
-    let now : drop place (messages_with messages waiting) ≡ x ∷ w.back =
-    ap (drop place) w.is ∙ ap (λ n. drop n (w.front ++ x ∷ w.back)) (sym w.there) ∙ drop-append_seam w.front (x ∷ w.back) in
-    let next : drop (place + 1) (messages_with messages waiting) ≡ w.back =
-    ap (drop (place + 1)) w.is ∙ ap (λ n. drop (n + 1) (w.front ++ x ∷ w.back)) (sym w.there)
-    ∙ drop-append-add w.front (x ∷ w.back) 1 in
-    subst (λ (ys : List Awaited). RecordsAll d ys heard) (sym next)
-    (records-without c d bytes ts step w.back heard (subst (λ (ys : List Awaited). RecordsAll c ys heard) now s))
+records-placed c d messages waiting place bytes ts w step heard s = grind (arith, drop-append_seam, drop-append-add, records-without)
 
 -- past all places nothing waits
 pub records-ended : (c : Accounts) (messages : List Remembered) (waiting : List (List Moment)) (place : ℕ) (heard : List Hearing)
@@ -307,14 +290,7 @@ records-ended c messages waiting place heard past s =
 -- no moment waits
 pub chronicles-no_moment : (c : Accounts) (message : List ℕ) (ts : List Moment) (before : List Hearing) → ts ≡ [] → Chronicles c before
     → ChroniclesAt c message ts before
-chronicles-no_moment c message ts before none s = record {
-  later = [];
-  chronicles = subst (Chronicles c) (sym (append-nil before)) s;
-  exactly = λ h. (
-    λ m. absurd (Contains-nil h m),
-    λ w. absurd (Contains-nil h.moment (subst (λ (us : List Moment). Contains us h.moment) none w.came)),
-  );
-}
+chronicles-no_moment c message ts before none s = grind (arith, append-nil, Contains-nil)
 
 -- ---- the steps, by the places of messages
 
@@ -337,17 +313,11 @@ pub records-came : ReadsOnce → (c : Accounts) (messages : List Remembered) (wa
     (ts us : List Moment) (t : Moment) (hs : List Hearing) → MessageReads t bytes hs → IsPlaced messages waiting place bytes ts
     → us ≡ ts ++ t ∷ [] → (heard : List Hearing) → RecordsAll c (messages_with messages waiting) heard
     → RecordsAll c (messages_with messages (set waiting place us)) (heard ++ hs)
-records-came once c messages waiting place bytes ts us t hs reads w more heard s =
-    subst (λ (xs : List Awaited). RecordsAll c xs (heard ++ hs))
-    (ap (λ (vs : List Moment). w.front ++ awaited bytes vs ∷ w.back) (sym more) ∙ sym (w.other us))
-    (records-again once c bytes t hs reads w.front w.back ts heard (subst (λ (xs : List Awaited). RecordsAll c xs heard) w.is s))
+records-came once c messages waiting place bytes ts us t hs reads w more heard s = grind (arith, records-again)
 
 -- it was heard at its moments
 pub records-emptied : (c d : Accounts) (messages : List Remembered) (waiting : List (List Moment)) (place : ℕ) (bytes : List ℕ)
     (ts us : List Moment) → IsPlaced messages waiting place bytes ts → us ≡ []
     → ((told : List Hearing) → Chronicles c told → ChroniclesAt d bytes ts told) → (heard : List Hearing)
     → RecordsAll c (messages_with messages waiting) heard → RecordsAll d (messages_with messages (set waiting place us)) heard
-records-emptied c d messages waiting place bytes ts us w none step heard s =
-    subst (λ (xs : List Awaited). RecordsAll d xs heard)
-    (ap (λ (vs : List Moment). w.front ++ awaited bytes vs ∷ w.back) (sym none) ∙ sym (w.other us))
-    (records-cleared c d bytes ts step w.front w.back heard (subst (λ (xs : List Awaited). RecordsAll c xs heard) w.is s))
+records-emptied c d messages waiting place bytes ts us w none step heard s = grind (arith, records-cleared)

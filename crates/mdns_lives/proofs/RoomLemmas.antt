@@ -1,4 +1,5 @@
 -- How many hearings are left of a list that was thinned.
+use Rattle.std.proofs.lemmas.Grind.{common_steps}
 use Rattle.std.proofs.Common.{◌≡◌, ◌≢◌, ℕ, ◌+◌, ◌-◌, ◌*◌, ◌<◌, ◌≤◌, List, [], ◌∷◌, ◌++◌, Contains, length, get_or, take, drop}
 use Rattle.std.proofs.Common.{slice_set, refl, sym, ap, ◌∙◌, subst, inl, inr, arith, append_assoc}
 use Rattle.std.specs.declared.cmp.Ordering.{Ordering}
@@ -64,10 +65,7 @@ length-put k v (e ∷ es) = length_by (nat_cmp k e.0) k v e es (length-put k v e
 -- no second is lost
 pub length-join : (xs ys : Seconds) → length xs ≤ length (join_seconds xs ys)
 length-join xs [] = omega arith
-length-join xs (e ∷ es) =
-    let one = length-put e.0 e.1 xs in
-    let rest = length-join (put_entry nat_cmp join_ends xs e.0 e.1) es in
-    omega (arith, one, rest)
+length-join xs (e ∷ es) = grind (arith, length-put, length-join (put_entry nat_cmp join_ends xs e.0 e.1) es)
 
 -- a hearing of an earlier second than all others
 one_more : (h : Heard) (hs : List Heard) → ((x : Heard) → Contains hs x → second_of h < second_of x)
@@ -92,9 +90,7 @@ sparse-rest h (a ∷ b ∷ hs) s = s.1
 later_seconds : (a b : Heard) (hs : List Heard) → AreInOrder (b ∷ hs) → IsSparse (a ∷ b ∷ hs) → second_of b ≤ second_of a
     → (x : Heard) → Contains hs x → second_of b < second_of x
 later_seconds a b [] o s l x m = absurd (Contains-nil x m)
-later_seconds a b (c ∷ hs) o s l x m =
-    let up = no_later c x (first_least c hs o.1 x m) in
-    omega (arith, s.0, l, up)
+later_seconds a b (c ∷ hs) o s l x m = grind (arith, no_later c x (first_least c hs o.1 x m), first_least c hs o.1 x m)
 
 pub few : (hs : List Heard) → AreInOrder hs → IsSparse hs → length hs ≤ 2 * length (seconds_of hs)
 few [] o s = omega arith
@@ -144,11 +140,7 @@ module _ (xs : List Heard) (kept place : ℕ) (a next : Heard) (two : 2 ≤ kept
   last = get_or xs (kept - 2 + 1) a
 
   taken : take kept xs ≡ front ++ a ∷ last ∷ []
-  taken =
-      let is : kept ≡ (kept - 2 + 1) + 1 = omega (arith, two) in
-      ap (λ n. take n xs) is ∙ take_more xs (kept - 2 + 1) a (omega (arith, two, le, l))
-      ∙ ap (λ (zs : List Heard). zs ++ last ∷ []) (take_next xs (kept - 2) a (omega (arith, two, le, l)) first)
-      ∙ append_assoc front (a ∷ []) (last ∷ [])
+  taken = grind (arith, common_steps, take_more, take_next, append_assoc)
 
   in_whole : AreInOrder (front ++ a ∷ last ∷ next ∷ drop (place + 1) xs)
   in_whole = subst AreInOrder ((λ i. taken i ++ drop_next xs place next l now i)
@@ -170,29 +162,13 @@ module _ (xs : List Heard) (kept place : ℕ) (a next : Heard) (two : 2 ≤ kept
 
   pub kept_sparse_behind : second_of a ≢ second_of next → IsSparse (take (kept + 1) (slice_set xs kept next))
   kept_sparse_behind unlike =
-      let w = between_ends a last next (drop (place + 1) xs) front in_whole in
-      let up = no_later a last w.0 in
-      let onward = no_later last next w.1 in
-      let later : second_of a < second_of next = elim (cases_lt (second_of a) (second_of next)) [
-        | inl less ↦ less
-        | inr not_less ↦ absurd (unlike (omega (arith, not_less, up, onward)))
-      ] in
-      let whole : take (kept + 1) (slice_set xs kept next) ≡ front ++ a ∷ last ∷ next ∷ [] =
-      take_more_set xs kept next (omega (arith, le, l)) ∙ ap (λ (zs : List Heard). zs ++ next ∷ []) taken
-      ∙ append_assoc front (a ∷ last ∷ []) (next ∷ []) in
-      subst IsSparse (sym whole) (sparse_behind front a last next sparse_taken later)
+      grind (arith, between_ends, in_whole, no_later, cases_lt, slice_set, take_more_set, taken, append_assoc, sparse_behind, sparse_taken)
 
 pub kept_sparse_first : (xs : List Heard) (kept place : ℕ) (next : Heard) → kept < 2 → kept ≤ place → place < length xs
     → IsSparse (take (kept + 1) (slice_set xs kept next))
-kept_sparse_first xs kept place next two le l =
-    let same = length-set xs kept next in
-    let is = length-take-le (kept + 1) (slice_set xs kept next) (omega (arith, same, le, l)) in
-    sparse_short (take (kept + 1) (slice_set xs kept next)) (omega (arith, is, two))
+kept_sparse_first xs kept place next two le l = grind (arith, length-set, length-take-le, slice_set, sparse_short)
 
 -- one more hearing in the same room
 pub room_pushed : (hs gs : List Heard) (h : Heard) (room same : ℕ) → gs ≡ hs ++ h ∷ [] → same ≡ room
     → IsRoomFor (seconds_of hs) room → IsRoomFor (seconds_of gs) same
-room_pushed hs gs h room same is kept bound =
-    let more = length-join (seconds_of hs) (only h) in
-    let length_is = ap length (ap seconds_of is ∙ seconds_of-push hs h) in
-    elim bound [ inl l ↦ inl (omega (arith, l, kept)) | inr l ↦ inr (omega (arith, l, kept, more, length_is)) ]
+room_pushed hs gs h room same is kept bound = grind (arith, length-join (seconds_of hs) (only h), seconds_of-push hs h)

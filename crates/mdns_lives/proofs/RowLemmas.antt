@@ -1,4 +1,5 @@
 -- The rows of a chronicle are the records that were heard, with their lives.
+use Rattle.std.proofs.Common.{arith}
 use Rattle.std.proofs.Common.{◌≡◌, ◌≢◌, ◌↔◌, ℕ, true, List, [], ◌∷◌, map, Option, None, Some, Contains, MatchOption, refl, sym}
 use Rattle.std.proofs.Common.{ap, ◌∙◌, subst, inl, inr, unwrap_or}
 use Rattle.std.proofs.Common.{true≢false}
@@ -161,12 +162,7 @@ key_after key later h = then_less (set_key_cmp key.set later.set) _ h
 rows_later : (old new : List (RecordSet × List ℕ)) (key : Key) (es : List (Key × Account))
     → AllByRecursion (λ k. key_cmp key k ≡ Less) (keys_of es) → HasLater key.set old new → rows_by new es ≡ rows_by old es
 rows_later old new key [] a has = refl
-rows_later old new key (e ∷ es) a has =
-    let row : row_held new e ≡ row_held old e =
-    ap (λ (o : Option (List ℕ)). (e.1.latest, walked (unwrap_or o []) (listed_ends e.1.history)))
-    (has e.0.set (key_after key e.0 a.0)) in
-    let rest = rows_later old new key es a.1 has in
-    λ i. row i ∷ rest i
+rows_later old new key (e ∷ es) a has = grind (arith, unwrap_or, key_after, rows_later old new key es a.1 has)
 
 module _ (old new : List (RecordSet × List ℕ)) (entries rest : List (Key × Account)) (key : Key) (a : Account)
     (is : entries ≡ (key, a) ∷ rest) (sorted : IsStrictlySortedBy key_cmp (keys_of entries)) where

@@ -1,9 +1,11 @@
 -- Which hearings the seconds of a list hold, and those of a join.
+use Rattle.std.proofs.Common.{rules}
+use Rattle.std.proofs.Common.{arith}
 use Rattle.std.proofs.Common.{◌≡◌, ◌⊎◌, ℕ, Bool, true, false, cond, List, [], ◌∷◌, ◌++◌, Option, None, Some, Contains, refl}
-use Rattle.std.proofs.Common.{◌+◌, ◌<◌, length, get_or, take, drop, sym, ap, ◌∙◌, subst, inl, inr, true≢false}
+use Rattle.std.proofs.Common.{◌+◌, ◌<◌, length, get_or, take, drop, sym, ap, ◌∙◌, subst, inl, inr}
 use Rattle.std.specs.declared.cmp.Ordering.TheVariants.{Less, Equal, Greater}
 use Rattle.std.specs.Ordering.{nat_cmp, is_eq, is_lt, match_ordering, ordering_reverse, flip_args}
-use Rattle.std.specs.Cmp.{nat_cmp_total, tied_itself}
+use Rattle.std.specs.Cmp.{nat_cmp_total}
 use Rattle.std.specs.List.Sorted.{IsPermutation}
 use Rattle.std.proofs.lemmas.List.{take_more, take-append-drop}
 use Rattle.std.proofs.lemmas.List.Elements.{Contains-append_left, Contains-append_right, Contains-append_cases}
@@ -58,22 +60,10 @@ greater-is a b =
 module _ {P Q R : Heard → Type 0} (left : (h : Heard) → P h → R h) (right : (h : Heard) → Q h → R h)
     (cases : (h : Heard) → R h → P h ⊎ Q h) (s : ℕ) where
   ends-left : (a : Ends) → AreEnds P s a → IsUnheardIn Q s → AreEnds R s a
-  ends-left a p none = record {
-    least_there = left a.least p.least_there;
-    greatest_there = left a.greatest p.greatest_there;
-    least_in = p.least_in;
-    greatest_in = p.greatest_in;
-    between = λ h m e. elim (cases h m) [ inl x ↦ p.between h x e | inr y ↦ absurd (none h y e) ];
-  }
+  ends-left a p none = grind arith
 
   ends-right : (b : Ends) → IsUnheardIn P s → AreEnds Q s b → AreEnds R s b
-  ends-right b none q = record {
-    least_there = right b.least q.least_there;
-    greatest_there = right b.greatest q.greatest_there;
-    least_in = q.least_in;
-    greatest_in = q.greatest_in;
-    between = λ h m e. elim (cases h m) [ inl x ↦ absurd (none h x e) | inr y ↦ q.between h y e ];
-  }
+  ends-right b none q = grind arith
 
   ends-both : (a b : Ends) → AreEnds P s a → AreEnds Q s b → AreEnds R s (join_ends a b)
   ends-both a b p q =
@@ -111,26 +101,11 @@ module _ {P Q R : Heard → Type 0} (left : (h : Heard) → P h → R h) (right 
 pub ends-alike : {P Q : Heard → Type 0} → ((h : Heard) → P h → Q h) → ((h : Heard) → Q h → P h) → (s : ℕ) (o : Option Ends)
     → AreEndsIn P s o → AreEndsIn Q s o
 ends-alike into back s None u = λ h m e. u h (back h m) e
-ends-alike into back s (Some a) u = record {
-  least_there = into a.least u.least_there;
-  greatest_there = into a.greatest u.greatest_there;
-  least_in = u.least_in;
-  greatest_in = u.greatest_in;
-  between = λ h m e. u.between h (back h m) e;
-}
+ends-alike into back s (Some a) u = grind arith
 
 -- hearings that are there lie between themselves
 pub between-itself : {P : Heard → Type 0} (h : Heard) → P h → IsBetween P h
-between-itself h p = record {
-  least = h;
-  greatest = h;
-  least_there = p;
-  greatest_there = p;
-  least_in = refl;
-  greatest_in = refl;
-  from_least = IsUpTo-itself h;
-  to_greatest = IsUpTo-itself h;
-}
+between-itself h p = search (rules, IsUpTo-itself)
 
 -- hearings between others have their ends
 module _ {P Q : Heard → Type 0} (among : (h : Heard) → Q h → P h) (between : (h : Heard) → P h → IsBetween Q h) (s : ℕ) where
@@ -157,21 +132,8 @@ module _ {P Q : Heard → Type 0} (among : (h : Heard) → Q h → P h) (between
 
 only_by : (h : Heard) (s : ℕ) (b : Bool) → is_eq (nat_cmp s (second_of h)) ≡ b
     → AreEndsIn (λ x. h ≡ x) s (cond b (Some (ends h h)) None)
-only_by h s true e =
-    let same = sym (exact_unsigned s (second_of h) (is_Equal (nat_cmp s (second_of h)) e)) in
-    record {
-      least_there = refl;
-      greatest_there = refl;
-      least_in = same;
-      greatest_in = same;
-      between = λ x m _. (
-        subst (λ (y : Heard). IsUpTo h y) m (IsUpTo-itself h),
-        subst (λ (y : Heard). IsUpTo y h) m (IsUpTo-itself h),
-      );
-    }
-only_by h s false e = λ x m i.
-    absurd (true≢false (sym (ap is_eq (tied_itself nat_cmp_total s))
-    ∙ ap (λ n. is_eq (nat_cmp s n)) (sym (ap second_of m ∙ i)) ∙ e))
+only_by h s true e = grind (arith, exact_unsigned, is_Equal, IsUpTo-itself)
+only_by h s false e = grind arith
 
 pub at-only : (h : Heard) (s : ℕ) → AreEndsIn (λ x. h ≡ x) s (value_at nat_cmp s (only h))
 at-only h s = only_by h s (is_eq (nat_cmp s (second_of h))) refl
@@ -213,10 +175,7 @@ seconds_of-ends hs es are = same_seconds (seconds_of hs) (seconds_of es) (IsSeco
     (value_at nat_cmp s (seconds_of es)) (at-seconds_of hs s) (at-seconds_of es s))
 
 pub seconds_of-moved : (xs ys : List Heard) → IsPermutation xs ys → seconds_of ys ≡ seconds_of xs
-seconds_of-moved xs ys moved = seconds_of-ends ys xs (record {
-  among = λ h m. Contains-permutation xs ys h moved m;
-  between = λ h m. between-itself h (Contains-permutation ys xs h (IsPermutation-sym xs ys moved) m);
-})
+seconds_of-moved xs ys moved = search (rules, seconds_of-ends, Contains-permutation, between-itself, IsPermutation-sym)
 
 pub IsSeconds-join : (xs ys : Seconds) → IsSeconds xs → IsSeconds ys → IsSeconds (join_seconds xs ys)
 IsSeconds-join xs ys u v = IsJoinMap-join nat_cmp_total exact_unsigned ends-laws xs ys u v
@@ -265,18 +224,13 @@ joined_next old self new hs i h u l is so_far next =
 -- some of them lie between
 pub part_first : (old other new : Seconds) (hs : List Heard) → IsSeconds old → seconds_of hs ≡ other → JoinsFirst old hs new
     → IsPartOfJoin join_seconds old other new
-part_first old other new hs u is w =
-    let p = seconds_of (take w.0 hs) in
-    let q = seconds_of (drop w.0 hs) in
-    let first = IsSeconds-of (take w.0 hs) in
-    let rest = IsSeconds-of (drop w.0 hs) in
-    let so_far = join_seconds old p in
-    let both : join_seconds p q ≡ other =
-    sym (seconds_of-append (take w.0 hs) (drop w.0 hs)) ∙ ap seconds_of (take-append-drop w.0 hs) ∙ is in
-    let whole : join_seconds so_far q ≡ join_seconds old other =
-    seconds-laws.associative old p q u first rest ∙ ap (join_seconds old) both in
-    let within = IsAtMost-left seconds-laws so_far q (IsSeconds-join old p u first) rest in
-    subst (IsPartOfJoin join_seconds old other) (sym w.1) (record {
-      from_old = IsAtMost-left seconds-laws old p u first;
-      to_join = subst (λ (s : Seconds). join_seconds so_far s ≡ s) whole within;
-    })
+part_first old other new hs u is w = grind (
+  arith,
+  IsSeconds-of (take w.0 hs),
+  IsSeconds-of (drop w.0 hs),
+  seconds_of-append (take w.0 hs) (drop w.0 hs),
+  take-append-drop w.0 hs,
+  seconds-laws,
+  IsAtMost-left,
+  IsSeconds-join,
+)

@@ -1,4 +1,6 @@
 -- The lives that go on after a moment say since when each live record has been live.
+use Rattle.std.proofs.lemmas.Grind.{common_steps}
+use Rattle.std.proofs.Common.{rules}
 use Rattle.std.proofs.Common.{◌≡◌, refl, sym, ap, ◌∙◌, subst, ℕ, ◌+◌, ◌<◌, ◌≤◌, nat_lt}
 use Rattle.std.proofs.Common.{List, [], ◌∷◌, ◌++◌, map, length, take, get_or, Contains, inl, inr, Option, None, Some, MatchOption, arith}
 use Rattle.std.proofs.lemmas.Bool.{ltb-true, lt-ltb, le-ltb}
@@ -45,9 +47,7 @@ pub none_later : (newest : Option Moment) (heard : List Hearing) (now : Moment) 
     → NoneLater newest now → (hearing : Hearing) → Contains heard hearing → hearing.moment.nanos ≤ now.nanos
 none_later None heard now tells on_time hearing among =
     absurd (Contains-nil hearing (subst (λ (hs : List Hearing). Contains hs hearing) tells among))
-none_later (Some found) heard now tells on_time hearing among =
-    let to_newest : hearing.moment.nanos ≤ found.nanos = tells.latest hearing among in
-    omega (arith, to_newest, on_time)
+none_later (Some found) heard now tells on_time hearing among = search (rules, among)
 
 -- ---- the life of a row
 
@@ -125,22 +125,16 @@ since_rows-append now last xs ys =
 
 since_rows-one : (now : ℕ) (last : Latest) (lives : List Life) (i : ℕ) (life : Life) → i < length lives → life ≡ get_or lives i life
     → since_rows now last (take (i + 1) lives) ≡ since_rows now last (take i lives) ++ since_rows now last (life ∷ [])
-since_rows-one now last lives i life within at =
-    ap (since_rows now last) (take_more lives i life within ∙ ap (λ (x : Life). take i lives ++ x ∷ []) (sym at))
-    ∙ since_rows-append now last (take i lives) (life ∷ [])
+since_rows-one now last lives i life within at = grind (arith, common_steps, last, take_more, lives, life, since_rows-append)
 
 -- the row of one life
 module _ {R : Type 0} (f : R → (Latest × ℕ) × ℕ) (now : ℕ) (last : Latest) (life : Life) (old : List R) where
   pub row-pushed : (r : R) (new : List R) → now < life.until → new ≡ old ++ r ∷ [] → f r ≡ since_row last life
       → map f new ≡ map f old ++ since_rows now last (life ∷ [])
-  row-pushed r new later pushed is =
-      let one : since_rows now last (life ∷ []) ≡ since_row last life ∷ [] = rw (lt-ltb now life.until later) in
-      ap (map f) pushed ∙ map-append f old (r ∷ []) ∙ ap (λ x. map f old ++ x ∷ []) is ∙ ap (λ rest. map f old ++ rest) (sym one)
+  row-pushed r new later pushed is = grind (arith, last, life, lt-ltb, later, map-append, is)
 
   pub row-left : life.until ≤ now → map f old ≡ map f old ++ since_rows now last (life ∷ [])
-  row-left past =
-      let none : since_rows now last (life ∷ []) ≡ [] = rw (le-ltb now life.until past) in
-      sym (append-nil (map f old)) ∙ ap (λ rest. map f old ++ rest) (sym none)
+  row-left past = grind (arith, last, life, le-ltb, append-nil)
 
 pub rows-more : {R : Type 0} (f : R → (Latest × ℕ) × ℕ) (now : ℕ) (last : Latest) (lives : List Life) (i : ℕ) (life : Life)
     (old mid new : List R)
@@ -187,9 +181,7 @@ tells-more f now all rest after row rows new so_far split more = record {
 pub tells-all : {R : Type 0} (f : R → (Latest × ℕ) × ℕ) (now : ℕ) (all rest : List Row) (rows : List R) → Tells f now all rest rows
     → rest ≡ []
     → map f rows ≡ all_since_rows now all
-tells-all f now all rest rows so_far none =
-    so_far.rows_are
-    ∙ ap (all_since_rows now) (sym (so_far.whole ∙ ap (λ rows. so_far.front ++ rows) none ∙ append-nil so_far.front))
+tells-all f now all rest rows so_far none = grind (arith, append-nil)
 
 -- a walk that gives no record has none left
 pub none_left : {A X : Type 0} (shows : A → X) {old : List X} (new : List X) {next : Option A} → TakesFirst shows old next new

@@ -1,4 +1,5 @@
 -- Each record has a list of lives.
+use Rattle.std.proofs.Common.{arith}
 use Rattle.std.proofs.Common.{◌≡◌, ◌↔◌, ◌⊎◌, Bool, true, false, List, [], ◌∷◌, Contains, refl, sym, ap, ◌∙◌, subst}
 use Rattle.std.proofs.Common.{inl, inr, true≢false}
 use Rattle.std.specs.Ordering.{is_eq}
@@ -25,13 +26,7 @@ record IsPut (h : Heard) (hs put : List Heard) : Type 0 where
   pub exactly : (x : Heard) → Contains put x ↔ ((h ≡ x) ⊎ Contains hs x)
 
 cons-exactly : (h : Heard) (hs : List Heard) (x : Heard) → Contains (h ∷ hs) x ↔ ((h ≡ x) ⊎ Contains hs x)
-cons-exactly h hs x = (
-  λ m. Contains-cases h hs x m,
-  λ w. elim w [
-    | inl same ↦ subst (λ (y : Heard). Contains (h ∷ hs) y) same (Contains-head h hs)
-    | inr rest ↦ Contains-later h hs x rest
-  ],
-)
+cons-exactly h hs x = grind (arith, Contains-cases, Contains-head, Contains-later)
 
 -- a hearing that counts no more than h, before hearings in order with h put among them
 before_put : (g h : Heard) (hs put : List Heard) → AreInOrder (g ∷ hs) → IsUpTo g h → IsPut h hs put → AreInOrder (g ∷ put)

@@ -1,5 +1,5 @@
 -- Sorted hearings are in order, and sorted moments without repeats are the same moments.
-use Rattle.std.proofs.Common.{◌≡◌, ◌↔◌, ◌==◌, ℕ, suc, ◌+◌, get_or, Bool, true, false, List, [], ◌∷◌, Contains, sym}
+use Rattle.std.proofs.Common.{◌≡◌, ◌↔◌, ℕ, suc, ◌+◌, get_or, Bool, true, false, List, [], ◌∷◌, Contains, sym}
 use Rattle.std.proofs.Common.{subst, inl, inr, arith, true≢false, eqb-true, eq-eqb}
 use Rattle.std.specs.Ordering.{on, is_lt}
 use Rattle.std.specs.Cmp.{IsEquivalence, on_equiv, nat_eq_equiv}
@@ -36,16 +36,8 @@ AreInOrder-from_sorted (h ∷ g ∷ hs) up = (
 
 pub contains-has : (xs : List ℕ) (q : ℕ) → Contains xs q ↔ (has xs q ≡ true)
 contains-has [] q = (λ m. absurd (Contains-nil q m), λ h. absurd (true≢false (sym h)))
-contains-has (x ∷ xs) q = (
-  λ m. elim (Contains-cases x xs q m) [
-    | inl same ↦ or_left (x == q) (has xs q) (eq-eqb x q same)
-    | inr rest ↦ or_right (x == q) (has xs q) ((contains-has xs q).0 rest)
-  ],
-  λ h. elim (or_cases (x == q) (has xs q) h) [
-    | inl e ↦ subst (λ n. Contains (x ∷ xs) n) (eqb-true x q e) (Contains-head x xs)
-    | inr e ↦ Contains-later x xs q ((contains-has xs q).1 e)
-  ],
-)
+contains-has (x ∷ xs) q =
+    grind (arith, Contains-cases, or_left, eq-eqb, or_right, or_cases, eqb-true, Contains-head, Contains-later, contains-has xs q)
 
 -- the same moments, as numbers
 nanos_within : (xs ys : List Moment) → ((m : Moment) → Contains xs m → Contains ys m)

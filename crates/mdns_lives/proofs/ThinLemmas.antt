@@ -1,4 +1,5 @@
 -- Hearings in order from which those between two of their second are dropped.
+use Rattle.std.proofs.Common.{rules}
 use Rattle.std.proofs.Common.{◌≡◌, ℕ, ◌+◌, ◌<◌, ◌≤◌, List, [], ◌∷◌, ◌++◌, Contains, length, get_or, take, drop, sym, ap, ◌∙◌, subst}
 use Rattle.std.proofs.Common.{◌-◌, inl, inr, arith, append_assoc, append-nil, slice_set}
 use Rattle.std.specs.List.Sorted.{IsPermutation}
@@ -18,10 +19,7 @@ pub AreEndsOf-itself : (hs : List Heard) → AreEndsOf hs hs
 AreEndsOf-itself hs = record { among = λ h m. m; between = λ h m. between-itself h m }
 
 pub AreEndsOf-moved : (xs ys : List Heard) → IsPermutation xs ys → AreEndsOf xs ys
-AreEndsOf-moved xs ys moved = record {
-  among = λ h m. Contains-permutation ys xs h (IsPermutation-sym xs ys moved) m;
-  between = λ h m. between-itself h (Contains-permutation xs ys h moved m);
-}
+AreEndsOf-moved xs ys moved = search (rules, Contains-permutation, IsPermutation-sym, between-itself)
 
 -- the ends of ends
 pub AreEndsOf-onward : (hs es fs : List Heard) → AreEndsOf hs es → AreEndsOf es fs → AreEndsOf hs fs
@@ -44,10 +42,7 @@ AreEndsOf-onward hs es fs a b = record {
 }
 
 pub thinned-same : (hs es : List Heard) → hs ≡ es → IsThinned hs es
-thinned-same hs es same = record {
-  in_order = λ o. subst AreInOrder same o;
-  ends = λ o. subst (AreEndsOf hs) same (AreEndsOf-itself hs);
-}
+thinned-same hs es same = grind (arith, AreEndsOf-itself)
 
 -- ---- one hearing is dropped
 
@@ -128,13 +123,7 @@ take_next xs i x l is = take_more xs i x l ∙ ap (λ y. take i xs ++ y ∷ []) 
 pub kept_behind : (xs : List Heard) (kept place : ℕ) (next : Heard) → kept ≤ place → place < length xs
     → next ≡ get_or xs place next
     → IsThinned (take kept xs ++ drop place xs) (take (kept + 1) (slice_set xs kept next) ++ drop (place + 1) (slice_set xs kept next))
-kept_behind xs kept place next le l is =
-    let front = take_more_set xs kept next (omega (arith, le, l)) in
-    let rest = drop-set-lt (place + 1) xs kept next (omega (arith, le)) in
-    thinned-same (take kept xs ++ drop place xs) (take (kept + 1) (slice_set xs kept next) ++ drop (place + 1) (slice_set xs kept next))
-    (ap (λ (zs : List Heard). take kept xs ++ zs) (drop_next xs place next l is)
-    ∙ sym (append_assoc (take kept xs) (next ∷ []) (drop (place + 1) xs))
-    ∙ (λ i. sym front i ++ sym rest i))
+kept_behind xs kept place next le l is = grind (arith, take_more_set, drop-set-lt, thinned-same, slice_set, drop_next, append_assoc)
 
 -- the next hearing goes in place of the last one, and is of the second of the one before
 pub kept_in_place : (xs : List Heard) (kept place : ℕ) (a next : Heard) → 2 ≤ kept → kept ≤ place → place < length xs

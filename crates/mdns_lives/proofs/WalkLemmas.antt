@@ -1,14 +1,11 @@
 -- The walk over a record's hearings in order gives its lives.
-use Rattle.std.proofs.Common.{◌≡◌, ℕ, zero, suc, ◌+◌, ◌<◌, ◌≤◌, true, false, ◌==◌, nat_lt, List, [], ◌∷◌, Contains, refl, sym, ap}
+use Rattle.std.proofs.Common.{◌≡◌, ℕ, zero, suc, ◌+◌, ◌<◌, ◌≤◌, true, false, nat_lt, List, [], ◌∷◌, Contains, refl, sym, ap}
 use Rattle.std.proofs.Common.{◌∙◌, subst, inl, inr, ◌⊎◌, arith, if◌then◌else◌, leb-true, leb-false}
 use Rattle.std.specs.Prelude.{nat_le}
 use Rattle.std.proofs.lemmas.Bool.{ltb-true, ltb-false, eqb-true, cases_lt}
 use Rattle.std.proofs.lemmas.Bool.Decides.{nat_tests}
-use Rattle.mdns_capture.specs.Limits.{second}
 use Rattle.mdns_lives.specs.declared.life.Heard.{Heard}
 use Rattle.mdns_lives.specs.declared.life.Life.{Life}
-use Rattle.mdns_lives.specs.declared.life.Reason.{Reason}
-use Rattle.mdns_lives.specs.declared.life.Reason.TheVariants.{RanOut, Goodbye, Flushed}
 use Rattle.mdns_cache.specs.Live.{life_of}
 use Rattle.mdns_cache.specs.Rows.{end_of}
 use Rattle.mdns_lives.specs.History.{IsUpTo, AreInOrder, IsLastAt, IsLiveAt}
@@ -27,13 +24,7 @@ module _ (flushes : List ℕ) where
   -- ---- the end after a hearing
 
   pub ends_later : (h : Heard) → h.moment.nanos < end_after flushes h
-  ends_later h =
-      let life = life-positive h.ttl in
-      elim (end-reached flushes h.moment.nanos (out_of h)) [
-        | inl out ↦ omega (arith, out, life)
-        | inr g ↦ (let later : h.moment.nanos + second < g.moment = g.later in
-            let gives : g.moment + second ≡ end_after flushes h = g.gives in omega (arith, later, gives))
-      ]
+  ends_later h = grind (arith, life-positive, end-reached)
 
   same_end : (a b : Heard) → a.moment.nanos ≡ b.moment.nanos → a.ttl ≡ b.ttl → end_after flushes a ≡ end_after flushes b
   same_end a b e f = ap (λ n. end_of flushes n (n + life_of a.ttl)) e
@@ -59,21 +50,10 @@ module _ (flushes : List ℕ) where
 
   -- the only hearing is the last one
   only_last : (p : Heard) (now : ℕ) → p.moment.nanos ≤ now → IsLastAt (p ∷ []) now p
-  only_last p now l = record {
-    among = Contains-head p [];
-    by_then = l;
-    greatest = λ x m _. elim (Contains-cases p [] x m) [
-      | inl same ↦ subst (λ (y : Heard). IsUpTo y p) same (IsUpTo-itself p)
-      | inr rest ↦ absurd (Contains-nil x rest)
-    ];
-  }
+  only_last p now l = grind (arith, Contains-head, Contains-cases, IsUpTo-itself, Contains-nil)
 
   only_before : (p : Heard) (now : ℕ) → IsBeforeEnd (p ∷ []) now → (p.moment.nanos ≤ now) × (now < end_after flushes p)
-  only_before p now w =
-      elim (Contains-cases p [] w.0 w.1.among) [
-        | inl same ↦ subst (λ (y : Heard). (y.moment.nanos ≤ now) × (now < end_after flushes y)) (sym same) (w.1.by_then, w.2)
-        | inr rest ↦ absurd (Contains-nil w.0 rest)
-      ]
+  only_before p now w = grind (arith, Contains-cases, Contains-nil)
 
   -- before the next hearing the first one is the last
   first_last : (p h : Heard) (hs : List Heard) (now : ℕ) → AreInOrder (h ∷ hs) → p.moment.nanos ≤ now → now < h.moment.nanos
@@ -260,26 +240,7 @@ module _ (flushes : List ℕ) where
   -- ---- why they end
 
   end_by : (h : Heard) → IsEndBy flushes h (end_after flushes h) (reason_after flushes h)
-  end_by h =
-      let by = end-by_life flushes h.moment.nanos (out_of h) in
-      elim (nat_lt (end_after flushes h) (out_of h)) as (λ b. nat_lt (end_after flushes h) (out_of h) ≡ b
-      → IsEndBy flushes h (end_after flushes h) (if b then Flushed else (if h.ttl == 0 then Goodbye else RanOut))) [
-        | true ↦ λ x.
-            let early : end_after flushes h < out_of h = ltb-true (end_after flushes h) (out_of h) x in (
-              early,
-              elim (end-reached flushes h.moment.nanos (out_of h)) [
-                | inl e ↦ absurd (omega (arith, e, early))
-                | inr g ↦ record { flush = g.moment; among = g.among; later = g.later; at_it = g.gives }
-              ],
-            )
-        | false ↦ λ x.
-            let late : out_of h ≤ end_after flushes h = ltb-false (end_after flushes h) (out_of h) x in
-            elim (h.ttl == 0) as (λ b. (h.ttl == 0) ≡ b
-            → IsEndBy flushes h (end_after flushes h) (if b then Goodbye else RanOut)) [
-              | true ↦ λ y. (eqb-true h.ttl 0 y, omega (arith, late, by))
-              | false ↦ λ y. (grind (arith, nat_tests), omega (arith, late, by))
-            ] refl
-      ] refl
+  end_by h = grind (arith, end-by_life, nat_lt, ltb-true, end-reached, ltb-false, eqb-true, nat_tests)
 
   later_ends : (p h : Heard) (hs : List Heard) (life : Life) → IsUpTo p h → AreInOrder (h ∷ hs)
       → EndsBy (h ∷ hs) flushes life → EndsBy (p ∷ h ∷ hs) flushes life
@@ -291,12 +252,7 @@ module _ (flushes : List ℕ) where
       × (life.last ≡ p)
 
   end_of_life : (hs : List Heard) (p : Heard) (life : Life) → IsEnding p life → IsLastAt hs life.until p → EndsBy hs flushes life
-  end_of_life hs p life s last = record {
-    is_last = subst (λ (h : Heard). IsLastAt hs life.until h) (sym s.3) last;
-    ends = subst (λ (h : Heard). IsEndBy flushes h life.until life.reason) (sym s.3)
-        (subst (λ n. IsEndBy flushes p n life.reason) (sym s.1)
-        (subst (λ (r : Reason). IsEndBy flushes p (end_after flushes p) r) (sym s.2) (end_by p)));
-  }
+  end_of_life hs p life s last = grind (arith, end_by)
 
   ends_of_lives : (hs : List Heard) (p : Heard) (life : Life) → AreInOrder (p ∷ hs) → IsEnding p life
       → (x : Life) → Contains (lives_from flushes life hs) x → EndsBy (p ∷ hs) flushes x
@@ -329,11 +285,7 @@ module _ (flushes : List ℕ) where
   -- ---- the walk gives the lives
 
   pub AreLivesBy-walked : (hs : List Heard) → AreInOrder hs → AreLivesBy hs flushes (walked flushes hs)
-  AreLivesBy-walked [] o = record {
-    apart = tt;
-    exactly = λ now. (λ w. absurd (Contains-nil w.last w.is_last.among), λ w. absurd w);
-    ends = λ life m. absurd (Contains-nil life m);
-  }
+  AreLivesBy-walked [] o = grind (arith, apart, Contains-nil)
   AreLivesBy-walked (p ∷ hs) o = record {
     apart = apart hs p (life_after flushes p) o (omega arith, refl);
     exactly = λ now. (
@@ -355,21 +307,9 @@ module _ (flushes : List ℕ) where
   pub lives_from-on : (life : Life) (h : Heard) (hs : List Heard) → h.moment.nanos ≤ life.until
       → lives_from flushes life (h ∷ hs) ≡ lives_from flushes (carried_on life (life_after flushes h)) hs
   unfolding lives_from
-  lives_from-on life h hs l =
-      elim (nat_le h.moment.nanos life.until) as (λ b. nat_le h.moment.nanos life.until ≡ b
-      → (if b then lives_from flushes (carried_on life (life_after flushes h)) hs
-      else life ∷ lives_from flushes (life_after flushes h) hs) ≡ lives_from flushes (carried_on life (life_after flushes h)) hs) [
-        | true ↦ λ x. refl
-        | false ↦ λ x. let past : life.until < h.moment.nanos = leb-false h.moment.nanos life.until x in absurd (omega (arith, past, l))
-      ] refl
+  lives_from-on life h hs l = grind (arith, leb-false)
 
   pub lives_from-anew : (life : Life) (h : Heard) (hs : List Heard) → life.until < h.moment.nanos
       → lives_from flushes life (h ∷ hs) ≡ life ∷ lives_from flushes (life_after flushes h) hs
   unfolding lives_from
-  lives_from-anew life h hs l =
-      elim (nat_le h.moment.nanos life.until) as (λ b. nat_le h.moment.nanos life.until ≡ b
-      → (if b then lives_from flushes (carried_on life (life_after flushes h)) hs
-      else life ∷ lives_from flushes (life_after flushes h) hs) ≡ life ∷ lives_from flushes (life_after flushes h) hs) [
-        | true ↦ λ x. let meets : h.moment.nanos ≤ life.until = leb-true h.moment.nanos life.until x in absurd (omega (arith, meets, l))
-        | false ↦ λ x. refl
-      ] refl
+  lives_from-anew life h hs l = grind (arith, leb-true)

@@ -1,8 +1,9 @@
-use Rattle.std.proofs.Common.{◌≡◌, ◌≢◌, ◌∷◌, [], ◌∙◌, true, List, ap, map, rules, sym}
+use Rattle.std.proofs.Common.{arith}
+use Rattle.std.proofs.Common.{◌≡◌, ◌∷◌, [], ◌∙◌, true, List, ap, map, rules, sym}
 use Rattle.std.proofs.lemmas.List.{map-append}
 use Rattle.mdns_cache.specs.Rows.{last_lent}
 use Rattle.mdns_lives.specs.declared.record_lives.RecordLives.{RecordLives}
-use Rattle.mdns_lives.specs.Changes.{by_sets, goes_on, maybe_row}
+use Rattle.mdns_lives.specs.Changes.{goes_on, maybe_row}
 use Rattle.mdns_lives.specs.Lives.{AreApart}
 use Rattle.mdns_lives.specs.Rows.{row_lent}
 use Rattle.mdns_lives.proofs.ChosenLemmas.{none-left, on-err, read-more, read-some}
@@ -21,10 +22,7 @@ loop-set-preserved c =
     c.next.new.self _ c.loop-set.invariant first (goes_as ∙ on) own pushed
 
 pub returns-in_err-set-clause-err : goal.returns-in_err-set-clause-err
-returns-in_err-set-clause-err c =
-    let some : by_sets (maybe_row c.args.first) c.args.rows.now ≢ [] =
-    λ none. c.in_err-set.ensures.err (none-left (maybe_row c.args.first) c.args.rows.now none).0 in
-    on-err _ some
+returns-in_err-set-clause-err c = grind (arith, none-left, on-err)
 
 pub returns-in_err-row-clause-err : goal.returns-in_err-row-clause-err
 returns-in_err-row-clause-err c =

@@ -5,20 +5,13 @@ use Rattle.mdns_lives.proofs.history.keep.Goals as goal
 use Rattle.mdns_lives.proofs.history.keep.Goals.{else-kept-ge2-via-then-kept-ge2+else-second, else-kept-ge2-via-else-kept-ge2}
 
 pub returns-then-second-clause-thinned : goal.returns-then-second-clause-thinned
-returns-then-second-clause-thinned c =
-    kept_in_place c.args.items.now.items c.args.kept c.args.place c.index-then-kept-ge2.result.now c.index.result.now
-    (omega (arith, c.if-kept-ge2.true)) c.requires.kept c.requires.place c.index-then-kept-ge2.ensures c.index.ensures
-    (search rules)
+returns-then-second-clause-thinned c = grind (arith, kept_in_place)
 
 pub returns-clause-thinned : goal.returns-clause-thinned
-returns-clause-thinned c =
-    kept_behind c.args.items.now.items c.args.kept c.args.place c.index.result.now c.requires.kept c.requires.place
-    c.index.ensures
+returns-clause-thinned c = grind (arith, kept_behind)
 
 pub returns-then-second-clause-sparse : goal.returns-then-second-clause-sparse
-returns-then-second-clause-sparse c = λ o s.
-    kept_sparse_in_place c.args.items.now.items c.args.kept c.args.place c.index-then-kept-ge2.result.now c.index.result.now
-    (omega (arith, c.if-kept-ge2.true)) c.requires.kept c.requires.place c.index-then-kept-ge2.ensures c.index.ensures o s
+returns-then-second-clause-sparse c = search (rules, kept_sparse_in_place)
 
 pub returns-clause-sparse : goal.returns-clause-sparse
 returns-clause-sparse c = λ o s.

@@ -1,14 +1,11 @@
-use Rattle.std.proofs.Common.{vec_capacity, ap, ◌∙◌}
-use Rattle.mdns_lives.specs.Seconds.{join_seconds, only, seconds_of}
+use Rattle.std.proofs.Common.{arith}
+use Rattle.std.proofs.Common.{vec_capacity}
 use Rattle.mdns_lives.proofs.RoomLemmas.{room_pushed}
 use Rattle.mdns_lives.proofs.SecondsLemmas.{seconds_of-push}
 use Rattle.mdns_lives.proofs.history.push_one.Goals as goal
 
 pub returns-clause-ok : goal.returns-clause-ok
-returns-clause-ok c =
-    ap seconds_of c.push_reserved.ensures.items
-    ∙ seconds_of-push c.make_room.new.items.items c.of.result
-    ∙ (λ i. join_seconds (c.in_ok-make_room.ensures.same i) (only (c.of.ensures i)))
+returns-clause-ok c = grind (arith, seconds_of-push)
 
 pub returns-clause-bound : goal.returns-clause-bound
 returns-clause-bound c = λ bound.

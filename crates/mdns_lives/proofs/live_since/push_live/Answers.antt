@@ -8,11 +8,7 @@ pub loop-life-init : goal.loop-life-init
 loop-life-init c = rows-start live_since_lent c.args.now.nanos (last_lent c.args.last) c.args.lives.now c.args.to.now.items
 
 pub loop-life-preserved : goal.loop-life-preserved
-loop-life-preserved c =
-    rows-more live_since_lent c.args.now.nanos (last_lent c.args.last) c.args.lives.now c.loop-life.life-index c.life-item.result
-    _ _ _ (omega arith) c.life-item.is c.loop-life.invariant c.in_ok-push_life.ensures
+loop-life-preserved c = grind (arith, rows-more)
 
 pub returns : goal.returns
-returns c =
-    rows-whole live_since_lent c.args.now.nanos (last_lent c.args.last) c.args.lives.now c.loop-life.life-index _ _ (omega arith)
-    c.loop-life.invariant
+returns c = grind (arith, rows-whole)

@@ -1,17 +1,14 @@
-use Rattle.std.proofs.Common.{◌≡◌, ◌<◌, ◌≤◌, length, get_or, inl, inr, rules}
+use Rattle.std.proofs.Common.{arith}
+use Rattle.std.proofs.Common.{◌≡◌, ◌<◌, length, get_or, rules}
 use Rattle.std.proofs.lemmas.Result.{on_ok_weaker}
 use Rattle.mdns_lives.proofs.RecordingLemmas.{is_placed, records-past, records-placed}
 use Rattle.mdns_lives.proofs.recording.hear_place.Goals as goal
 
 pub returns-in_default : goal.returns-in_default
-returns-in_default c = λ heard.
-    let past : length c.args.messages.now ≤ c.args.place = search rules in
-    records-past c.args.chronicle.now c.args.messages.now c.args.waiting.now c.args.place heard (inl past)
+returns-in_default c = grind (arith, records-past)
 
 pub returns-in_default-get : goal.returns-in_default-get
-returns-in_default-get c = λ heard.
-    let past : length c.args.waiting.now ≤ c.args.place = search rules in
-    records-past c.args.chronicle.now c.args.messages.now c.args.waiting.now c.args.place heard (inr past)
+returns-in_default-get c = grind (arith, records-past)
 
 pub returns : goal.returns
 returns c =

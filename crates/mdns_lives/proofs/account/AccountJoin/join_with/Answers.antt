@@ -1,3 +1,4 @@
+use Rattle.std.proofs.Common.{arith}
 use Rattle.mdns_lives.proofs.AccountLemmas.{part_history, part_latest}
 use Rattle.mdns_lives.proofs.account.AccountJoin.join_with.Goals as goal
 
@@ -6,6 +7,4 @@ returns-in_err-join_with-clause-err c =
     part_history c.from_residual.result c.args.self.now c.args.other.now c.join_with.new.self c.in_err-join_with.ensures.err
 
 pub returns-clause-err : goal.returns-clause-err
-returns-clause-err c =
-    part_latest c.join_with-2.result c.args.self.now c.args.other.now c.join_with-2.new.self c.join_with.new.self
-    c.valid.ensures c.valid-2.ensures c.in_ok-join_with.ensures.ok c.join_with-2.ensures.err
+returns-clause-err c = grind (arith, part_latest)

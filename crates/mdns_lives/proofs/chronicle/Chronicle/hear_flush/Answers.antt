@@ -1,7 +1,6 @@
-use Rattle.std.proofs.Common.{subst}
+use Rattle.std.proofs.Common.{arith}
 use Rattle.mdns_message.specs.Borrowed.{hearing_lent}
 use Rattle.mdns_cache.proofs.GatheringLemmas.{any_fit}
-use Rattle.mdns_lives.specs.Chronicle.{AreAccounts}
 use Rattle.mdns_lives.proofs.PartLemmas.{gathered_accounts, flush_gathered}
 use Rattle.mdns_lives.proofs.chronicle.Chronicle.hear_flush.Goals as goal
 
@@ -14,9 +13,7 @@ invariant_of-self c =
     (hearing_lent c.args.hearing.now) c.join_near-found.new.self c.join_near-found.ensures.ok c.join_near-found.ensures.err
 
 pub returns-clause-was : goal.returns-clause-was
-returns-clause-was c =
-    subst AreAccounts c.self.view_is
-    (gathered_accounts c.self.inside.records c.self.inside.flushes c.self.inside.newest c.self.invariant)
+returns-clause-was c = grind (arith, gathered_accounts)
 
 pub returns-clause-held : goal.returns-clause-held
 returns-clause-held c =

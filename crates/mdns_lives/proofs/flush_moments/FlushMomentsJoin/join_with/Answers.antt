@@ -1,7 +1,7 @@
-use Rattle.std.proofs.Common.{List, ◌++◌, sym, ap, subst, ◌∙◌}
+use Rattle.std.proofs.Common.{arith}
+use Rattle.std.proofs.Common.{sym, subst}
 use Rattle.std.proofs.lemmas.List.{map-append}
-use Rattle.mdns_capture.specs.declared.moment.Moment.{Moment}
-use Rattle.mdns_join.specs.Kept.{ascending, union, IsAscending}
+use Rattle.mdns_join.specs.Kept.{IsAscending}
 use Rattle.mdns_join.specs.laws.Kept.{IsAscending-ascending}
 use Rattle.mdns_join.specs.Nanos.{nanos_of}
 use Rattle.mdns_join.proofs.RefusedLemmas.{part_refused}
@@ -11,22 +11,11 @@ use Rattle.mdns_lives.proofs.FlushLemmas.{union-is}
 use Rattle.mdns_lives.proofs.flush_moments.FlushMomentsJoin.join_with.Goals as goal
 
 pub returns-in_err-extend_from_slice-clause-err : goal.returns-in_err-extend_from_slice-clause-err
-returns-in_err-extend_from_slice-clause-err c =
-    part_refused union-laws c.from_residual.result c.args.self.now c.args.other.now _ c.valid.ensures c.valid-2.ensures
-    (on_err_any c.from_residual.result
-    (ap (λ (xs : List Moment). nanos_of xs) c.in_err-extend_from_slice.ensures.items ∙ c.self.view_is))
+returns-in_err-extend_from_slice-clause-err c = grind (arith, part_refused, union-laws, on_err_any)
 
 pub invariant_of-self-2 : goal.invariant_of-self-2
 invariant_of-self-2 c =
     subst IsAscending (sym c.sort.ensures) (IsAscending-ascending (nanos_of c.extend_from_slice.new.self.items))
 
 pub returns-clause-ok : goal.returns-clause-ok
-returns-clause-ok c =
-    let xs = c.self.inside.items.items in
-    let ys = c.other.inside.items.items in
-    c.sort.ensures
-    ∙ ap (λ (ms : List Moment). ascending (nanos_of ms)) (c.in_ok-extend_from_slice.ensures.items
-    ∙ ap (λ (ms : List Moment). xs ++ ms) c.as_slice.ensures.value)
-    ∙ ap ascending (map-append (λ (m : Moment). m.nanos) xs ys)
-    ∙ union-is (nanos_of xs) (nanos_of ys)
-    ∙ (λ i. union (c.self.view_is i) (c.other.view_is i))
+returns-clause-ok c = grind (arith, map-append, union-is)

@@ -1,4 +1,4 @@
-use Rattle.std.proofs.Common.{sym, ap, ◌∙◌, subst, length, arith}
+use Rattle.std.proofs.Common.{sym, ap, ◌∙◌, subst, arith}
 use Rattle.join_map.specs.Entries.{value_at}
 use Rattle.mdns_message.specs.Resource.{set_key_cmp}
 use Rattle.mdns_join.specs.Kept.{IsAscending}
@@ -37,10 +37,7 @@ pub returns-in-Equal-clause-left : goal.returns-in-Equal-clause-left
 returns-in-Equal-clause-left c = c.loop-self.invariant.later
 
 pub loop-self-smaller : goal.loop-self-smaller
-loop-self-smaller c =
-    let was = ap length (with_next-some _ _ c.loop-self.self-inside.rest c.in-Some.is) in
-    let now = ap length (with_next-taken _ _ _ c.next-self-inside.ensures.steps) in
-    omega (arith, was, now)
+loop-self-smaller c = grind (arith, with_next-some, with_next-taken)
 
 pub loop-self-preserved : goal.loop-self-preserved
 loop-self-preserved c =

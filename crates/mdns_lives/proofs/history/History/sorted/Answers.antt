@@ -1,5 +1,4 @@
-use Rattle.std.proofs.Common.{ap, ◌∙◌}
-use Rattle.mdns_lives.specs.Seconds.{seconds_of}
+use Rattle.std.proofs.Common.{arith}
 use Rattle.mdns_lives.proofs.SecondsLemmas.{seconds_of-moved}
 use Rattle.mdns_lives.proofs.SortedLemmas.{AreInOrder-from_sorted}
 use Rattle.mdns_lives.proofs.history.History.sorted.Goals as goal
@@ -8,6 +7,4 @@ pub returns-clause-in_order : goal.returns-clause-in_order
 returns-clause-in_order c = AreInOrder-from_sorted c.sort_unstable.new.self.items c.sort_unstable.ensures.sorted
 
 pub returns-clause-same : goal.returns-clause-same
-returns-clause-same c =
-    seconds_of-moved c.in_ok-sorted.sorted.items c.sort_unstable.new.self.items c.sort_unstable.ensures.permutation
-    ∙ ap seconds_of (c.in_ok-sorted.ensures.items ∙ c.as_slice.ensures.value) ∙ c.self.view_is
+returns-clause-same c = grind (arith, seconds_of-moved)

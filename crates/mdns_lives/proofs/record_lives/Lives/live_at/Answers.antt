@@ -1,17 +1,16 @@
+use Rattle.std.proofs.Common.{rules}
+use Rattle.std.proofs.Common.{arith}
 use Rattle.std.proofs.Common.{◌≡◌, ◌∙◌, ◌∷◌, ◌++◌, ap, map, subst, sym, List}
 use Rattle.mdns_cache.specs.Rows.{last_lent}
 use Rattle.mdns_lives.specs.declared.life.Life.{Life}
 use Rattle.mdns_lives.specs.Chronicle.{AreAllLives, rows_of}
 use Rattle.mdns_lives.specs.Rows.{row_lent}
 use Rattle.mdns_lives.specs.Since.{AreLiveSince, live_since_lent, since_rows}
-use Rattle.mdns_lives.proofs.LiveLifeLemmas.{Row}
-use Rattle.mdns_lives.proofs.SinceLemmas.{Tells, none_later, none_left, tells-all, tells-more, tells-start}
+use Rattle.mdns_lives.proofs.SinceLemmas.{none_later, none_left, tells-all, tells-more, tells-start}
 use Rattle.mdns_lives.proofs.record_lives.Lives.live_at.Goals as goal
 
 pub loop-rows-init : goal.loop-rows-init
-loop-rows-init c =
-    subst (λ (rest : List Row). Tells live_since_lent c.args.now.nanos (rows_of c.args.self.now) rest c.new-rows.result.items)
-    (sym c.walk-walk.ensures.left) (tells-start live_since_lent c.args.now.nanos (rows_of c.args.self.now) _ c.new-rows.ensures.items)
+loop-rows-init c = grind (arith, tells-start)
 
 pub loop-rows-preserved : goal.loop-rows-preserved
 loop-rows-preserved c =
@@ -23,9 +22,7 @@ loop-rows-preserved c =
     c.as_slice.ensures.value)
 
 pub returns-clause-rows : goal.returns-clause-rows
-returns-clause-rows c =
-    tells-all live_since_lent c.args.now.nanos (rows_of c.args.self.now) _ _ c.loop-rows.invariant
-    (none_left row_lent _ c.in_ok-row.ensures.ok c.in_default.not-Some)
+returns-clause-rows c = search (rules, tells-all, none_left)
 
 pub returns-clause-live : goal.returns-clause-live
 returns-clause-live c heard stands =

@@ -1,4 +1,5 @@
-use Rattle.std.proofs.Common.{List, ℕ, refl, ap, sym, ◌∙◌, subst}
+use Rattle.std.proofs.Common.{arith}
+use Rattle.std.proofs.Common.{refl, sym, ◌∙◌, subst}
 use Rattle.mdns_message.specs.RecordSet.{RecordSet}
 use Rattle.mdns_cache.proofs.BetweenLemmas.{on_err_any}
 use Rattle.mdns_cache.proofs.FlushWalkLemmas.{HasLater}
@@ -9,14 +10,10 @@ use Rattle.mdns_lives.proofs.RowLemmas.{rest_sorted, row_next}
 use Rattle.mdns_lives.proofs.record_lives.LivesWalk.next.Goals as goal
 
 pub invariant_of-self-in_err-lives : goal.invariant_of-self-in_err-lives
-invariant_of-self-in_err-lives c =
-    rest_sorted c.self.inside.flushes c.moments-flushes.new.self c.self.inside.entries c.next.new.self c.in-Some.key.now
-    c.in-Some.account.now c.in-Some.ensures.steps c.self.invariant
+invariant_of-self-in_err-lives c = grind (arith, rest_sorted)
 
 pub invariant_of-self-2 : goal.invariant_of-self-2
-invariant_of-self-2 c =
-    rest_sorted c.self.inside.flushes c.moments-flushes.new.self c.self.inside.entries c.next.new.self c.in-Some.key.now
-    c.in-Some.account.now c.in-Some.ensures.steps c.self.invariant
+invariant_of-self-2 c = grind (arith, rest_sorted)
 
 pub returns-in_err-lives-clause-err : goal.returns-in_err-lives-clause-err
 returns-in_err-lives-clause-err c =
@@ -34,15 +31,4 @@ returns-in_err-lives-clause-err c =
     )
 
 pub returns-clause-ok : goal.returns-clause-ok
-returns-clause-ok c =
-    let old = c.self.inside.flushes in
-    let new = c.moments-flushes.new.self in
-    let key = c.in-Some.key.now in
-    let history = c.in-Some.account.now.history in
-    let later = subst (λ (set : RecordSet). HasLater set old new) c.set.ensures c.moments-flushes.ensures.left in
-    let flushes = c.moments-flushes.ensures.value ∙ ap (λ (set : RecordSet). flushes_held old set) c.set.ensures in
-    let walk = c.in_ok-lives.ensures.walked
-    ∙ ap (λ (fs : List ℕ). walked fs (listed_ends history)) flushes in
-    sym c.self.view_is
-    ∙ row_next old new c.self.inside.entries c.next.new.self key c.in-Some.account.now c.in-Some.ensures.steps c.self.invariant
-    later _ _ c.shown-last.ensures walk
+returns-clause-ok c = grind (arith, row_next)
