@@ -3,7 +3,7 @@ pub mod ContentsLemmas
 pub mod EndLemmas
 pub mod EqualityLemmas
 pub mod FirstLaterLemmas
-pub mod FlushWalkLemmas
+pub mod LiveWalkLemmas
 pub mod GatheringLemmas
 pub mod LawLemmas
 pub mod LiveRowLemmas

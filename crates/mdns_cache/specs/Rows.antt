@@ -1,8 +1,5 @@
 -- The values of the rows that a cache lends, and the ends that it finds.
 use Rattle.std.specs.Prelude.{◌≡◌, ℕ, ◌+◌, min, true, false, nat_lt, nat_le, unwrap_or, if◌then◌else◌, List, [], ◌∷◌}
-use Rattle.std.specs.Prelude.{Option, None, Some}
-use Rattle.std.specs.Borrow.{Bor}
-use Rattle.std.specs.Map.Iter.{deref_pair}
 use Rattle.std.specs.List.Sorted.{IsPartitionPoint}
 use Rattle.mdns_capture.specs.declared.moment.Moment.{Moment}
 use Rattle.mdns_capture.specs.Limits.{second}
@@ -37,11 +34,6 @@ AreEarlyUpTo t moments count =
 abbrev pub end_held : List (RecordSet × List ℕ) → Key × Latest → ℕ
 end_held flushes e =
     end_of (unwrap_or (value_at set_key_cmp e.0.set flushes) []) e.1.moment.nanos (e.1.moment.nanos + life_of e.1.ttl)
-
--- the next entry and those after it; there are none after no next one
-abbrev pub with_next : {K V : Type 0} → Option (Bor K × Bor V) → List (K × V) → List (K × V)
-with_next None rest = []
-with_next (Some e) rest = deref_pair e ∷ rest
 
 -- the last hearings of the entries that end later than `now`, each with its end
 abbrev pub live_of : List (RecordSet × List ℕ) → ℕ → List (Key × Latest) → List (Latest × ℕ)

@@ -1,7 +1,7 @@
 //! The cache: the last hearing of each record, and the flush moments of each record set.
 
 ghost use Rattle.std.specs.Prelude.{◌≡◌, ◌↔◌, ◌∷◌, ◌++◌, [], List, ℕ, length, IsTrue, OnOk, OnErr, MatchOption};
-ghost use Rattle.std.specs.Prelude.{option_map, unwrap_or, true, Some};
+ghost use Rattle.std.specs.Prelude.{option_copied, option_map, unwrap_or, true, Some};
 ghost use Rattle.std.specs.List.Sorted.{IsStrictlySortedBy};
 ghost use Rattle.std.specs.Map.{keys_of};
 ghost use Rattle.mdns_message.specs.declared.hearing.Hearing.{Hearing};
@@ -196,10 +196,7 @@ impl Cache {
             → ((moment : ℕ) → (has (nanos_of result.now) moment ≡ true)
             ↔ IsKept (flush_moments heard set.now) moment) }
     {
-        match self.flushes.get(set) {
-            Some(moments) => moments.all(),
-            None => &[],
-        }
+        all_of(self.flushes.get(set))
     }
 
     /// Returns an iterator over the records in key order, each with its last hearing.
@@ -226,6 +223,17 @@ pub(crate) fn map_laws()
 {
     join_laws::<JoinMap<Key, Latest>>();
     join_laws::<JoinMap<SetKey, Moments>>();
+}
+
+/// Returns the flush moments that are held; none where nothing is held.
+pub(crate) fn all_of(held: Option<&Moments>) -> &[Moment]
+    ensures value { nanos_of result.now ≡ unwrap_or (option_copied held.entry) [] }
+    ensures ascending { IsAscending (nanos_of result.now) }
+{
+    match held {
+        Some(moments) => moments.all(),
+        None => &[],
+    }
 }
 
 pub(crate) fn shown(latest: &Latest) -> Last<'_>

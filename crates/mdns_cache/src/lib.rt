@@ -5,7 +5,6 @@
 pub mod cache;
 mod equal;
 mod flush;
-mod flush_walk;
 pub mod gathering;
 pub mod guesses;
 pub mod laws;

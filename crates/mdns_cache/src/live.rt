@@ -12,11 +12,10 @@ ghost use Rattle.mdns_cache.specs.Live.{NoneLater, IsLive, AreLiveRows, IsEnd, A
 ghost use Rattle.mdns_cache.specs.Rows.{last_lent, live_record_lent, live_of};
 ghost use Rattle.mdns_cache.specs.Contents.{StandsFor};
 
-use crate::cache::{Cache, Last, shown};
-use crate::flush_walk::FlushWalk;
+use crate::cache::{Cache, Last, all_of, shown};
 use crate::lifetime::end_of;
 use mdns_capture::Moment;
-use mdns_join::{Latest, Walk};
+use mdns_join::{FlushWalk, Latest, Moments, Walk};
 use mdns_message::{Key, Want};
 use std::alloc::Global;
 use std::marker::Model;
@@ -102,7 +101,7 @@ pub struct LiveWalk<'a> {
     entries: Walk<'a, Key, Latest>,
 
     // The flush moments of the record sets of these entries.
-    flushes: FlushWalk<'a>,
+    flushes: FlushWalk<'a, Moments>,
     now: Moment,
 }
 
@@ -136,7 +135,7 @@ impl<'a> Iterator for LiveWalk<'a> {
 // Returns the next live record: takes the entries up to the next one that ends later than `now`.
 fn next_live<'a>(
     entries: &mut Walk<'a, Key, Latest>,
-    flushes: &mut FlushWalk<'a>,
+    flushes: &mut FlushWalk<'a, Moments>,
     now: Moment,
 ) -> Option<LiveRecord<'a>>
     requires { IsStrictlySortedBy key_cmp (keys_of entries.old) }
@@ -145,7 +144,8 @@ fn next_live<'a>(
     ensures sorted { IsStrictlySortedBy key_cmp (keys_of entries.new) }
 {
     while let Some((key, latest)) = entries.next() {
-        let end = end_of(flushes.moments(key.set()), latest.moment, latest.ttl);
+        let held = all_of(flushes.moments(key.set()));
+        let end = end_of(held, latest.moment, latest.ttl);
         if now.nanos() < end {
             let last = shown(latest);
             return Some(LiveRecord { last, end });

@@ -1,4 +1,5 @@
 pub mod DequeLemmas
+pub mod FlushWalkLemmas
 pub mod LateLemmas
 pub mod MomentLemmas
 pub mod OrderLemmas

@@ -1,3 +1,4 @@
+pub mod FlushWalk
 pub mod Kept
 pub mod laws
 pub mod Latest

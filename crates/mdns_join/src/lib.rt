@@ -2,6 +2,7 @@
 #![tactic(auto)]
 
 mod deque;
+pub mod flush_walk;
 pub mod late;
 pub mod latest;
 pub mod laws;
@@ -9,6 +10,7 @@ mod moment_list;
 pub mod moments;
 mod prune;
 
+pub use flush_walk::FlushWalk;
 pub use join_map::{Copied, Join, JoinHeld, JoinInto, JoinMap, JoinOwn, Unsorted, Walk};
 pub use late::{LateMoments, Repeated};
 pub use latest::Latest;

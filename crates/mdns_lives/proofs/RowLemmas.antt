@@ -24,7 +24,7 @@ use Rattle.join_map.specs.laws.Entries.{ValidAt, valid_at, sorted_above, sorted_
 use Rattle.mdns_cache.specs.Live.{IsUnheard, IsLast, record_of}
 use Rattle.mdns_cache.proofs.StandsPartLemmas.{same-itself, IsLast-same, Contains-nil, Contains-head, Contains-later, Contains-cases}
 use Rattle.mdns_cache.proofs.MeaningLemmas.{key_eq-exact}
-use Rattle.mdns_cache.proofs.FlushWalkLemmas.{HasLater}
+use Rattle.mdns_join.proofs.FlushWalkLemmas.{HasLater}
 use Rattle.mdns_lives.specs.declared.account.Account.{Account}
 use Rattle.mdns_lives.specs.declared.life.Heard.{Heard}
 use Rattle.mdns_lives.specs.declared.life.Life.{Life}

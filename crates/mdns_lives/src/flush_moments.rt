@@ -1,6 +1,6 @@
 //! All flush moments of a record set, sorted.
 
-ghost use Rattle.std.specs.Prelude.{◌≡◌};
+ghost use Rattle.std.specs.Prelude.{◌≡◌, [], option_copied, unwrap_or};
 ghost use Rattle.mdns_join.specs.Kept.{ascending, union, IsAscending};
 ghost use Rattle.mdns_join.specs.Nanos.{nanos_of};
 ghost use Rattle.mdns_lives.specs.laws.Flushes.{union-laws};
@@ -39,12 +39,15 @@ impl FlushMoments {
         FlushMoments { items }
     }
 
-    /// Returns the moments, ascending.
-    pub(crate) fn as_slice(&self) -> &[Moment]
-        ensures all { nanos_of result.now ≡ self.now }
-        ensures ascending { IsAscending self.now }
+    /// Returns the moments that are held, ascending; none where nothing is held.
+    pub(crate) fn all_of(held: Option<&FlushMoments>) -> &[Moment]
+        ensures value { nanos_of result.now ≡ unwrap_or (option_copied held.entry) [] }
+        ensures ascending { IsAscending (nanos_of result.now) }
     {
-        self.items.as_slice()
+        match held {
+            Some(moments) => moments.items.as_slice(),
+            None => &[],
+        }
     }
 }
 

@@ -6,7 +6,6 @@ pub mod account;
 pub mod changes;
 pub mod chronicle;
 mod flush_moments;
-mod flush_walk;
 mod flushes;
 mod history;
 pub mod laws;

@@ -14,7 +14,6 @@ ghost use Rattle.mdns_lives.specs.Walk.{walked};
 
 use crate::account::Account;
 use crate::flush_moments::FlushMoments;
-use crate::flush_walk::FlushesWalk;
 use crate::history::History;
 use crate::laws::lives_by_history;
 use crate::life::Life;
@@ -22,7 +21,7 @@ use crate::lives::lives_of;
 use join_map::{JoinMap, Walk};
 use mdns_cache::Last;
 use mdns_capture::Moment;
-use mdns_join::Latest;
+use mdns_join::{FlushWalk, Latest};
 use mdns_message::{Key, SetKey};
 use memory::Want;
 use std::alloc::Global;
@@ -63,7 +62,7 @@ impl Lives {
         lives_by_history();
         LivesWalk {
             entries: self.records.walk(),
-            flushes: FlushesWalk::new(&self.flushes),
+            flushes: FlushWalk::new(&self.flushes),
             alloc: self.alloc,
         }
     }
@@ -75,7 +74,7 @@ pub struct LivesWalk<'a> {
     entries: Walk<'a, Key, Account>,
 
     // The flush moments of the record sets of these entries.
-    flushes: FlushesWalk<'a>,
+    flushes: FlushWalk<'a, FlushMoments>,
     alloc: Global,
 }
 
@@ -106,7 +105,7 @@ impl<'a> LivesWalk<'a> {
         let Some((key, account)) = self.entries.next() else {
             return Ok(None);
         };
-        let flushes = self.flushes.moments(key.set());
+        let flushes = FlushMoments::all_of(self.flushes.moments(key.set()));
         let lives = lives_by(self.alloc, &account.history, flushes)?;
         let last = shown(&account.latest);
         Ok(Some(RecordLives { last, lives }))

@@ -2,9 +2,10 @@ use Rattle.std.proofs.Common.{◌<◌, ◌≤◌, ◌+◌, ◌∷◌, [], unwrap
 use Rattle.mdns_message.specs.RecordSet.{RecordSet}
 use Rattle.mdns_message.specs.Resource.{set_key_cmp}
 use Rattle.join_map.specs.Entries.{value_at}
+use Rattle.mdns_join.proofs.FlushWalkLemmas.{HasLater}
 use Rattle.mdns_cache.specs.Live.{life_of}
 use Rattle.mdns_cache.specs.Rows.{end_of, live_of}
-use Rattle.mdns_cache.proofs.FlushWalkLemmas.{HasLater, rest_sorted, shows_next, shows_rest}
+use Rattle.mdns_cache.proofs.LiveWalkLemmas.{rest_sorted, shows_next, shows_rest}
 use Rattle.mdns_cache.proofs.live.next_live.Goals as goal
 
 pub returns-then-nanos-end-clause-next : goal.returns-then-nanos-end-clause-next
@@ -15,7 +16,8 @@ returns-then-nanos-end-clause-next c =
     let latest = c.in-Some.latest.now in
     let later = subst (λ (set : RecordSet). HasLater set left new) c.set.ensures c.moments.ensures.left in
     let held = c.end_of-end.ensures.value
-    ∙ ap (λ ms. end_of ms latest.moment.nanos (latest.moment.nanos + life_of latest.ttl)) (c.moments.ensures.value
+    ∙ ap (λ ms. end_of ms latest.moment.nanos (latest.moment.nanos + life_of latest.ttl)) (c.all_of-held.ensures.value
+    ∙ ap (λ o. unwrap_or o []) c.moments.ensures.value
     ∙ ap (λ (set : RecordSet). unwrap_or (value_at set_key_cmp set left) []) c.set.ensures) in
     let lives : now < c.end_of-end.result = omega (arith, c.if-nanos-end.true, c.nanos.ensures) in
     shows_next c.args.flushes.now left now c.args.entries.now c.loop-key.entries c.loop-key.invariant
@@ -37,7 +39,8 @@ loop-key-preserved c =
     let latest = c.in-Some.latest.now in
     let later = subst (λ (set : RecordSet). HasLater set left new) c.set.ensures c.moments.ensures.left in
     let held = c.end_of-end.ensures.value
-    ∙ ap (λ ms. end_of ms latest.moment.nanos (latest.moment.nanos + life_of latest.ttl)) (c.moments.ensures.value
+    ∙ ap (λ ms. end_of ms latest.moment.nanos (latest.moment.nanos + life_of latest.ttl)) (c.all_of-held.ensures.value
+    ∙ ap (λ o. unwrap_or o []) c.moments.ensures.value
     ∙ ap (λ (set : RecordSet). unwrap_or (value_at set_key_cmp set left) []) c.set.ensures) in
     let over : c.end_of-end.result ≤ now = omega (arith, c.if-nanos-end.false, c.nanos.ensures) in
     shows_rest c.args.flushes.now left now c.args.entries.now c.loop-key.entries c.loop-key.invariant

@@ -1,4 +1,4 @@
-use Rattle.mdns_cache.proofs.FlushWalkLemmas.{Shows}
+use Rattle.mdns_cache.proofs.LiveWalkLemmas.{Shows}
 use Rattle.mdns_cache.proofs.live.next_live.Given as goal
 
 abbrev pub invariant-loop-key : goal.invariant-loop-key

@@ -1,0 +1,71 @@
+-- Walking over the records and their flush moments, both in key order.
+use Rattle.std.proofs.Common.{◌≡◌, ◌≢◌, ℕ, ◌+◌, ◌<◌, ◌≤◌, Bool, true, false, nat_lt, List, [], ◌∷◌, unwrap_or, refl, sym, ap, ◌∙◌, subst}
+use Rattle.std.proofs.Common.{if◌then◌else◌, lt-ltb, le-ltb}
+use Rattle.std.specs.declared.cmp.Ordering.{Ordering}
+use Rattle.std.specs.declared.cmp.Ordering.TheVariants.{Less, Equal, Greater}
+use Rattle.std.specs.Ordering.{ordering_then}
+use Rattle.std.specs.List.{AllByRecursion}
+use Rattle.std.specs.List.Sorted.{IsStrictlySortedBy}
+use Rattle.std.specs.Map.{keys_of}
+use Rattle.mdns_message.specs.declared.key.Key.{Key}
+use Rattle.mdns_message.specs.RecordSet.{RecordSet}
+use Rattle.mdns_message.specs.Resource.{key_cmp, set_key_cmp}
+use Rattle.mdns_message.specs.laws.Resource.{key_cmp-total, key_cmp-exact}
+use Rattle.mdns_join.specs.declared.latest.Latest.{Latest}
+use Rattle.join_map.specs.laws.Entries.{sorted_above, sorted_rest}
+use Rattle.mdns_cache.specs.Live.{life_of}
+use Rattle.mdns_join.proofs.FlushWalkLemmas.{HasLater}
+use Rattle.mdns_cache.specs.Rows.{end_of, end_held, live_of}
+
+-- ---- records in key order
+
+then_less : (o p : Ordering) → ordering_then o p ≡ Less → o ≢ Greater
+then_less Less p h = λ e. cc
+then_less Equal p h = λ e. cc
+then_less Greater p h = absurd (cc)
+
+-- the sets of later keys aren't before that of this one
+key_after : (key later : Key) → key_cmp key later ≡ Less → set_key_cmp key.set later.set ≢ Greater
+key_after key later h = then_less (set_key_cmp key.set later.set) _ h
+
+-- the records after the key end as they did
+pub live_of-later : (old new : List (RecordSet × List ℕ)) (now : ℕ) (key : Key) (es : List (Key × Latest))
+    → AllByRecursion (λ k. key_cmp key k ≡ Less) (keys_of es) → HasLater key.set old new → live_of new now es ≡ live_of old now es
+live_of-later old new now key [] a has = refl
+live_of-later old new now key (e ∷ es) a has =
+    let end : end_held new e ≡ end_held old e =
+    ap (λ o. end_of (unwrap_or o []) e.1.moment.nanos (e.1.moment.nanos + life_of e.1.ttl)) (has e.0.set (key_after key e.0 a.0)) in
+    let rest = live_of-later old new now key es a.1 has in
+    λ i. if nat_lt now (end i) then (e.1, end i) ∷ rest i else rest i
+
+-- ---- the walk over both
+
+-- the records and flush moments that are left give the records that end later than `now` and are left of all
+pub record Shows (flushes left : List (RecordSet × List ℕ)) (now : ℕ) (all entries : List (Key × Latest)) : Type 0 where
+  pub same : live_of left now entries ≡ live_of flushes now all
+  pub sorted : IsStrictlySortedBy key_cmp (keys_of entries)
+
+module _ (flushes left : List (RecordSet × List ℕ)) (now : ℕ) (all entries : List (Key × Latest))
+    (s : Shows flushes left now all entries) (e : Key × Latest) (rest : List (Key × Latest)) (is : entries ≡ e ∷ rest)
+    (new : List (RecordSet × List ℕ)) (later : HasLater e.0.set left new) where
+  sorted_entries : IsStrictlySortedBy key_cmp (keys_of (e ∷ rest))
+  sorted_entries = subst (λ (es : List (Key × Latest)). IsStrictlySortedBy key_cmp (keys_of es)) is s.sorted
+
+  pub rest_sorted : IsStrictlySortedBy key_cmp (keys_of rest)
+  rest_sorted = sorted_rest key_cmp-total key_cmp-exact e rest sorted_entries
+
+  rest_same : live_of new now rest ≡ live_of left now rest
+  rest_same = live_of-later left new now e.0 rest (sorted_above key_cmp-total key_cmp-exact e rest sorted_entries) later
+
+  shows : (t : Bool) → nat_lt now (end_held left e) ≡ t
+      → live_of flushes now all ≡ (if t then (e.1, end_held left e) ∷ live_of new now rest else live_of new now rest)
+  shows t h =
+      sym s.same ∙ ap (live_of left now) is
+      ∙ ap (λ b. if b then (e.1, end_held left e) ∷ live_of left now rest else live_of left now rest) h
+      ∙ ap (λ rows. if t then (e.1, end_held left e) ∷ rows else rows) (sym rest_same)
+
+  pub shows_next : now < end_held left e → live_of flushes now all ≡ (e.1, end_held left e) ∷ live_of new now rest
+  shows_next l = shows true (lt-ltb now (end_held left e) l)
+
+  pub shows_rest : end_held left e ≤ now → Shows flushes new now all rest
+  shows_rest l = record { same = sym (shows false (le-ltb now (end_held left e) l)); sorted = rest_sorted }
