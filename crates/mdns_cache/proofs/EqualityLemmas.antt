@@ -21,7 +21,7 @@ use Rattle.mdns_message.specs.laws.Resource.{key_cmp-total, key_cmp-exact, set_k
 use Rattle.mdns_join.specs.Latest.{latest_cmp}
 use Rattle.mdns_join.specs.laws.Latest.{latest_cmp-total, latest_cmp-exact, moment-same}
 use Rattle.mdns_cache.specs.Equal.{eq_newest, eq_lasts, eq_flushes, eq_contents}
-use Rattle.mdns_cache.proofs.StandsPartLemmas.{is_eq-true}
+use Rattle.join_map.specs.laws.Entries.{is_Equal}
 
 abbrev pub DecidesEquality : {A : Type 0} → (A → A → Bool) → Type 0
 DecidesEquality {A} eq = (x y : A) → (eq x y ≡ true) ↔ (x ≡ y)
@@ -63,7 +63,7 @@ contents_tells n l f tn tl tf c d = (
 
 order_tells : {A : Type 0} (cmp : A → A → Ordering) → IsTotalOrder cmp → ((x y : A) → cmp x y ≡ Equal → x ≡ y)
     → DecidesEquality (eq_by_cmp cmp)
-order_tells cmp total exact x y = (λ e. exact x y (is_eq-true (cmp x y) e), λ e. ap is_eq (sym (ap (cmp x) e) ∙ tied_itself total x))
+order_tells cmp total exact x y = (λ e. exact x y (is_Equal (cmp x y) e), λ e. ap is_eq (sym (ap (cmp x) e) ∙ tied_itself total x))
 
 moment_tells : DecidesEquality (on (λ (m : Moment). m.nanos) nat_eq)
 moment_tells x y = (λ e. moment-same x y (eqb-true x.nanos y.nanos e), λ e. eq-eqb x.nanos y.nanos (ap (λ (m : Moment). m.nanos) e))

@@ -25,7 +25,7 @@ then_less Equal p h = λ e. cc
 then_less Greater p h = absurd (cc)
 
 -- the sets of later keys aren't before that of this one
-key_after : (key later : Key) → key_cmp key later ≡ Less → set_key_cmp key.set later.set ≢ Greater
+pub key_after : (key later : Key) → key_cmp key later ≡ Less → set_key_cmp key.set later.set ≢ Greater
 key_after key later h = then_less (set_key_cmp key.set later.set) _ h
 
 -- the records after the key end as they did

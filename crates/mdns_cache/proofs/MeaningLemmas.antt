@@ -29,12 +29,20 @@ use Rattle.mdns_cache.specs.Rows.{end_of, end_held}
 use Rattle.mdns_cache.specs.Contents.{Contents, last_at, flushes_at, kept_of, StandsFor, contents_of}
 use Rattle.mdns_cache.specs.Repeats.{record_heard, at_each, contents_at_each}
 use Rattle.mdns_cache.proofs.StandsPartLemmas.{Contains-nil, IsFlushedAt-from_has}
-use Rattle.mdns_cache.proofs.StandsPartLemmas.{has-from_flush, has-head, is_eq-true, same-itself, IsLast-same}
+use Rattle.join_map.specs.laws.Entries.{is_Equal}
+use Rattle.mdns_cache.proofs.StandsPartLemmas.{has-from_flush, has-head, same-itself, IsLast-same}
 use Rattle.mdns_cache.proofs.BetweenLemmas.{IsContents-each}
 use Rattle.mdns_cache.proofs.RepeatLemmas.{heard_each, itself_heard, no_greater}
 use Rattle.mdns_cache.proofs.EndLemmas.{until_end_of, IsEnd-by_kept}
 
 -- ---- one hearing
+
+pub flushed : (h : Hearing) (set : RecordSet) (us : List Moment) → flush_moments (at_each us h) set ≡ cond (is_flush_of set h) (nanos_of us) []
+flushed h set [] = elim (is_flush_of set h) as (λ b. flush_moments [] set ≡ cond b (nanos_of []) []) [ true ↦ refl | false ↦ refl ]
+flushed h set (u ∷ us) =
+    ap (λ ns. cond (is_flush_of set h) (u.nanos ∷ ns) ns) (flushed h set us)
+    ∙ (elim (is_flush_of set h) as (λ b. cond b (u.nanos ∷ cond b (nanos_of us) []) (cond b (nanos_of us) [])
+    ≡ cond b (u.nanos ∷ nanos_of us) []) [ true ↦ refl | false ↦ refl ])
 
 -- a hearing at each of some moments, of which its own is the newest
 module _ (h : Hearing) (ms : List ℕ) (k : IsKeptList ms) (top : IsGreatest ms h.moment.nanos) (ts : List Moment)
@@ -69,16 +77,9 @@ module _ (h : Hearing) (ms : List ℕ) (k : IsKeptList ms) (top : IsGreatest ms 
   lasts-each key =
       elim (is_eq (key_cmp key (key_of h.heard))) as (λ t. is_eq (key_cmp key (key_of h.heard)) ≡ t
       → MatchOption (cond t (Some (latest_of h)) None) (IsUnheard (at_each ts h) key) (IsLast (at_each ts h) key)) [
-        | true ↦ λ e. IsLast-each key (key_cmp-exact key (key_of h.heard) (is_eq-true (key_cmp key (key_of h.heard)) e))
+        | true ↦ λ e. IsLast-each key (key_cmp-exact key (key_of h.heard) (is_Equal (key_cmp key (key_of h.heard)) e))
         | false ↦ λ e. IsUnheard-each key e
       ] refl
-
-  flushed : (set : RecordSet) (us : List Moment) → flush_moments (at_each us h) set ≡ cond (is_flush_of set h) (nanos_of us) []
-  flushed set [] = elim (is_flush_of set h) as (λ b. flush_moments [] set ≡ cond b (nanos_of []) []) [ true ↦ refl | false ↦ refl ]
-  flushed set (u ∷ us) =
-      ap (λ ns. cond (is_flush_of set h) (u.nanos ∷ ns) ns) (flushed set us)
-      ∙ (elim (is_flush_of set h) as (λ b. cond b (u.nanos ∷ cond b (nanos_of us) []) (cond b (nanos_of us) [])
-      ≡ cond b (u.nanos ∷ nanos_of us) []) [ true ↦ refl | false ↦ refl ])
 
   kept_of-all : (xs : List ℕ) → IsKeptList xs → has xs h.moment.nanos ≡ true → Some xs ≡ kept_of xs
   kept_of-all [] l a = absurd (false≢true a)
@@ -92,7 +93,7 @@ module _ (h : Hearing) (ms : List ℕ) (k : IsKeptList ms) (top : IsGreatest ms 
             [ true ↦ kept_of-all ms k top.among | false ↦ refl ]
         | false ↦ refl
       ])
-      ∙ ap (λ xs. kept_of (cond (is_flush_of set h) xs [])) (sym are) ∙ ap kept_of (sym (flushed set ts))
+      ∙ ap (λ xs. kept_of (cond (is_flush_of set h) xs [])) (sym are) ∙ ap kept_of (sym (flushed h set ts))
 
   pub stands-each : StandsFor (contents_at_each h ms) (at_each ts h)
   stands-each = record {
@@ -120,7 +121,7 @@ IsUnheard-held c heard key e s = subst (λ (o : Option Latest). MatchOption o (I
 -- ---- how many records
 
 pub key_eq-exact : (x y : Key) → eq_by_cmp key_cmp x y ≡ true → x ≡ y
-key_eq-exact x y e = key_cmp-exact x y (is_eq-true (key_cmp x y) e)
+key_eq-exact x y e = key_cmp-exact x y (is_Equal (key_cmp x y) e)
 
 IsHeard-held : (heard : List Hearing) (key : Key) (o : Option Latest) → IsSome o
     → MatchOption o (IsUnheard heard key) (IsLast heard key) → IsHeard heard key

@@ -55,6 +55,10 @@ module _ (t : Moment) (message : List ℕ) (hs : List Hearing) (reads : MessageR
 
 -- ---- hearings at their moments
 
+pub nothing : (xs : List Hearing) → ((h : Hearing) → Contains xs h → ⊥) → xs ≡ []
+nothing [] n = refl
+nothing (h ∷ xs) n = absurd (n h (Contains-head h xs))
+
 pub itself_heard : (hs : List Hearing) (r : HeardRecord) (t : Moment) → IsHeardAt hs r t.nanos → Contains hs (hearing_of t r)
 itself_heard hs r t a =
     let same : a.0 ≡ hearing_of t r = λ i. hearing_of (moment-same a.0.moment t a.3 i) (a.2 i) in
@@ -164,10 +168,6 @@ module _ (gs hs : List Hearing) (covers : (r : HeardRecord) → Covers (IsHeardA
   newest-covered : (o : Option Moment) → MatchOption o (gs ≡ []) (IsNewest gs) → MatchOption o (hs ≡ []) (IsNewest hs)
   newest-covered None e = nothing hs (λ h m. let f = later_hearing h m in
       Contains-nil _ (subst (λ (xs : List Hearing). Contains xs (hearing_of f.0 (record_heard h))) e f.1))
-    where
-      nothing : (xs : List Hearing) → ((h : Hearing) → Contains xs h → ⊥) → xs ≡ []
-      nothing [] n = refl
-      nothing (h ∷ xs) n = absurd (n h (Contains-head h xs))
   newest-covered (Some n) q = record {
     hearing = q.hearing;
     among = into q.hearing q.among;

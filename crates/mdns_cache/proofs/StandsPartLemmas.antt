@@ -2,6 +2,7 @@
 use Rattle.std.proofs.Common.{◌≡◌, ◌≢◌, ℕ, true, false, List, [], ◌∷◌, ◌++◌, Option, None, Some, Contains}
 use Rattle.std.proofs.Common.{MatchOption, refl, sym, ap, ◌==◌, append-nil, ◌∙◌, subst, inl, inr, ◌⊎◌, arith}
 use Rattle.std.proofs.Common.{if◌then◌else◌, map}
+use Rattle.std.specs.List.{flat_map}
 use Rattle.std.specs.declared.cmp.Ordering.{Ordering}
 use Rattle.std.specs.declared.cmp.Ordering.TheVariants.{Less, Equal, Greater}
 use Rattle.std.specs.Ordering.{is_eq, is_gt, ordering_reverse, match_ordering}
@@ -20,6 +21,7 @@ use Rattle.mdns_join.specs.declared.latest.Latest.{Latest}
 use Rattle.mdns_join.specs.Latest.{latest_cmp, later, latest_of}
 use Rattle.mdns_join.specs.laws.Latest.{latest_cmp-total, latest_cmp-exact}
 use Rattle.join_map.specs.Entries.{joined_at}
+use Rattle.join_map.specs.laws.Entries.{is_Equal}
 use Rattle.mdns_join.specs.Kept.{has, newest, kept, union, kept_union, IsStale}
 use Rattle.mdns_join.specs.laws.Kept.{has-union, has-append, has-newest, has-le-newest, kept-same, kept_between, kept_union-kept}
 use Rattle.mdns_message.specs.laws.Resource.{set_key_cmp-total, set_key_cmp-exact}
@@ -45,11 +47,6 @@ reverse-both : (o p : Ordering) → o ≡ ordering_reverse p → o ≢ Greater �
 reverse-both o Less e n m = absurd (n e)
 reverse-both o Equal e n m = e
 reverse-both o Greater e n m = absurd (m refl)
-
-pub is_eq-true : (o : Ordering) → is_eq o ≡ true → o ≡ Equal
-is_eq-true Less e = cc
-is_eq-true Equal e = refl
-is_eq-true Greater e = cc
 
 pub Contains-nil : {X : Type 0} (h : X) → Contains [] h → ⊥
 Contains-nil h m = absurd (omega (arith, m.1))
@@ -208,6 +205,22 @@ from_map f (x ∷ xs) y m = elim (Contains-cases (f x) (map f xs) y m) [
   | inr r ↦ (let w = from_map f xs y r in (w.0, w.1, Contains-later x xs w.0 w.2))
 ]
 
+pub from_flat_map : {X Y : Type 0} (f : X → List Y) (xs : List X) (y : Y) → Contains (flat_map f xs) y
+    → (x : X) × Contains xs x × Contains (f x) y
+from_flat_map f [] y m = absurd (Contains-nil y m)
+from_flat_map f (x ∷ xs) y m = elim (Contains-append_cases (f x) (flat_map f xs) y m) [
+  | inl here ↦ (x, Contains-head x xs, here)
+  | inr rest ↦ (let w = from_flat_map f xs y rest in (w.0, Contains-later x xs w.0 w.1, w.2))
+]
+
+pub Contains-flat_map : {X Y : Type 0} (f : X → List Y) (xs : List X) (x : X) (y : Y) → Contains xs x → Contains (f x) y
+    → Contains (flat_map f xs) y
+Contains-flat_map f [] x y m n = absurd (Contains-nil x m)
+Contains-flat_map f (z ∷ zs) x y m n = elim (Contains-cases z zs x m) [
+  | inl same ↦ Contains-append_left (f z) (flat_map f zs) y (subst (λ x. Contains (f x) y) (sym same) n)
+  | inr rest ↦ Contains-append_right (f z) (flat_map f zs) y (Contains-flat_map f zs x y rest n)
+]
+
 -- the flush moments of a set are those at which some hearing is a flush of it
 pub IsFlushedAt-in : (gs hs : List Hearing) (set : RecordSet) (m : ℕ) (f : IsFlushedAt gs set m) → Contains hs f.flush
     → IsFlushedAt hs set m
@@ -221,7 +234,7 @@ IsFlushOf-from_test set h e =
     let parts = and_parts h.flush (is_eq (set_key_cmp set (set_key_of h.heard))) e in
     record {
       of_set =
-          sym (set_key_cmp-exact set (set_key_of h.heard) (is_eq-true (set_key_cmp set (set_key_of h.heard)) parts.1));
+          sym (set_key_cmp-exact set (set_key_of h.heard) (is_Equal (set_key_cmp set (set_key_of h.heard)) parts.1));
       flush = parts.0;
     }
 

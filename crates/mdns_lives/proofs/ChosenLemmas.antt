@@ -1,7 +1,6 @@
 -- Which record sets have changed, by each set alone.
 use Rattle.std.proofs.Common.{◌≡◌, ◌≢◌, Bool, true, false, ◌&&◌, ◌||◌, ◌==◌, not, if◌then◌else◌, cond, IsTrue, ◌↔◌, ℕ}
-use Rattle.std.proofs.Common.{List, [], ◌∷◌, ◌++◌, map, slice_get, Option, Some, unwrap_or, Ok, Err, Result}
-use Rattle.std.specs.Prelude.{OnErr}
+use Rattle.std.proofs.Common.{List, [], ◌∷◌, ◌++◌, map, slice_get, Option, Some, unwrap_or}
 use Rattle.std.proofs.Common.{refl, sym, ap, ◌∙◌, subst, true≢false, append_assoc, append-nil, arith}
 use Rattle.std.specs.List.{AllByRecursion, filter, list_any}
 use Rattle.std.specs.List.Sorted.{IsStrictlySortedBy}
@@ -31,7 +30,7 @@ use Rattle.mdns_lives.specs.Lives.{AreApart}
 use Rattle.mdns_lives.specs.Rows.{row_lent}
 use Rattle.mdns_lives.proofs.ChangesLemmas.{BeganAt, changes-stray}
 use Rattle.mdns_lives.proofs.LiveLifeLemmas.{Row, row_record}
-use Rattle.mdns_lives.proofs.RowLemmas.{key_after}
+use Rattle.mdns_cache.proofs.LiveWalkLemmas.{key_after}
 
 abbrev set_in : Row → RecordSet
 set_in row = set_key_of row.0.resource
@@ -252,10 +251,6 @@ read-more first rows set old row rest more read next on apart pushed = record {
 pub read-some : (first rows set rest : List Row) (row : Row) (more : List Row) → ReadSo first rows set rest → rest ≡ row ∷ more
     → by_sets first rows ≢ []
 read-some first rows set rest row more read next none = some-first row more (sym next ∙ (none-left set rest (sym read.left ∙ none)).1)
-
-pub on-err : {T E P : Type 0} (r : Result T E) → P → OnErr r P
-on-err (Ok x) p = tt
-on-err (Err e) p = p
 
 -- ---- whether a set has changed
 

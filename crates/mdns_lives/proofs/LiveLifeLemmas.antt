@@ -3,18 +3,17 @@ use Rattle.std.proofs.lemmas.Grind.{common_steps}
 use Rattle.std.proofs.Common.{◌≡◌, ◌⊎◌, ℕ, zero, suc, ◌<◌, ◌≤◌, Bool, nat_lt, List, [], ◌∷◌, ◌++◌, map}
 use Rattle.std.proofs.Common.{Contains, refl, sym, ap, ◌∙◌, subst}
 use Rattle.std.proofs.Common.{inl, inr, arith}
-use Rattle.std.specs.List.{AllByRecursion, filter}
+use Rattle.std.specs.List.{AllByRecursion, filter, flat_map}
 use Rattle.std.specs.List.Sorted.{IsStrictlySortedBy}
 use Rattle.std.specs.declared.cmp.Ordering.TheVariants.{Less}
 use Rattle.std.proofs.lemmas.Bool.{cases_lt, ltb-true, lt-ltb, le-ltb}
-use Rattle.std.proofs.lemmas.List.Elements.{Contains-append_left, Contains-append_right, Contains-append_cases}
 use Rattle.mdns_message.specs.declared.hearing.Hearing.{Hearing}
 use Rattle.mdns_message.specs.declared.key.Key.{Key}
 use Rattle.mdns_message.specs.Resource.{key_cmp}
 use Rattle.mdns_join.specs.declared.latest.Latest.{Latest}
 use Rattle.mdns_cache.specs.Live.{AreLiveRecords, IsEnd, IsLast, IsLive, SameHearings, record_of}
 use Rattle.mdns_cache.proofs.StandsPartLemmas.{Contains-nil, Contains-head, Contains-later, Contains-cases, IsLast-among}
-use Rattle.mdns_cache.proofs.StandsPartLemmas.{IsLast-same, same-itself}
+use Rattle.mdns_cache.proofs.StandsPartLemmas.{IsLast-same, same-itself, Contains-map, Contains-flat_map, from_map, from_flat_map}
 use Rattle.mdns_lives.specs.declared.life.Life.{Life}
 use Rattle.mdns_lives.specs.Lives.{AreApart, AreApartAfter, AreLives, IsDuring, IsInOne, heard_until}
 use Rattle.mdns_lives.specs.Chronicle.{AreAllLives, live_rows}
@@ -71,7 +70,7 @@ Row = Latest × List Life
 abbrev pub row_record : Row → Key
 row_record row = record_of row.0
 
-abbrev goes_past : ℕ → Life → Bool
+abbrev pub goes_past : ℕ → Life → Bool
 goes_past now life = nat_lt now life.until
 
 abbrev shown : ℕ → Row → List (Latest × ℕ)
@@ -80,70 +79,38 @@ shown now row = map (λ (life : Life). (row.0, life.until)) (filter (goes_past n
 abbrev shown_record : Latest × ℕ → Key
 shown_record row = record_of row.0
 
-abbrev shown_as : Latest → List Life → List (Latest × ℕ)
-shown_as l lives = map (λ (life : Life). (l, life.until)) lives
-
-from_shown : (lives : List Life) (l m : Latest) (end : ℕ) → Contains (shown_as l lives) (m, end)
-    → (l ≡ m) × ((life : Life) × Contains lives life × (life.until ≡ end))
-from_shown [] l m end c = absurd (Contains-nil (m, end) c)
-from_shown (x ∷ xs) l m end c =
-    let first : Latest × ℕ = (l, x.until) in
-    let whole : Latest × ℕ = (m, end) in
-    elim (Contains-cases first (shown_as l xs) whole c) [
-      | inl same ↦ (ap (λ (p : Latest × ℕ). p.0) same, (x, Contains-head x xs, ap (λ (p : Latest × ℕ). p.1) same))
-      | inr rest ↦ (let w = from_shown xs l m end rest in (w.0, (w.1.0, Contains-later x xs w.1.0 w.1.1, w.1.2)))
-    ]
-
-to_shown : (lives : List Life) (l : Latest) (life : Life) → Contains lives life
-    → Contains (shown_as l lives) (l, life.until)
-to_shown [] l life c = absurd (Contains-nil life c)
-to_shown (x ∷ xs) l life c = grind (arith, common_steps, Contains-cases, life, Contains-head, Contains-later)
-
--- the row and the life of an entry
-record IsShown (now : ℕ) (rows : List Row) (l : Latest) (end : ℕ) : Type 0 where
+-- the row and the life of an entry, which shows them by f
+pub record IsShown {X : Type 0} (f : Latest → Life → X) (now : ℕ) (rows : List Row) (x : X) : Type 0 where
+  pub last : Latest
   pub lives : List Life
   pub life : Life
-  pub row : Contains rows (l, lives)
+  pub row : Contains rows (last, lives)
   pub among : Contains lives life
   pub later : now < life.until
-  pub ends : life.until ≡ end
+  pub is : f last life ≡ x
 
-from_rows : (now : ℕ) (rows : List Row) (l : Latest) (end : ℕ) → Contains (live_rows now rows) (l, end) → IsShown now rows l end
-from_rows now [] l end c = absurd (Contains-nil (l, end) c)
-from_rows now (row ∷ rows) l end c =
-    elim (Contains-append_cases (shown now row) (live_rows now rows) (l, end) c) [
-      | inl here ↦ (let w = from_shown (filter (goes_past now) row.1) row.0 l end here in
-          let kept = from-filter (goes_past now) row.1 w.1.0 w.1.1 in
-          record {
-            lives = row.1;
-            life = w.1.0;
-            row = subst (λ (x : Latest). Contains (row ∷ rows) (x, row.1)) w.0 (Contains-head row rows);
-            among = kept.0;
-            later = ltb-true now w.1.0.until kept.1;
-            ends = w.1.2;
-          })
-      | inr rest ↦ (let w = from_rows now rows l end rest in
-          record {
-            lives = w.lives;
-            life = w.life;
-            row = Contains-later row rows (l, w.lives) w.row;
-            among = w.among;
-            later = w.later;
-            ends = w.ends;
-          })
-    ]
+pub from_rows : {X : Type 0} (f : Latest → Life → X) (now : ℕ) (rows : List Row) (x : X)
+    → Contains (flat_map (λ (row : Row). map (f row.0) (filter (goes_past now) row.1)) rows) x → IsShown f now rows x
+from_rows f now rows x c =
+    let w = from_flat_map (λ (row : Row). map (f row.0) (filter (goes_past now) row.1)) rows x c in
+    let v = from_map (f w.0.0) (filter (goes_past now) w.0.1) x w.2 in
+    let kept = from-filter (goes_past now) w.0.1 v.0 v.2 in
+    record {
+      last = w.0.0;
+      lives = w.0.1;
+      life = v.0;
+      row = w.1;
+      among = kept.0;
+      later = ltb-true now v.0.until kept.1;
+      is = v.1;
+    }
 
 to_rows : (now : ℕ) (rows : List Row) (l : Latest) (lives : List Life) (life : Life) → Contains rows (l, lives)
     → Contains lives life → now < life.until → Contains (live_rows now rows) (l, life.until)
-to_rows now [] l lives life r m later = absurd (Contains-nil (l, lives) r)
-to_rows now (row ∷ rows) l lives life r m later =
-    elim (Contains-cases row rows (l, lives) r) [
-      | inl same ↦ Contains-append_left (shown now row) (live_rows now rows) (l, life.until)
-          (subst (λ (x : Row). Contains (shown now x) (l, life.until)) (sym same)
-          (to_shown (filter (goes_past now) lives) l life (to-filter (goes_past now) lives life m (lt-ltb now life.until later))))
-      | inr rest ↦ Contains-append_right (shown now row) (live_rows now rows) (l, life.until)
-          (to_rows now rows l lives life rest m later)
-    ]
+to_rows now rows l lives life r m later =
+    Contains-flat_map (shown now) rows (l, lives) (l, life.until) r
+    (Contains-map (λ (life : Life). (l, life.until)) (filter (goes_past now) lives) life
+    (to-filter (goes_past now) lives life m (lt-ltb now life.until later)))
 
 -- each row shows at most one life
 abbrev IsShort : ℕ → List Life → Type 0
@@ -264,9 +231,9 @@ module _ (some_end : SomeEnd) (until_end : UntilEnd) (same_end : OneEnd) (heard 
     into_live : (l : Latest) (end : ℕ) → Contains (live_rows now rows) (l, end)
         → IsLive heard now (record_of l) l × IsEnd heard (record_of l) end
     into_live l end m =
-        let w = from_rows now rows l end m in
-        subst (λ n. IsLive heard now (record_of l) l × IsEnd heard (record_of l) n) w.ends
-        (live_life l w.lives w.life w.row w.among w.later)
+        let w = from_rows (λ last life. (last, life.until)) now rows (l, end) m in
+        subst (λ (x : Latest × ℕ). IsLive heard now (record_of x.0) x.0 × IsEnd heard (record_of x.0) x.1) w.is
+        (live_life w.last w.lives w.life w.row w.among w.later)
 
     from_live : (l : Latest) (end : ℕ) → IsLive heard now (record_of l) l → IsEnd heard (record_of l) end
         → Contains (live_rows now rows) (l, end)

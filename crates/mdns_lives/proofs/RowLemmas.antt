@@ -1,13 +1,10 @@
 -- The rows of a chronicle are the records that were heard, with their lives.
-use Rattle.std.proofs.Common.{arith}
-use Rattle.std.proofs.Common.{◌≡◌, ◌≢◌, ◌↔◌, ℕ, true, List, [], ◌∷◌, map, Option, None, Some, Contains, MatchOption, refl, sym}
-use Rattle.std.proofs.Common.{ap, ◌∙◌, subst, inl, inr, unwrap_or}
+use Rattle.std.proofs.Common.{◌≡◌, ◌↔◌, ℕ, true, List, [], ◌∷◌, map, Option, None, Some, Contains, MatchOption, refl, sym}
+use Rattle.std.proofs.Common.{ap, ◌∙◌, subst, unwrap_or}
 use Rattle.std.proofs.Common.{true≢false}
 use Rattle.std.specs.List.{AllByRecursion}
 use Rattle.std.specs.List.Sorted.{IsStrictlySortedBy}
-use Rattle.std.specs.declared.cmp.Ordering.{Ordering}
-use Rattle.std.specs.declared.cmp.Ordering.TheVariants.{Less, Equal, Greater}
-use Rattle.std.specs.Ordering.{ordering_then}
+use Rattle.std.specs.declared.cmp.Ordering.TheVariants.{Less}
 use Rattle.std.specs.Map.{keys_of}
 use Rattle.std.proofs.lemmas.Cmp.{eq_by_cmp_equiv}
 use Rattle.std.proofs.lemmas.Map.Views.{Contains-from_lookup, lookup-from_Contains}
@@ -22,9 +19,10 @@ use Rattle.mdns_join.specs.Kept.{has}
 use Rattle.join_map.specs.Entries.{value_at}
 use Rattle.join_map.specs.laws.Entries.{ValidAt, valid_at, sorted_above, sorted_rest}
 use Rattle.mdns_cache.specs.Live.{IsUnheard, IsLast, record_of}
-use Rattle.mdns_cache.proofs.StandsPartLemmas.{same-itself, IsLast-same, Contains-nil, Contains-head, Contains-later, Contains-cases}
+use Rattle.mdns_cache.proofs.StandsPartLemmas.{same-itself, IsLast-same, Contains-head, Contains-later, Contains-map, from_map}
 use Rattle.mdns_cache.proofs.MeaningLemmas.{key_eq-exact}
 use Rattle.mdns_join.proofs.FlushWalkLemmas.{HasLater}
+use Rattle.mdns_cache.proofs.LiveWalkLemmas.{key_after}
 use Rattle.mdns_lives.specs.declared.account.Account.{Account}
 use Rattle.mdns_lives.specs.declared.life.Heard.{Heard}
 use Rattle.mdns_lives.specs.declared.life.Life.{Life}
@@ -58,23 +56,6 @@ module _ (flushes : List (RecordSet × List ℕ)) where
       let first = own e.0 e.1 (Contains-head e es) in
       let rest = records_own es (λ k a m. own k a (Contains-later e es (k, a) m)) in
       ap (λ (k : Key). k ∷ map record_in (rows_by flushes es)) first ∙ ap (λ (ks : List Key). e.0 ∷ ks) rest
-
-  -- the entry of a row
-  entry_in : (es : List (Key × Account)) (row : Row) → Contains (rows_by flushes es) row
-      → (e : Key × Account) × Contains es e × (row_held flushes e ≡ row)
-  entry_in [] row m = absurd (Contains-nil row m)
-  entry_in (e ∷ es) row m = elim (Contains-cases (row_held flushes e) (rows_by flushes es) row m) [
-    | inl same ↦ (e, Contains-head e es, same)
-    | inr rest ↦ (let w = entry_in es row rest in (w.0, Contains-later e es w.0 w.1, w.2))
-  ]
-
-  row_among : (es : List (Key × Account)) (e : Key × Account) → Contains es e → Contains (rows_by flushes es) (row_held flushes e)
-  row_among [] e m = absurd (Contains-nil e m)
-  row_among (x ∷ xs) e m = elim (Contains-cases x xs e m) [
-    | inl same ↦ subst (λ (y : Key × Account). Contains (rows_by flushes (x ∷ xs)) (row_held flushes y)) same
-        (Contains-head (row_held flushes x) (rows_by flushes xs))
-    | inr rest ↦ Contains-later (row_held flushes x) (rows_by flushes xs) (row_held flushes e) (row_among xs e rest)
-  ]
 
 flush_in-held : (o : Option (List ℕ)) (m : ℕ) → (has (unwrap_or o []) m ≡ true) ↔ IsFlushIn o m
 flush_in-held None m = (λ h. absurd (true≢false (sym h)), λ h. absurd h)
@@ -136,28 +117,22 @@ module _ (by_history : ByHistory) (c : Accounts) (heard : List Hearing) (s : Chr
   AreAllLives-rows = record {
     ascending = subst (IsStrictlySortedBy key_cmp) (sym (records_own c.flushes c.records own)) s.accounts.records.sorted;
     each = λ l lives m.
-        let w = entry_in c.flushes c.records (l, lives) m in
+        let w = from_map (row_held c.flushes) c.records (l, lives) m in
         let e = w.0 in
-        subst (λ (row : Row). IsLast heard (record_of row.0) row.0 × AreLives heard (record_of row.0) row.1) w.2
+        subst (λ (row : Row). IsLast heard (record_of row.0) row.0 × AreLives heard (record_of row.0) row.1) w.1
         (subst (λ (k : Key). IsLast heard k e.1.latest
-        × AreLives heard k (walked (flushes_held c.flushes e.0.set) (listed_ends e.1.history))) (sym (own e.0 e.1 w.1))
-        (last_of_entry e.0 e.1 w.1, lives_of_entry e.0 e.1 w.1));
+        × AreLives heard k (walked (flushes_held c.flushes e.0.set) (listed_ends e.1.history))) (sym (own e.0 e.1 w.2))
+        (last_of_entry e.0 e.1 w.2, lives_of_entry e.0 e.1 w.2));
     all = λ key l last.
         let w = entry_of_last key l last in
-        let lives = walked (flushes_held c.flushes key.set) (listed_ends w.0.history) in
-        (lives, subst (λ (x : Latest). Contains (rows_of c) (x, lives)) w.2 (row_among c.flushes c.records (key, w.0) w.1));
+        let lives = walked (flushes_held c.flushes key.set) (listed_ends w.0.history) in (
+          lives,
+          subst (λ (x : Latest). Contains (rows_of c) (x, lives)) w.2
+              (Contains-map (row_held c.flushes) c.records (key, w.0) w.1),
+        );
   }
 
 -- ---- one row of a walk
-
-then_less : (o p : Ordering) → ordering_then o p ≡ Less → o ≢ Greater
-then_less Less p h = λ e. cc
-then_less Equal p h = λ e. cc
-then_less Greater p h = absurd (cc)
-
--- the sets of later keys aren't before that of this one
-pub key_after : (key later : Key) → key_cmp key later ≡ Less → set_key_cmp key.set later.set ≢ Greater
-key_after key later h = then_less (set_key_cmp key.set later.set) _ h
 
 rows_later : (old new : List (RecordSet × List ℕ)) (key : Key) (es : List (Key × Account))
     → AllByRecursion (λ k. key_cmp key k ≡ Less) (keys_of es) → HasLater key.set old new → rows_by new es ≡ rows_by old es

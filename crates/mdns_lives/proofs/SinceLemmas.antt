@@ -2,30 +2,25 @@
 use Rattle.std.proofs.lemmas.Grind.{common_steps}
 use Rattle.std.proofs.Common.{rules}
 use Rattle.std.proofs.Common.{◌≡◌, refl, sym, ap, ◌∙◌, subst, ℕ, ◌+◌, ◌<◌, ◌≤◌, nat_lt}
-use Rattle.std.proofs.Common.{List, [], ◌∷◌, ◌++◌, map, length, take, get_or, Contains, inl, inr, Option, None, Some, MatchOption, arith}
-use Rattle.std.proofs.lemmas.Bool.{ltb-true, lt-ltb, le-ltb}
-use Rattle.std.proofs.lemmas.List.{append-nil, append_assoc, take_more, take_all}
+use Rattle.std.proofs.Common.{List, [], ◌∷◌, ◌++◌, map, length, take, get_or, Contains, Option, None, Some, MatchOption, arith}
+use Rattle.std.proofs.lemmas.Bool.{lt-ltb, le-ltb}
+use Rattle.std.proofs.lemmas.List.{append-nil, append_assoc, map-append, take_more, take_all}
 use Rattle.std.proofs.lemmas.Grind.{flat_map-append}
-use Rattle.std.proofs.lemmas.List.Elements.{Contains-append_cases, filter-append}
+use Rattle.std.proofs.lemmas.List.Elements.{filter-append}
 use Rattle.std.specs.List.{filter}
 use Rattle.std.specs.Map.Iter.{TakesFirst}
 use Rattle.mdns_capture.specs.declared.moment.Moment.{Moment}
 use Rattle.mdns_message.specs.declared.hearing.Hearing.{Hearing}
 use Rattle.mdns_join.specs.declared.latest.Latest.{Latest}
 use Rattle.mdns_cache.specs.Live.{AreLiveRecords, IsNewest, NoneLater, record_of}
-use Rattle.mdns_cache.proofs.StandsPartLemmas.{Contains-nil, Contains-head, Contains-later, Contains-cases}
+use Rattle.mdns_cache.proofs.StandsPartLemmas.{Contains-nil}
 use Rattle.mdns_lives.specs.declared.life.Life.{Life}
 use Rattle.mdns_lives.specs.Chronicle.{AreAllLives, live_rows}
 use Rattle.mdns_lives.specs.Since.{AreLiveSince, IsLiveSince, all_since_rows, live_row, since_row, since_rows}
-use Rattle.mdns_lives.proofs.FilterLemmas.{from-filter}
 use Rattle.mdns_lives.proofs.LawLemmas.{NoneAfter, SomeEnd, UntilEnd}
-use Rattle.mdns_lives.proofs.LiveLifeLemmas.{AreLiveRecords-lives, OneEnd, Row, goes_on}
+use Rattle.mdns_lives.proofs.LiveLifeLemmas.{AreLiveRecords-lives, OneEnd, Row, from_rows, goes_on}
 
 -- ---- rows without their beginnings
-
-map-append : {X Y : Type 0} (f : X → Y) (xs ys : List X) → map f (xs ++ ys) ≡ map f xs ++ map f ys
-map-append f [] ys = refl
-map-append f (x ∷ xs) ys = ap (λ rest. f x ∷ rest) (map-append f xs ys)
 
 live_of : (last : Latest) (lives : List Life)
     → map live_row (map (since_row last) lives) ≡ map (λ (life : Life). (last, life.until)) lives
@@ -51,50 +46,6 @@ none_later (Some found) heard now tells on_time hearing among = search (rules, a
 
 -- ---- the life of a row
 
-from_row : (last : Latest) (lives : List Life) (r : (Latest × ℕ) × ℕ) → Contains (map (since_row last) lives) r
-    → (life : Life) × Contains lives life × (since_row last life ≡ r)
-from_row last [] r c = absurd (Contains-nil r c)
-from_row last (x ∷ xs) r c = elim (Contains-cases (since_row last x) (map (since_row last) xs) r c) [
-  | inl same ↦ (x, Contains-head x xs, same)
-  | inr rest ↦ (let w = from_row last xs r rest in (w.0, Contains-later x xs w.0 w.1, w.2))
-]
-
-record IsSinceOf (now : ℕ) (rows : List Row) (r : (Latest × ℕ) × ℕ) : Type 0 where
-  pub last : Latest
-  pub lives : List Life
-  pub life : Life
-  pub row : Contains rows (last, lives)
-  pub among : Contains lives life
-  pub later : now < life.until
-  pub is : since_row last life ≡ r
-
-from_rows : (now : ℕ) (rows : List Row) (r : (Latest × ℕ) × ℕ) → Contains (all_since_rows now rows) r → IsSinceOf now rows r
-from_rows now [] r c = absurd (Contains-nil r c)
-from_rows now (row ∷ rows) r c =
-    elim (Contains-append_cases (since_rows now row.0 row.1) (all_since_rows now rows) r c) [
-      | inl here ↦ (let w = from_row row.0 (filter (λ (life : Life). nat_lt now life.until) row.1) r here in
-          let kept = from-filter (λ (life : Life). nat_lt now life.until) row.1 w.0 w.1 in
-          record {
-            last = row.0;
-            lives = row.1;
-            life = w.0;
-            row = Contains-head row rows;
-            among = kept.0;
-            later = ltb-true now w.0.until kept.1;
-            is = w.2;
-          })
-      | inr rest ↦ (let w = from_rows now rows r rest in
-          record {
-            last = w.last;
-            lives = w.lives;
-            life = w.life;
-            row = Contains-later row rows (w.last, w.lives) w.row;
-            among = w.among;
-            later = w.later;
-            is = w.is;
-          })
-    ]
-
 pub AreLiveSince-lives : SomeEnd → UntilEnd → OneEnd → (heard : List Hearing) (now : ℕ) → NoneAfter heard now → (rows : List Row)
     → AreAllLives heard rows → AreLiveSince heard now (all_since_rows now rows)
 AreLiveSince-lives some_end until_end same_end heard now none rows all = record {
@@ -102,7 +53,7 @@ AreLiveSince-lives some_end until_end same_end heard now none rows all = record 
       subst (AreLiveRecords heard now) (sym (all_live now rows))
       (AreLiveRecords-lives some_end until_end same_end heard now none rows all);
   since = λ r among.
-      let w = from_rows now rows r among in
+      let w = from_rows since_row now rows r among in
       let are = (all.each w.last w.lives w.row).1 in
       subst (λ (r : (Latest × ℕ) × ℕ). IsLiveSince heard now (record_of r.0.0) r.1) w.is record {
         lives = w.lives;

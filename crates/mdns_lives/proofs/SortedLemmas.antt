@@ -17,7 +17,7 @@ use Rattle.mdns_lives.specs.Seconds.{heard_cmp}
 use Rattle.mdns_join.specs.Kept.{has}
 use Rattle.std.proofs.lemmas.Bool.{or_cases, or_left, or_right}
 use Rattle.mdns_lives.proofs.OrderLemmas.{IsUpTo-from_lt}
-use Rattle.mdns_cache.proofs.StandsPartLemmas.{Contains-nil, Contains-head, Contains-later, Contains-cases}
+use Rattle.mdns_cache.proofs.StandsPartLemmas.{Contains-nil, Contains-head, Contains-later, Contains-cases, Contains-map, from_map}
 
 -- ---- hearings
 
@@ -42,20 +42,9 @@ contains-has (x ∷ xs) q =
 -- the same moments, as numbers
 nanos_within : (xs ys : List Moment) → ((m : Moment) → Contains xs m → Contains ys m)
     → (q : ℕ) → Contains (nanos_of xs) q → Contains (nanos_of ys) q
-nanos_within [] ys into q c = absurd (Contains-nil q c)
-nanos_within (x ∷ xs) ys into q c =
-    elim (Contains-cases x.nanos (nanos_of xs) q c) [
-      | inl here ↦ subst (λ n. Contains (nanos_of ys) n) here (nanos_among ys x (into x (Contains-head x xs)))
-      | inr rest ↦ nanos_within xs ys (λ m h. into m (Contains-later x xs m h)) q rest
-    ]
-  where
-    nanos_among : (zs : List Moment) (m : Moment) → Contains zs m → Contains (nanos_of zs) m.nanos
-    nanos_among [] m c = absurd (Contains-nil m c)
-    nanos_among (z ∷ zs) m c =
-        elim (Contains-cases z zs m c) [
-          | inl here ↦ subst (λ (y : Moment). Contains (nanos_of (z ∷ zs)) y.nanos) here (Contains-head z.nanos (nanos_of zs))
-          | inr rest ↦ Contains-later z.nanos (nanos_of zs) m.nanos (nanos_among zs m rest)
-        ]
+nanos_within xs ys into q c =
+    let w = from_map (λ (m : Moment). m.nanos) xs q c in
+    subst (λ n. Contains (nanos_of ys) n) w.1 (Contains-map (λ (m : Moment). m.nanos) ys w.0 (into w.0 w.2))
 
 module _ (same : Moment → Moment → Bool) (is : IsEquivalence same) (exact : (a b : Moment) → same a b ≡ true → a ≡ b)
     (items sorted unlike : List Moment) (moved : IsPermutation items sorted) (are : unlike ≡ dedup same sorted) where

@@ -203,38 +203,29 @@ module _ (flushes : List ℕ) where
 
   -- ---- they are apart
 
-  apart_after : (hs : List Heard) (p : Heard) (life : Life) (low : ℕ) → AreInOrder (p ∷ hs) → IsSoFar p life
-      → low < life.from.nanos → AreApartAfter low (lives_from flushes life hs)
+  -- and after a moment before the first of them
+  apart : (hs : List Heard) (p : Heard) (life : Life) → AreInOrder (p ∷ hs) → IsSoFar p life
+      → AreApart (lives_from flushes life hs)
+      × ((low : ℕ) → low < life.from.nanos → AreApartAfter low (lives_from flushes life hs))
   unfolding lives_from
-  apart_after [] p life low o s l = let end = ends_later p in (l, omega (arith, s.0, s.1, end), tt)
-  apart_after (h ∷ hs) p life low o s l =
-      let up : p.moment.nanos ≤ h.moment.nanos = no_later p h o.0 in
-      let end : p.moment.nanos < end_after flushes p = ends_later p in
-      elim (nat_le h.moment.nanos life.until) as (λ b. nat_le h.moment.nanos life.until ≡ b
-      → AreApartAfter low (if b then lives_from flushes (carried_on life (life_after flushes h)) hs
-      else life ∷ lives_from flushes (life_after flushes h) hs)) [
-        | true ↦ λ x. apart_after hs h (carried_on life (life_after flushes h)) low o.1 (omega (arith, s.0, up), refl) l
-        | false ↦ λ x. (
-          l,
-          omega (arith, s.0, s.1, end),
-          apart_after hs h (life_after flushes h) life.until o.1 (omega arith, refl) (leb-false h.moment.nanos life.until x),
-        )
-      ] refl
-
-  apart : (hs : List Heard) (p : Heard) (life : Life) → AreInOrder (p ∷ hs) → IsSoFar p life → AreApart (lives_from flushes life hs)
-  unfolding lives_from
-  apart [] p life o s = let end = ends_later p in (omega (arith, s.0, s.1, end), tt)
+  apart [] p life o s =
+      let end = ends_later p in
+      let runs : life.from.nanos < life.until = omega (arith, s.0, s.1, end) in
+      ((runs, tt), λ low l. (l, runs, tt))
   apart (h ∷ hs) p life o s =
       let up : p.moment.nanos ≤ h.moment.nanos = no_later p h o.0 in
       let end : p.moment.nanos < end_after flushes p = ends_later p in
       elim (nat_le h.moment.nanos life.until) as (λ b. nat_le h.moment.nanos life.until ≡ b
       → AreApart (if b then lives_from flushes (carried_on life (life_after flushes h)) hs
-      else life ∷ lives_from flushes (life_after flushes h) hs)) [
+      else life ∷ lives_from flushes (life_after flushes h) hs)
+      × ((low : ℕ) → low < life.from.nanos
+      → AreApartAfter low (if b then lives_from flushes (carried_on life (life_after flushes h)) hs
+      else life ∷ lives_from flushes (life_after flushes h) hs))) [
         | true ↦ λ x. apart hs h (carried_on life (life_after flushes h)) o.1 (omega (arith, s.0, up), refl)
-        | false ↦ λ x. (
-          omega (arith, s.0, s.1, end),
-          apart_after hs h (life_after flushes h) life.until o.1 (omega arith, refl) (leb-false h.moment.nanos life.until x),
-        )
+        | false ↦ λ x.
+            let runs : life.from.nanos < life.until = omega (arith, s.0, s.1, end) in
+            let rest = (apart hs h (life_after flushes h) o.1 (omega arith, refl)).1 life.until (leb-false h.moment.nanos life.until x) in
+            ((runs, rest), λ low l. (l, runs, rest))
       ] refl
 
   -- ---- why they end
@@ -287,7 +278,7 @@ module _ (flushes : List ℕ) where
   pub AreLivesBy-walked : (hs : List Heard) → AreInOrder hs → AreLivesBy hs flushes (walked flushes hs)
   AreLivesBy-walked [] o = grind (arith, apart, Contains-nil)
   AreLivesBy-walked (p ∷ hs) o = record {
-    apart = apart hs p (life_after flushes p) o (omega arith, refl);
+    apart = (apart hs p (life_after flushes p) o (omega arith, refl)).0;
     exactly = λ now. (
       λ w. into_lives hs p (life_after flushes p) now o (omega arith, refl) (inr (live-before (p ∷ hs) now w)),
       λ w. elim (from_lives hs p (life_after flushes p) now o (omega arith, refl) w) [

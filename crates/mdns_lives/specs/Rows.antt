@@ -1,5 +1,5 @@
 -- The rows that a chronicle lends: of each record its last hearing and its lives.
-use Rattle.std.specs.Prelude.{◌≡◌, ℕ, List, [], ◌∷◌, unwrap_or}
+use Rattle.std.specs.Prelude.{◌≡◌, ℕ, List, [], ◌∷◌, map, unwrap_or}
 use Rattle.mdns_message.specs.declared.key.Key.{Key}
 use Rattle.mdns_message.specs.RecordSet.{RecordSet}
 use Rattle.mdns_message.specs.Resource.{set_key_cmp}
@@ -30,5 +30,4 @@ row_held flushes e = (e.1.latest, walked (flushes_held flushes e.0.set) (listed_
 
 -- the rows of entries, by the flush moments of their record sets
 abbrev pub rows_by : List (RecordSet × List ℕ) → List (Key × Account) → List (Latest × List Life)
-rows_by flushes [] = []
-rows_by flushes (e ∷ es) = row_held flushes e ∷ rows_by flushes es
+rows_by flushes es = map (row_held flushes) es
