@@ -1,42 +1,37 @@
 -- The hearings that the contents of a chronicle stand for.
-use Rattle.std.proofs.Common.{rules}
-use Rattle.std.proofs.Common.{arith}
-use Rattle.std.proofs.Common.{◌≡◌, ◌↔◌, ◌⊎◌, ℕ, Bool, true, false, cond, List, [], ◌∷◌, ◌++◌, Option, None, Some, Contains, refl}
+use Rattle.std.proofs.Common.{rules, arith}
+use Rattle.std.proofs.Common.{◌≡◌, ◌↔◌, ◌⊎◌, ℕ, List, [], ◌++◌, Option, None, Some, refl}
 use Rattle.std.proofs.Common.{sym, ap, ◌∙◌}
-use Rattle.std.proofs.Common.{subst, inl, inr, if◌then◌else◌}
+use Rattle.std.proofs.Common.{subst, inl, inr}
 use Rattle.std.specs.Prelude.{MatchOption}
-use Rattle.std.specs.Ordering.{nat_cmp, is_eq}
+use Rattle.std.specs.Ordering.{nat_cmp}
 use Rattle.std.proofs.lemmas.List.Elements.{Contains-append_left, Contains-append_right, Contains-append_cases}
 use Rattle.mdns_message.specs.declared.hearing.Hearing.{Hearing}
 use Rattle.mdns_message.specs.declared.key.Key.{Key}
 use Rattle.mdns_message.specs.RecordSet.{RecordSet}
-use Rattle.mdns_message.specs.Resource.{key_of, key_cmp, set_key_of, set_key_cmp}
+use Rattle.mdns_message.specs.Resource.{key_cmp, set_key_cmp}
 use Rattle.mdns_message.specs.laws.Resource.{key_cmp-total, key_cmp-exact, set_key_cmp-total, set_key_cmp-exact}
-use Rattle.join_map.specs.Entries.{value_at, joined, joined_at, one_entry, IsJoinMap}
-use Rattle.join_map.specs.laws.Entries.{joined_at-None, is_Equal, ValidAt, valid_at, value_at-join, IsJoinMap-none, IsJoinMap-one}
+use Rattle.join_map.specs.Entries.{value_at, joined, joined_at, IsJoinMap}
+use Rattle.join_map.specs.laws.Entries.{joined_at-None, ValidAt, valid_at, value_at-join, IsJoinMap-none}
 use Rattle.join_map.specs.laws.Entries.{IsJoinMap-join}
 use Rattle.mdns_join.specs.declared.latest.Latest.{Latest}
 use Rattle.mdns_join.specs.Latest.{later}
-use Rattle.mdns_join.specs.Kept.{has, union, IsAscending}
-use Rattle.mdns_join.specs.laws.Kept.{kept-one, union_parts, union_left, union_right}
-use Rattle.mdns_cache.specs.Contents.{kept_of}
-use Rattle.mdns_cache.specs.Live.{IsUnheard, IsLast, IsFlushedAt, flush_moments}
-use Rattle.mdns_cache.proofs.StandsPartLemmas.{Contains-nil, Contains-head, Contains-cases, lasts-append, IsFlushedAt-from_has}
-use Rattle.mdns_cache.proofs.StandsPartLemmas.{has-from_flushed}
+use Rattle.mdns_join.specs.Kept.{union}
+use Rattle.mdns_join.specs.laws.Kept.{union_parts, union_left, union_right}
+use Rattle.mdns_cache.specs.Live.{IsUnheard, IsLast, IsFlushedAt}
+use Rattle.mdns_cache.proofs.StandsPartLemmas.{Contains-nil, lasts-append}
 use Rattle.mdns_cache.proofs.StandsForLemmas.{newest-append}
-use Rattle.mdns_cache.proofs.MeaningLemmas.{stands-one}
 use Rattle.mdns_lives.specs.declared.account.Account.{Account}
 use Rattle.mdns_lives.specs.declared.life.Heard.{Heard}
-use Rattle.mdns_lives.specs.Account.{account_of, join_account, IsAccount}
-use Rattle.mdns_lives.specs.History.{heard_of, IsHeardAs}
-use Rattle.mdns_lives.specs.Seconds.{Ends, AreEndsIn, Seconds, join_ends, IsSeconds, join_seconds, only, ends_at}
+use Rattle.mdns_lives.specs.Account.{join_account, IsAccount}
+use Rattle.mdns_lives.specs.History.{IsHeardAs}
+use Rattle.mdns_lives.specs.Seconds.{Ends, AreEndsIn, Seconds, join_ends, IsSeconds, join_seconds, ends_at}
 use Rattle.mdns_lives.specs.laws.Account.{account-laws}
 use Rattle.mdns_lives.specs.laws.Flushes.{union-laws}
-use Rattle.mdns_lives.specs.Chronicle.{Accounts, accounts_of, join_accounts, no_accounts, latest_in, history_in, ends_held}
+use Rattle.mdns_lives.specs.Chronicle.{Accounts, join_accounts, no_accounts, latest_in, history_in, ends_held}
 use Rattle.mdns_lives.specs.Chronicle.{IsFlushIn}
 use Rattle.mdns_lives.specs.Chronicle.{Chronicles}
-use Rattle.mdns_lives.proofs.AccountLemmas.{one_account}
-use Rattle.mdns_lives.proofs.SecondsLemmas.{ends-joined, ends-alike, at-only, at-join}
+use Rattle.mdns_lives.proofs.SecondsLemmas.{ends-joined, at-join}
 
 -- ---- hearings of lists
 
@@ -164,59 +159,6 @@ module _ (c d : Accounts) (gs hs : List Hearing) (u : Chronicles c gs) (v : Chro
         );
     newest = newest-append gs hs c.newest d.newest u.newest v.newest;
   }
-
--- ---- one hearing
-
-latest_in-one : (key k : Key) (a : Account)
-    → latest_in (value_at key_cmp key (one_entry k a)) ≡ value_at key_cmp key (one_entry k a.latest)
-latest_in-one key k a = grind arith
-
-only_hearing : (g h : Hearing) → Contains (h ∷ []) g → g ≡ h
-only_hearing g h m = elim (Contains-cases h [] g m) [ inl same ↦ sym same | inr rest ↦ absurd (Contains-nil g rest) ]
-
--- the record of one hearing was heard as it says, and no other was heard
-heard_as-one : (h : Hearing) (key : Key) (x : Heard) → IsHeardAs (h ∷ []) key x → (key ≡ key_of h.heard) × (heard_of h ≡ x)
-heard_as-one h key x w = grind (arith, only_hearing)
-
-one_history : (h : Hearing) (key : Key) (s : ℕ) (b : Bool) → is_eq (key_cmp key (key_of h.heard)) ≡ b
-    → AreEndsIn (IsHeardAs (h ∷ []) key) s (ends_at s (history_in (cond b (Some (account_of h)) None)))
-one_history h key s true e =
-    let same = key_cmp-exact key (key_of h.heard) (is_Equal (key_cmp key (key_of h.heard)) e) in
-    ends-alike {P = λ x. heard_of h ≡ x} {Q = IsHeardAs (h ∷ []) key}
-    (λ x gives. record { hearing = h; among = Contains-head h []; of_record = sym same; gives = gives })
-    (λ x w. (heard_as-one h key x w).1) s (value_at nat_cmp s (only (heard_of h))) (at-only (heard_of h) s)
-one_history h key s false e = grind (arith, key_cmp-total, heard_as-one)
-
--- the flush moments of one hearing
-flush_in-kept : (h : Hearing) (set : RecordSet) (m : ℕ)
-    → IsFlushIn (kept_of (flush_moments (h ∷ []) set)) m ↔ (has (flush_moments (h ∷ []) set) m ≡ true)
-flush_in-kept h set m = grind (arith, kept-one)
-
-flushes-valid : (h : Hearing) (b : Bool)
-    → IsJoinMap set_key_cmp IsAscending (if b then one_entry (set_key_of h.heard) (h.moment.nanos ∷ []) else [])
-flushes-valid h true = IsJoinMap-one set_key_cmp-total set_key_cmp-exact union-laws (set_key_of h.heard) (h.moment.nanos ∷ []) tt
-flushes-valid h false = IsJoinMap-none set_key_cmp-total set_key_cmp-exact union-laws
-
-pub chronicles-one : (h : Hearing) → Chronicles (accounts_of h) (h ∷ [])
-chronicles-one h = record {
-  accounts = record {
-    records = IsJoinMap-one key_cmp-total key_cmp-exact account-laws (key_of h.heard) (account_of h) (one_account h);
-    flushes = flushes-valid h h.flush;
-  };
-  lasts = λ key. subst (λ (o : Option Latest). MatchOption o (IsUnheard (h ∷ []) key) (IsLast (h ∷ []) key))
-      (sym (latest_in-one key (key_of h.heard) (account_of h))) ((stands-one h).lasts key);
-  histories = λ key s. one_history h key s (is_eq (key_cmp key (key_of h.heard))) refl;
-  flushes = λ set m. subst (λ (o : Option (List ℕ)). IsFlushIn o m ↔ IsFlushedAt (h ∷ []) set m)
-      (sym ((stands-one h).flushes set)) (
-        λ f. IsFlushedAt-from_has (h ∷ []) set m ((flush_in-kept h set m).0 f),
-        λ w. (flush_in-kept h set m).1 (has-from_flushed (h ∷ []) set m w),
-      );
-  newest = (stands-one h).newest;
-}
-
-pub chronicles-more : (c new : Accounts) (h : Hearing) → new ≡ join_accounts c (accounts_of h)
-    → (heard : List Hearing) → Chronicles c heard → Chronicles new (heard ++ h ∷ [])
-chronicles-more c new h is heard s = grind (arith, chronicles-join c (accounts_of h) heard (h ∷ []) s (chronicles-one h), chronicles-one h)
 
 -- contents that are those of both tell of the hearings of both
 pub chronicles-both : (old other c d new : Accounts) → c ≡ old → d ≡ other → new ≡ join_accounts c d

@@ -1,4 +1,5 @@
 -- A hearing at each of some moments: what its contents stand for.
+use Rattle.std.proofs.Common.{inl, inr}
 use Rattle.std.proofs.Common.{rules}
 use Rattle.std.proofs.Common.{◌≡◌, ◌≢◌, ◌↔◌, ℕ, ◌≤◌, Bool, true, false, ◌&&◌, cond, List, [], ◌∷◌, ◌++◌, Option, None, Some}
 use Rattle.std.proofs.Common.{Contains, MatchOption, Result, OnOk, OnErr, refl, sym, ap, ◌∙◌, subst, arith}
@@ -19,9 +20,11 @@ use Rattle.mdns_join.specs.Latest.{latest_cmp, latest_of}
 use Rattle.mdns_join.specs.Kept.{has, union, ascending, IsAscending}
 use Rattle.mdns_join.specs.laws.Kept.{has-ascending, IsAscending-ascending}
 use Rattle.mdns_join.specs.Nanos.{nanos_of}
-use Rattle.mdns_cache.specs.Live.{IsUnheard, IsLast, IsFlushedAt, is_flush_of, flush_moments}
+use Rattle.mdns_cache.specs.Live.{IsUnheard, IsLast, IsFlushedAt, is_flush_of}
 use Rattle.mdns_cache.specs.Repeats.{at_each}
+use Rattle.mdns_cache.proofs.StandsPartLemmas.{Contains-nil, Contains-head, Contains-cases, Contains-map, from_map}
 use Rattle.mdns_cache.proofs.StandsPartLemmas.{IsFlushedAt-from_has, has-from_flushed}
+use Rattle.mdns_cache.proofs.MeaningLemmas.{flushed}
 use Rattle.mdns_cache.proofs.RepeatLemmas.{no_greater}
 use Rattle.mdns_cache.proofs.GatheringLemmas.{valid_after}
 use Rattle.mdns_lives.specs.declared.account.Account.{Account}
@@ -31,11 +34,11 @@ use Rattle.mdns_lives.specs.History.{heard_of, IsHeardAs}
 use Rattle.mdns_lives.specs.Seconds.{AreEndsIn, IsRoomFor, seconds_of, ends_at}
 use Rattle.mdns_lives.specs.laws.Account.{account-laws}
 use Rattle.mdns_lives.specs.laws.Flushes.{union-laws}
-use Rattle.mdns_lives.specs.Chronicle.{Accounts, AreAccounts, AreGathered, Chronicles, join_accounts, latest_in, history_in, IsFlushIn}
+use Rattle.mdns_lives.specs.Chronicle.{Accounts, AreAccounts, AreGathered, Chronicles, accounts_of, join_accounts, latest_in, history_in, IsFlushIn}
 use Rattle.mdns_lives.specs.Each.{IsLatestIn, heard_with, heard_each, account_each, flushes_each, accounts_each}
 use Rattle.mdns_lives.proofs.ChronicleLemmas.{chronicles-join}
 use Rattle.mdns_lives.proofs.PartLemmas.{records-laws, flushes-laws}
-use Rattle.mdns_lives.proofs.HearingLemmas.{heard_at, Contains-mapped, from-mapped}
+use Rattle.mdns_lives.proofs.HearingLemmas.{heard_at}
 use Rattle.mdns_lives.proofs.RoomLemmas.{length-join}
 use Rattle.mdns_lives.proofs.SecondsLemmas.{ends-alike, at-seconds_of, IsSeconds-of, seconds_of-append}
 
@@ -60,7 +63,7 @@ accounts_each-valid h ts = search (rules, IsJoinMap-one, key_cmp-total, key_cmp-
 
 module _ (h : Hearing) (ts : List Moment) (latest : IsLatestIn ts h.moment) where
   itself : Contains (at_each ts h) h
-  itself = Contains-mapped (λ (t : Moment). heard_at t h) ts h.moment latest.among
+  itself = Contains-map (λ (t : Moment). heard_at t h) ts h.moment latest.among
 
   IsLast-each : (key : Key) → key ≡ key_of h.heard → IsLast (at_each ts h) key (latest_of h)
   IsLast-each key e = record {
@@ -68,7 +71,7 @@ module _ (h : Hearing) (ts : List Moment) (latest : IsLatestIn ts h.moment) wher
     among = itself;
     of_record = sym e;
     gives = refl;
-    greatest = λ g m o. let f = from-mapped (λ (t : Moment). heard_at t h) ts g m in
+    greatest = λ g m o. let f = from_map (λ (t : Moment). heard_at t h) ts g m in
         subst (λ (x : Hearing). latest_cmp (latest_of x) (latest_of h) ≢ Greater) f.1
         (no_greater (latest_of (heard_at f.0 h)) (latest_of h) (latest.greatest f.0 f.2) refl refl);
   }
@@ -77,7 +80,7 @@ module _ (h : Hearing) (ts : List Moment) (latest : IsLatestIn ts h.moment) wher
   unlike : (key : Key) → is_eq (key_cmp key (key_of h.heard)) ≡ false → (g : Hearing) → Contains (at_each ts h) g
       → key_of g.heard ≡ key → ⊥
   unlike key e g m o =
-      let f = from-mapped (λ (t : Moment). heard_at t h) ts g m in
+      let f = from_map (λ (t : Moment). heard_at t h) ts g m in
       let same : key_of h.heard ≡ key = ap (λ (x : Hearing). key_of x.heard) f.1 ∙ o in
       true≢false (sym (ap is_eq (tied_itself key_cmp-total key)) ∙ ap (λ (k : Key). is_eq (key_cmp key k)) (sym same) ∙ e)
 
@@ -91,24 +94,17 @@ module _ (h : Hearing) (ts : List Moment) (latest : IsLatestIn ts h.moment) wher
   histories-each key s true e =
       let same = key_cmp-exact key (key_of h.heard) (is_Equal (key_cmp key (key_of h.heard)) e) in
       ends-alike {P = Contains (heard_each h.ttl ts)} {Q = IsHeardAs (at_each ts h) key}
-      (λ x m. (let f = from-mapped (heard_with h.ttl) ts x m in
+      (λ x m. (let f = from_map (heard_with h.ttl) ts x m in
       record {
         hearing = heard_at f.0 h;
-        among = Contains-mapped (λ (t : Moment). heard_at t h) ts f.0 f.2;
+        among = Contains-map (λ (t : Moment). heard_at t h) ts f.0 f.2;
         of_record = sym same;
         gives = f.1;
       }))
-      (λ x w. (let f = from-mapped (λ (t : Moment). heard_at t h) ts w.hearing w.among in
-      subst (Contains (heard_each h.ttl ts)) (ap heard_of f.1 ∙ w.gives) (Contains-mapped (heard_with h.ttl) ts f.0 f.2)))
+      (λ x w. (let f = from_map (λ (t : Moment). heard_at t h) ts w.hearing w.among in
+      subst (Contains (heard_each h.ttl ts)) (ap heard_of f.1 ∙ w.gives) (Contains-map (heard_with h.ttl) ts f.0 f.2)))
       s (value_at nat_cmp s (seconds_of (heard_each h.ttl ts))) (at-seconds_of (heard_each h.ttl ts) s)
   histories-each key s false e = λ x w _. unlike key e w.hearing w.among w.of_record
-
-  flushed : (set : RecordSet) (b : Bool) → is_flush_of set h ≡ b → (us : List Moment)
-      → flush_moments (at_each us h) set ≡ cond b (nanos_of us) []
-  flushed set true e [] = refl
-  flushed set false e [] = refl
-  flushed set true e (u ∷ us) = grind (arith, flushed set true e us)
-  flushed set false e (u ∷ us) = grind (arith, flushed set false e us)
 
   value_in : (set : RecordSet) (f : Bool)
       → value_at set_key_cmp set (if f then one_entry (set_key_of h.heard) (ascending (nanos_of ts)) else [])
@@ -124,7 +120,7 @@ module _ (h : Hearing) (ts : List Moment) (latest : IsLatestIn ts h.moment) wher
   flushes-at : (set : RecordSet) (m : ℕ) → IsFlushIn (value_at set_key_cmp set (flushes_each h ts)) m ↔ IsFlushedAt (at_each ts h) set m
   flushes-at set m =
       let b = is_flush_of set h in
-      let is = flushed set b refl ts in
+      let is = flushed h set ts in
       subst (λ (o : Option (List ℕ)). IsFlushIn o m ↔ IsFlushedAt (at_each ts h) set m) (sym (value_in set h.flush)) (
         λ f. IsFlushedAt-from_has (at_each ts h) set m
             (subst (λ (ns : List ℕ). has ns m ≡ true) (sym is) ((in_ascending b m).0 f)),
@@ -141,7 +137,7 @@ module _ (h : Hearing) (ts : List Moment) (latest : IsLatestIn ts h.moment) wher
       hearing = h;
       among = itself;
       at_it = refl;
-      latest = λ g m. let f = from-mapped (λ (t : Moment). heard_at t h) ts g m in
+      latest = λ g m. let f = from_map (λ (t : Moment). heard_at t h) ts g m in
           subst (λ (x : Hearing). x.moment.nanos ≤ h.moment.nanos) f.1 (latest.greatest f.0 f.2);
     };
   }
@@ -151,6 +147,21 @@ module _ (h : Hearing) (ts : List Moment) (latest : IsLatestIn ts h.moment) wher
       → (heard : List Hearing) → Chronicles c heard → Chronicles new (heard ++ at_each ts h)
   chronicles-at_each c new is heard s =
       grind (arith, chronicles-join c (accounts_each h ts) heard (at_each ts h) s stands-at_each, stands-at_each)
+
+-- ---- one moment
+
+pub latest-one : (m : Moment) → IsLatestIn (m ∷ []) m
+latest-one m = record {
+  among = Contains-head m [];
+  greatest = λ t c. elim (Contains-cases m [] t c) [
+    | inl same ↦ subst (λ (x : Moment). x.nanos ≤ m.nanos) same (omega arith)
+    | inr none ↦ absurd (Contains-nil t none)
+  ];
+}
+
+pub accounts_each-one : (h : Hearing) → accounts_each h (h.moment ∷ []) ≡ accounts_of h
+unfolding seconds_of
+accounts_each-one h = refl
 
 -- ---- entries in any order
 

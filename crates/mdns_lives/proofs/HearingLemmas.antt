@@ -1,9 +1,6 @@
 -- The hearings of a message at some moments, and that contents depend only on which hearings there are.
-use Rattle.std.proofs.lemmas.Grind.{common_steps}
-use Rattle.std.proofs.Common.{arith}
 use Rattle.std.proofs.Common.{◌≡◌, ◌↔◌, ℕ, List, [], ◌∷◌, ◌++◌, Option, None, Some, Contains, refl}
-use Rattle.std.proofs.Common.{ap, ◌∙◌, subst, inl, inr, map, MatchOption}
-use Rattle.std.proofs.lemmas.List.Elements.{Contains-append_left, Contains-append_right, Contains-append_cases}
+use Rattle.std.proofs.Common.{ap, ◌∙◌, subst, map, MatchOption}
 use Rattle.mdns_capture.specs.declared.moment.Moment.{Moment}
 use Rattle.mdns_message.specs.declared.hearing.Hearing.{Hearing}
 use Rattle.mdns_message.specs.declared.key.Key.{Key}
@@ -12,7 +9,9 @@ use Rattle.mdns_message.specs.RecordAt.{HeardRecord}
 use Rattle.mdns_join.specs.declared.latest.Latest.{Latest}
 use Rattle.mdns_cache.specs.Live.{IsUnheard, IsLast, IsNewest, SameHearings}
 use Rattle.mdns_cache.specs.Repeats.{at_each, all_at_each}
-use Rattle.mdns_cache.proofs.StandsPartLemmas.{Contains-nil, Contains-head, Contains-later, Contains-cases}
+use Rattle.mdns_cache.proofs.RepeatLemmas.{moment_in, nothing}
+use Rattle.mdns_cache.proofs.StandsPartLemmas.{Contains-nil, Contains-head, Contains-map}
+use Rattle.mdns_cache.proofs.StandsPartLemmas.{Contains-flat_map, from_flat_map, from_map, IsLast-among}
 use Rattle.mdns_lives.specs.History.{IsHeardAs}
 use Rattle.mdns_lives.specs.Chronicle.{Accounts, Chronicles, ends_held, last_held}
 use Rattle.mdns_lives.proofs.SecondsLemmas.{ends-alike}
@@ -24,23 +23,10 @@ module _ (gs hs : List Hearing) (same : SameHearings gs hs) where
   lasts-same : (key : Key) (o : Option Latest) → MatchOption o (IsUnheard gs key) (IsLast gs key)
       → MatchOption o (IsUnheard hs key) (IsLast hs key)
   lasts-same key None n = λ h m o. n h (same.back h m) o
-  lasts-same key (Some l) p = record {
-    hearing = p.hearing;
-    among = same.into p.hearing p.among;
-    of_record = p.of_record;
-    gives = p.gives;
-    greatest = λ h m o. p.greatest h (same.back h m) o;
-  }
-
-  none-same : gs ≡ [] → hs ≡ []
-  none-same e = none hs (λ h m. Contains-nil h (subst (λ (xs : List Hearing). Contains xs h) e (same.back h m)))
-    where
-      none : (xs : List Hearing) → ((h : Hearing) → Contains xs h → ⊥) → xs ≡ []
-      none [] n = refl
-      none (h ∷ xs) n = absurd (n h (Contains-head h xs))
+  lasts-same key (Some l) p = IsLast-among gs hs same key l p
 
   newest-same : (o : Option Moment) → MatchOption o (gs ≡ []) (IsNewest gs) → MatchOption o (hs ≡ []) (IsNewest hs)
-  newest-same None e = none-same e
+  newest-same None e = nothing hs (λ h m. Contains-nil h (subst (λ (xs : List Hearing). Contains xs h) e (same.back h m)))
   newest-same (Some n) q = record {
     hearing = q.hearing;
     among = same.into q.hearing q.among;
@@ -76,17 +62,6 @@ ReadsOnce = (t : Moment) (message : List ℕ) (heard others : List Hearing) → 
 abbrev pub heard_at : Moment → Hearing → Hearing
 heard_at t h = record { moment = t; heard = h.heard; ttl = h.ttl; flush = h.flush }
 
-pub Contains-mapped : {X Y : Type 0} (f : X → Y) (xs : List X) (x : X) → Contains xs x → Contains (map f xs) (f x)
-Contains-mapped f [] x m = absurd (Contains-nil x m)
-Contains-mapped f (y ∷ ys) x m = grind (arith, common_steps, Contains-cases, Contains-head, Contains-later)
-
-pub from-mapped : {X Y : Type 0} (f : X → Y) (xs : List X) (y : Y) → Contains (map f xs) y → (x : X) × (f x ≡ y) × Contains xs x
-from-mapped f [] y m = absurd (Contains-nil y m)
-from-mapped f (x ∷ xs) y m = elim (Contains-cases (f x) (map f xs) y m) [
-  | inl e ↦ (x, e, Contains-head x xs)
-  | inr r ↦ (let w = from-mapped f xs y r in (w.0, w.1, Contains-later x xs w.0 w.2))
-]
-
 -- reading doesn't look at the moment
 reads-at : (t u : Moment) (message : List ℕ) (hs : List Hearing) → MessageReads t message hs
     → MessageReads u message (map (heard_at u) hs)
@@ -103,14 +78,15 @@ reads-at t u message hs r = record {
     told_at (r ∷ rs) = ap (λ hs. hearing_of u r ∷ hs) (told_at rs)
 
 module _ (t : Moment) (message : List ℕ) (hs : List Hearing) (reads : MessageReads t message hs) where
-  -- the hearings of a message are at its moment
-  at_moment : (h : Hearing) → Contains hs h → t ≡ h.moment
-  at_moment h m =
-      let w = from-mapped (hearing_of t) reads.told h (subst (λ (xs : List Hearing). Contains xs h) reads.heard m) in
-      ap (λ (x : Hearing). x.moment) w.1
-
   pub IsHearingAt-read : (ts : List Moment) → Contains ts t → (h : Hearing) → Contains hs h → IsHearingAt message ts h
-  IsHearingAt-read ts came h m = grind (arith, at_moment h m)
+  IsHearingAt-read ts came h m =
+      let e = moment_in t message hs reads h m in
+      record {
+        hearings = hs;
+        reads = subst (λ (u : Moment). MessageReads u message hs) e reads;
+        among = m;
+        came = subst (λ (u : Moment). Contains ts u) e came;
+      }
 
   pub read-IsHearingAt : ReadsOnce → (ts : List Moment) (h : Hearing) → IsHearingAt message ts h → t ≡ h.moment → Contains hs h
   read-IsHearingAt once ts h w e = subst (λ (xs : List Hearing). Contains xs h)
@@ -118,20 +94,13 @@ module _ (t : Moment) (message : List ℕ) (hs : List Hearing) (reads : MessageR
 
 from-all : (ts : List Moment) (hs : List Hearing) (g : Hearing) → Contains (all_at_each ts hs) g
     → (h : Hearing) × (t : Moment) × (heard_at t h ≡ g) × Contains hs h × Contains ts t
-from-all ts [] g m = absurd (Contains-nil g m)
-from-all ts (h ∷ hs) g m = elim (Contains-append_cases (at_each ts h) (all_at_each ts hs) g m) [
-  | inl a ↦ (let w = from-mapped (λ (t : Moment). heard_at t h) ts g a in (h, w.0, w.1, Contains-head h hs, w.2))
-  | inr b ↦ (let w = from-all ts hs g b in (w.0, w.1, w.2, Contains-later h hs w.0 w.3, w.4))
-]
+from-all ts hs g m =
+    let w = from_flat_map (at_each ts) hs g m in
+    let v = from_map (λ (t : Moment). heard_at t w.0) ts g w.2 in (w.0, v.0, v.1, w.1, v.2)
 
 Contains-all : (ts : List Moment) (hs : List Hearing) (h : Hearing) (t : Moment) → Contains hs h → Contains ts t
     → Contains (all_at_each ts hs) (heard_at t h)
-Contains-all ts [] h t m n = absurd (Contains-nil h m)
-Contains-all ts (g ∷ gs) h t m n = elim (Contains-cases g gs h m) [
-  | inl e ↦ Contains-append_left (at_each ts g) (all_at_each ts gs) (heard_at t h)
-      (subst (λ (x : Hearing). Contains (at_each ts g) (heard_at t x)) e (Contains-mapped (λ (u : Moment). heard_at u g) ts t n))
-  | inr r ↦ Contains-append_right (at_each ts g) (all_at_each ts gs) (heard_at t h) (Contains-all ts gs h t r n)
-]
+Contains-all ts hs h t m n = Contains-flat_map (at_each ts) hs h (heard_at t h) m (Contains-map (λ (u : Moment). heard_at u h) ts t n)
 
 -- a message that was read at one moment has these hearings at others
 pub all-exactly : ReadsOnce → (t : Moment) (message : List ℕ) (hs : List Hearing) → MessageReads t message hs
@@ -140,10 +109,10 @@ all-exactly once t message hs reads ts h = (
   λ m. (let w = from-all ts hs h m in
       subst (IsHearingAt message ts) w.2
       (IsHearingAt-read w.1 message (map (heard_at w.1) hs) (reads-at t w.1 message hs reads) ts w.4 (heard_at w.1 w.0)
-      (Contains-mapped (heard_at w.1) hs w.0 w.3))),
+      (Contains-map (heard_at w.1) hs w.0 w.3))),
   λ w. (let there = read-IsHearingAt t message hs reads once (t ∷ []) (heard_at t h)
       (IsHearingAt-read t message (map (heard_at t) w.hearings) (reads-at h.moment t message w.hearings w.reads) (t ∷ [])
-      (Contains-head t []) (heard_at t h) (Contains-mapped (heard_at t) w.hearings h w.among)) refl in
+      (Contains-head t []) (heard_at t h) (Contains-map (heard_at t) w.hearings h w.among)) refl in
       Contains-all ts hs (heard_at t h) h.moment there w.came),
 )
 

@@ -1,4 +1,5 @@
 -- The rows of a chronicle are the records that were heard, with their lives.
+use Rattle.std.proofs.Common.{arith}
 use Rattle.std.proofs.Common.{◌≡◌, ◌↔◌, ℕ, true, List, [], ◌∷◌, map, Option, None, Some, Contains, MatchOption, refl, sym}
 use Rattle.std.proofs.Common.{ap, ◌∙◌, subst, unwrap_or}
 use Rattle.std.proofs.Common.{true≢false}

@@ -1,6 +1,6 @@
 -- Sorted hearings are in order, and sorted moments without repeats are the same moments.
 use Rattle.std.proofs.Common.{◌≡◌, ◌↔◌, ℕ, suc, ◌+◌, get_or, Bool, true, false, List, [], ◌∷◌, Contains, sym}
-use Rattle.std.proofs.Common.{subst, inl, inr, arith, true≢false, eqb-true, eq-eqb}
+use Rattle.std.proofs.Common.{subst, arith, true≢false, eqb-true, eq-eqb}
 use Rattle.std.specs.Ordering.{on, is_lt}
 use Rattle.std.specs.Cmp.{IsEquivalence, on_equiv, nat_eq_equiv}
 use Rattle.std.specs.Prelude.{nat_eq}

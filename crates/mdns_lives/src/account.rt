@@ -5,9 +5,9 @@ ghost use Rattle.mdns_message.specs.Borrowed.{hearing_lent};
 ghost use Rattle.mdns_join.specs.Latest.{latest_of};
 
 use crate::history::History;
-use join_map::{Join, JoinInto, JoinOwn};
+use join_map::Join;
 use mdns_join::Latest;
-use mdns_message::{BorrowedHearing, Key};
+use mdns_message::BorrowedHearing;
 use memory::Want;
 use std::alloc::Global;
 
@@ -55,43 +55,6 @@ impl Join for Account {
     }
 
     ghost laws = { account-laws };
-}
-
-/// A hearing is joined as the account of it alone.
-impl<'a> JoinInto<Account> for BorrowedHearing<'a> {
-    ghost use Rattle.mdns_message.specs.Borrowed.{hearing_lent};
-    ghost use Rattle.mdns_lives.specs.Account.{account_of};
-
-    ghost value = { λ hearing. account_of (hearing_lent hearing) };
-
-    #[tactic(auto, unfolding(crate::specs::Seconds::seconds_of))]
-    fn to_value(&self, alloc: Global) -> Result<Account, Want> {
-        Ok(Account {
-            latest: latest_of(alloc, self)?,
-            history: History::of(alloc, self.ttl, &[self.moment])?,
-        })
-    }
-}
-
-/// A hearing recognizes the account of its record as it recognizes the last hearing there.
-impl<'a> JoinOwn<Key, Account> for BorrowedHearing<'a> {
-    ghost use Rattle.mdns_message.specs.Borrowed.{hearing_lent};
-    ghost use Rattle.mdns_message.specs.Resource.{key_of};
-    ghost use Rattle.mdns_lives.specs.Account.{IsOwnAccount};
-
-    ghost own = { λ hearing. key_of (hearing_lent hearing).heard };
-
-    ghost Fits = { IsOwnAccount };
-
-    fn to_key(&self, alloc: Global) -> Result<Key, Want> {
-        self.heard.key(alloc)
-    }
-
-    #[tactic(auto, unfolding(crate::specs::Seconds::seconds_of))]
-    fn join_own(&self, alloc: Global, key: &Key, held: &mut Account) -> Option<Result<(), Want>> {
-        held.history
-            .add_own(alloc, key, self, &[self.moment], &mut held.latest)
-    }
 }
 
 /// Copies a hearing as a last hearing.

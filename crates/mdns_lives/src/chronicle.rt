@@ -3,23 +3,23 @@
 ghost use Rattle.std.specs.Prelude.{◌≡◌, ◌++◌, ◌∷◌, [], List, Some, IfOk, MatchOption, OnOk, OnErr};
 ghost use Rattle.mdns_message.specs.declared.hearing.Hearing.{Hearing};
 ghost use Rattle.mdns_message.specs.Borrowed.{hearing_lent};
-ghost use Rattle.mdns_message.specs.Resource.{key_cmp, key_of, set_key_cmp};
-ghost use Rattle.join_map.specs.Entries.{AllValid, joined, joined_at, one_entry};
+ghost use Rattle.mdns_message.specs.Resource.{key_cmp, set_key_cmp};
+ghost use Rattle.join_map.specs.Entries.{AllValid, joined, joined_at};
 ghost use Rattle.join_map.specs.Join.{IsPartOfJoin};
 ghost use Rattle.mdns_join.specs.Kept.{union, IsAscending};
 ghost use Rattle.mdns_cache.specs.Contents.{later_moment};
 ghost use Rattle.mdns_cache.specs.Live.{IsNewest};
 ghost use Rattle.mdns_cache.specs.Repeats.{at_each};
-ghost use Rattle.mdns_lives.specs.Account.{account_of, join_account};
+ghost use Rattle.mdns_lives.specs.Account.{join_account};
 ghost use Rattle.mdns_lives.specs.Each.{accounts_each, flushes_each};
-ghost use Rattle.mdns_lives.specs.Chronicle.{AreAccounts, Chronicles, accounts, accounts_of, flushes_of, join_accounts, no_accounts};
+ghost use Rattle.mdns_lives.specs.Chronicle.{AreAccounts, Chronicles, accounts, accounts_of, join_accounts, no_accounts};
 
 use crate::account::Account;
 use crate::flush_moments::FlushMoments;
 use crate::flushes::Flushes;
 use crate::record_lives::Lives;
 use crate::repeats::Repeats;
-use crate::waiting::Waiting;
+use crate::waiting::{Few, Waiting};
 use join_map::{Join, JoinMap, Unsorted};
 use mdns_cache::guesses::Guesses;
 use mdns_capture::Moment;
@@ -86,7 +86,7 @@ impl Chronicle {
         ensures stands { OnOk result ((heard : List Hearing) → Chronicles self.old heard
             → Chronicles self.new (heard ++ hearing_lent hearing.now ∷ [])) }
     {
-        self.join_hearing(hearing)?;
+        self.join_at_each(hearing, Few::new(&[hearing.moment]))?;
         Ok(())
     }
 
@@ -104,7 +104,7 @@ impl Chronicle {
         };
         let mut hearing = hearing;
         hearing.moment = latest;
-        self.join_at_each(&hearing, waiting)
+        self.join_at_each(&hearing, waiting.few())
     }
 
     /// Returns the newest hearing's moment; `None` if nothing was heard.
@@ -131,37 +131,30 @@ impl Chronicle {
         })
     }
 
-    // Joins the contents of a hearing.
-    fn join_hearing(&mut self, hearing: &BorrowedHearing) -> Result<(), Want>
-        ensures ok { OnOk result (self.new ≡ join_accounts self.old (accounts_of (hearing_lent hearing.now))) }
-        ensures err { OnErr result (IsPartOfJoin join_accounts self.old (accounts_of (hearing_lent hearing.now)) self.new) }
+    // Joins the contents of a hearing at each of some moments, of which its own is the latest.
+    fn join_at_each(&mut self, hearing: &BorrowedHearing, moments: Few<'_>) -> Result<(), Want>
+        ensures ok { OnOk result (self.new ≡ join_accounts self.old (accounts_each (hearing_lent hearing.now) moments.entry)) }
+        ensures err { OnErr result (IsPartOfJoin join_accounts self.old (accounts_each (hearing_lent hearing.now) moments.entry) self.new) }
         ensures was { AreAccounts self.old }
         ensures held { AreAccounts self.new }
     {
         let hashes = hearing.hashes;
-        self.hear_record(hashes.record, hearing)?;
-        self.hear_flush(hashes.set, hearing)?;
+        let repeats = Repeats { hearing, moments };
+        self.hear_record(hashes.record, &repeats)?;
+        self.hear_flush(hashes.set, &repeats)?;
         self.newest = newer(self.newest, hearing.moment);
         Ok(())
     }
 
-    // Joins the contents of a hearing at each of the moments that wait, of which its own is the latest.
-    fn join_at_each(&mut self, hearing: &BorrowedHearing, waiting: &Waiting) -> Result<(), Want>
-        ensures { OnOk result (self.new ≡ join_accounts self.old (accounts_each (hearing_lent hearing.now) waiting.now)) }
-    {
-        let hashes = hearing.hashes;
-        let repeats = Repeats { hearing, waiting };
-        self.hear_record_at_each(hashes.record, &repeats)?;
-        self.hear_flush_at_each(hashes.set, &repeats)?;
-        self.newest = newer(self.newest, hearing.moment);
-        Ok(())
-    }
-
-    // Joins a hearing at each of some moments as `hear_record` does at one.
-    fn hear_record_at_each(&mut self, hash: u64, repeats: &Repeats) -> Result<usize, Want>
-        ensures { OnOk result (self.new ≡ accounts (joined key_cmp join_account self.old.records
-            (accounts_each (hearing_lent repeats.now.hearing.now) repeats.now.waiting.now).records)
+    // Joins hearings of one record into its account, which is looked up by the hash unless its place is guessed, and returns
+    // the place.
+    fn hear_record(&mut self, hash: u64, repeats: &Repeats) -> Result<usize, Want>
+        ensures ok { OnOk result (self.new ≡ accounts (joined key_cmp join_account self.old.records
+            (accounts_each (hearing_lent repeats.now.hearing.now) repeats.now.moments).records)
             self.old.flushes self.old.newest) }
+        ensures err { OnErr result (self.new ≡ self.old) }
+        ensures was { AreAccounts self.old }
+        ensures held { AreAccounts self.new }
     {
         let near = self.guesses.record();
         let found = self.records.join_near(self.alloc, near, hash, repeats);
@@ -169,10 +162,14 @@ impl Chronicle {
         found
     }
 
-    // Joins its moments as `hear_flush` does one.
-    fn hear_flush_at_each(&mut self, hash: u64, repeats: &Repeats) -> Result<usize, Want>
-        ensures { OnOk result (self.new ≡ accounts self.old.records (joined set_key_cmp union self.old.flushes
-            (flushes_each (hearing_lent repeats.now.hearing.now) repeats.now.waiting.now)) self.old.newest) }
+    // Joins the moments of hearings with the cache-flush bit into those of their record set, which is looked up by the hash
+    // unless its place is guessed, and returns the place; 0 where nothing was to be joined.
+    fn hear_flush(&mut self, hash: u64, repeats: &Repeats) -> Result<usize, Want>
+        ensures ok { OnOk result (self.new ≡ accounts self.old.records (joined set_key_cmp union self.old.flushes
+            (flushes_each (hearing_lent repeats.now.hearing.now) repeats.now.moments)) self.old.newest) }
+        ensures err { OnErr result (self.new ≡ self.old) }
+        ensures was { AreAccounts self.old }
+        ensures held { AreAccounts self.new }
     {
         let alloc = self.alloc;
         if !repeats.hearing.flush {
@@ -180,41 +177,6 @@ impl Chronicle {
         }
         let near = self.guesses.set();
         let found = self.flushes.join_near(alloc, near, hash, repeats);
-        self.guesses.found_set(&found);
-        found
-    }
-
-    // Joins a hearing into the account of its record, which is looked up by the hash unless its place is guessed, and
-    // returns the place.
-    fn hear_record(&mut self, hash: u64, hearing: &BorrowedHearing) -> Result<usize, Want>
-        ensures ok { OnOk result (self.new ≡ accounts (joined key_cmp join_account self.old.records
-            (one_entry (key_of (hearing_lent hearing.now).heard) (account_of (hearing_lent hearing.now))))
-            self.old.flushes self.old.newest) }
-        ensures err { OnErr result (self.new ≡ self.old) }
-        ensures was { AreAccounts self.old }
-        ensures held { AreAccounts self.new }
-    {
-        let near = self.guesses.record();
-        let found = self.records.join_near(self.alloc, near, hash, hearing);
-        self.guesses.found_record(&found);
-        found
-    }
-
-    // Joins the moment of a hearing with the cache-flush bit into those of its record set, which is looked up by the hash
-    // unless its place is guessed, and returns the place; 0 where nothing was to be joined.
-    fn hear_flush(&mut self, hash: u64, hearing: &BorrowedHearing) -> Result<usize, Want>
-        ensures ok { OnOk result (self.new ≡ accounts self.old.records
-            (joined set_key_cmp union self.old.flushes (flushes_of (hearing_lent hearing.now))) self.old.newest) }
-        ensures err { OnErr result (self.new ≡ self.old) }
-        ensures was { AreAccounts self.old }
-        ensures held { AreAccounts self.new }
-    {
-        let alloc = self.alloc;
-        if !hearing.flush {
-            return Ok(0);
-        }
-        let near = self.guesses.set();
-        let found = self.flushes.join_near(alloc, near, hash, hearing);
         self.guesses.found_set(&found);
         found
     }

@@ -1,14 +1,14 @@
 //! All flush moments of a record set, while they are being added.
 
-ghost use Rattle.std.specs.Prelude.{◌≡◌, ◌∷◌, [], IfOk, OnOk, OnErr, vec_capacity};
+ghost use Rattle.std.specs.Prelude.{◌≡◌, IfOk, OnOk, OnErr};
 ghost use Rattle.mdns_join.specs.Kept.{ascending, union, IsAscending};
 ghost use Rattle.mdns_join.specs.Nanos.{nanos_of};
 ghost use Rattle.mdns_lives.specs.laws.Flushes.{union-laws};
 
 use crate::flush_moments::FlushMoments;
-use join_map::{Join, JoinInto, JoinOwn};
+use crate::history::copy_of;
+use join_map::Join;
 use mdns_capture::Moment;
-use mdns_message::{BorrowedHearing, SetKey};
 use memory::Want;
 use std::alloc::Global;
 use std::marker::Model;
@@ -31,21 +31,12 @@ impl Model for Flushes {
 }
 
 impl Flushes {
-    /// Adds a moment. After `Want` the moments are as before.
-    pub(crate) fn add(&mut self, moment: Moment) -> Result<(), Want>
-        ensures ok { OnOk result (self.new ≡ union self.old (moment.nanos ∷ [])) }
-        ensures err { OnErr result (self.new ≡ self.old) }
-    {
-        self.items.push(moment)?;
-        Ok(())
-    }
-
     /// Makes the flushes of some moments.
     pub(crate) fn of_all(alloc: Global, moments: &[Moment]) -> Result<Flushes, Want>
         ensures { IfOk result (λ flushes. flushes ≡ ascending (nanos_of moments.now)) }
     {
         Ok(Flushes {
-            items: Vec::from_slice(alloc, moments)?,
+            items: copy_of(alloc, moments)?,
         })
     }
 
@@ -87,51 +78,4 @@ impl Join for Flushes {
     }
 
     ghost laws = { union-laws };
-}
-
-/// A hearing with the cache-flush bit is joined as the flushes of its moment alone.
-impl<'a> JoinInto<Flushes> for BorrowedHearing<'a> {
-    ghost value = { λ hearing. hearing.moment.nanos ∷ [] };
-
-    fn to_value(&self, alloc: Global) -> Result<Flushes, Want> {
-        Ok(Flushes {
-            items: only(alloc, self.moment)?,
-        })
-    }
-}
-
-/// A hearing recognizes the flushes of its record set by the set's key.
-impl<'a> JoinOwn<SetKey, Flushes> for BorrowedHearing<'a> {
-    ghost use Rattle.mdns_message.specs.Borrowed.{hearing_lent};
-    ghost use Rattle.mdns_message.specs.Resource.{set_key_of};
-
-    ghost own = { λ hearing. set_key_of (hearing_lent hearing).heard };
-
-    ghost Fits = { λ _ _. Unit {0} };
-
-    fn to_key(&self, alloc: Global) -> Result<SetKey, Want> {
-        self.heard.set_key(alloc)
-    }
-
-    fn join_own(
-        &self,
-        _alloc: Global,
-        set: &SetKey,
-        held: &mut Flushes,
-    ) -> Option<Result<(), Want>> {
-        if !set.is_of(&self.heard) {
-            return None;
-        }
-        Some(held.add(self.moment))
-    }
-}
-
-// Makes a list of one moment, which takes no room for more.
-fn only(alloc: Global, moment: Moment) -> Result<Vec<Moment>, Want>
-    ensures items { IfOk result (λ moments. moments.items ≡ moment ∷ []) }
-    ensures capacity { IfOk result (λ moments. vec_capacity moments ≡ 1) }
-{
-    let mut moments = Vec::with_capacity(alloc, 1)?;
-    moments.push_reserved(moment);
-    Ok(moments)
 }

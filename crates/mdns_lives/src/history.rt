@@ -239,8 +239,8 @@ fn push_own(
     }
 }
 
-// Copies hearings into a list that has room for no more.
-fn copy_of(alloc: Global, items: &[Packed]) -> Result<Vec<Packed>, Want>
+/// Copies a list into one that has room for no more.
+pub(crate) fn copy_of<T: Copy>(alloc: Global, items: &[T]) -> Result<Vec<T>, Want>
     ensures same { IfOk result (λ copied. copied.items ≡ items.now) }
     ensures capacity { IfOk result (λ copied. vec_capacity copied ≡ length items.now) }
 {

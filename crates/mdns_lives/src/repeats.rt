@@ -1,19 +1,19 @@
-//! A hearing at each of several moments, which is looked up once.
+//! A hearing at each of some moments, which is looked up once.
 
 use crate::account::{Account, latest_of};
 use crate::flushes::Flushes;
 use crate::history::History;
-use crate::waiting::Waiting;
+use crate::waiting::Few;
 use join_map::{JoinInto, JoinOwn};
 use mdns_message::{BorrowedHearing, Key, SetKey};
 use memory::Want;
 use std::alloc::Global;
 
-/// A hearing at each of the moments that wait, of which its own is the latest.
+/// A hearing at each of some moments, of which its own is the latest.
 #[derive(Drop)]
 pub(crate) struct Repeats<'a> {
     pub(crate) hearing: &'a BorrowedHearing<'a>,
-    pub(crate) waiting: &'a Waiting,
+    pub(crate) moments: Few<'a>,
 }
 
 /// Its hearings are joined as the account of them.
@@ -21,17 +21,17 @@ impl<'a> JoinInto<Account> for Repeats<'a> {
     ghost use Rattle.mdns_message.specs.Borrowed.{hearing_lent};
     ghost use Rattle.mdns_lives.specs.Each.{account_each};
 
-    ghost value = { λ repeats. account_each (hearing_lent repeats.hearing.now) repeats.waiting.now };
+    ghost value = { λ repeats. account_each (hearing_lent repeats.hearing.now) repeats.moments };
 
     fn to_value(&self, alloc: Global) -> Result<Account, Want> {
         Ok(Account {
             latest: latest_of(alloc, self.hearing)?,
-            history: History::of(alloc, self.hearing.ttl, self.waiting.all())?,
+            history: History::of(alloc, self.hearing.ttl, self.moments.all())?,
         })
     }
 }
 
-/// It recognizes the account of its record as the hearing does.
+/// It recognizes the account of its record as a hearing recognizes the last hearing there.
 impl<'a> JoinOwn<Key, Account> for Repeats<'a> {
     ghost use Rattle.mdns_message.specs.Borrowed.{hearing_lent};
     ghost use Rattle.mdns_message.specs.Resource.{key_of};
@@ -46,7 +46,7 @@ impl<'a> JoinOwn<Key, Account> for Repeats<'a> {
     }
 
     fn join_own(&self, alloc: Global, key: &Key, held: &mut Account) -> Option<Result<(), Want>> {
-        let moments = self.waiting.all();
+        let moments = self.moments.all();
         held.history
             .add_own(alloc, key, self.hearing, moments, &mut held.latest)
     }
@@ -57,10 +57,10 @@ impl<'a> JoinInto<Flushes> for Repeats<'a> {
     ghost use Rattle.mdns_join.specs.Kept.{ascending};
     ghost use Rattle.mdns_join.specs.Nanos.{nanos_of};
 
-    ghost value = { λ repeats. ascending (nanos_of repeats.waiting.now) };
+    ghost value = { λ repeats. ascending (nanos_of repeats.moments) };
 
     fn to_value(&self, alloc: Global) -> Result<Flushes, Want> {
-        Flushes::of_all(alloc, self.waiting.all())
+        Flushes::of_all(alloc, self.moments.all())
     }
 }
 
@@ -86,6 +86,6 @@ impl<'a> JoinOwn<SetKey, Flushes> for Repeats<'a> {
         if !set.is_of(&self.hearing.heard) {
             return None;
         }
-        Some(held.add_all(self.waiting.all()))
+        Some(held.add_all(self.moments.all()))
     }
 }

@@ -57,11 +57,10 @@ impl Waiting {
     }
 
     /// Returns the moments, in the order in which they were added.
-    pub(crate) fn all(&self) -> &[Moment]
-        ensures same { result.now ≡ self.now }
-        ensures few { length self.now ≤ 64 }
+    pub(crate) fn few(&self) -> Few<'_>
+        ensures { result ≡ self.now }
     {
-        self.moments.as_slice()
+        Few::new(self.moments.as_slice())
     }
 
     /// Returns the latest moment; `None` of none.
@@ -77,6 +76,39 @@ impl Waiting {
         ensures { self.new ≡ [] }
     {
         self.moments.clear();
+    }
+}
+
+/// At most 64 moments.
+#[derive(Drop)]
+pub(crate) struct Few<'a> {
+    moments: &'a [Moment],
+}
+
+impl<'a> Model for Few<'a> {
+    ghost use Rattle.std.specs.Prelude.{◌≤◌, List, length};
+    ghost use Rattle.mdns_capture.specs.declared.moment.Moment.{Moment as moment};
+
+    ghost Value = { List moment };
+
+    ghost view = { λ a. a.moments.now };
+
+    ghost invariant = { λ a. length a.moments.now ≤ 64 };
+}
+
+impl<'a> Few<'a> {
+    pub(crate) fn new(moments: &'a [Moment]) -> Few<'a>
+        requires { length moments.now ≤ 64 }
+        ensures { result ≡ moments.now }
+    {
+        Few { moments }
+    }
+
+    pub(crate) fn all(&self) -> &[Moment]
+        ensures same { result.now ≡ self.now }
+        ensures few { length self.now ≤ 64 }
+    {
+        self.moments
     }
 }
 

@@ -1,4 +1,5 @@
-use Rattle.std.proofs.Common.{arith}
+use Rattle.std.proofs.Common.{◌≢◌}
+use Rattle.mdns_lives.specs.Changes.{by_sets}
 use Rattle.std.proofs.Common.{◌≡◌, ◌∷◌, [], ◌∙◌, true, List, ap, map, rules, sym}
 use Rattle.std.proofs.lemmas.List.{map-append}
 use Rattle.mdns_cache.specs.Rows.{last_lent}

@@ -3,7 +3,7 @@ use Rattle.mdns_lives.proofs.history.copy_of.Given as goal
 
 -- the hearings so far are copied, in the same room
 abbrev pub invariant-loop-item : goal.invariant-loop-item
-invariant-loop-item l = record {
+invariant-loop-item g l = record {
   items : l.copied.items ≡ take l.item-index l.items;
   capacity : vec_capacity l.copied ≡ length l.items;
 }

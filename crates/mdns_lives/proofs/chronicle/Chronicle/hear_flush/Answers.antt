@@ -1,7 +1,8 @@
 use Rattle.std.proofs.Common.{arith}
 use Rattle.mdns_message.specs.Borrowed.{hearing_lent}
 use Rattle.mdns_cache.proofs.GatheringLemmas.{any_fit}
-use Rattle.mdns_lives.proofs.PartLemmas.{gathered_accounts, flush_gathered}
+use Rattle.mdns_lives.proofs.EachLemmas.{flushes_gathered}
+use Rattle.mdns_lives.proofs.PartLemmas.{gathered_accounts}
 use Rattle.mdns_lives.proofs.chronicle.Chronicle.hear_flush.Goals as goal
 
 pub join_near-found-requires : goal.join_near-found-requires
@@ -9,8 +10,9 @@ join_near-found-requires c = any_fit c.self.inside.flushes
 
 pub invariant_of-self : goal.invariant_of-self
 invariant_of-self c =
-    flush_gathered c.join_near-found.result c.self.inside.records c.self.inside.flushes c.self.invariant
-    (hearing_lent c.args.hearing.now) c.join_near-found.new.self c.join_near-found.ensures.ok c.join_near-found.ensures.err
+    flushes_gathered c.join_near-found.result c.self.inside.records c.self.inside.flushes c.self.invariant
+    (hearing_lent c.args.repeats.now.hearing.now) c.args.repeats.now.moments c.join_near-found.new.self
+    c.join_near-found.ensures.ok c.join_near-found.ensures.err
 
 pub returns-clause-was : goal.returns-clause-was
 returns-clause-was c = grind (arith, gathered_accounts)

@@ -1,13 +1,14 @@
 use Rattle.std.proofs.Common.{arith}
 use Rattle.mdns_message.specs.Borrowed.{hearing_lent}
-use Rattle.mdns_lives.proofs.PartLemmas.{gathered_accounts, record_gathered}
+use Rattle.mdns_lives.proofs.EachLemmas.{records_gathered}
+use Rattle.mdns_lives.proofs.PartLemmas.{gathered_accounts}
 use Rattle.mdns_lives.proofs.chronicle.Chronicle.hear_record.Goals as goal
 
 pub invariant_of-self : goal.invariant_of-self
 invariant_of-self c =
-    record_gathered c.join_near-found.result c.self.inside.records c.self.inside.flushes c.self.invariant
-    (hearing_lent c.args.hearing.now) c.join_near-found.new.self c.join_near-found.ensures.fits c.join_near-found.ensures.ok
-    c.join_near-found.ensures.err
+    records_gathered c.join_near-found.result c.self.inside.records c.self.inside.flushes c.self.invariant
+    (hearing_lent c.args.repeats.now.hearing.now) c.args.repeats.now.moments c.join_near-found.new.self
+    c.join_near-found.ensures.fits c.join_near-found.ensures.ok c.join_near-found.ensures.err
 
 pub returns-clause-was : goal.returns-clause-was
 returns-clause-was c = grind (arith, gathered_accounts)

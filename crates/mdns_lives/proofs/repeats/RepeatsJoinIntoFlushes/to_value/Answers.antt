@@ -3,4 +3,4 @@ use Rattle.mdns_join.specs.laws.Kept.{IsAscending-ascending}
 use Rattle.mdns_lives.proofs.repeats.RepeatsJoinIntoFlushes.to_value.Goals as goal
 
 pub returns-clause-valid : goal.returns-clause-valid
-returns-clause-valid c = IsAscending-ascending (nanos_of c.args.self.now.waiting.now)
+returns-clause-valid c = IsAscending-ascending (nanos_of c.args.self.now.moments)

@@ -3,4 +3,4 @@ use Rattle.mdns_lives.proofs.EachLemmas.{each_account}
 use Rattle.mdns_lives.proofs.repeats.RepeatsJoinOwnKeyAccount.join_own.Goals as goal
 
 pub returns-clause-valid : goal.returns-clause-valid
-returns-clause-valid c = each_account (hearing_lent c.args.self.now.hearing.now) c.args.self.now.waiting.now
+returns-clause-valid c = each_account (hearing_lent c.args.self.now.hearing.now) c.args.self.now.moments

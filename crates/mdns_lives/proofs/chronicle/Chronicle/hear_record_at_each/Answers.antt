@@ -1,9 +1,0 @@
-use Rattle.mdns_message.specs.Borrowed.{hearing_lent}
-use Rattle.mdns_lives.proofs.EachLemmas.{records_gathered}
-use Rattle.mdns_lives.proofs.chronicle.Chronicle.hear_record_at_each.Goals as goal
-
-pub invariant_of-self : goal.invariant_of-self
-invariant_of-self c =
-    records_gathered c.join_near-found.result c.self.inside.records c.self.inside.flushes c.self.invariant
-    (hearing_lent c.args.repeats.now.hearing.now) c.args.repeats.now.waiting.now c.join_near-found.new.self
-    c.join_near-found.ensures.fits c.join_near-found.ensures.ok c.join_near-found.ensures.err

@@ -1,7 +1,0 @@
-use Rattle.std.proofs.Common.{arith}
-use Rattle.std.proofs.lemmas.List.{map-append}
-use Rattle.mdns_lives.proofs.FlushLemmas.{ascending-both}
-use Rattle.mdns_lives.proofs.flushes.Flushes.add.Goals as goal
-
-pub returns-clause-ok : goal.returns-clause-ok
-returns-clause-ok c = grind (arith, map-append, ascending-both)
