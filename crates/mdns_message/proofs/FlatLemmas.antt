@@ -11,7 +11,6 @@ use Rattle.mdns_message.specs.declared.body.RecordData.TheVariants as body
 use Rattle.mdns_message.specs.declared.hearing.Hearing.{Hearing}
 use Rattle.mdns_message.specs.declared.flat.Span.{Span}
 use Rattle.mdns_message.specs.Flat.{FlatBody}
-use Rattle.mdns_message.specs.declared.body.RecordData.TheVariants.{A, Aaaa, Ptr, Txt, Srv}
 use Rattle.mdns_message.specs.declared.flat.FlatHearing.{FlatHearing}
 use Rattle.mdns_message.specs.FlatRecord.{HoldsName}
 use Rattle.mdns_message.specs.Flat.{AddsFlat, BodyFits, Fits, IsNameIn, IsWithin, body_in, bytes_in, hearing_in}
@@ -31,11 +30,11 @@ name_kept before bytes s b h = grind (arith, within_kept before bytes s b h.part
 
 body_kept : (before bytes : List ℕ) (flat : FlatBody) → Extends before bytes → BodyFits before flat
     → BodyFits bytes flat × (body_in bytes flat ≡ body_in before flat)
-body_kept before bytes (A address) b h = (tt, refl)
-body_kept before bytes (Aaaa address) b h = (tt, refl)
-body_kept before bytes (Ptr target) b h = (name_kept before bytes target b h, ap body.Ptr (bytes_kept before bytes target b h.part))
-body_kept before bytes (Txt strings) b h = (within_kept before bytes strings b h, ap body.Txt (bytes_kept before bytes strings b h))
-body_kept before bytes (Srv priority weight port target) b h =
+body_kept before bytes (body.A address) b h = (tt, refl)
+body_kept before bytes (body.Aaaa address) b h = (tt, refl)
+body_kept before bytes (body.Ptr target) b h = (name_kept before bytes target b h, ap body.Ptr (bytes_kept before bytes target b h.part))
+body_kept before bytes (body.Txt strings) b h = (within_kept before bytes strings b h, ap body.Txt (bytes_kept before bytes strings b h))
+body_kept before bytes (body.Srv priority weight port target) b h =
     (name_kept before bytes target b h, ap (body.Srv priority weight port) (bytes_kept before bytes target b h.part))
 
 pub fits_kept : (before bytes : List ℕ) → Extends before bytes → (h : FlatHearing) → Fits before h → Fits bytes h

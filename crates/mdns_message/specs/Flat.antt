@@ -6,7 +6,7 @@ use Rattle.mdns_message.specs.Resource.{Body, data_by}
 use Rattle.mdns_message.specs.declared.hearing.Hearing.{Hearing}
 use Rattle.mdns_message.specs.declared.flat.Span.{Span}
 use Rattle.mdns_message.specs.declared.body.RecordData.{RecordData}
-use Rattle.mdns_message.specs.declared.body.RecordData.TheVariants.{A, Aaaa, Ptr, Txt, Srv}
+use Rattle.mdns_message.specs.declared.body.RecordData.TheVariants as body
 use Rattle.mdns_message.specs.declared.flat.FlatHearing.{FlatHearing}
 use Rattle.mdns_message.specs.declared.flat.KnownName.{KnownName}
 
@@ -44,11 +44,11 @@ pub record IsNameIn (bytes : List ℕ) (span : Span) : Type 0 where
 
 -- names and texts of the data are parts of the bytes
 abbrev pub BodyFits : List ℕ → FlatBody → Type 0
-BodyFits bytes (A address) = Unit {0}
-BodyFits bytes (Aaaa address) = Unit {0}
-BodyFits bytes (Ptr target) = IsNameIn bytes target
-BodyFits bytes (Txt strings) = IsWithin bytes strings
-BodyFits bytes (Srv priority weight port target) = IsNameIn bytes target
+BodyFits bytes (body.A address) = Unit {0}
+BodyFits bytes (body.Aaaa address) = Unit {0}
+BodyFits bytes (body.Ptr target) = IsNameIn bytes target
+BodyFits bytes (body.Txt strings) = IsWithin bytes strings
+BodyFits bytes (body.Srv priority weight port target) = IsNameIn bytes target
 
 -- names and texts of the hearing are parts of the bytes
 pub record Fits (bytes : List ℕ) (h : FlatHearing) : Type 0 where

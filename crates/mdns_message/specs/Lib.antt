@@ -5,6 +5,7 @@ pub mod Flat
 pub mod FlatRecord
 pub mod Known
 pub mod Message
+pub mod Parts
 pub mod RecordAt
 pub mod Resource
 pub mod RecordSet

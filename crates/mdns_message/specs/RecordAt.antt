@@ -11,7 +11,7 @@ use Rattle.mdns_message.specs.declared.fault.MessageFault.{MessageFault}
 use Rattle.mdns_message.specs.declared.fault.MessageFault.TheVariants as fault
 use Rattle.mdns_message.specs.Fault.{HasNameFault}
 use Rattle.mdns_message.specs.declared.record_at.Section.{Section}
-use Rattle.mdns_message.specs.declared.record_at.Section.TheVariants.{Answer, Authority, Additional}
+use Rattle.mdns_message.specs.declared.record_at.Section.TheVariants.{Authority}
 use Rattle.mdns_message.specs.declared.record_type.RecordType.{RecordType}
 use Rattle.mdns_message.specs.declared.record_type.RecordType.TheVariants as kind
 use Rattle.mdns_message.specs.Resource.{Body, numbered_type}

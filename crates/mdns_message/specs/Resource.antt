@@ -78,11 +78,7 @@ data_of (body.Srv priority weight port target) = service_bytes priority weight p
 
 -- the data's bytes, a name in it folded
 abbrev pub folded_data_of : Body → List ℕ
-folded_data_of (body.A address) = address
-folded_data_of (body.Aaaa address) = address
-folded_data_of (body.Ptr target) = folded target
-folded_data_of (body.Txt strings) = strings
-folded_data_of (body.Srv priority weight port target) = service_bytes priority weight port ++ folded target
+folded_data_of b = data_of (data_by folded (λ strings. strings) b)
 
 -- the record set of an owner and a type: the folded owner and the type's number
 abbrev pub set_key_for : List ℕ → RecordType → RecordSet

@@ -68,10 +68,7 @@ impl<'a> BorrowedBody<'a> {
         ensures { OnOk result (folded.new ≡ folded_data_of (body_lent self.now)) }
     {
         match self {
-            BorrowedBody::A(address) => folded.refill(alloc, address.as_slice()),
-            BorrowedBody::Aaaa(address) => folded.refill(alloc, address.as_slice()),
             BorrowedBody::Ptr(target) => folded.refill_folded(alloc, b"", target),
-            BorrowedBody::Txt(strings) => folded.refill(alloc, strings),
             BorrowedBody::Srv {
                 priority,
                 weight,
@@ -81,6 +78,7 @@ impl<'a> BorrowedBody<'a> {
                 let head = service_bytes(*priority, *weight, *port);
                 folded.refill_folded(alloc, head.as_slice(), target)
             }
+            nameless => folded.refill(alloc, nameless.tail()),
         }
     }
 
@@ -99,7 +97,7 @@ impl<'a> BorrowedBody<'a> {
             }
             (BorrowedBody::Txt(one), BorrowedBody::Txt(other)) => same_bytes(one, other),
             (BorrowedBody::Srv { target: one, .. }, BorrowedBody::Srv { target: two, .. }) => {
-                self.service() == other.service() && same_bytes(one.wire(), two.wire())
+                self.numbers() == other.numbers() && same_bytes(one.wire(), two.wire())
             }
             _ => false,
         }
@@ -113,15 +111,15 @@ impl<'a> BorrowedBody<'a> {
         if by_number.is_ne() {
             return by_number;
         }
-        let by_service = self.service().cmp(&other.service());
-        if by_service.is_ne() {
-            return by_service;
+        let by_numbers = self.numbers().cmp(&other.numbers());
+        if by_numbers.is_ne() {
+            return by_numbers;
         }
         self.tail().cmp(&other.tail())
     }
 
     // Returns the priority, weight and port of an SRV record, and zeros for data of another type.
-    fn service(&self) -> (u16, u16, u16)
+    fn numbers(&self) -> (u16, u16, u16)
         ensures priority { result.0 ≡ priority_of (body_lent self.now) }
         ensures weight { result.1 ≡ weight_of (body_lent self.now) }
         ensures port { result.2 ≡ port_of (body_lent self.now) }

@@ -8,7 +8,7 @@ use Rattle.std.specs.declared.cmp.Ordering.{Ordering}
 use Rattle.std.specs.declared.cmp.Ordering.TheVariants.{Less, Equal, Greater}
 use Rattle.std.proofs.Common.{ap, sym, arith, ◌∙◌}
 use Rattle.mdns_message.specs.Resource.{Body, numbered_type, number_of, data_of, set_key_cmp, key_cmp, body_cmp, resource_cmp}
-use Rattle.mdns_message.specs.declared.body.RecordData.TheVariants.{A, Aaaa, Ptr, Txt, Srv}
+use Rattle.mdns_message.specs.declared.body.RecordData.TheVariants as body
 use Rattle.mdns_message.specs.declared.record_type.RecordType.{RecordType}
 use Rattle.mdns_message.specs.declared.record_type.RecordType.TheVariants as kind
 use Rattle.mdns_message.specs.declared.resource.Resource.{Resource}
@@ -63,19 +63,19 @@ word_again n = omega arith
 
 -- the data of a type with these bytes
 abbrev data_with : Option RecordType → List ℕ → Body
-data_with (Some kind.A) bytes = A bytes
-data_with (Some kind.Aaaa) bytes = Aaaa bytes
-data_with (Some kind.Ptr) bytes = Ptr bytes
-data_with (Some kind.Txt) bytes = Txt bytes
-data_with (Some kind.Srv) (a ∷ b ∷ c ∷ d ∷ e ∷ f ∷ target) = Srv (a * 256 + b) (c * 256 + d) (e * 256 + f) target
-data_with _ _ = A []
+data_with (Some kind.A) bytes = body.A bytes
+data_with (Some kind.Aaaa) bytes = body.Aaaa bytes
+data_with (Some kind.Ptr) bytes = body.Ptr bytes
+data_with (Some kind.Txt) bytes = body.Txt bytes
+data_with (Some kind.Srv) (a ∷ b ∷ c ∷ d ∷ e ∷ f ∷ target) = body.Srv (a * 256 + b) (c * 256 + d) (e * 256 + f) target
+data_with _ _ = body.A []
 
 data_again : (b : Body) → data_with (numbered_type (number_of b)) (data_of b) ≡ b
-data_again (A x) = refl
-data_again (Aaaa x) = refl
-data_again (Ptr x) = refl
-data_again (Txt x) = refl
-data_again (Srv p w q t) = λ i. Srv (word_again p i) (word_again w i) (word_again q i) t
+data_again (body.A x) = refl
+data_again (body.Aaaa x) = refl
+data_again (body.Ptr x) = refl
+data_again (body.Txt x) = refl
+data_again (body.Srv p w q t) = λ i. body.Srv (word_again p i) (word_again w i) (word_again q i) t
 
 -- data of one type with equal bytes is one value
 pub same_data : (a b : Body) → number_of a ≡ number_of b → data_of a ≡ data_of b → a ≡ b
