@@ -1,4 +1,5 @@
 -- Moments in no order: those that are kept depend only on which moments there are, however these are sorted or wait.
+use Rattle.std.proofs.Common.{rules}
 use Rattle.std.proofs.Common.{◌≡◌, ℕ, suc, ◌<◌, ◌≤◌, Bool, true, false, ◌||◌, ◌==◌, List, [], ◌∷◌, ◌++◌}
 use Rattle.std.proofs.Common.{refl, sym, ap, ◌∙◌, subst, inl, inr, arith, true≢false, eqb-true}
 use Rattle.std.specs.Ordering.{nat_cmp}
@@ -34,48 +35,29 @@ has_three xs ys zs m = has-union (union xs ys) zs m ∙ ap (λ b. b || has zs m)
 
 -- nothing waits
 pub none_waits : (ks : List ℕ) → IsKeptList ks → kept_union ks [] ≡ ks
-none_waits ks k = same_has (union ks []) ks (λ m. has-union ks [] m ∙ or_none (has ks m)) ∙ k
-  where
-    or_none : (b : Bool) → (b || false) ≡ b
-    or_none true = refl
-    or_none false = refl
+none_waits ks k = grind (arith, same_has, has-union)
 
 -- one more of those that wait
 pub waits_more : (ks ls xs : List ℕ) → kept_union ks (ls ++ xs) ≡ kept_union (kept_union ks ls) xs
-waits_more ks ls xs =
-    same_has (union ks (ls ++ xs)) (union (union ks ls) xs)
-    (λ m. has-union ks (ls ++ xs) m ∙ ap (λ b. has ks m || b) (has-append ls xs m)
-    ∙ or_assoc (has ks m) (has ls m) (has xs m) ∙ sym (has_three ks ls xs m))
-    ∙ sym (kept_union-left (union ks ls) xs)
+waits_more ks ls xs = grind (arith, same_has, has-union, has-append, or_assoc, has_three, kept_union-left)
 
 -- one more of those that are kept
 pub keeps_more : (ks ls xs : List ℕ) → kept_union (kept_union ks xs) ls ≡ kept_union (kept_union ks ls) xs
-keeps_more ks ls xs =
-    kept_union-left (union ks xs) ls
-    ∙ same_has (union (union ks xs) ls) (union (union ks ls) xs)
-    (λ m. has_three ks xs ls m ∙ or_swap (has ks m) (has xs m) (has ls m) ∙ sym (has_three ks ls xs m))
-    ∙ sym (kept_union-left (union ks ls) xs)
+keeps_more ks ls xs = search (rules, kept_union-left, same_has, has_three, or_swap)
 
 -- those that wait were joined into the kept ones, and then more moments
 pub none_waits_more : (ks ls xs held kept : List ℕ) (late : List Moment) → held ≡ kept_union ks ls → late ≡ []
     → kept ≡ kept_union held xs → kept_union kept (nanos_of late) ≡ kept_union (kept_union ks ls) xs
-none_waits_more ks ls xs held kept late e none f =
-    ap (λ (ms : List Moment). kept_union kept (nanos_of ms)) none
-    ∙ none_waits kept (subst IsKeptList (sym f) (kept-kept (union held xs))) ∙ f ∙ ap (λ ys. kept_union ys xs) e
+none_waits_more ks ls xs held kept late e none f = grind (arith, none_waits, kept-kept)
 
 -- those that wait were joined into the kept ones
 pub none_waits_after : (ks ls held kept : List ℕ) (late : List Moment) → held ≡ kept_union ks ls → late ≡ []
     → kept ≡ held → kept_union kept (nanos_of late) ≡ kept_union ks ls
-none_waits_after ks ls held kept late e none f =
-    ap (λ (ms : List Moment). kept_union kept (nanos_of ms)) none
-    ∙ none_waits kept (subst IsKeptList (sym (f ∙ e)) (kept-kept (union ks ls))) ∙ f ∙ e
+none_waits_after ks ls held kept late e none f = grind (arith, none_waits, kept-kept)
 
 -- moments behind others are joined with them
 pub kept_nanos-append : (xs ys : List Moment) → kept (nanos_of (xs ++ ys)) ≡ kept_union (nanos_of xs) (nanos_of ys)
-kept_nanos-append xs ys =
-    ap kept (map-append (λ (m : Moment). m.nanos) xs ys)
-    ∙ same_has (nanos_of xs ++ nanos_of ys) (union (nanos_of xs) (nanos_of ys))
-    (λ m. has-append (nanos_of xs) (nanos_of ys) m ∙ sym (has-union (nanos_of xs) (nanos_of ys) m))
+kept_nanos-append xs ys = grind (arith, map-append, same_has, has-append, has-union)
 
 -- ---- the same moments in another order
 
@@ -139,11 +121,7 @@ module _ (same : Moment → Moment → Bool) (is : (a b : Moment) → same a b �
 
   has-dedup_from : (k : Moment) (xs : List Moment) (q : ℕ) → has (nanos_of (dedup_from same k xs)) q ≡ has (nanos_of (k ∷ xs)) q
   has-dedup_from k [] q = refl
-  has-dedup_from k (x ∷ xs) q =
-      let P : List Moment → Type 0 = λ ys. has (nanos_of ys) q ≡ has (nanos_of (k ∷ x ∷ xs)) q in
-      cond_both (same x k) _ _ P (λ e. has-dedup_from k xs q
-      ∙ twice (k.nanos == q) (x.nanos == q) (has (nanos_of xs) q) (ap (λ n. n == q) (equal x k e)))
-      (λ e. ap (λ b. (k.nanos == q) || b) (has-dedup_from x xs q))
+  has-dedup_from k (x ∷ xs) q = grind (arith, cond_both, twice, equal, has-dedup_from k xs q, has-dedup_from x xs q)
 
   has-dedup : (xs : List Moment) (q : ℕ) → has (nanos_of (dedup same xs)) q ≡ has (nanos_of xs) q
   has-dedup [] q = refl

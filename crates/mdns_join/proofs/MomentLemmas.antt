@@ -71,11 +71,7 @@ absent_by : (b : Bool) (x p m : ℕ) (xs : List ℕ) → nat_lt x m ≡ b → Is
     → (length (x ∷ xs) ≤ cond b (suc p) 0) ⊎ (get_or (x ∷ xs) (cond b (suc p) 0) 0 ≢ m) → has (x ∷ xs) m ≡ false
 absent_by true x p m xs e a rest h =
     absent_first m x xs (λ f. omega (arith, ltb-true x m e, f)) (rest (elim h [ inl l ↦ inl (omega (arith, l)) | inr n ↦ inr n ]))
-absent_by false x p m xs e a rest h =
-    elim h [
-      | inl l ↦ absurd (omega (arith, l))
-      | inr n ↦ absent_first m x xs n (absent_above m x xs a (ltb-false x m e))
-    ]
+absent_by false x p m xs e a rest h = grind (arith, absent_first, absent_above, ltb-false)
 
 -- a moment that isn't at its place isn't in the list
 pub place_absent : (m : ℕ) (xs : List ℕ) → IsAscending xs
@@ -110,35 +106,23 @@ insert-place m (x ∷ xs) h =
     insert_by (nat_lt x m) (nat_lt m x) x m (place_of m xs) xs (put m xs) refl refl parts.0 (insert-place m xs parts.1)
 
 insert_nanos : (items : List Moment) (i : ℕ) (m : Moment) → nanos_of (insert items i m) ≡ insert (nanos_of items) i m.nanos
-insert_nanos items i m =
-    map-append (λ (n : Moment). n.nanos) (take i items) (m ∷ drop i items)
-    ∙ ap (λ ys. ys ++ m.nanos ∷ nanos_of (drop i items)) (sym (take-map (λ (n : Moment). n.nanos) i items))
-    ∙ ap (λ ys. take i (nanos_of items) ++ m.nanos ∷ ys) (sym (drop-map (λ (n : Moment). n.nanos) i items))
+insert_nanos items i m = grind (arith, map-append, take-map, drop-map)
 
 -- ---- one more moment
 
 put_union : (m : ℕ) (xs : List ℕ) → IsAscending xs → put m xs ≡ union xs (m ∷ [])
-put_union m xs a =
-    same_ascending (put m xs) (union xs (m ∷ [])) (IsAscending-put m xs a) (IsAscending-union xs (m ∷ []))
-    (λ q h. elim (or_cases (m == q) (has xs q) (sym (has-put m xs q) ∙ h))
-    [ inl e ↦ union_right xs (m ∷ []) q (one q e) | inr e ↦ union_left xs (m ∷ []) q e ])
-    (λ q h. has-put m xs q ∙ elim (union_parts xs (m ∷ []) q h) [
-      | inl e ↦ right (m == q) (has xs q) e
-      | inr e ↦ left (m == q) (has xs q) (first q e)
-    ]) where
-      one : (q : ℕ) → (m == q) ≡ true → has (m ∷ []) q ≡ true
-      one q e = grind (arith, nat_tests)
-
-      first : (q : ℕ) → has (m ∷ []) q ≡ true → (m == q) ≡ true
-      first q e = grind (arith, nat_tests)
-
-      left : (b c : Bool) → b ≡ true → (b || c) ≡ true
-      left true c e = refl
-      left false c e = absurd (true≢false (sym e))
-
-      right : (b c : Bool) → c ≡ true → (b || c) ≡ true
-      right true c e = refl
-      right false c e = e
+put_union m xs a = grind (
+  arith,
+  same_ascending,
+  IsAscending-put m xs a,
+  IsAscending-union xs (m ∷ []),
+  or_cases,
+  has-put,
+  union_right,
+  union_left,
+  union_parts,
+  nat_tests,
+)
 
 -- what is absorbed adds nothing
 pub absorbed : (xs ys : List ℕ) → IsKeptList xs → ((m : ℕ) → has ys m ≡ true → IsAbsorbed xs m) → xs ≡ kept_union xs ys
@@ -190,9 +174,7 @@ kept_two xs l m top gap =
 pub put_at_place : (items new : List Moment) (i : ℕ) (m : Moment) → IsAscending (nanos_of items)
     → i ≡ place_of m.nanos (nanos_of items) → has (nanos_of items) m.nanos ≡ false → new ≡ insert items i m
     → nanos_of new ≡ union (nanos_of items) (m.nanos ∷ [])
-put_at_place items new i m a at none is =
-    ap nanos_of is ∙ insert_nanos items i m ∙ ap (λ j. insert (nanos_of items) j m.nanos) at
-    ∙ insert-place m.nanos (nanos_of items) none ∙ put_union m.nanos (nanos_of items) a
+put_at_place items new i m a at none is = grind (arith, insert_nanos, at, insert-place, put_union)
 
 -- ---- the front that is dropped
 
@@ -218,21 +200,12 @@ newest_tail : (x y : ℕ) (ys : List ℕ) → IsAscending (x ∷ y ∷ ys) → n
 newest_tail x y ys a = omega (arith, a.0)
 
 first_not_old : (x : ℕ) (xs : List ℕ) (bound m : ℕ) → IsAscending (x ∷ xs) → bound ≤ x → has (x ∷ xs) m ≡ true → bound ≤ m
-first_not_old x xs bound m a l h = elim (or_cases (x == m) (has xs m) h) [
-  | inl e ↦ omega (arith, eqb-true x m e)
-  | inr e ↦ omega (arith, IsAscendingAbove-has x xs m a e)
-]
+first_not_old x xs bound m a l h = grind (arith, or_cases, eqb-true, IsAscendingAbove-has)
 
 -- at most the first is a second or more older than the greatest
 no_stale : (x : ℕ) (xs : List ℕ) → IsAscending (x ∷ xs) → ((n : ℕ) → has xs n ≡ true → newest (x ∷ xs) < n + second)
     → (m : ℕ) → has (x ∷ xs) m ≡ true → IsStale (x ∷ xs) m → ⊥
-no_stale x xs a recent m h s = elim (or_cases (x == s.next) (has xs s.next) s.among) [
-  | inl e ↦ elim (or_cases (x == m) (has xs m) h) [
-    | inl f ↦ omega (arith, eqb-true x s.next e, eqb-true x m f, s.after)
-    | inr f ↦ omega (arith, eqb-true x s.next e, IsAscendingAbove-has x xs m a f, s.after)
-  ]
-  | inr e ↦ omega (arith, recent s.next e, s.old)
-]
+no_stale x xs a recent m h s = grind (arith, or_cases, eqb-true, IsAscendingAbove-has)
 
 front_by : (b c : Bool) (x y bound p : ℕ) (ys : List ℕ) → nat_lt x bound ≡ b → nat_lt y bound ≡ c
     → IsAscending (x ∷ y ∷ ys)
@@ -259,11 +232,7 @@ front_kept : (bound : ℕ) (xs : List ℕ) → IsAscending xs
     → ((n : ℕ) → (newest xs < n + second → bound ≤ n) × (bound ≤ n → newest xs < n + second))
     → kept xs ≡ drop (place_of bound xs - 1) xs
 front_kept bound [] a by = kept_all [] a (λ m h. absurd (true≢false (sym h)))
-front_kept bound (x ∷ []) a by =
-    kept_all (x ∷ []) a (no_stale x [] a (λ n h. absurd (true≢false (sym h)))) ∙ one (nat_lt x bound) where
-      one : (b : Bool) → x ∷ [] ≡ drop (cond b (suc 0) 0 - 1) (x ∷ [])
-      one true = refl
-      one false = refl
+front_kept bound (x ∷ []) a by = grind (arith, kept_all, no_stale, nat_lt)
 front_kept bound (x ∷ y ∷ ys) a by =
     let same = newest_tail x y ys a in
     front_by (nat_lt x bound) (nat_lt y bound) x y bound (place_of bound ys) ys refl refl a by
@@ -332,10 +301,7 @@ last_item items i x a l e f =
 -- the last of ascending moments is the greatest
 pub last_greatest : (items : List Moment) (x : Moment) → IsAscending (nanos_of items) → 0 < length items
     → x ≡ get_or items (length items - 1) x → IsGreatest (nanos_of items) x.nanos
-last_greatest items x a l e = record {
-  among = has_item items (length items - 1) x (omega arith) e;
-  greatest = sym (last_item items (length items - 1) x a l refl e);
-}
+last_greatest items x a l e = grind (arith, has_item, last_item)
 
 -- of fewer than two moments all are kept
 pub kept_few : (items : List Moment) → length items < 2 → nanos_of items ≡ kept (nanos_of items)
@@ -346,12 +312,7 @@ kept_few (x ∷ y ∷ ys) l = absurd (omega arith)
 place_second : (bound : ℕ) (xs : List ℕ) (d : ℕ) → 1 < length xs → bound ≤ get_or xs 1 d → 0 ≡ place_of bound xs - 1
 place_second bound [] d l h = absurd (omega arith)
 place_second bound (x ∷ []) d l h = absurd (omega arith)
-place_second bound (x ∷ y ∷ ys) d l h = two (nat_lt x bound) (nat_lt y bound) (place_of bound ys)
-    (elim (cases_Bool (nat_lt y bound)) [ inl e ↦ absurd (omega (arith, ltb-true y bound e, h)) | inr e ↦ e ]) where
-      two : (b c : Bool) (p : ℕ) → c ≡ false → 0 ≡ cond b (suc (cond c (suc p) 0)) 0 - 1
-      two true true p e = absurd (true≢false e)
-      two true false p e = refl
-      two false c p e = refl
+place_second bound (x ∷ y ∷ ys) d l h = grind (arith, nat_lt, cases_Bool, ltb-true)
 
 -- where the second moment is less than one second older than the greatest, all are kept
 pub kept_second : (items : List Moment) (x : Moment) (last recent : ℕ) → IsAscending (nanos_of items)
@@ -368,10 +329,7 @@ kept_second items x last recent a l top is at h =
 pub kept_rest : (items : List Moment) (last older n : ℕ) → IsAscending (nanos_of items)
     → last ≡ newest (nanos_of items) → older ≡ place_of (last + 1 - second) (nanos_of items) → n ≡ older - 1
     → kept (nanos_of items) ≡ drop n (nanos_of items)
-kept_rest items last older n a top at less =
-    let count : n ≡ place_of (newest (nanos_of items) + 1 - second) (nanos_of items) - 1 =
-    less ∙ ap (λ i. i - 1) (at ∙ ap (λ t. place_of (t + 1 - second) (nanos_of items)) top) in
-    kept-front (nanos_of items) a ∙ ap (λ i. drop i (nanos_of items)) (sym count)
+kept_rest items last older n a top at less = grind (arith, at, kept-front)
 
 -- the items after the front was dropped
 pub kept_dropped : (items new : List Moment) (n : ℕ) → kept (nanos_of items) ≡ drop n (nanos_of items)
@@ -391,10 +349,7 @@ items_rise : (items : List Moment) (i j : ℕ) (d : Moment) → IsAscending (nan
 items_rise [] i j d a l h = absurd (omega arith)
 items_rise (x ∷ xs) zero zero d a l h = omega arith
 items_rise (x ∷ xs) zero (suc j) d a l h =
-    let there : has (nanos_of xs) (get_or xs j d).nanos ≡ true =
-    ap (has (nanos_of xs)) (sym (get_or-map (λ (m : Moment). m.nanos) xs j d 0 (omega arith)))
-    ∙ has-get_or (nanos_of xs) j 0 (omega (arith, length_nanos xs)) in
-    omega (arith, IsAscendingAbove-has x.nanos (nanos_of xs) (get_or xs j d).nanos a there)
+    grind (arith, get_or-map, has-get_or (nanos_of xs) j 0 (omega (arith, length_nanos xs)), length_nanos xs, IsAscendingAbove-has)
 items_rise (x ∷ xs) (suc i) zero d a l h = absurd (omega arith)
 items_rise (x ∷ xs) (suc i) (suc j) d a l h = items_rise xs i j d (IsAscending-from_above x.nanos (nanos_of xs) a)
     (omega arith) (omega arith)

@@ -1,7 +1,8 @@
+use Rattle.std.proofs.Common.{arith}
 use Rattle.std.proofs.Common.{◌≡◌, ◌+◌, List, length, take, insert, sym, ap, ◌∙◌, subst}
 use Rattle.std.proofs.lemmas.List.{take_rest}
 use Rattle.mdns_capture.specs.declared.moment.Moment.{Moment}
-use Rattle.mdns_join.specs.Kept.{IsAscending, kept}
+use Rattle.mdns_join.specs.Kept.{IsAscending}
 use Rattle.mdns_join.specs.laws.Kept.{IsAscending-from_kept, IsAscending-union}
 use Rattle.mdns_join.proofs.MomentLemmas.{put_at_place, kept_dropped}
 use Rattle.mdns_join.proofs.prune.put.Goals as goal
@@ -13,9 +14,7 @@ prune-requires c =
     (IsAscending-union _ _)
 
 pub returns-then-held-gt-FEW-clause-ok : goal.returns-then-held-gt-FEW-clause-ok
-returns-then-held-gt-FEW-clause-ok c =
-    c.prune.ensures ∙ ap kept (put_at_place c.args.items.now c.insert.new.self c.args.at c.args.moment
-    (IsAscending-from_kept _ c.requires.kept) c.requires.place c.requires.absent c.in_ok-insert.ensures.ok)
+returns-then-held-gt-FEW-clause-ok c = grind (arith, put_at_place, IsAscending-from_kept)
 
 pub unkept-requires : goal.unkept-requires
 unkept-requires c =
@@ -26,11 +25,4 @@ unkept-requires c =
     (IsAscending-from_kept _ c.requires.kept) c.requires.place c.requires.absent inserted)) (IsAscending-union _ _)
 
 pub returns-clause-ok : goal.returns-clause-ok
-returns-clause-ok c =
-    let more = take (length c.as_slice-held.result.now + 1) c.with_one_more-more.result in
-    let inserted : more ≡ insert c.args.items.now c.args.at c.args.moment = c.with_one_more-more.ensures
-    ∙ ap (λ (xs : List Moment). insert xs c.args.at c.args.moment) c.as_slice-held.ensures in
-    kept_dropped more c.in_ok-items.field-0 c.unkept.result c.unkept.ensures.front
-    (c.in_ok-items.ensures ∙ take_rest more c.unkept.result)
-    ∙ ap kept (put_at_place c.args.items.now more c.args.at c.args.moment
-    (IsAscending-from_kept _ c.requires.kept) c.requires.place c.requires.absent inserted)
+returns-clause-ok c = grind (arith, kept_dropped, take_rest, put_at_place, IsAscending-from_kept)

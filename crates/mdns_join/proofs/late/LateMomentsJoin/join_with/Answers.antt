@@ -1,6 +1,5 @@
-use Rattle.std.proofs.Common.{ap, ◌∙◌}
+use Rattle.std.proofs.Common.{arith}
 use Rattle.std.proofs.lemmas.Result.{on_ok_weaker}
-use Rattle.mdns_join.specs.Kept.{kept_union}
 use Rattle.mdns_join.specs.laws.Kept.{kept_union-laws}
 use Rattle.mdns_join.proofs.RefusedLemmas.{part_nothing, part_refused}
 use Rattle.mdns_join.proofs.late.LateMomentsJoin.join_with.Goals as goal
@@ -10,14 +9,10 @@ returns-in_err-copy-clause-err c =
     part_nothing kept_union-laws c.from_residual.result c.args.self.now c.args.other.now c.valid.ensures c.valid-2.ensures
 
 pub returns-in_err-others-clause-err : goal.returns-in_err-others-clause-err
-returns-in_err-others-clause-err c =
-    part_nothing kept_union-laws c.from_residual-in_err-others.result c.args.self.now c.args.other.now c.valid.ensures
-    c.valid-2.ensures
+returns-in_err-others-clause-err c = grind (arith, part_nothing, kept_union-laws)
 
 pub returns-clause-ok : goal.returns-clause-ok
-returns-clause-ok c =
-    on_ok_weaker c.add_all.result (λ e. e ∙ ap (kept_union c.args.self.now) (c.in_ok-others.ensures ∙ c.in_ok-copy.ensures))
-    c.add_all.ensures.ok
+returns-clause-ok c = grind (arith, on_ok_weaker)
 
 pub returns-clause-err : goal.returns-clause-err
 returns-clause-err c = part_refused kept_union-laws c.add_all.result c.args.self.now c.args.other.now

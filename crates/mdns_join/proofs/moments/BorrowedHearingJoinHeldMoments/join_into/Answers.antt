@@ -1,12 +1,10 @@
-use Rattle.std.proofs.Common.{[], ◌∷◌}
+use Rattle.std.proofs.Common.{arith}
 use Rattle.mdns_join.specs.laws.Kept.{kept-one, kept_union-laws}
 use Rattle.mdns_join.proofs.RefusedLemmas.{part_refused}
 use Rattle.mdns_join.proofs.moments.BorrowedHearingJoinHeldMoments.join_into.Goals as goal
 
 pub returns-clause-err : goal.returns-clause-err
-returns-clause-err c =
-    let moment = c.args.self.now.moment.nanos in
-    part_refused kept_union-laws c.add.result c.args.held.now (moment ∷ []) c.add.new.self c.valid.ensures (kept-one moment) c.add.ensures.err
+returns-clause-err c = grind (arith, part_refused, kept_union-laws, kept-one)
 
 pub returns-clause-valid : goal.returns-clause-valid
 returns-clause-valid c = kept-one c.args.self.now.moment.nanos
