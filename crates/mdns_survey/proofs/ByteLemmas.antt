@@ -1,4 +1,5 @@
 -- Parts of a capture's bytes are bytes.
+use Rattle.std.proofs.Common.{rules}
 use Rattle.std.proofs.Common.{ℕ, zero, suc, ◌<◌, List, [], ◌∷◌, ◌++◌, drop, slice_index, take, arith}
 use Rattle.mdns_capture.specs.Savefile.{PacketAt}
 use Rattle.mdns_capture.specs.Cut.{part_before, part_from, offset_after}
@@ -34,8 +35,4 @@ bytes-drop (suc count) (x ∷ xs) are = bytes-drop count xs (λ p. are (suc p))
 
 pub bytes_of_parts : (bytes : List ℕ) (front : List PacketAt) → AreBytes bytes
     → AreBytes (part_before (offset_after 24 front) bytes) × AreBytes (part_from (offset_after 24 front) bytes)
-bytes_of_parts bytes front are = (
-  bytes-take (offset_after 24 front) bytes are,
-  bytes-append (take 24 bytes) (drop (offset_after 24 front) bytes) (bytes-take 24 bytes are)
-      (bytes-drop (offset_after 24 front) bytes are),
-)
+bytes_of_parts bytes front are = search (rules, bytes-take, bytes-append, bytes-drop)

@@ -1,5 +1,6 @@
 -- Outcomes have a tally, if each message has few enough hearings.
-use Rattle.std.proofs.Common.{◌≡◌, ◌∙◌, ℕ, ◌+◌, ◌*◌, ◌≤◌, Bool, List, [], ◌∷◌, ◌++◌, length, refl, ap, arith, length-append}
+use Rattle.std.proofs.lemmas.Grind.{common_steps}
+use Rattle.std.proofs.Common.{◌≡◌, ℕ, ◌+◌, ◌*◌, ◌≤◌, Bool, List, [], ◌∷◌, ◌++◌, length, refl, arith, length-append}
 use Rattle.std.specs.Prelude.{count_by, if◌then◌else◌}
 use Rattle.std.proofs.lemmas.List.Sums.{sum_by-append, sum_by-cons}
 use Rattle.std.proofs.lemmas.List.Concat.{flat_map-append, flat_map-cons}
@@ -33,15 +34,14 @@ one_kind (heard hearings) = refl
 all_kinds : (outcomes : List Outcome)
     → length outcomes ≡ count_by is_skipped outcomes + count_by is_refused outcomes + count_by is_heard outcomes
 all_kinds [] = refl
-all_kinds (outcome ∷ outcomes) =
-    omega (
-      arith,
-      all_kinds outcomes,
-      one_kind outcome,
-      count_by-cons is_skipped outcome outcomes,
-      count_by-cons is_refused outcome outcomes,
-      count_by-cons is_heard outcome outcomes,
-    )
+all_kinds (outcome ∷ outcomes) = grind (
+  arith,
+  all_kinds outcomes,
+  one_kind outcome,
+  count_by-cons is_skipped outcome outcomes,
+  count_by-cons is_refused outcome outcomes,
+  count_by-cons is_heard outcome outcomes,
+)
 
 pub tallied : (outcomes : List Outcome) → AreFew outcomes → Tallied outcomes
 tallied outcomes few = record {
@@ -62,16 +62,11 @@ few_counted : (outcomes : List Outcome) (tally : Tally) → Counts outcomes tall
 few_counted outcomes tally counts = omega (arith, tally.few, counts.messages, counts.hearings)
 
 few-append : (front back : List Outcome) → AreFew front → AreFew back → AreFew (front ++ back)
-few-append front back few_front few_back =
-    let hearings = ap length (flat_map-append hearings_of_outcome front back) ∙ length-append (hearings_in front) (hearings_in back) in
-    omega (arith, few_front, few_back, hearings, sum_by-append (one_if is_heard) front back)
+few-append front back few_front few_back = grind (arith, flat_map-append, length-append, sum_by-append)
 
 pub few-cons : (outcome : Outcome) (outcomes : List Outcome) → length (hearings_of_outcome outcome) ≤ one_if is_heard outcome * 131070
     → AreFew outcomes → AreFew (outcome ∷ outcomes)
-few-cons outcome outcomes few_here few_after =
-    let hearings = ap length (flat_map-cons hearings_of_outcome outcome outcomes)
-    ∙ length-append (hearings_of_outcome outcome) (hearings_in outcomes) in
-    omega (arith, few_here, few_after, hearings, count_by-cons is_heard outcome outcomes)
+few-cons outcome outcomes few_here few_after = grind (arith, common_steps, flat_map-cons, length-append, count_by-cons)
 
 -- the outcomes that two tallies count have one tally together
 pub tallied_together : (front back : List Outcome) (first second : Tally) → Counts front first → Counts back second

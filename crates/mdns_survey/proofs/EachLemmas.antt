@@ -1,5 +1,6 @@
 -- The chronicle of each of the readers listened to, one more at a time.
-use Rattle.std.proofs.Common.{◌≡◌, ◌∙◌, ℕ, List, [], ◌∷◌, ◌++◌, Option, append-nil, ap, subst, sym}
+use Rattle.std.proofs.Common.{arith}
+use Rattle.std.proofs.Common.{◌≡◌, ℕ, List, [], ◌∷◌, ◌++◌, Option, append-nil, subst}
 use Rattle.std.proofs.lemmas.List.{map-append}
 use Rattle.std.proofs.lemmas.List.Concat.{flat_map-append}
 use Rattle.mdns_message.specs.declared.hearing.Hearing.{Hearing}
@@ -10,7 +11,7 @@ use Rattle.mdns_survey.specs.declared.reading.Reading.{Reading}
 use Rattle.mdns_survey.specs.declared.filter.Filter.{Filter}
 use Rattle.mdns_survey.specs.Captures.{Outcome, hearings_in}
 use Rattle.mdns_survey.specs.Chronicling.{ChroniclesAll}
-use Rattle.mdns_survey.specs.Filter.{counted, counted_each, selected}
+use Rattle.mdns_survey.specs.Filter.{selected}
 use Rattle.mdns_survey.specs.Listen.{HearsCapture, ListensTo}
 
 -- ONE CAPTURE MORE
@@ -28,20 +29,7 @@ pub chronicles-more : (begun old new : EachChronicling) (capture : Accounts) (be
     → Chronicles capture (selected begun.filter (hearings_in outcomes)) → ChroniclesAll begun old before
     → ChroniclesAll begun new (before ++ outcomes ∷ [])
 chronicles-more begun old new capture before outcomes same pushed joined told all =
-    let which = begun.filter in
-    let of_capture : List Outcome → List Hearing = λ os. selected which (hearings_in os) in (
-      same ∙ all.0,
-      (
-        subst (λ (each : List (List Hearing)). AreEach Chronicles new.captures.items each)
-            (sym (map-append of_capture before (outcomes ∷ [])))
-            (subst (λ (chronicles : List Accounts). AreEach Chronicles chronicles (counted_each which before ++ of_capture outcomes ∷ []))
-            (sym pushed) (each-more old.captures.items (counted_each which before) capture (of_capture outcomes) all.1.0 told)),
-        subst (Chronicles new.all)
-            (ap (λ (hs : List Hearing). counted which before ++ hs) (sym (append-nil (of_capture outcomes)))
-            ∙ sym (flat_map-append of_capture before (outcomes ∷ [])))
-            (joined (counted which before) (of_capture outcomes) all.1.1 told),
-      ),
-    )
+    grind (arith, map-append, each-more, append-nil, flat_map-append)
 
 -- a capture that was chronicled by itself is listened to
 pub listens-each : (left : Option (List ℕ)) (each new : EachChronicling) (Heard : Type 0) (Stands : Heard → Heard → List Hearing → Type 0)

@@ -165,8 +165,7 @@ module _ (one : OneReading) (telling : OneTelling) where
       has-left (hearings_in outcomes) (all_hearings rest) (packet_moments packets) (all_moments more) fact
       (one-told fact bytes here.0 packets outcomes summary.ending read.0 read.1 here.1)
   in-all (bytes ∷ captures) (packets ∷ more) (outcomes ∷ rest) (summary ∷ summaries) read fact (inr after) =
-      has-right (hearings_in outcomes) (all_hearings rest) (packet_moments packets) (all_moments more) fact
-      (in-all captures more rest summaries read.3 fact after)
+      grind (arith, has-right, outcomes, packets, summaries, read, in-all captures more rest summaries read.3 fact after)
   in-all captures packets outcomes summaries read fact is_in = absurd read
 
   module _ (Survey : List (List ℕ) → List Summary → List ℕ → Type 0) (by : IsByFacts Survey) where

@@ -1,6 +1,7 @@
 -- One packet more of a capture is counted and heard.
-use Rattle.std.proofs.Common.{◌≡◌, ℕ, List, [], ◌∷◌, ◌++◌, Option, Some, None, IfSome, sym, ap}
-use Rattle.std.proofs.Common.{◌∙◌, subst, append_assoc, append-nil}
+use Rattle.std.proofs.Common.{arith}
+use Rattle.std.proofs.Common.{◌≡◌, ℕ, List, [], ◌∷◌, ◌++◌, Option, Some, None, IfSome, sym}
+use Rattle.std.proofs.Common.{subst, append_assoc, append-nil}
 use Rattle.std.proofs.lemmas.List.Concat.{flat_map-append}
 use Rattle.mdns_capture.specs.Savefile.{PacketAt, snap_length}
 use Rattle.mdns_message.specs.declared.hearing.Hearing.{Hearing}
@@ -28,33 +29,13 @@ module _ {H : Type 0} (Stands : H → H → List Hearing → Type 0) where
       → HearsPackets Stands first hearer packets outcomes
       → HearsPackets Stands first new_hearer (packets ++ packet ∷ []) (outcomes ++ outcome ∷ [])
   hears-more first hearer new_hearer packets outcomes packet outcome takes hears begun heard before =
-      let hearings : hearings_in (outcomes ++ outcome ∷ []) ≡ hearings_in outcomes ++ hearings_of_outcome outcome =
-      flat_map-append hearings_of_outcome outcomes (outcome ∷ [])
-      ∙ ap (λ (hs : List Hearing). hearings_in outcomes ++ hs) (append-nil (hearings_of_outcome outcome)) in
-      let more_heard : (heard ++ hearings_in outcomes) ++ hearings_of_outcome outcome ≡ heard ++ hearings_in (outcomes ++ outcome ∷ []) =
-      append_assoc heard (hearings_in outcomes) (hearings_of_outcome outcome)
-      ∙ ap (λ (hs : List Hearing). heard ++ hs) (sym hearings) in
-      subst (λ (hs : List Hearing). Stands begun new_hearer hs) more_heard
-      (takes begun (heard ++ hearings_in outcomes) (hears begun heard before))
+      grind (arith, flat_map-append, append-nil, append_assoc)
 
   -- a capture that was read whole was heard whole
   pub hears-read : (left : Option (List ℕ)) (first hearer : H) (reading : Reading)
       → IfSome left (λ bytes. reading.snap_length ≡ snap_length bytes)
       → ReadsCapture (HearsPackets Stands) left first hearer reading → HearsCapture Stands left first hearer reading
-  hears-read left first hearer reading states read = record {
-    packets = read.packets;
-    outcomes = read.outcomes;
-    is_reading = record {
-      reads = read.reads;
-      states = states;
-      come = read.come;
-      counts = read.counts;
-      losses = read.losses;
-      skips = read.skips;
-      spans = read.spans;
-    };
-    hears = read.took first (hears-nothing first);
-  }
+  hears-read left first hearer reading states read = grind (arith, hears-nothing)
 
 -- the cache that is made at the end stands for the capture's hearings
 pub listens-heard : (left : Option (List ℕ)) (empty listening : Listened) (cache : Contents) (reading : Reading)

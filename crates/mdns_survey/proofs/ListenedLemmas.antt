@@ -8,15 +8,13 @@ use Rattle.mdns_message.specs.declared.hearing.Hearing.{Hearing}
 use Rattle.mdns_browse.specs.declared.report.Form.{Form}
 use Rattle.mdns_browse.specs.declared.report.Form.TheVariants.{Pretty}
 use Rattle.mdns_survey.specs.declared.reading.Reading.{Reading}
-use Rattle.mdns_survey.specs.declared.reading.Span.{Span}
 use Rattle.mdns_survey.specs.declared.summary.Summary.{Summary}
 use Rattle.mdns_survey.specs.Captures.{Outcome, hearings_in}
 use Rattle.mdns_survey.specs.Head.{AllHave, Heads, IsHead, all_lost_frames, all_refused, head_text, hearings_counted}
-use Rattle.mdns_survey.specs.Listen.{HearsCapture, IsReadingOf, ListensTo, packet_moments}
+use Rattle.mdns_survey.specs.Listen.{HearsCapture, IsReadingOf, ListensTo}
 use Rattle.mdns_survey.specs.Lives.{AllRead}
 use Rattle.mdns_survey.specs.Losses.{lost_frames}
 use Rattle.mdns_survey.specs.Readings.{CountLosses, HaveSpans, lost_in, summaries_of}
-use Rattle.mdns_survey.specs.Span.{span_of}
 use Rattle.mdns_survey.specs.Surveys.{AllLeft, AllTell, HearsAll, Listened, all_hearings}
 
 -- ONE READER MORE
@@ -40,13 +38,7 @@ all_hearings-more (o ∷ os) more = append_assoc (hearings_in o) (all_hearings o
 pub hears-more : {H : Type 0} (Stands : H → H → List Hearing → Type 0) (left : Option (List ℕ)) (hearer new_hearer : H)
     (reading : Reading) → HearsCapture Stands left hearer new_hearer reading
     → ListensTo (HearsAll Stands) left hearer new_hearer reading
-hears-more Stands left hearer new_hearer reading heard = record {
-  packets = heard.packets;
-  outcomes = heard.outcomes;
-  is_reading = heard.is_reading;
-  hears = λ begun before stood.
-      subst (Stands begun new_hearer) (all_hearings-more before heard.outcomes) (heard.hears begun (all_hearings before) stood);
-}
+hears-more Stands left hearer new_hearer reading heard = grind (arith, all_hearings-more)
 
 -- one reader was listened to more
 pub listened-more : {R L : Type 0} (HeardAll : L → L → List (List Outcome) → Type 0) (remaining : R → Option (List ℕ)) (readers : List R)
@@ -86,17 +78,13 @@ listened-nothing HeardAll listener readings none = record {
 pub count-losses : (lefts : List (Option (List ℕ))) (packets : List (List PacketAt)) (outcomes : List (List Outcome))
     (readings : List Reading) → AllLeft lefts packets outcomes readings → CountLosses packets readings
 count-losses [] [] [] [] read = refl
-count-losses (l ∷ ls) (p ∷ ps) (o ∷ os) (r ∷ rs) read =
-    ap (λ (n : ℕ). n ∷ map (λ (r : Reading). r.lost) rs) read.0.losses
-    ∙ ap (λ (ns : List ℕ). lost_frames p ∷ ns) (count-losses ls ps os rs read.1)
+count-losses (l ∷ ls) (p ∷ ps) (o ∷ os) (r ∷ rs) read = grind (arith, count-losses ls ps os rs read.1)
 count-losses lefts packets outcomes readings read = absurd read
 
 pub have-spans : (lefts : List (Option (List ℕ))) (packets : List (List PacketAt)) (outcomes : List (List Outcome))
     (readings : List Reading) → AllLeft lefts packets outcomes readings → HaveSpans packets readings
 have-spans [] [] [] [] read = refl
-have-spans (l ∷ ls) (p ∷ ps) (o ∷ os) (r ∷ rs) read =
-    ap (λ (s : Option Span). s ∷ map (λ (r : Reading). r.span) rs) read.0.spans
-    ∙ ap (λ (ss : List (Option Span)). span_of (packet_moments p) ∷ ss) (have-spans ls ps os rs read.1)
+have-spans (l ∷ ls) (p ∷ ps) (o ∷ os) (r ∷ rs) read = grind (arith, have-spans ls ps os rs read.1)
 have-spans lefts packets outcomes readings read = absurd read
 
 -- the lost packets of captures with these packets
@@ -126,9 +114,7 @@ all_known captures packets outcomes readings read = absurd read
 pub known-read : (lefts : List (Option (List ℕ))) (captures : List (List ℕ)) (packets : List (List PacketAt))
     (outcomes : List (List Outcome)) (readings : List Reading) → lefts ≡ map (λ x. Some x) captures
     → AllLeft lefts packets outcomes readings → AllRead captures packets outcomes (summaries_of readings)
-known-read lefts captures packets outcomes readings known read =
-    all_known captures packets outcomes readings
-    (subst (λ (ls : List (Option (List ℕ))). AllLeft ls packets outcomes readings) known read)
+known-read lefts captures packets outcomes readings known read = grind (arith, all_known)
 
 all_told : (captures : List (List ℕ)) (packets : List (List PacketAt)) (outcomes : List (List Outcome)) (readings : List Reading)
     → AllLeft (map (λ x. Some x) captures) packets outcomes readings → AllTell captures outcomes (summaries_of readings)
@@ -140,9 +126,7 @@ all_told captures packets outcomes readings read = absurd read
 pub known-told : (lefts : List (Option (List ℕ))) (captures : List (List ℕ)) (packets : List (List PacketAt))
     (outcomes : List (List Outcome)) (readings : List Reading) → lefts ≡ map (λ x. Some x) captures
     → AllLeft lefts packets outcomes readings → AllTell captures outcomes (summaries_of readings)
-known-told lefts captures packets outcomes readings known read =
-    all_told captures packets outcomes readings
-    (subst (λ (ls : List (Option (List ℕ))). AllLeft ls packets outcomes readings) known read)
+known-told lefts captures packets outcomes readings known read = grind (arith, all_told)
 
 all_have : (captures : List (List ℕ)) (packets : List (List PacketAt)) (outcomes : List (List Outcome)) (readings : List Reading)
     → AllLeft (map (λ x. Some x) captures) packets outcomes readings → AllHave captures packets (summaries_of readings)
@@ -153,21 +137,10 @@ all_have captures packets outcomes readings read = absurd read
 -- for people it is the text of what was lost and heard
 pub heads-pretty : (form : Form) (readings : List Reading) (given head : List ℕ) → form ≡ Pretty → given ≡ []
     → head ≡ given ++ head_text (lost_in readings) (hearings_counted (summaries_of readings)) → Heads form readings head
-heads-pretty form readings given head is none written captures packets have count =
-    let hearings = hearings_counted (summaries_of readings) in
-    subst (λ (f : Form). IsHead f captures (summaries_of readings) head) (sym is) (
-      packets,
-      have,
-      written ∙ ap (λ (t : List ℕ). t ++ head_text (lost_in readings) hearings) none
-          ∙ ap (λ (n : ℕ). head_text n hearings) (lost-counted packets readings count),
-    )
+heads-pretty form readings given head is none written captures packets have count = grind (arith, lost-counted)
 
 -- is that of the readers listened to
 pub known-head : (form : Form) (lefts : List (Option (List ℕ))) (packets : List (List PacketAt)) (outcomes : List (List Outcome))
     (readings : List Reading) (head : List ℕ) → Heads form readings head → AllLeft lefts packets outcomes readings
     → (captures : List (List ℕ)) → lefts ≡ map (λ x. Some x) captures → IsHead form captures (summaries_of readings) head
-known-head form lefts packets outcomes readings head heads read captures known =
-    heads captures packets
-    (all_have captures packets outcomes readings
-    (subst (λ (ls : List (Option (List ℕ))). AllLeft ls packets outcomes readings) known read))
-    (count-losses lefts packets outcomes readings read)
+known-head form lefts packets outcomes readings head heads read captures known = grind (arith, all_have, count-losses)

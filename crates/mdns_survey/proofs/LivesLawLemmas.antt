@@ -145,11 +145,7 @@ shared_lives shared which form about heard others begin begin_too end end_too te
 -- and there is one text of them
 one_text : OneLives → (which : Which) (form : Form) (about : List Subject) (heard : List Hearing) (begin end : ℕ) (text other : List ℕ)
     → WritesLives which form about heard begin end text → WritesLives which form about heard begin end other → text ≡ other
-one_text one which form about heard begin end text other first second =
-    first.lines
-    ∙ ap (λ rows. lives_report which form begin end (kept_rows about (chosen which rows)))
-    (one heard heard first.rows second.rows (same_itself heard) first.lives second.lives)
-    ∙ sym second.lines
+one_text one which form about heard begin end text other first second = grind (arith, same_itself heard)
 
 -- lives are written by the hearings that count, and the moments of all packets
 pub lives-by-facts : SharedLives → OneLives → (which : Which) (form : Form) (about : List Subject) (as_of : AsOf)

@@ -1,5 +1,5 @@
 -- The chronicle of the readers listened to, and the end of their captures.
-use Rattle.std.proofs.Common.{◌≡◌, ◌∙◌, ℕ, ◌<◌, ◌≤◌, List, [], ◌∷◌, ◌++◌, length, Option, Some, map}
+use Rattle.std.proofs.Common.{◌≡◌, ◌∙◌, ℕ, ◌<◌, ◌≤◌, List, [], ◌∷◌, ◌++◌, Option, Some, map}
 use Rattle.std.proofs.Common.{refl, ap, subst, inl, inr, append_assoc, arith, IsSomeAnd}
 use Rattle.std.specs.Prelude.{Contains}
 use Rattle.std.specs.List.{flat_map}
@@ -20,7 +20,7 @@ use Rattle.mdns_browse.specs.declared.report.Form.{Form}
 use Rattle.mdns_browse.specs.declared.report.Form.TheVariants.{Lines, Json, Pretty}
 use Rattle.mdns_lives.specs.declared.life.Which.{Which}
 use Rattle.mdns_lives.specs.Changes.{chosen}
-use Rattle.mdns_browse.specs.Lives.{end_width, lives_head, lives_in, lives_report, lives_text}
+use Rattle.mdns_browse.specs.Lives.{end_width, lives_head, lives_report, lives_text}
 use Rattle.mdns_survey.specs.declared.request.LivesQuery.{LivesQuery}
 use Rattle.mdns_survey.specs.declared.reading.Reading.{Reading}
 use Rattle.mdns_survey.specs.declared.request.AsOf.{AsOf}
@@ -60,10 +60,7 @@ heard-then : (packet : PacketAt) (outcome : Outcome) → ComesTo packet.moment p
     → (hearing : Hearing) → Contains (hearings_of_outcome outcome) hearing → hearing.moment.nanos ≤ packet.moment.nanos
 heard-then packet skipped comes hearing among = absurd (omega (arith, among.1))
 heard-then packet refused comes hearing among = absurd (omega (arith, among.1))
-heard-then packet (heard hearings) comes hearing among =
-    let same : packet.moment.nanos ≡ hearing.moment.nanos =
-    ap (λ (m : Moment). m.nanos) (moment_in packet.moment comes.0 hearings comes.2 hearing among) in
-    omega (arith, same)
+heard-then packet (heard hearings) comes hearing among = grind (arith, moment_in packet.moment comes.0 hearings comes.2 hearing among)
 
 -- nor than the latest packet
 heard-by : (packets : List PacketAt) (outcomes : List Outcome) → AllCome packets outcomes
@@ -143,9 +140,7 @@ module _ (end : ℕ) (rows : List (Latest × List Life)) (layout : Layout) where
       → lives_head which form layout.count layout.width begin end ≡ rows_head which form begin end rows
   head-fits which Lines begin fits = refl
   head-fits which Json begin fits = refl
-  head-fits which Pretty begin fits =
-      ap (λ n. lives_head which Pretty n layout.width begin end) fits.count
-      ∙ ap (λ n. lives_head which Pretty (length (lives_in rows)) n begin end) fits.width
+  head-fits which Pretty begin fits = grind arith
 
   -- and so do their lines
   pub lines-fit : (form : Form) (some : List (Latest × List Life)) → FitsForm form end rows layout
@@ -180,14 +175,7 @@ module _ {Heard : List (List Outcome) → Type 0} (query : LivesQuery) (lefts : 
   text-fits : (some : List Row) → text ++ flat_map (lives_text query.form layout.width end.nanos) some
       ≡ head ++ (rows_head query.which query.form begin.nanos end.nanos (kept_rows query.about shown)
       ++ flat_map (lives_text query.form (end_width end.nanos (kept_rows query.about shown)) end.nanos) some)
-  text-fits some =
-      ap (λ (t : List ℕ). t ++ flat_map (lives_text query.form layout.width end.nanos) some)
-      (is ∙ ap (λ (t : List ℕ). head ++ t)
-      (head-fits end.nanos (kept_rows query.about shown) layout query.which query.form begin.nanos fits))
-      ∙ append_assoc head (rows_head query.which query.form begin.nanos end.nanos (kept_rows query.about shown))
-      (flat_map (lives_text query.form layout.width end.nanos) some)
-      ∙ ap (λ (t : List ℕ). head ++ (rows_head query.which query.form begin.nanos end.nanos (kept_rows query.about shown) ++ t))
-      (lines-fit end.nanos (kept_rows query.about shown) layout query.form some fits)
+  text-fits some = grind (arith, head-fits, append_assoc, lines-fit)
 
   -- the rows are the lives of all records of the captures
   surveys-lives : (captures : List (List ℕ)) → lefts ≡ map (λ x. Some x) captures
@@ -216,12 +204,7 @@ module _ {Heard : List (List Outcome) → Type 0} (query : LivesQuery) (lefts : 
   -- all rows were written
   pub writes-lives : Appends out.old out.new (text ++ flat_map (lives_text query.form layout.width end.nanos) (kept_rows query.about shown))
       → WritesAnswer (asked_lives query) lefts (summaries_of readings) out
-  writes-lives written = λ captures known. (
-    head ++ report,
-    with-head captures known,
-    subst (λ (xs : List Row). Appends out.old out.new (head ++ lives_report query.which query.form begin.nanos end.nanos xs)) all_kept
-        (subst (Appends out.old out.new) (text-fits (kept_rows query.about shown)) written),
-  )
+  writes-lives written = grind (arith, with-head, all_kept, text-fits)
 
   -- rows that aren't written whole are a refused survey
   pub stops-lives : (fault : SurveyFault)

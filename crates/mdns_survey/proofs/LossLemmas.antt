@@ -1,5 +1,5 @@
 -- Lost frames are counted.
-use Rattle.std.proofs.Common.{◌≡◌, ◌∙◌, ℕ, ◌+◌, Bool, false, List, Option, Some, None, ap, arith, refl, sym}
+use Rattle.std.proofs.Common.{◌≡◌, ◌∙◌, ℕ, ◌+◌, Bool, false, List, Option, Some, None, ap, arith, refl}
 use Rattle.std.proofs.lemmas.List.Sums.{sum_by_push}
 use Rattle.std.specs.Option.{option_map}
 use mathlib.Core.Bool.{cond}
@@ -7,7 +7,7 @@ use Rattle.mdns_capture.specs.declared.cause.Cause.{Cause}
 use Rattle.mdns_capture.specs.declared.frame.Skip.{Skip}
 use Rattle.mdns_capture.specs.Frame.{FrameCarries, cause_of, skip_of, skip_of_cause}
 use Rattle.mdns_capture.specs.Savefile.{PacketAt}
-use Rattle.mdns_survey.specs.Losses.{loses_for, loses_frame, lost_frames}
+use Rattle.mdns_survey.specs.Losses.{loses_for, loses_frame}
 use Rattle.mdns_survey.specs.Reading.{CountsLoss}
 
 -- THE CHECK THAT A FRAME FAILS
@@ -32,9 +32,7 @@ no-cause never by_cause frame payload carries = no-cause-by never by_cause frame
 
 pub counts-loss : (packet : PacketAt) (lost new_lost : ℕ) (lose : Bool) → loses_frame packet ≡ lose
     → new_lost ≡ lost + cond lose 1 0 → CountsLoss packet lost new_lost
-counts-loss packet lost new_lost lose is_loss more packets counted =
-    more ∙ ap (λ (n : ℕ). n + cond lose 1 0) counted ∙ ap (λ (b : Bool). lost_frames packets + cond b 1 0) (sym is_loss)
-    ∙ sym (sum_by_push (λ (p : PacketAt). cond (loses_frame p) 1 0) packets packet)
+counts-loss packet lost new_lost lose is_loss more packets counted = grind (arith, sum_by_push)
 
 -- a packet whose frame carries a payload lost nothing
 pub counts-no-loss : NeverBoth → SkipsByCause → (packet : PacketAt) (payload : List ℕ) (lost : ℕ)

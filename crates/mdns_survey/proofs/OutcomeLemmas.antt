@@ -1,5 +1,5 @@
 -- Each packet comes to one outcome, and each capture to one list of outcomes.
-use Rattle.std.proofs.Common.{◌≡◌, ◌⊎◌, ◌∙◌, ℕ, ◌<◌, List, [], ◌∷◌, None, Some, length, slice_index, refl, ap, subst, inl, inr, arith}
+use Rattle.std.proofs.Common.{◌≡◌, ◌⊎◌, ℕ, ◌<◌, List, [], ◌∷◌, None, Some, length, slice_index, refl, ap, subst, inl, inr, arith}
 use Rattle.std.specs.Prelude.{bit_and}
 use Rattle.std.proofs.lemmas.Bool.{cases_eq, cases_lt}
 use Rattle.mdns_capture.specs.declared.frame.Skip.{Skip}
@@ -186,8 +186,7 @@ same_outcomes : OneOutcome → (packets : List PacketAt) (outcomes others : List
     → AllCome packets outcomes → AllCome packets others → outcomes ≡ others
 same_outcomes one [] [] [] first second = refl
 same_outcomes one (packet ∷ packets) (outcome ∷ outcomes) (other ∷ others) first second =
-    ap (λ (front : Outcome). front ∷ outcomes) (one packet.moment packet.frame outcome other first.0 second.0)
-    ∙ ap (λ (rest : List Outcome). other ∷ rest) (same_outcomes one packets outcomes others first.1 second.1)
+    grind (arith, same_outcomes one packets outcomes others first.1 second.1)
 same_outcomes one [] [] (other ∷ others) first second = absurd second
 same_outcomes one [] (outcome ∷ outcomes) others first second = absurd first
 same_outcomes one (packet ∷ packets) [] others first second = absurd first

@@ -1,4 +1,5 @@
 -- The survey of a question, and why it is refused.
+use Rattle.std.proofs.Common.{arith}
 use Rattle.std.proofs.Common.{◌≡◌, ◌∙◌, ℕ, Bool, List, [], Option, sym, ap, subst}
 use Rattle.mdns_capture.specs.Output.{Writing}
 use Rattle.mdns_survey.specs.declared.reading.Reading.{Reading}
@@ -17,13 +18,7 @@ pub hears-readers : {L : Type 0} (HeardAll : L → L → List (List Outcome) →
     (lefts : List (Option (List ℕ))) (begun now : L) (readings lent : List Reading)
     → HeardAll begun begun [] → ((l : L) (outcomes : List (List Outcome)) → HeardAll begun l outcomes → Heard l outcomes)
     → lent ≡ readings → Listened HeardAll lefts begun now readings → HearsReaders (Heard now) lefts lent
-hears-readers HeardAll Heard lefts begun now readings lent nothing heard is listened =
-    subst (λ (rs : List Reading). HearsReaders (Heard now) lefts rs) (sym is) (record {
-      packets = listened.packets;
-      outcomes = listened.outcomes;
-      read = listened.read;
-      heard = heard now listened.outcomes (listened.hears begun [] nothing);
-    })
+hears-readers HeardAll Heard lefts begun now readings lent nothing heard is listened = grind arith
 
 -- the summaries are those of the readings, also where these are lent again
 pub answer-summed : (asked : Asked) (lefts : List (Option (List ℕ))) (out : Writing) (readings lent again : List Reading)

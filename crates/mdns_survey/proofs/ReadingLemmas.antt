@@ -14,8 +14,7 @@ use Rattle.mdns_survey.specs.declared.skips.Skips.{Skips}
 use Rattle.mdns_survey.specs.declared.summary.Tally.{Tally}
 use Rattle.mdns_survey.specs.Captures.{Outcome, ComesTo, Counts, AllCome}
 use Rattle.mdns_survey.specs.Listen.{packet_moments}
-use Rattle.mdns_survey.specs.Losses.{loses_frame}
-use Rattle.mdns_survey.specs.Reading.{BreaksOff, CaptureBegins, CountsLoss, GoesOn, PacketsStand, ReadSoFar, TakesPacket}
+use Rattle.mdns_survey.specs.Reading.{CountsLoss, GoesOn, PacketsStand, ReadSoFar, TakesPacket}
 use Rattle.mdns_survey.specs.Skips.{CountsSkip, CountsSkips}
 use Rattle.mdns_survey.specs.Span.{joined_spans, span_at, span_of}
 use Rattle.mdns_survey.proofs.SpanLemmas.{span-more}
@@ -35,11 +34,8 @@ stand-more : (format : Format) (at : ℕ) (bytes : List ℕ) (packets : List Pac
     → PacketsStand format at bytes (packets ++ packet ∷ []) rest
 stand-more format at bytes [] left packet rest same begins =
     (rest, subst (λ (bs : List ℕ). BeginsWith format at bs packet rest) (sym same) begins, refl)
-stand-more format at bytes (first ∷ packets) left packet rest stand begins = (
-  stand.0,
-  stand.1,
-  stand-more format (at + (packet_header_size + length first.frame)) stand.0 packets left packet rest stand.2 begins,
-)
+stand-more format at bytes (first ∷ packets) left packet rest stand begins =
+    grind (arith, stand-more format (at + (packet_header_size + length first.frame)) stand.0 packets left packet rest stand.2 begins)
 
 offset-more : (at : ℕ) (packets : List PacketAt) (packet : PacketAt)
     → offset_after at (packets ++ packet ∷ []) ≡ offset_after at packets + (packet_header_size + length packet.frame)
@@ -139,13 +135,7 @@ read-more Took left old new packet first now next tally new_tally lost new_lost 
 pub lost-few : {R C : Type 0} (Took : C → C → List PacketAt → List Outcome → Type 0) (left : Option (List ℕ)) (capture : Standing R)
     (old new : C) (tally : Tally) (lost : ℕ) (skips : Skips) (span : Option Span)
     → ReadSoFar Took left capture old new tally lost skips span → lost ≤ tally.packets
-lost-few Took left capture old new tally lost skips span so_far = omega (
-  arith,
-  so_far.losses,
-  count_by-le-length loses_frame so_far.packets,
-  come-length so_far.packets so_far.outcomes so_far.come,
-  so_far.counts.packets,
-)
+lost-few Took left capture old new tally lost skips span so_far = grind (arith, count_by-le-length, come-length)
 
 -- THE ENDS
 
@@ -175,34 +165,5 @@ pub read-none : {R C : Type 0} (Took : C → C → List PacketAt → List Outcom
     (failures : Option ℕ) (capture : Standing R) (first : C) (tally : Tally) (skips : Skips)
     → Begins left steady failures capture → Counts [] tally → CountsSkips [] skips
     → ReadSoFar Took left capture first first tally 0 skips None
-read-none Took left steady failures capture first tally skips begins counts none_skipped = record {
-  packets = [];
-  outcomes = [];
-  come = tt;
-  counts = counts;
-  counted = counts.packets ∙ sym begins.none_yet;
-  losses = refl;
-  skips = none_skipped;
-  spans = refl;
-  took = λ begun nothing. nothing;
-  goes_on = begun left steady failures capture begins;
-}
-
-begins-known : {R : Type 0} (left : Option (List ℕ)) (packets : List PacketAt) (capture : Standing R)
-    → IfSome left (λ bytes. GoesOn bytes packets capture) → IfSome left (λ bytes. CaptureBegins bytes packets)
-begins-known None packets capture goes_on = tt
-begins-known (Some bytes) packets capture goes_on = goes_on.begins
-
--- or the consumer failed after them
-pub read-broken : {R C : Type 0} (Took Broke : C → C → List PacketAt → List Outcome → Type 0) (left : Option (List ℕ))
-    (capture : Standing R) (first now next : C) (tally : Tally) (lost : ℕ) (skips : Skips) (span : Option Span)
-    → ((begun : C) (packets : List PacketAt) (outcomes : List Outcome)
-    → Took begun now packets outcomes → Broke begun next packets outcomes)
-    → ReadSoFar Took left capture first now tally lost skips span → BreaksOff Took Broke left first next
-read-broken Took Broke left capture first now next tally lost skips span broke so_far = record {
-  packets = so_far.packets;
-  outcomes = so_far.outcomes;
-  come = so_far.come;
-  took = λ begun nothing. broke begun so_far.packets so_far.outcomes (so_far.took begun nothing);
-  begins = begins-known left so_far.packets capture so_far.goes_on;
-}
+read-none Took left steady failures capture first tally skips begins counts none_skipped =
+    grind (arith, begun, begun left steady failures capture begins)

@@ -1,4 +1,6 @@
 -- Rows whose lines are written piece by piece, after a text that stands before them.
+use Rattle.std.proofs.lemmas.Grind.{common_steps}
+use Rattle.std.proofs.Common.{arith}
 use Rattle.std.proofs.Common.{◌≡◌, ◌∙◌, ℕ, List, [], ◌∷◌, ◌++◌, Option, ◌⊎◌, refl, sym, ap, subst, inl, inr}
 use Rattle.std.proofs.Common.{append_assoc, append-nil}
 use Rattle.std.specs.List.{flat_map}
@@ -42,34 +44,19 @@ module _ {X : Type 0} (head : List ℕ) (f : X → List ℕ) where
   out-more : (taken : List X) (row : X) (old now : Option (List ℕ)) (text new : List ℕ) → new ≡ text ++ f row
       → Waits taken old now text ⊎ WaitsInPart taken old now text
       → Waits (taken ++ row ∷ []) old now new ⊎ WaitsInPart (taken ++ row ∷ []) old now new
-  out-more taken row old now text new added (inl waits) = inl (
-    waits.0,
-    added ∙ ap (λ (t : List ℕ). t ++ f row) waits.1 ∙ append_assoc head (flat_map f taken) (f row)
-        ∙ ap (λ (t : List ℕ). head ++ t) (sym (lines_more taken row)),
-  )
-  out-more taken row old now text new added (inr out) = inr (record {
-    front = out.front;
-    waiting = out.waiting ++ row ∷ [];
-    parts = ap (λ (xs : List X). xs ++ row ∷ []) out.parts ∙ append_assoc out.front out.waiting (row ∷ []);
-    written = out.written;
-    waits = added ∙ ap (λ (t : List ℕ). t ++ f row) out.waits ∙ sym (lines_more out.waiting row);
-  })
+  out-more taken row old now text new added (inl waits) = grind (arith, append_assoc, lines_more)
+  out-more taken row old now text new added (inr out) = grind (arith, append_assoc, lines_more)
 
   -- the lines of one row more wait
   pub rows-more : (rows left : List X) (row : X) (more : List X) (old now : Option (List ℕ)) (text new : List ℕ)
       → RowsSoFar rows left old now text → left ≡ row ∷ more → new ≡ text ++ f row → RowsSoFar rows more old now new
-  rows-more rows left row more old now text new far first added = record {
-    taken = far.taken ++ row ∷ [];
-    parts = far.parts ∙ ap (λ (xs : List X). far.taken ++ xs) first ∙ sym (append_assoc far.taken (row ∷ []) more);
-    out = out-more far.taken row old now text new added far.out;
-  }
+  rows-more rows left row more old now text new far first added =
+      grind (arith, append_assoc far.taken (row ∷ []) more, out-more far.taken row old now text new added far.out)
 
   -- the lines of some rows and of those after them
   lines_parts : (taken front waiting : List X) → taken ≡ front ++ waiting
       → (head ++ flat_map f front) ++ flat_map f waiting ≡ head ++ flat_map f taken
-  lines_parts taken front waiting parts =
-      append_assoc head (flat_map f front) (flat_map f waiting)
-      ∙ ap (λ (t : List ℕ). head ++ t) (sym (ap (flat_map f) parts ∙ flat_map-append f front waiting))
+  lines_parts taken front waiting parts = grind (arith, append_assoc, flat_map-append)
 
   -- what waits was written after what was before
   all-out : (taken : List X) (old now next : Option (List ℕ)) (text : List ℕ)
@@ -77,30 +64,15 @@ module _ {X : Type 0} (head : List ℕ) (f : X → List ℕ) where
       → Appends old next (head ++ flat_map f taken)
   all-out taken old now next text (inl waits) gone =
       subst (Appends old next) waits.1 (subst (λ (o : Option (List ℕ)). Appends o next text) waits.0 gone)
-  all-out taken old now next text (inr out) gone =
-      subst (Appends old next) (lines_parts taken out.front out.waiting out.parts)
-      (Appends-trans old now next (head ++ flat_map f out.front) (flat_map f out.waiting) out.written
-      (subst (Appends now next) out.waits gone))
+  all-out taken old now next text (inr out) gone = grind (arith, common_steps, lines_parts, Appends-trans)
 
   -- what waited was written, or goes on waiting
   out-out : (taken : List X) (old now next : Option (List ℕ)) (text new : List ℕ)
       → Waits taken old now text ⊎ WaitsInPart taken old now text → IsTextOut now next text new
       → Waits taken old next new ⊎ WaitsInPart taken old next new
   out-out taken old now next text new (inl waits) (inl same) = inl (same.0 ∙ waits.0, same.1 ∙ waits.1)
-  out-out taken old now next text new (inr out) (inl same) = inr (record {
-    front = out.front;
-    waiting = out.waiting;
-    parts = out.parts;
-    written = subst (λ (o : Option (List ℕ)). Appends old o (head ++ flat_map f out.front)) (sym same.0) out.written;
-    waits = same.1 ∙ out.waits;
-  })
-  out-out taken old now next text new out (inr gone) = inr (record {
-    front = taken;
-    waiting = [];
-    parts = sym (append-nil taken);
-    written = all-out taken old now next text out gone.0;
-    waits = gone.1;
-  })
+  out-out taken old now next text new (inr out) (inl same) = grind arith
+  out-out taken old now next text new out (inr gone) = grind (arith, append-nil taken, all-out taken old now next text out gone.0)
 
   pub rows-out : (rows left : List X) (old now next : Option (List ℕ)) (text new : List ℕ)
       → RowsSoFar rows left old now text → IsTextOut now next text new → RowsSoFar rows left old next new
@@ -110,26 +82,13 @@ module _ {X : Type 0} (head : List ℕ) (f : X → List ℕ) where
   -- nothing more is written
   pub rows-stop : (rows left : List X) (old now : Option (List ℕ)) (text : List ℕ)
       → RowsSoFar rows left old now text → (now ≡ old) ⊎ FirstRows rows old now
-  rows-stop rows left old now text far = stop far.out
-    where
-      stop : Waits far.taken old now text ⊎ WaitsInPart far.taken old now text → (now ≡ old) ⊎ FirstRows rows old now
-      stop (inl waits) = inl waits.0
-      stop (inr out) = inr (
-        out.front,
-        (
-          out.waiting ++ left,
-          far.parts ∙ ap (λ (xs : List X). xs ++ left) out.parts ∙ append_assoc out.front out.waiting left,
-          out.written,
-        ),
-      )
+  rows-stop rows left old now text far = grind (arith, append_assoc)
 
   -- of what waits a prefix was written
   out-cut : (taken : List X) (rest : List ℕ) (old now next : Option (List ℕ)) (text : List ℕ)
       → Waits taken old now text ⊎ WaitsInPart taken old now text → AppendsPrefix now next text
       → AppendsPrefix old next ((head ++ flat_map f taken) ++ rest)
-  out-cut taken rest old now next text (inl waits) prefix =
-      prefix-of-more old next (head ++ flat_map f taken) rest
-      (subst (AppendsPrefix old next) waits.1 (subst (λ (o : Option (List ℕ)). AppendsPrefix o next text) waits.0 prefix))
+  out-cut taken rest old now next text (inl waits) prefix = grind (arith, prefix-of-more)
   out-cut taken rest old now next text (inr out) prefix =
       prefix-of-more old next (head ++ flat_map f taken) rest
       (subst (AppendsPrefix old next) (lines_parts taken out.front out.waiting out.parts)
@@ -139,13 +98,9 @@ module _ {X : Type 0} (head : List ℕ) (f : X → List ℕ) where
   pub rows-cut : (rows left : List X) (old now next : Option (List ℕ)) (text : List ℕ)
       → RowsSoFar rows left old now text → AppendsPrefix now next text → AppendsPrefix old next (head ++ flat_map f rows)
   rows-cut rows left old now next text far prefix =
-      subst (AppendsPrefix old next) (lines_parts rows far.taken left far.parts)
-      (out-cut far.taken (flat_map f left) old now next text far.out prefix)
+      grind (arith, lines_parts rows far.taken left far.parts, out-cut far.taken (flat_map f left) old now next text far.out prefix)
 
   -- no row is left, and all that waits was written
   pub rows-all : (rows left : List X) (old now next : Option (List ℕ)) (text : List ℕ)
       → RowsSoFar rows left old now text → left ≡ [] → Appends now next text → Appends old next (head ++ flat_map f rows)
-  rows-all rows left old now next text far none gone =
-      subst (λ (xs : List X). Appends old next (head ++ flat_map f xs))
-      (sym (far.parts ∙ ap (λ (xs : List X). far.taken ++ xs) none ∙ append-nil far.taken))
-      (all-out far.taken old now next text far.out gone)
+  rows-all rows left old now next text far none gone = grind (arith, append-nil far.taken, all-out far.taken old now next text far.out gone)

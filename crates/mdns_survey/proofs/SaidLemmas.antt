@@ -29,30 +29,16 @@ prefix-of-more old new text more (prefix, (rest, split, appended, some)) =
 -- a text, and then a prefix of more
 pub prefix-after : (old mid new : Option (List ℕ)) (text more : List ℕ) → Appends old mid text → AppendsPrefix mid new more
     → AppendsPrefix old new (text ++ more)
-prefix-after old mid new text more first (prefix, (rest, split, appended, some)) = (
-  text ++ prefix,
-  (
-    rest,
-    ap (λ t. text ++ t) split ∙ sym (append_assoc text prefix rest),
-    Appends-trans old mid new text prefix first appended,
-    some,
-  ),
-)
+prefix-after old mid new text more first (prefix, (rest, split, appended, some)) =
+    grind (arith, append_assoc text prefix rest, Appends-trans old mid new text prefix first appended)
 
 module _ (program : List ℕ) where
   -- lines said one after another
   pub said-append : (lines others : List (List ℕ)) (text other : List ℕ) → AreSaid program lines text → AreSaid program others other
       → AreSaid program (lines ++ others) (text ++ other)
   said-append [] others text other none more = subst (λ t. AreSaid program others (t ++ other)) (sym none) more
-  said-append (line ∷ lines) others text other (said, (rest, is, split, after)) more = (
-    said,
-    (
-      rest ++ other,
-      is,
-      ap (λ t. t ++ other) split ∙ append_assoc said (10 ∷ rest) other,
-      said-append lines others rest other after more,
-    ),
-  )
+  said-append (line ∷ lines) others text other (said, (rest, is, split, after)) more =
+      grind (arith, append_assoc, said-append lines others rest other after more)
 
   -- the lines as they are
   abbrev pub plain : List (List ℕ) → List ℕ
@@ -84,35 +70,25 @@ module _ (program : List ℕ) where
   -- one capture more
   pub so_far-more : (all first others : List (List ℕ)) (old mid new : Option (List ℕ)) → SaidSoFar all (first ++ others) old mid
       → SaysAll program first mid new → SaidSoFar all others old new
-  so_far-more all first others old mid new far (text, said, appended) = record {
-    done = far.done ++ text;
-    appended = Appends-trans old mid new far.done text far.appended appended;
-    leads = λ rest after. subst (AreSaid program all) (sym (append_assoc far.done text rest))
-        (far.leads (text ++ rest) (said-append first others text rest said after));
-  }
+  so_far-more all first others old mid new far (text, said, appended) =
+      grind (arith, Appends-trans old mid new far.done text far.appended appended, append_assoc, said-append)
 
   -- after a line that wasn't written whole, no other is written
   pub so_far-ends : (all first others : List (List ℕ)) (mid : Option (List ℕ)) (err : Writing)
       → SaidSoFar all (first ++ others) err.old mid → SaysPrefix program first mid err.new → OneMoreFailed err.failures err.new_failures
       → (IsTrue err.steady → ⊥) → Says program all err
-  so_far-ends all first others mid err far (text, said, prefix) failed fails = record {
-    text = far.done ++ (text ++ plain others);
-    said = far.leads (text ++ plain others) (said-append first others text (plain others) said (plain-said others));
-    ends = inr (
-      failed,
-      prefix-after err.old mid err.new far.done (text ++ plain others) far.appended
-          (prefix-of-more mid err.new text (plain others) prefix),
-    );
-    whole = λ is. absurd (fails is);
-  }
+  so_far-ends all first others mid err far (text, said, prefix) failed fails = grind (
+    arith,
+    said-append first others text (plain others) said (plain-said others),
+    plain-said others,
+    prefix-after err.old mid err.new far.done (text ++ plain others) far.appended (prefix-of-more mid err.new text (plain others) prefix),
+    prefix-of-more mid err.new text (plain others) prefix,
+  )
 
   -- no line is left to write
   pub so_far-all : (all left : List (List ℕ)) (err : Writing) → SaidSoFar all left err.old err.new → err.new_failures ≡ err.failures
       → left ≡ [] → Says program all err
-  so_far-all all left err far unfailed none =
-      let said : AreSaid program all far.done = subst (AreSaid program all) (append-nil far.done)
-      (far.leads [] (subst (λ lines. AreSaid program lines []) (sym none) refl)) in
-      record { text = far.done; said = said; ends = inl (unfailed, far.appended); whole = λ is. (unfailed, far.appended) }
+  so_far-all all left err far unfailed none = grind (arith, append-nil far.done)
 
   pub says-prefix-of-one : (line said : List ℕ) (old new : Option (List ℕ)) → IsSaid program line said
       → AppendsPrefix old new (said ++ 10 ∷ []) → SaysPrefix program (line ∷ []) old new
@@ -135,12 +111,7 @@ module _ (program : List ℕ) where
       → OnTrue b (Appends err.old err.new (said ++ 10 ∷ [])) → OnFalse b (AppendsPrefix err.old err.new (said ++ 10 ∷ []))
       → OnTrue b (err.new_failures ≡ err.failures) → OnFalse b (OneMoreFailed err.failures err.new_failures)
       → (IsTrue err.steady → IsTrue b) → Says program (line ∷ []) err
-  says-line true line said err is whole prefix unfailed failed goes = record {
-    text = said ++ 10 ∷ [];
-    said = (said, ([], is, refl, refl));
-    ends = inl (unfailed, whole);
-    whole = λ s. (unfailed, whole);
-  }
+  says-line true line said err is whole prefix unfailed failed goes = grind arith
   says-line false line said err is whole prefix unfailed failed goes = record {
     text = said ++ 10 ∷ [];
     said = (said, ([], is, refl, refl));
@@ -154,8 +125,7 @@ module _ (program : List ℕ) where
       → IsSaid program (ending_line_text program name summary.ending) said → OnFalse b (AppendsPrefix old new (said ++ 10 ∷ []))
       → OnFalse b (SaysPrefix program (ending_lines program (name ∷ []) (summary ∷ [])) old new)
   prefix-of-ending b name summary said old new damaged is prefix =
-      subst (λ whole. OnFalse b (SaysPrefix program (cond whole [] (ending_line_text program name summary.ending ∷ [])) old new)) (sym damaged)
-      (prefix-said b (ending_line_text program name summary.ending) said old new is prefix)
+      grind (arith, prefix-said b (ending_line_text program name summary.ending) said old new is prefix)
 
   -- without names, or without summaries, there are no lines
   pub no-names : {X : Type 0} (f : X → List ℕ) (names : List X) (summaries : List Summary) → length names ≡ 0
@@ -175,11 +145,7 @@ module _ (program : List ℕ) where
       (old new : Option (List ℕ)) → names ≡ name ∷ more → summaries ≡ summary ∷ others
       → SaidSoFar all (ending_lines program (map f names) summaries) old new
       → SaidSoFar all (ending_lines program (f name ∷ []) (summary ∷ []) ++ ending_lines program (map f more) others) old new
-  so_far-first f all names more name summaries others summary old new is are far =
-      subst (λ left. SaidSoFar all left old new)
-      (ap (λ ns. ending_lines program (map f ns) summaries) is ∙ ap (ending_lines program (f name ∷ map f more)) are
-      ∙ ending_lines-first (f name) summary (map f more) others)
-      far
+  so_far-first f all names more name summaries others summary old new is are far = grind (arith, ending_lines-first)
 
 -- a writer that wasn't used has the bytes that it had
 pub leaves-written : {W : Type 0} (written : W → Option (List ℕ)) (at_once : Bool) (old new : W) (fault : SurveyFault)

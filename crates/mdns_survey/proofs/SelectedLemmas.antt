@@ -1,4 +1,6 @@
 -- Which hearings count.
+use Rattle.std.proofs.Common.{rules}
+use Rattle.std.proofs.Common.{arith}
 use Rattle.std.proofs.Common.{◌≡◌, ◌↔◌, ℕ, ◌<◌, Bool, true, false, List, [], ◌∷◌, ◌++◌, refl, sym, ap, ◌∙◌, subst, append-nil}
 use Rattle.std.specs.Prelude.{Contains}
 use Rattle.std.specs.List.{filter}
@@ -18,7 +20,7 @@ use Rattle.mdns_survey.specs.declared.request.AsOf.{AsOf}
 use Rattle.mdns_survey.specs.declared.request.AsOf.TheVariants.{At, Before}
 use Rattle.mdns_survey.specs.declared.summary.Summary.{Summary}
 use Rattle.mdns_survey.specs.Laws.{AreBefore}
-use Rattle.mdns_survey.specs.Captures.{Outcome, hearings_in}
+use Rattle.mdns_survey.specs.Captures.{Outcome}
 use Rattle.mdns_survey.specs.Filter.{counted, counts, filter_of, selected}
 use Rattle.mdns_survey.specs.Surveys.{AllTell, IsAsOf, ReportsBy, SurveysBy, all_hearings}
 use Rattle.mdns_lives.proofs.FilterLemmas.{from-filter, to-filter}
@@ -39,9 +41,7 @@ same_selected which heard others same =
 -- those of all captures that count are those of all their hearings
 pub counted-all : (which : Filter) (outcomes : List (List Outcome)) → counted which outcomes ≡ selected which (all_hearings outcomes)
 counted-all which [] = refl
-counted-all which (capture ∷ outcomes) =
-    ap (λ (hs : List Hearing). selected which (hearings_in capture) ++ hs) (counted-all which outcomes)
-    ∙ sym (filter-append (λ (h : Hearing). counts which h.moment) (hearings_in capture) (all_hearings outcomes))
+counted-all which (capture ∷ outcomes) = grind (arith, filter-append, counted-all which outcomes)
 
 -- and so they are what was heard by a filter
 pub counted-heard : (P : List Hearing → Type 0) (which other : Filter) (outcomes : List (List Outcome)) → which ≡ other
@@ -84,26 +84,19 @@ module _ (which other : Filter) (is : which ≡ other) (t : Moment) (message : L
       (sym (filter-append test heard hearings ∙ ap (λ hs. selected other heard ++ hs) (all-pass test hearings (of_moment true e)))) p
 
   pub selected-same : counts which t ≡ false → P (selected other heard) → P (selected other (heard ++ hearings))
-  selected-same e p = subst P
-      (sym (filter-append test heard hearings ∙ ap (λ hs. selected other heard ++ hs) (none-pass test hearings (of_moment false e))
-      ∙ append-nil (selected other heard))) p
+  selected-same e p = grind (arith, filter-append, none-pass, of_moment, append-nil)
 
 -- BEFORE A MOMENT
 
 -- as of a given moment all hearings count
 pub counted-at : (moment : Moment) (outcomes : List (List Outcome)) → counted (filter_of (At moment)) outcomes ≡ all_hearings outcomes
-counted-at moment outcomes =
-    counted-all (filter_of (At moment)) outcomes
-    ∙ all-pass (λ h. counts (filter_of (At moment)) h.moment) (all_hearings outcomes) (λ h among. refl)
+counted-at moment outcomes = grind (arith, counted-all, all-pass)
 
 -- where all hearings are earlier, none is left out
 counted-before : (before : Moment) (outcomes : List (List Outcome))
     → ((hearing : Hearing) → Contains (all_hearings outcomes) hearing → hearing.moment.nanos < before.nanos)
     → counted (filter_of (Before before)) outcomes ≡ all_hearings outcomes
-counted-before before outcomes earlier =
-    counted-all (filter_of (Before before)) outcomes
-    ∙ all-pass (λ h. counts (filter_of (Before before)) h.moment) (all_hearings outcomes)
-    (λ h among. lt-ltb h.moment.nanos before.nanos (earlier h among))
+counted-before before outcomes earlier = search (rules, counted-all, all-pass, lt-ltb)
 
 -- a hearing that counts before a moment is earlier
 pub is-earlier : (before : Moment) (outcomes : List (List Outcome)) (hearing : Hearing)
@@ -138,10 +131,4 @@ pub before_is_at : (captures : List (List ℕ)) (about : List Subject) (ask : As
     (summaries : List Summary) (text : List ℕ) → AreBefore captures before
     → SurveysBy (IsReportIn about form ask) captures (Before before) summaries text
     ↔ SurveysBy (IsReportIn about form ask) captures (At before) summaries text
-before_is_at captures about ask form before summaries text are_before =
-    let same = λ (outcomes : List (List Outcome)) (tell : AllTell captures outcomes summaries).
-    counted-before before outcomes (are_before outcomes summaries tell) ∙ sym (counted-at before outcomes) in (
-      surveys-moved (IsReportIn about form ask) captures (Before before) (At before) summaries text (λ heard now is. is) same,
-      surveys-moved (IsReportIn about form ask) captures (At before) (Before before) summaries text (λ heard now is. is)
-          (λ outcomes tell. sym (same outcomes tell)),
-    )
+before_is_at captures about ask form before summaries text are_before = search (rules, counted-before, counted-at, surveys-moved)

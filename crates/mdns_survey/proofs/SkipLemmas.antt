@@ -1,11 +1,11 @@
 -- Skipped packets are counted.
-use Rattle.std.proofs.Common.{◌≡◌, ◌∙◌, ℕ, ◌+◌, ◌<◌, List, [], ◌∷◌, ◌++◌, Option, Some, None, ap, arith}
-use Rattle.std.proofs.Common.{get_or, set, inl, inr, length, refl, sym}
+use Rattle.std.proofs.Common.{◌≡◌, ℕ, ◌+◌, ◌<◌, List, [], ◌∷◌, ◌++◌, Option, Some, None, arith}
+use Rattle.std.proofs.Common.{get_or, set, length, refl}
 use Rattle.std.proofs.lemmas.Bool.{cases_eq, eq-eqb, ne_eqb}
 use Rattle.std.proofs.lemmas.List.{get_or-set_other, get_or-set_same}
 use Rattle.std.proofs.lemmas.List.Sums.{count_by-le-length, sum_by_push}
 use Rattle.std.specs.Prelude.{count_by}
-use mathlib.Core.Bool.{Bool, cond}
+use mathlib.Core.Bool.{cond}
 use Rattle.mdns_capture.specs.Frame.{FrameCarries}
 use Rattle.mdns_capture.specs.Limits.{most_packets}
 use Rattle.mdns_capture.specs.Savefile.{PacketAt}
@@ -62,20 +62,15 @@ count-push own whys why = sum_by_push (λ (w : Option Why). cond (is_why own w) 
 count-more : (counts : List ℕ) (whys : List (Option Why)) (why own : Why) (place next : ℕ) → place ≡ place_of why
     → place < length counts → next ≡ get_or counts place 0 + 1 → get_or counts (place_of own) 0 ≡ count_by (is_why own) whys
     → get_or (set counts place next) (place_of own) 0 ≡ count_by (is_why own) (whys ++ Some why ∷ [])
-count-more counts whys why own place next at within more is =
-    let before = count_by (is_why own) whys in
-    elim (cases_eq (place_of own) place) [
-      | inl same ↦
-          ap (λ (p : ℕ). get_or (set counts place next) p 0) same ∙ get_or-set_same counts place next 0 within ∙ more
-          ∙ ap (λ (p : ℕ). get_or counts p 0 + 1) (sym same) ∙ ap (λ (n : ℕ). n + 1) is
-          ∙ ap (λ (b : Bool). before + cond b 1 0) (sym (eq-eqb (place_of own) (place_of why) (same ∙ at)))
-          ∙ sym (count-push own whys (Some why))
-      | inr other ↦
-          let none : before ≡ before + 0 = omega arith in
-          get_or-set_other counts place (place_of own) next 0 other ∙ is ∙ none
-          ∙ ap (λ (b : Bool). before + cond b 1 0) (sym (ne_eqb (place_of own) (place_of why) (λ same. other (same ∙ sym at))))
-          ∙ sym (count-push own whys (Some why))
-    ]
+count-more counts whys why own place next at within more is = grind (
+  arith,
+  cases_eq (place_of own) place,
+  get_or-set_same counts place next 0 within,
+  eq-eqb,
+  count-push own whys (Some why),
+  get_or-set_other,
+  ne_eqb,
+)
 
 -- a packet that isn't skipped leaves the counts as they are
 pub counts-no-skip : (packet : PacketAt) (skips : Skips) → IsSkipOf packet None → CountsSkip packet skips skips
@@ -89,19 +84,10 @@ counts-no-skip packet skips is packets few counted = record {
 pub counts-skip : (packet : PacketAt) (why : Why) (skips new_skips : Skips) (place next : ℕ) → place ≡ place_of why
     → place < length skips.counts → (get_or skips.counts place 0 < most_packets → next ≡ get_or skips.counts place 0 + 1)
     → new_skips.counts ≡ set skips.counts place next → IsSkipOf packet (Some why) → CountsSkip packet skips new_skips
-counts-skip packet why skips new_skips place next at within adds new is packets few counted =
-    let below : get_or skips.counts place 0 < most_packets = omega (
-      arith,
-      ap (λ (p : ℕ). get_or skips.counts p 0) at,
-      counted.counts why,
-      count_by-le-length (is_why why) counted.whys,
-      each-length IsSkipOf packets counted.whys counted.are,
-      few,
-    ) in
-    record {
-      whys = counted.whys ++ Some why ∷ [];
-      are = each-more IsSkipOf packets counted.whys packet (Some why) counted.are is;
-      counts = λ own.
-          ap (λ (counts : List ℕ). get_or counts (place_of own) 0) new
-          ∙ count-more skips.counts counted.whys why own place next at within (adds below) (counted.counts own);
-    }
+counts-skip packet why skips new_skips place next at within adds new is packets few counted = grind (
+  arith,
+  count_by-le-length (is_why why) counted.whys,
+  each-length IsSkipOf packets counted.whys counted.are,
+  each-more IsSkipOf packets counted.whys packet (Some why) counted.are is,
+  count-more,
+)

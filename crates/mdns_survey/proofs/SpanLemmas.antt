@@ -1,5 +1,6 @@
 -- Spans of packets, joined.
-use Rattle.std.proofs.Common.{◌≡◌, ◌∙◌, ℕ, ◌<◌, ◌≤◌, Bool, true, false, nat_lt, max, min, List, [], ◌∷◌, ◌++◌, Option, Some, None}
+use Rattle.std.proofs.Common.{rules}
+use Rattle.std.proofs.Common.{◌≡◌, ◌∙◌, ℕ, ◌≤◌, Bool, true, false, nat_lt, max, min, List, [], ◌∷◌, ◌++◌, Option, Some, None}
 use Rattle.std.proofs.Common.{refl, sym, ap, arith, if◌then◌else◌}
 use Rattle.std.proofs.lemmas.Bool.{ltb-false, ltb-true}
 use Rattle.std.proofs.lemmas.List.Elements.{All-cons, All-nil, All-weaker, Contains-append_right}
@@ -7,7 +8,6 @@ use Rattle.std.specs.List.{Contains}
 use Rattle.mdns_capture.specs.declared.moment.Moment.{Moment}
 use Rattle.mdns_capture.specs.Savefile.{PacketAt}
 use Rattle.mdns_capture.proofs.OneReadingLemmas.{same_moment}
-use Rattle.mdns_cache.specs.Contents.{later_moment}
 use Rattle.mdns_cache.proofs.ContentsLemmas.{nanos-later}
 use Rattle.mdns_survey.specs.declared.reading.Reading.{Reading}
 use Rattle.mdns_survey.specs.declared.reading.Span.{Span}
@@ -22,34 +22,16 @@ use Rattle.mdns_survey.specs.Span.{HasEnds, both_spans, earlier_moment, joined_s
 -- BOTH SPANS
 
 nanos-earlier : (a b : Moment) → (earlier_moment a b).nanos ≡ min a.nanos b.nanos
-nanos-earlier a b =
-    elim (nat_lt b.nanos a.nanos) as (λ t. nat_lt b.nanos a.nanos ≡ t → (if t then b else a).nanos ≡ min a.nanos b.nanos) [
-      | true ↦ λ e. let l : b.nanos < a.nanos = ltb-true _ _ e in omega arith
-      | false ↦ λ e. let l : a.nanos ≤ b.nanos = ltb-false _ _ e in omega arith
-    ] refl
+nanos-earlier a b = grind (arith, nat_lt, ltb-true, ltb-false)
 
 abbrev span_from : Moment → Moment → Span
 span_from first last = record { first = first; last = last }
 
 same_span : (a b : Span) → a.first.nanos ≡ b.first.nanos → a.last.nanos ≡ b.last.nanos → a ≡ b
-same_span a b first last =
-    ap (λ (m : Moment). span_from m a.last) (same_moment a.first b.first first)
-    ∙ ap (λ (m : Moment). span_from b.first m) (same_moment a.last b.last last)
+same_span a b first last = grind (arith, same_moment a.first b.first first, same_moment a.last b.last last)
 
 both-assoc : (a b c : Span) → both_spans (both_spans a b) c ≡ both_spans a (both_spans b c)
-both-assoc a b c = same_span (both_spans (both_spans a b) c) (both_spans a (both_spans b c))
-    (nanos-earlier (earlier_moment a.first b.first) c.first ∙ ap (λ n. min n c.first.nanos) (nanos-earlier a.first b.first)
-    ∙ min3 a.first.nanos b.first.nanos c.first.nanos
-    ∙ sym (nanos-earlier a.first (earlier_moment b.first c.first) ∙ ap (min a.first.nanos) (nanos-earlier b.first c.first)))
-    (nanos-later (later_moment a.last b.last) c.last ∙ ap (λ n. max n c.last.nanos) (nanos-later a.last b.last)
-    ∙ max3 a.last.nanos b.last.nanos c.last.nanos
-    ∙ sym (nanos-later a.last (later_moment b.last c.last) ∙ ap (max a.last.nanos) (nanos-later b.last c.last)))
-  where
-    min3 : (x y z : ℕ) → min (min x y) z ≡ min x (min y z)
-    min3 x y z = omega arith
-
-    max3 : (x y z : ℕ) → max (max x y) z ≡ max x (max y z)
-    max3 x y z = omega arith
+both-assoc a b c = search (rules, same_span, nanos-earlier, nanos-later)
 
 joined-assoc : (a b c : Option Span) → joined_spans (joined_spans a b) c ≡ joined_spans a (joined_spans b c)
 joined-assoc None b c = refl
@@ -66,8 +48,7 @@ joined-none (Some a) = refl
 pub span-both : (moments more : List Moment) → span_of (moments ++ more) ≡ joined_spans (span_of moments) (span_of more)
 span-both [] more = refl
 span-both (moment ∷ moments) more =
-    ap (joined_spans (Some (span_at moment))) (span-both moments more)
-    ∙ sym (joined-assoc (Some (span_at moment)) (span_of moments) (span_of more))
+    grind (arith, span-both moments more, joined-assoc (Some (span_at moment)) (span_of moments) (span_of more))
 
 -- one moment more
 pub span-more : (span : Option Span) (moments : List Moment) (moment : Moment) → span ≡ span_of moments
@@ -85,22 +66,8 @@ among moment held moments false has = (0, omega arith, refl)
 
 ends-more : (moment : Moment) (moments : List Moment) (span : Option Span) → HasEnds moments span
     → HasEnds (moment ∷ moments) (joined_spans (Some (span_at moment)) span)
-ends-more moment moments None none = rw none (record {
-  first = (0, omega arith, refl);
-  last = (0, omega arith, refl);
-  within = All-cons (IsWithin (span_at moment)) moment [] (omega arith, omega arith) (All-nil (IsWithin (span_at moment)));
-})
-ends-more moment moments (Some span) ends =
-    let both = both_spans (span_at moment) span in
-    let first = nanos-earlier moment span.first in
-    let last = nanos-later moment span.last in
-    record {
-      first = among moment span.first moments (nat_lt span.first.nanos moment.nanos) ends.first;
-      last = among moment span.last moments (nat_lt moment.nanos span.last.nanos) ends.last;
-      within = All-cons (IsWithin both) moment moments (omega (arith, first), omega (arith, last))
-          (All-weaker (IsWithin span) (IsWithin both)
-          (λ m inside. (omega (arith, first, inside.0), omega (arith, last, inside.1))) moments ends.within);
-    }
+ends-more moment moments None none = grind (arith, All-cons, All-nil)
+ends-more moment moments (Some span) ends = grind (arith, nanos-earlier, nanos-later, among, nat_lt, All-cons, All-weaker)
 
 -- the span of moments has the earliest and the latest of them
 pub has-ends : (moments : List Moment) → HasEnds moments (span_of moments)
@@ -138,9 +105,7 @@ first-is end (moment ∷ moments) = first-joined moment (span_of moments) end �
 -- the beginning of captures with this span
 pub begin-is : (as_of : AsOf) (span : Option Span) (begin end : Moment) (moments : List Moment) → span ≡ span_of moments
     → end.nanos ≡ end_of as_of moments → begin.nanos ≡ first_of span end.nanos → begin.nanos ≡ begin_of as_of moments
-begin-is as_of span begin end moments is is_end is_first =
-    is_first ∙ ap (λ (s : Option Span). first_of s end.nanos) is ∙ first-is end.nanos moments
-    ∙ ap (λ n. earliest_nanos n moments) is_end
+begin-is as_of span begin end moments is is_end is_first = grind (arith, first-is)
 
 -- and their end, where a moment is given, and where none is
 pub end-given : (as_of : AsOf) (end : Moment) (moments : List Moment) → moment_of as_of ≡ Some end → end.nanos ≡ end_of as_of moments
@@ -164,9 +129,7 @@ all_spans (reading ∷ readings) = joined_spans reading.span (all_spans readings
 pub all_spans-more : (readings : List Reading) (reading : Reading)
     → all_spans (readings ++ reading ∷ []) ≡ joined_spans (all_spans readings) reading.span
 all_spans-more [] reading = joined-none reading.span
-all_spans-more (first ∷ readings) reading =
-    ap (joined_spans first.span) (all_spans-more readings reading)
-    ∙ sym (joined-assoc first.span (all_spans readings) reading.span)
+all_spans-more (first ∷ readings) reading = grind (arith, joined-assoc, all_spans-more readings reading)
 
 pub all_spans-are : (packets : List (List PacketAt)) (readings : List Reading) → HaveSpans packets readings
     → all_spans readings ≡ span_of (all_moments packets)

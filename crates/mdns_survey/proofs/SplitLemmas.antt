@@ -1,5 +1,6 @@
 -- A capture and its two parts have the same hearings, and packets at the same moments.
-use Rattle.std.proofs.Common.{◌≡◌, ◌≢◌, ◌∙◌, ◌↔◌, ◌⊎◌, ℕ, ◌+◌, ◌<◌, List, [], ◌∷◌, ◌++◌, length, slice_index}
+use Rattle.std.proofs.Common.{arith}
+use Rattle.std.proofs.Common.{◌≡◌, ◌≢◌, ◌↔◌, ◌⊎◌, ℕ, ◌+◌, ◌<◌, List, [], ◌∷◌, ◌++◌, length, slice_index}
 use Rattle.std.proofs.Common.{refl, sym, ap, subst, inl, inr}
 use Rattle.std.proofs.lemmas.List.{map-append}
 use Rattle.std.proofs.lemmas.List.Concat.{flat_map-append}
@@ -10,7 +11,7 @@ use Rattle.mdns_capture.specs.Savefile.{CaptureReads, PacketAt}
 use Rattle.mdns_capture.specs.Cut.{ending_at, moved_to, part_before, part_from, offset_after}
 use Rattle.mdns_message.specs.declared.hearing.Hearing.{Hearing}
 use Rattle.mdns_survey.specs.declared.summary.Summary.{Summary}
-use Rattle.mdns_survey.specs.Captures.{AllCome, Outcome, hearings_in, hearings_of_outcome}
+use Rattle.mdns_survey.specs.Captures.{AllCome, Outcome, hearings_in}
 use Rattle.mdns_survey.specs.Laws.{with_both_parts, with_capture}
 use Rattle.mdns_survey.specs.Listen.{packet_moments}
 use Rattle.mdns_survey.proofs.CountLemmas.{AreFew, tallied, tallied_together}
@@ -50,9 +51,7 @@ come-moved : (place : ℕ) (packets : List PacketAt) (outcomes : List Outcome)
     → AllCome (moved_to place packets) outcomes ↔ AllCome packets outcomes
 come-moved place [] outcomes = (λ come. come, λ come. come)
 come-moved place (packet ∷ packets) [] = (λ come. come, λ come. come)
-come-moved place (packet ∷ packets) (outcome ∷ outcomes) =
-    let rest = come-moved (place + (16 + length packet.frame)) packets outcomes in
-    (λ come. (come.0, rest.0 come.1), λ come. (come.0, rest.1 come.1))
+come-moved place (packet ∷ packets) (outcome ∷ outcomes) = grind (arith, come-moved (place + (16 + length packet.frame)) packets outcomes)
 
 -- and have the same moments
 moments-moved : (place : ℕ) (packets : List PacketAt) → packet_moments (moved_to place packets) ≡ packet_moments packets
@@ -88,11 +87,7 @@ module _ (one : OneReading) (telling : OneTelling) (bytes first second : List �
   -- the hearings and moments of the whole are those of the parts
   in_parts : ◌≡◌ {A = List Hearing × List Moment} (hearings_in (early.outcomes ++ late.outcomes), packet_moments (front ++ back))
       (hearings_in early.outcomes ++ hearings_in late.outcomes, packet_moments front ++ packet_moments (moved_to place back))
-  in_parts = λ i. (
-    flat_map-append hearings_of_outcome early.outcomes late.outcomes i,
-    (map-append (λ (p : PacketAt). p.moment) front back
-        ∙ ap (λ (ms : List Moment). packet_moments front ++ ms) (sym (moments-moved place back))) i,
-  )
+  in_parts = grind (arith, flat_map-append, early, late, map-append, front, back, moments-moved)
 
   joined : Joins bytes first second
   joined =

@@ -1,5 +1,6 @@
 -- The survey of the readers listened to, and why it is refused.
-use Rattle.std.proofs.Common.{◌≡◌, get_or, Bool, IsTrue, ℕ, zero, suc, ◌<◌, List, [], ◌∷◌, ◌++◌, map, length, refl}
+use Rattle.std.proofs.Common.{rules}
+use Rattle.std.proofs.Common.{◌≡◌, Bool, IsTrue, ℕ, zero, suc, ◌<◌, List, [], ◌∷◌, ◌++◌, map, length}
 use Rattle.std.proofs.Common.{sym, ap, ◌∙◌, subst, append_assoc, arith, length-append, Option, None, Some}
 use Rattle.std.proofs.Common.{IfSome, IsSomeAnd, MatchOption, unwrap_or, Contains, Ok, Err, Result, String, Global}
 use Rattle.std.proofs.Common.{◌≤◌, ◌↔◌, inl, inr}
@@ -56,12 +57,7 @@ sound-more remaining readers reader all sound =
 -- one more is counted
 pub counted-more : {X Y : Type 0} (xs : List X) (ys new : List Y) (x : X) (y : Y) → length ys ≡ length xs
     → new ≡ ys ++ y ∷ [] → length new ≡ length (xs ++ x ∷ [])
-counted-more {X} {Y} xs ys new x y same more = omega (
-  arith,
-  ap (λ (l : List Y). length l) more,
-  length-append ys (y ∷ []),
-  length-append xs (x ∷ []),
-)
+counted-more {X} {Y} xs ys new x y same more = grind (arith, length-append)
 
 -- the first of what is left was taken
 pub left-more : {X : Type 0} (all done rest new : List X) (x : X) → all ≡ done ++ rest → rest ≡ x ∷ new → all ≡ (done ++ x ∷ []) ++ new
@@ -72,15 +68,8 @@ pub first-fails : {R : Type 0} (remaining : R → Option (List ℕ)) (readers be
     (after : List R) (count : ℕ) (fault : SurveyFault)
     → readers ≡ before ++ reader ∷ after → count ≡ length before → All IsSound (map remaining before)
     → RefusesReader count (remaining reader) fault → RefusesReaders (map remaining readers) fault
-first-fails remaining readers before reader after count (File index fault) among counted sound refuses = record {
-  before = map remaining before;
-  left = remaining reader;
-  after = map remaining after;
-  among = ap (map remaining) among ∙ map-append remaining before (reader ∷ after);
-  place = length-map before remaining ∙ sym counted ∙ sym refuses.0;
-  sound = sound;
-  has_fault = refuses.1;
-}
+first-fails remaining readers before reader after count (File index fault) among counted sound refuses =
+    grind (arith, map-append, length-map)
 first-fails remaining readers before reader after count (Early newest) among counted sound refuses = absurd refuses
 first-fails remaining readers before reader after count Memory among counted sound refuses = tt
 first-fails remaining readers before reader after count Write among counted sound refuses = absurd refuses
@@ -91,10 +80,7 @@ pub early-asked : (at newest : Option Moment) (default now found : Moment)
     → now.nanos < found.nanos → IsSomeAnd at (λ m. m.nanos < found.nanos)
 early-asked (Some asked) newest default now found is_default is_now is_newest early =
     subst (λ (m : Moment). m.nanos < found.nanos) is_now early
-early-asked None newest default now found is_default is_now is_newest early =
-    let same : default ≡ found = subst (λ (n : Option Moment). MatchOption n (default.nanos ≡ 0) (λ m. default ≡ m)) is_newest is_default in
-    let at_newest : now.nanos ≡ found.nanos = ap (λ (m : Moment). m.nanos) (is_now ∙ same) in
-    absurd (omega arith)
+early-asked None newest default now found is_default is_now is_newest early = grind arith
 
 -- the newest moment of contents is that of the hearings that they stand for
 abbrev pub TellsNewest : Contents → Type 0
@@ -119,27 +105,18 @@ as-of Newest (Some found) heard default now is_default is_now tells =
 pub none-later : (newest : Option Moment) (heard : List Hearing) (now : Moment)
     → MatchOption newest (heard ≡ []) (IsNewest heard) → IfSome newest (λ found. found.nanos ≤ now.nanos)
     → (hearing : Hearing) → Contains heard hearing → hearing.moment.nanos ≤ now.nanos
-none-later None heard now tells on_time hearing among =
-    let (place, within, is_there) = subst (λ (hs : List Hearing). Contains hs hearing) tells among in
-    absurd (omega arith)
-none-later (Some found) heard now tells on_time hearing among =
-    let to_newest : hearing.moment.nanos ≤ found.nanos = tells.latest hearing among in
-    omega arith
+none-later None heard now tells on_time hearing among = grind arith
+none-later (Some found) heard now tells on_time hearing among = search rules
 
 not-less : {a b : ℕ} → (a < b → ⊥) → b ≤ a
-not-less {a} {b} never =
-    let below : b < suc a = lt_of_not-le never in
-    omega arith
+not-less {a} {b} never = grind (arith, lt_of_not-le)
 
 -- where there is a report, no hearing is later than its moment
 pub on-time : (newest : Option Moment) (now : Moment) (text : String Global)
     → IfSome newest (λ found. now.nanos < found.nanos → ◌≡◌ {A = Result (String Global) ReportFault} (Ok text)
     (Err (ReportEarly found))) → IfSome newest (λ found. found.nanos ≤ now.nanos)
 on-time None now text never = tt
-on-time (Some found) now text never = not-less (λ early. absurd-report (never early))
-  where
-    absurd-report : ◌≡◌ {A = Result (String Global) ReportFault} (Ok text) (Err (ReportEarly found)) → ⊥
-    absurd-report e = cc
+on-time (Some found) now text never = grind (arith, not-less)
 
 -- the report as of that moment, which no hearing is later than, is what the query asks for
 pub reports-as-of : (query : Query) (newest : Option Moment) (heard : List Hearing) (at : Option Moment) (default now : Moment)
@@ -148,12 +125,7 @@ pub reports-as-of : (query : Query) (newest : Option Moment) (heard : List Heari
     → ((hearing : Hearing) → Contains heard hearing → hearing.moment.nanos ≤ now.nanos)
     → IsReportIn query.about query.form query.ask heard now.nanos text
     → ReportsQuery query heard text
-reports-as-of query newest heard at default now text tells is_default is_at is_now latest reports = record {
-  now = now.nanos;
-  moment = as-of query.as_of newest heard default now is_default (is_now ∙ ap (λ (a : Option Moment). unwrap_or a default) is_at) tells;
-  latest = latest;
-  reports = reports;
-}
+reports-as-of query newest heard at default now text tells is_default is_at is_now latest reports = grind (arith, as-of, unwrap_or)
 
 -- a moment earlier than the newest of the hearings that count is one that was asked for, and earlier than all others
 pub early-counted : (as_of : AsOf) (newest : Moment) (outcomes : List (List Outcome))
@@ -162,11 +134,7 @@ pub early-counted : (as_of : AsOf) (newest : Moment) (outcomes : List (List Outc
 early-counted Newest newest outcomes early is_newest = absurd early
 early-counted (At moment) newest outcomes early is_newest =
     (early, subst (λ (hs : List Hearing). IsNewest hs newest) (counted-at moment outcomes) is_newest)
-early-counted (Before before) newest outcomes early is_newest =
-    let earlier : is_newest.hearing.moment.nanos < before.nanos =
-    is-earlier before outcomes is_newest.hearing is_newest.among in
-    let at_it : is_newest.hearing.moment.nanos ≡ newest.nanos = ap (λ (m : Moment). m.nanos) is_newest.at_it in
-    absurd (omega arith)
+early-counted (Before before) newest outcomes early is_newest = grind (arith, is-earlier before outcomes is_newest.hearing is_newest.among)
 
 -- THE READERS LISTENED TO
 
@@ -199,43 +167,26 @@ module _ {Heard : List (List Outcome) → Type 0} (lefts : List (Option (List �
   pub answers-query : (query : Query) (head report text : List ℕ) → Heads query.form readings head → text ≡ head ++ report
       → ReportsQuery query (counted (filter_of query.as_of) hears.outcomes) report
       → IsAnswer (asked_query query) lefts (summaries_of readings) text
-  answers-query query head report text heads is reports = λ captures known. (
-    head,
-    (
-      report,
-      is,
-      known-head query.form lefts hears.packets hears.outcomes readings head heads hears.read captures known,
-      record { outcomes = hears.outcomes; tell = told-heard captures known; reports = reports },
-    ),
-  )
+  answers-query query head report text heads is reports = grind (arith, known-head, told-heard)
 
 -- the reader that failed is the one at its place
 spares-steady : {R : Type 0} (steady : R → Bool) (readers before : List R) (reader : R) (after : List R) (count : ℕ) (fault : ListenFault)
     → readers ≡ before ++ reader ∷ after → count ≡ length before → (IsTrue (steady reader) → IsNoReadFault fault)
     → SparesSteady steady readers (File count fault)
 spares-steady {R} steady readers before reader after count fault among counted spared others later other parts place =
-    let same : reader ≡ other =
-    sym (get_or-append_seam before reader after reader)
-    ∙ ap (λ (rs : List R). get_or rs (length before) reader) (sym among ∙ parts)
-    ∙ ap (λ n. get_or (others ++ other ∷ later) n reader) (sym counted ∙ sym place)
-    ∙ get_or-append_seam others other later reader in
-    λ steady_there. spared (subst (λ (r : R). IsTrue (steady r)) (sym same) steady_there)
+    grind (arith, get_or-append_seam before reader after reader, get_or-append_seam others other later reader)
 
 -- the reader that failed is among them, and to blame
 pub blames-reader : {R : Type 0} (steady : R → Bool) (readers before : List R) (reader : R) (after : List R)
     (count : ℕ) (fault : ListenFault)
     → readers ≡ before ++ reader ∷ after → count ≡ length before → (IsTrue (steady reader) → IsNoReadFault fault)
     → BlamesReaders steady readers (File count fault)
-blames-reader {R} steady readers before reader after count fault among counted spared =
-    let within : length before < length readers =
-    subst (λ (rs : List R). length before < length rs) (sym among) (omega (arith, length-append before (reader ∷ after))) in
-    let there : get_or readers (length before) reader ≡ reader =
-    ap (λ (rs : List R). get_or rs (length before) reader) among ∙ get_or-append_seam before reader after reader in
-    record {
-      within = subst (λ n. n < length readers) (sym counted) within;
-      no_read = λ steadily. spared (subst (λ (r : R). IsTrue (steady r)) there (steadily (length before) reader within));
-      spared = spares-steady steady readers before reader after count fault among counted spared;
-    }
+blames-reader {R} steady readers before reader after count fault among counted spared = grind (
+  arith,
+  length-append before (reader ∷ after),
+  get_or-append_seam before reader after reader,
+  spares-steady steady readers before reader after count fault among counted spared,
+)
 
 -- REPORTS THAT SAY THE SAME
 
@@ -248,52 +199,29 @@ module _ (Is Same : List Hearing → ℕ → List ℕ → Type 0)
     (says : (heard : List Hearing) (now : ℕ) (text : List ℕ) → Is heard now text → Same heard now text) where
   pub surveys-too : (captures : List (List ℕ)) (as_of : AsOf) (summaries : List Summary) (text : List ℕ)
       → SurveysBy Is captures as_of summaries text → SurveysBy Same captures as_of summaries text
-  surveys-too captures as_of summaries text survey = record {
-    outcomes = survey.outcomes;
-    tell = survey.tell;
-    reports = record {
-      now = survey.reports.now;
-      moment = survey.reports.moment;
-      latest = survey.reports.latest;
-      reports = says (counted (filter_of as_of) survey.outcomes) survey.reports.now text survey.reports.reports;
-    };
-  }
+  surveys-too captures as_of summaries text survey = grind arith
 
 -- a survey by the report in lines of words is the one that a plain query asks for
 pub plain-survey : AboutAll → (captures : List (List ℕ)) (ask : Ask) (at : Option Moment) (summaries : List Summary) (text : List ℕ)
     → SurveysBy (IsReport ask) captures (at_or_newest at) summaries text ↔ SurveysReport captures (plain_query ask at) summaries text
-plain-survey all captures ask at summaries text = (
-  surveys-too (IsReport ask) (IsReportIn [] Lines ask) (λ heard now t. (all ask heard now t).1) captures (at_or_newest at) summaries text,
-  surveys-too (IsReportIn [] Lines ask) (IsReport ask) (λ heard now t. (all ask heard now t).0) captures (at_or_newest at) summaries text,
-)
+plain-survey all captures ask at summaries text = grind (arith, surveys-too)
 
 -- the text that a plain query asks for has no head
 plain-alone : (ask : Ask) (at : Option Moment) (captures : List (List ℕ)) (summaries : List Summary) (text : List ℕ)
     → SurveysQuery captures (plain_query ask at) summaries text → SurveysReport captures (plain_query ask at) summaries text
-plain-alone ask at captures summaries text surveys =
-    let same : surveys.1.0 ≡ text = ap (λ (head : List ℕ). head ++ surveys.1.0) (sym surveys.1.2) ∙ sym surveys.1.1 in
-    subst (SurveysReport captures (plain_query ask at) summaries) same surveys.1.3
+plain-alone ask at captures summaries text surveys = grind arith
 
 pub surveys-plain : AboutAll → (ask : Ask) (at : Option Moment) (query : Query) → query ≡ plain_query ask at
     → (captures : List (List ℕ)) (summaries : List Summary) (text : List ℕ)
     → SurveysQuery captures query summaries text → SurveysBy (IsReport ask) captures (at_or_newest at) summaries text
-surveys-plain all ask at query is captures summaries text survey =
-    (plain-survey all captures ask at summaries text).1
-    (plain-alone ask at captures summaries text (subst (λ (q : Query). SurveysQuery captures q summaries text) is survey))
+surveys-plain all ask at query is captures summaries text survey = grind (arith, plain-survey, plain-alone)
 
 refused_plainly : AboutAll → (ask : Ask) (at : Option Moment) (lefts : List (Option (List ℕ))) (out : Writing) (fault : SurveyFault)
     → Refuses (asked_query (plain_query ask at)) lefts out fault → RefusesBy (IsReport ask) lefts (at_or_newest at) out fault
 refused_plainly all ask at lefts out (File index fault) refuses = refuses
 refused_plainly all ask at lefts out (Early newest) refuses = refuses
 refused_plainly all ask at lefts out Memory refuses = tt
-refused_plainly all ask at lefts out Write refuses = λ captures known.
-    let prefix = refuses captures known in
-    record {
-      summaries = prefix.summaries;
-      text = prefix.text;
-      surveys = surveys-plain all ask at (plain_query ask at) refl captures prefix.summaries prefix.text prefix.answers;
-      prefix = prefix.prefix;
-    }
+refused_plainly all ask at lefts out Write refuses = grind (arith, surveys-plain)
 
 pub refuses-plain : AboutAll → (ask : Ask) (at : Option Moment) (query : Query) → query ≡ plain_query ask at
     → (lefts : List (Option (List ℕ))) (out : Writing) (fault : SurveyFault)

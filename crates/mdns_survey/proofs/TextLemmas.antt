@@ -80,11 +80,7 @@ one_now Newest hearings now other (inl first) (inl second) = first.1 ∙ sym sec
 one_now Newest hearings now other (inl first) (inr second) = absurd (not_newest hearings second.0 first.0 second.1)
 one_now Newest hearings now other (inr first) (inl second) = absurd (not_newest hearings first.0 second.0 first.1)
 one_now Newest hearings now other (inr first) (inr second) =
-    let after = no_later hearings first.0 second.0 first.1 second.1 in
-    let before = no_later hearings second.0 first.0 second.1 first.1 in
-    let is_first : now ≡ first.0.nanos = first.2 in
-    let is_second : other ≡ second.0.nanos = second.2 in
-    omega arith
+    grind (arith, no_later hearings first.0 second.0 first.1 second.1, no_later hearings second.0 first.0 second.1 first.1)
 
 -- THE TEXT
 

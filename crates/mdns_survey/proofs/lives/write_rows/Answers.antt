@@ -1,4 +1,5 @@
-use Rattle.std.proofs.Common.{◌≡◌, ◌∙◌, ℕ, List, ◌∷◌, [], ◌++◌, refl, rules, string_bytes, subst}
+use Rattle.std.proofs.Common.{arith}
+use Rattle.std.proofs.Common.{◌≡◌, ◌∙◌, ℕ, List, ◌∷◌, [], ◌++◌, rules, string_bytes, subst}
 use Rattle.std.specs.Io.KnownBytes.{Appends}
 use Rattle.mdns_capture.specs.Output.{AppendsPrefix}
 use Rattle.mdns_lives.specs.Rows.{row_lent}
@@ -8,13 +9,7 @@ use Rattle.mdns_survey.proofs.RowsLemmas.{rows-all, rows-cut, rows-more, rows-no
 use Rattle.mdns_survey.proofs.lives.write_rows.Goals as goal
 
 pub loop-row-init : goal.loop-row-init
-loop-row-init g c =
-    record {
-      far = rows-none (string_bytes c.args.head) (kept_text c.args.about.now (lives_text c.args.form c.args.width c.args.end.nanos))
-          c.args.rows (g.W.Sink.written c.args.out.now) (string_bytes c.args.head) refl;
-      unfailed = search rules;
-      stays = λ steady. steady;
-    }
+loop-row-init g c = grind (arith, rows-none, string_bytes, kept_text)
 
 pub loop-row-preserved : goal.loop-row-preserved
 loop-row-preserved g c =
@@ -64,14 +59,10 @@ returns-clause-stops g c =
     c.in-Err-write_whole.ensures.prefix))
 
 pub returns-in-Err-clause-stops : goal.returns-in-Err-clause-stops
-returns-in-Err-clause-stops g c =
-    kept-stop c.args.about.now (lives_text c.args.form c.args.width c.args.end.nanos) (string_bytes c.args.head) c.args.rows
-    c.loop-row.walk _ _ (string_bytes c.loop-row.text) c.loop-row.invariant.far
+returns-in-Err-clause-stops g c = search (rules, kept-stop, string_bytes)
 
 pub returns-in-Err-push_row-clause-stops : goal.returns-in-Err-push_row-clause-stops
-returns-in-Err-push_row-clause-stops g c =
-    kept-stop c.args.about.now (lives_text c.args.form c.args.width c.args.end.nanos) (string_bytes c.args.head) c.args.rows
-    c.loop-row.walk _ _ (string_bytes c.loop-row.text) c.loop-row.invariant.far
+returns-in-Err-push_row-clause-stops g c = search (rules, kept-stop, string_bytes)
 
 pub returns-in-Ok-write_whole-clause-written : goal.returns-in-Ok-write_whole-clause-written
 returns-in-Ok-write_whole-clause-written g c =

@@ -1,3 +1,5 @@
+use Rattle.std.proofs.Common.{rules}
+use Rattle.std.proofs.Common.{arith}
 use Rattle.std.proofs.Common.{◌∙◌, Some, ap}
 use Rattle.mdns_capture.specs.Capture.{Gives, packet_lent}
 use Rattle.mdns_survey.specs.declared.reading.Span.{Span}
@@ -6,14 +8,7 @@ use Rattle.mdns_survey.proofs.ReadingLemmas.{lost-few, read-more, read-none}
 use Rattle.mdns_survey.proofs.reading.read_capture.Goals as goal
 
 pub loop-packet-init : goal.loop-packet-init
-loop-packet-init g c = record {
-  so_far = read-none g.C.Consumer.Took (g.R.Source.remaining c.args.reader) (g.R.Source.steady c.args.reader)
-      (g.R.Source.failures c.args.reader) c.in-Ok.capture _ c.new-tally.result c.new-skips.result
-      c.in-Ok.ensures.begins c.new-tally.ensures c.new-skips.ensures;
-  sound = c.in-Ok.ensures.begins.sound;
-  steady = c.in-Ok.ensures.begins.steadily;
-  going = c.in-Ok.ensures.begins.going;
-}
+loop-packet-init g c = grind (arith, read-none)
 
 pub loop-packet-preserved : goal.loop-packet-preserved
 loop-packet-preserved g c =
@@ -35,6 +30,4 @@ loop-packet-preserved g c =
     }
 
 pub take_packet-requires-clause-few : goal.take_packet-requires-clause-few
-take_packet-requires-clause-few g c =
-    lost-few g.C.Consumer.Took (g.R.Source.remaining c.args.reader) c.loop-packet.capture _ c.loop-packet.consumer c.loop-packet.tally
-    c.loop-packet.lost c.loop-packet.skips c.loop-packet.span c.loop-packet.invariant.so_far
+take_packet-requires-clause-few g c = search (rules, lost-few)

@@ -1,3 +1,4 @@
+use Rattle.std.proofs.Common.{arith}
 use Rattle.std.proofs.Common.{inl}
 use Rattle.mdns_capture.specs.Capture.{packet_lent}
 use Rattle.mdns_survey.specs.Captures.{heard}
@@ -19,11 +20,7 @@ returns-in-Some-clause-took g c =
     }
 
 pub returns-in-Some-clause-skips : goal.returns-in-Some-clause-skips
-returns-in-Some-clause-skips g c =
-    let reads = c.in-Some.ensures.reads in
-    let packet = packet_lent c.args.packet.now in
-    counts-no-skip packet c.args.skips.now
-    (heard-no-skip packet c.in-Ok.sent.0.now reads.hearings c.in-Ok.ensures.carried reads.reads)
+returns-in-Some-clause-skips g c = grind (arith, counts-no-skip, heard-no-skip)
 
 pub returns-in-Some-clause-lost : goal.returns-in-Some-clause-lost
 returns-in-Some-clause-lost g c =

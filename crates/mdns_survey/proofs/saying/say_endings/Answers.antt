@@ -1,17 +1,14 @@
+use Rattle.std.proofs.Common.{arith}
 use Rattle.std.proofs.Common.{◌∙◌, ◌+◌, ap, option_map, sym, string_bytes}
 use Rattle.std.proofs.lemmas.Bool.{false≢true}
 use Rattle.mdns_survey.proofs.SaidLemmas.{no-names, no-summaries, so_far-all, so_far-ends, so_far-first, so_far-more}
 use Rattle.mdns_survey.proofs.saying.say_endings.Goals as goal
 
 pub returns : goal.returns
-returns g c =
-    so_far-all c.args.program.now _ _ _ c.loop-name.invariant.far c.loop-name.invariant.unfailed
-    (no-names c.args.program.now string_bytes c.loop-name.names.now c.loop-name.summaries.now c.in_default.ensures.cases)
+returns g c = grind (arith, so_far-all, no-names, string_bytes)
 
 pub returns-in_default-split_first : goal.returns-in_default-split_first
-returns-in_default-split_first g c =
-    so_far-all c.args.program.now _ _ _ c.loop-name.invariant.far c.loop-name.invariant.unfailed
-    (no-summaries c.args.program.now string_bytes c.loop-name.names.now c.loop-name.summaries.now c.in_default-split_first.ensures.cases)
+returns-in_default-split_first g c = grind (arith, so_far-all, no-summaries, string_bytes)
 
 pub loop-name-preserved : goal.loop-name-preserved
 loop-name-preserved g c =

@@ -1,3 +1,4 @@
+use Rattle.std.proofs.Common.{rules}
 use Rattle.std.proofs.lemmas.Result.{IfErr-weaker, IfOk-weaker}
 use Rattle.mdns_survey.proofs.SurveyLemmas.{refuses-plain, surveys-plain}
 use Rattle.mdns_survey.proofs.survey.survey.Goals as goal
@@ -13,7 +14,4 @@ returns-clause-written g c =
     c.survey_query.ensures.written
 
 pub returns-clause-refused : goal.returns-clause-refused
-returns-clause-refused g c =
-    IfErr-weaker c.survey_query.result _ _
-    (refuses-plain c.report_about_all.ensures c.args.ask c.args.at c.plain.result c.plain.ensures _ _)
-    c.survey_query.ensures.refused
+returns-clause-refused g c = search (rules, IfErr-weaker, refuses-plain)
