@@ -7,6 +7,7 @@ use Rattle.mdns_capture.specs.declared.moment.Moment.{Moment}
 use Rattle.mdns_capture.specs.declared.savefile.Ending.{Ending}
 use Rattle.mdns_capture.specs.Savefile.{CaptureReads, PacketAt}
 use Rattle.mdns_message.specs.declared.hearing.Hearing.{Hearing}
+use Rattle.mdns_cache.proofs.StandsPartLemmas.{Contains-cases, Contains-head, Contains-later}
 use Rattle.mdns_survey.specs.declared.summary.Summary.{Summary}
 use Rattle.mdns_survey.specs.Captures.{AllCome, CaptureTells, Counts, Outcome, hearings_in}
 use Rattle.mdns_survey.specs.Laws.{SameCaptures}
@@ -14,7 +15,6 @@ use Rattle.mdns_survey.specs.Listen.{packet_moments}
 use Rattle.mdns_survey.specs.Lives.{AllRead}
 use Rattle.mdns_survey.specs.Readings.{all_moments}
 use Rattle.mdns_survey.specs.Surveys.{all_hearings}
-use Rattle.mdns_survey.proofs.ContainsLemmas.{contains-after, contains-cons, contains-first}
 use Rattle.mdns_survey.proofs.OneSurveyLemmas.{one-read}
 use Rattle.mdns_survey.proofs.OutcomeLemmas.{OneReading, OneTelling}
 
@@ -216,22 +216,22 @@ module _ (one : OneReading) (telling : OneTelling) where
 told-one : (captures : List (List ℕ)) → AllTold captures → (bytes : List ℕ) → Contains captures bytes → Told bytes
 told-one [] told bytes among = absurd (omega (arith, among.1))
 told-one (first ∷ captures) told bytes among =
-    elim (contains-cons first captures bytes among) [
-      | inl is ↦ subst Told (sym is) told.0
+    elim (Contains-cases first captures bytes among) [
+      | inl is ↦ subst Told is told.0
       | inr after ↦ told-one captures told.1 bytes after
     ]
 
 told-each : (captures : List (List ℕ)) → ((bytes : List ℕ) → Contains captures bytes → Told bytes) → AllTold captures
 told-each [] each = tt
 told-each (bytes ∷ captures) each =
-    (each bytes (contains-first bytes captures), told-each captures (λ b among. each b (contains-after bytes captures b among)))
+    (each bytes (Contains-head bytes captures), told-each captures (λ b among. each b (Contains-later bytes captures b among)))
 
 in-among : (captures : List (List ℕ)) (fact : Fact) (bytes : List ℕ) → Contains captures bytes → (told : Told bytes)
     → IsTold fact bytes told → IsIn captures fact
 in-among [] fact bytes among told is = absurd (omega (arith, among.1))
 in-among (first ∷ captures) fact bytes among told is =
-    elim (contains-cons first captures bytes among) [
-      | inl same ↦ inl (subst (λ (b : List ℕ). (t : Told b) × IsTold fact b t) same (told, is))
+    elim (Contains-cases first captures bytes among) [
+      | inl same ↦ inl (subst (λ (b : List ℕ). (t : Told b) × IsTold fact b t) (sym same) (told, is))
       | inr after ↦ inr (in-among captures fact bytes after told is)
     ]
 
@@ -239,9 +239,9 @@ in-others : (captures others : List (List ℕ)) → ((bytes : List ℕ) → Cont
     → (fact : Fact) → IsIn captures fact → IsIn others fact
 in-others [] others into fact is_in = absurd is_in
 in-others (bytes ∷ captures) others into fact (inl here) =
-    in-among others fact bytes (into bytes (contains-first bytes captures)) here.0 here.1
+    in-among others fact bytes (into bytes (Contains-head bytes captures)) here.0 here.1
 in-others (bytes ∷ captures) others into fact (inr after) =
-    in-others captures others (λ b among. into b (contains-after bytes captures b among)) fact after
+    in-others captures others (λ b among. into b (Contains-later bytes captures b among)) fact after
 
 pub same-yield : (captures others : List (List ℕ)) → SameCaptures captures others → AllTold captures → Yields captures others
 same-yield captures others same told = record {

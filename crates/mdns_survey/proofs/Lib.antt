@@ -1,5 +1,4 @@
 pub mod ByteLemmas
-pub mod ContainsLemmas
 pub mod CountLemmas
 pub mod EachLemmas
 pub mod FactLemmas

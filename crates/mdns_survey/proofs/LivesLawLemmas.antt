@@ -14,6 +14,7 @@ use Rattle.mdns_browse.specs.declared.report.Form.{Form}
 use Rattle.mdns_lives.specs.declared.life.Which.{Which}
 use Rattle.mdns_lives.specs.Changes.{chosen}
 use Rattle.mdns_browse.specs.Lives.{lives_report}
+use Rattle.mdns_cache.proofs.StandsPartLemmas.{Contains-cases, Contains-head, Contains-later}
 use Rattle.mdns_survey.specs.declared.request.AsOf.{AsOf}
 use Rattle.mdns_survey.specs.declared.request.AsOf.TheVariants.{Newest, At, Before}
 use Rattle.mdns_survey.specs.declared.summary.Summary.{Summary}
@@ -22,7 +23,6 @@ use Rattle.mdns_survey.specs.Lives.{AllRead, SurveysLives, WritesLives, begin_of
 use Rattle.mdns_survey.specs.Filter.{filter_of, selected}
 use Rattle.mdns_survey.specs.Readings.{all_moments}
 use Rattle.mdns_survey.specs.Surveys.{AllTell}
-use Rattle.mdns_survey.proofs.ContainsLemmas.{contains-after, contains-cons, contains-first}
 use Rattle.mdns_survey.proofs.FactLemmas.{IsByFacts}
 use Rattle.mdns_survey.proofs.SelectedLemmas.{counted-all, same_selected}
 
@@ -45,8 +45,8 @@ OneLives =
 latest_among : (moments : List Moment) (moment : Moment) → Contains moments moment → moment.nanos ≤ latest_nanos moments
 latest_among [] moment among = absurd (omega (arith, among.1))
 latest_among (first ∷ moments) moment among =
-    elim (contains-cons first moments moment among) [
-      | inl is ↦ subst (λ (m : Moment). m.nanos ≤ latest_nanos (first ∷ moments)) (sym is) (le-max_left first.nanos (latest_nanos moments))
+    elim (Contains-cases first moments moment among) [
+      | inl is ↦ subst (λ (m : Moment). m.nanos ≤ latest_nanos (first ∷ moments)) is (le-max_left first.nanos (latest_nanos moments))
       | inr after ↦ omega (arith, latest_among moments moment after, le-max_right first.nanos (latest_nanos moments))
     ]
 
@@ -54,14 +54,14 @@ latest_least : (moments : List Moment) (most : ℕ) → ((moment : Moment) → C
     → latest_nanos moments ≤ most
 latest_least [] most each = omega arith
 latest_least (first ∷ moments) most each =
-    max-le (each first (contains-first first moments))
-    (latest_least moments most (λ moment among. each moment (contains-after first moments moment among)))
+    max-le (each first (Contains-head first moments))
+    (latest_least moments most (λ moment among. each moment (Contains-later first moments moment among)))
 
 earliest_among : (end : ℕ) (moments : List Moment) (moment : Moment) → Contains moments moment → earliest_nanos end moments ≤ moment.nanos
 earliest_among end [] moment among = absurd (omega (arith, among.1))
 earliest_among end (first ∷ moments) moment among =
-    elim (contains-cons first moments moment among) [
-      | inl is ↦ subst (λ (m : Moment). earliest_nanos end (first ∷ moments) ≤ m.nanos) (sym is) (grind (arith))
+    elim (Contains-cases first moments moment among) [
+      | inl is ↦ subst (λ (m : Moment). earliest_nanos end (first ∷ moments) ≤ m.nanos) is (grind (arith))
       | inr after ↦ grind (arith, earliest_among end moments moment after)
     ]
 
@@ -75,8 +75,8 @@ earliest_greatest end [] least by each = by
 earliest_greatest end (first ∷ moments) least by each =
     grind (
       arith,
-      each first (contains-first first moments),
-      earliest_greatest end moments least by (λ moment among. each moment (contains-after first moments moment among)),
+      each first (Contains-head first moments),
+      earliest_greatest end moments least by (λ moment among. each moment (Contains-later first moments moment among)),
     )
 
 -- the moments of one list are among those of another

@@ -15,6 +15,7 @@ use Rattle.mdns_browse.specs.declared.about.Subject.{Subject}
 use Rattle.mdns_browse.specs.declared.report.Ask.{Ask}
 use Rattle.mdns_browse.specs.declared.report.Form.{Form}
 use Rattle.mdns_browse.specs.Report.{IsReportIn}
+use Rattle.mdns_cache.proofs.StandsPartLemmas.{Contains-head, Contains-later}
 use Rattle.mdns_survey.specs.declared.filter.Filter.{Filter}
 use Rattle.mdns_survey.specs.declared.request.AsOf.{AsOf}
 use Rattle.mdns_survey.specs.declared.request.AsOf.TheVariants.{At, Before}
@@ -24,7 +25,6 @@ use Rattle.mdns_survey.specs.Captures.{Outcome}
 use Rattle.mdns_survey.specs.Filter.{counted, counts, filter_of, selected}
 use Rattle.mdns_survey.specs.Surveys.{AllTell, IsAsOf, ReportsBy, SurveysBy, all_hearings}
 use Rattle.mdns_lives.proofs.FilterLemmas.{from-filter, to-filter}
-use Rattle.mdns_survey.proofs.ContainsLemmas.{contains-after, contains-first}
 
 -- the same hearings have the same ones that count
 pub same_selected : (which : Filter) (heard others : List Hearing) → SameHearings heard others
@@ -60,14 +60,14 @@ counted-among which outcomes hearing among =
 all-pass : {X : Type 0} (p : X → Bool) (xs : List X) → ((x : X) → Contains xs x → p x ≡ true) → filter p xs ≡ xs
 all-pass p [] passes = refl
 all-pass p (first ∷ xs) passes =
-    let kept : filter p (first ∷ xs) ≡ first ∷ filter p xs = rw (passes first (contains-first first xs)) refl in
-    kept ∙ ap (λ ys. first ∷ ys) (all-pass p xs (λ x among. passes x (contains-after first xs x among)))
+    let kept : filter p (first ∷ xs) ≡ first ∷ filter p xs = rw (passes first (Contains-head first xs)) refl in
+    kept ∙ ap (λ ys. first ∷ ys) (all-pass p xs (λ x among. passes x (Contains-later first xs x among)))
 
 none-pass : {X : Type 0} (p : X → Bool) (xs : List X) → ((x : X) → Contains xs x → p x ≡ false) → filter p xs ≡ []
 none-pass p [] fails = refl
 none-pass p (first ∷ xs) fails =
-    let left : filter p (first ∷ xs) ≡ filter p xs = rw (fails first (contains-first first xs)) refl in
-    left ∙ none-pass p xs (λ x among. fails x (contains-after first xs x among))
+    let left : filter p (first ∷ xs) ≡ filter p xs = rw (fails first (Contains-head first xs)) refl in
+    left ∙ none-pass p xs (λ x among. fails x (Contains-later first xs x among))
 
 module _ (which other : Filter) (is : which ≡ other) (t : Moment) (message : List ℕ) (hearings : List Hearing)
     (reads : MessageReads t message hearings) (P : List Hearing → Type 0) (heard : List Hearing) where
