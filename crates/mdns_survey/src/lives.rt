@@ -26,7 +26,7 @@ use mdns_browse::about::{Subject, keeps_record};
 use mdns_browse::lives::{Layout, push_lives, push_lives_head};
 use mdns_browse::report::Form;
 use mdns_capture::{Broken, Moment, Sink, write_whole};
-use mdns_lives::{ChosenWalk, RecordLives, Recording, Which};
+use mdns_lives::{ChosenWalk, RecordLives, Recording};
 use mdns_message::Want;
 use std::alloc::Global;
 
@@ -82,30 +82,44 @@ impl Answer for LivesQuery {
             Ok(layout) => layout,
             Err(Want) => return Err(SurveyFault::Memory),
         };
-        let text = match text_before(alloc, self.which, self.form, readings, layout, begin, end) {
+        let text = match text_before(alloc, &self, readings, layout, begin, end) {
             Ok(text) => text,
             Err(Want) => return Err(SurveyFault::Memory),
         };
         let rows = lives.chosen(self.which);
-        write_rows(text, rows, self.form, layout.width, about, end, out)
+        let lines = RowLines {
+            form: self.form,
+            about,
+            width: layout.width,
+            end,
+        };
+        write_rows(text, rows, lines, out)
     }
+}
+
+// The lines of rows: their form, what the records are about, the width of the column of ends, and the end of the captures.
+#[derive(Clone, Copy)]
+struct RowLines<'a> {
+    form: Form,
+    about: &'a [Subject],
+    width: usize,
+    end: Moment,
 }
 
 // Returns what stands before the lives: the head of captures with these readings, and the heading.
 fn text_before(
     alloc: Global,
-    which: Which,
-    form: Form,
+    query: &LivesQuery,
     readings: &[Reading],
     layout: Layout,
     begin: Moment,
     end: Moment,
 ) -> Result<String, Want>
-    ensures { IfOk result (λ text. (head : List ℕ) × Heads form readings.now head
-        × (string_bytes text ≡ head ++ lives_head which form layout.count layout.width begin.nanos end.nanos)) }
+    ensures { IfOk result (λ text. (head : List ℕ) × Heads query.now.form readings.now head × (string_bytes text
+        ≡ head ++ lives_head query.now.which query.now.form layout.count layout.width begin.nanos end.nanos)) }
 {
-    let mut text = head_in(alloc, form, readings)?;
-    push_lives_head(&mut text, which, form, layout, begin, end)?;
+    let mut text = head_in(alloc, query.form, readings)?;
+    push_lives_head(&mut text, query.which, query.form, layout, begin, end)?;
     Ok(text)
 }
 
@@ -165,16 +179,14 @@ fn with_row(
 fn write_rows<W: Sink>(
     head: String,
     rows: ChosenWalk<'_>,
-    form: Form,
-    width: usize,
-    about: &[Subject],
-    end: Moment,
+    lines: RowLines<'_>,
     out: &mut W,
 ) -> Result<(), SurveyFault>
     ensures written { OnOk result (Appends (W.written out.old) (W.written out.new)
-        (string_bytes head ++ flat_map (lives_text form width end.nanos) (kept_rows about.now rows.entry))) }
-    ensures stops { IfErr result (StopsRows (string_bytes head) (lives_text form width end.nanos)
-        (kept_rows about.now rows.entry) (writing W.Sink out.old out.new)) }
+        (string_bytes head ++ flat_map (lives_text lines.entry.form lines.entry.width lines.entry.end.nanos)
+        (kept_rows lines.entry.about.now rows.entry))) }
+    ensures stops { IfErr result (StopsRows (string_bytes head) (lives_text lines.entry.form lines.entry.width lines.entry.end.nanos)
+        (kept_rows lines.entry.about.now rows.entry) (writing W.Sink out.old out.new)) }
     ensures writer { IfErr result (BlamesWriter (writing W.Sink out.old out.new)) }
     ensures unfailed { OnOk result (W.failures out.new ≡ W.failures out.old) }
 {
@@ -187,7 +199,7 @@ fn write_rows<W: Sink>(
             Ok(None) => break,
             Err(Want) => return Err(SurveyFault::Memory),
         };
-        match push_row(&mut text, form, width, about, end, &row, &mut scratch) {
+        match push_row(&mut text, lines, &row, &mut scratch) {
             Ok(()) => {}
             Err(Want) => return Err(SurveyFault::Memory),
         }
@@ -204,19 +216,18 @@ fn write_rows<W: Sink>(
 
 fn push_row(
     text: &mut String,
-    form: Form,
-    width: usize,
-    about: &[Subject],
-    end: Moment,
+    lines: RowLines<'_>,
     row: &RecordLives<'_>,
     scratch: &mut String,
 ) -> Result<(), Want>
     ensures { OnOk result (string_bytes text.new ≡ string_bytes text.old
-        ++ flat_map (lives_text form width end.nanos) (kept_rows about.now (row_lent row.now ∷ []))) }
+        ++ flat_map (lives_text lines.entry.form lines.entry.width lines.entry.end.nanos)
+        (kept_rows lines.entry.about.now (row_lent row.now ∷ []))) }
 {
     let resource = row.last.resource;
-    if keeps_record(about, &resource.borrowed(), scratch)? {
-        push_lives(text, form, width, end, resource, row.lives.as_slice())?;
+    let lives = row.lives.as_slice();
+    if keeps_record(lines.about, &resource.borrowed(), scratch)? {
+        push_lives(text, lines.form, lines.width, lines.end, resource, lives)?;
     }
     Ok(())
 }

@@ -70,15 +70,14 @@ pub fn answer_request<R: Source + Drop, O: Sink, E: Sink>(
     ensures unfailed { result ≢ REFUSED → O.failures out.new ≡ O.failures out.old }
 {
     match request {
-        Request::Report(query) => answer_with(alloc, query, true, names, readers, out, err),
-        Request::Lives(lives) => answer_with(alloc, lives, true, names, readers, out, err),
-        Request::Check => answer_with(alloc, Check { names }, false, names, readers, out, err),
+        Request::Report(query) => answer_with(query, true, names, readers, out, err),
+        Request::Lives(lives) => answer_with(lives, true, names, readers, out, err),
+        Request::Check => answer_with(Check { names }, false, names, readers, out, err),
     }
 }
 
 /// Answers a question as `answer` does, and where `says` is `true` writes an error line for each capture that isn't whole.
 pub fn answer_with<R: Source + Drop, Q: Answer + Drop, O: Sink, E: Sink>(
-    alloc: Global,
     question: Q,
     says: bool,
     names: &[String],
@@ -96,6 +95,7 @@ pub fn answer_with<R: Source + Drop, Q: Answer + Drop, O: Sink, E: Sink>(
         (writing O.Sink out.old out.new) (writing E.Sink err.old err.new) }
     ensures unfailed { result ≢ REFUSED → O.failures out.new ≡ O.failures out.old }
 {
+    let alloc = *readers.allocator();
     match survey_with(alloc, readers, question, out) {
         Ok(summaries) => {
             if says {

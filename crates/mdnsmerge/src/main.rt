@@ -90,7 +90,7 @@ fn answer_task<R: Source + Drop, O: Sink, E: Sink>(
                 as_of,
                 about,
             };
-            answer_with(alloc, page, true, names, readers, out, err)
+            answer_with(page, true, names, readers, out, err)
         }
     }
 }

@@ -83,7 +83,7 @@ fn status_of(
         Run::Trace(trace) => Some(answer_traces(alloc, trace, &[], names, readers, out, err)),
         Run::Page => {
             let page = page_of(alloc, names);
-            Some(answer_with(alloc, page, true, names, readers, out, err))
+            Some(answer_with(page, true, names, readers, out, err))
         }
         _ => {
             let request = request_of(alloc, run);

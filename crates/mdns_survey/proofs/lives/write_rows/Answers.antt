@@ -1,4 +1,4 @@
-use Rattle.std.proofs.Common.{arith}
+use Rattle.std.proofs.Common.{refl}
 use Rattle.std.proofs.Common.{◌≡◌, ◌∙◌, ℕ, List, ◌∷◌, [], ◌++◌, rules, string_bytes, subst}
 use Rattle.std.specs.Io.KnownBytes.{Appends}
 use Rattle.mdns_capture.specs.Output.{AppendsPrefix}
@@ -9,12 +9,18 @@ use Rattle.mdns_survey.proofs.RowsLemmas.{rows-all, rows-cut, rows-more, rows-no
 use Rattle.mdns_survey.proofs.lives.write_rows.Goals as goal
 
 pub loop-row-init : goal.loop-row-init
-loop-row-init g c = grind (arith, rows-none, string_bytes, kept_text)
+loop-row-init g c =
+    record {
+      far = rows-none (string_bytes c.args.head) (kept_text c.args.lines.about.now (lives_text c.args.lines.form c.args.lines.width c.args.lines.end.nanos))
+          c.args.rows (g.W.Sink.written c.args.out.now) (string_bytes c.args.head) refl;
+      unfailed = search rules;
+      stays = λ steady. steady;
+    }
 
 pub loop-row-preserved : goal.loop-row-preserved
 loop-row-preserved g c =
     let head = string_bytes c.args.head in
-    let f = kept_text c.args.about.now (lives_text c.args.form c.args.width c.args.end.nanos) in
+    let f = kept_text c.args.lines.about.now (lives_text c.args.lines.form c.args.lines.width c.args.lines.end.nanos) in
     let rows = c.args.rows in
     let old = string_bytes c.loop-row.text in
     let row = c.in-Ok-Some.row in
@@ -33,15 +39,15 @@ loop-row-preserved g c =
 pub returns-in-Err-write_piece-clause-stops : goal.returns-in-Err-write_piece-clause-stops
 returns-in-Err-write_piece-clause-stops g c =
     let head = string_bytes c.args.head in
-    let lines = lives_text c.args.form c.args.width c.args.end.nanos in
-    let f = kept_text c.args.about.now lines in
+    let lines = lives_text c.args.lines.form c.args.lines.width c.args.lines.end.nanos in
+    let f = kept_text c.args.lines.about.now lines in
     let rows = c.args.rows in
     let old = string_bytes c.loop-row.text in
     let row = c.in-Ok-Some.row in
     let first : c.loop-row.walk ≡ row_lent row ∷ c.next.new.self = rw c.in-Ok-Some.field-0-is at c.in-Ok-Some.ensures.ok in
     let more : string_bytes c.push_row.new.text ≡ old ++ f (row_lent row) = c.in-Ok.ensures in
     subst (λ (t : List ℕ). AppendsPrefix (g.W.Sink.written c.args.out.now) (g.W.Sink.written c.write_piece.new.out) (head ++ t))
-    (kept-texts c.args.about.now lines rows)
+    (kept-texts c.args.lines.about.now lines rows)
     (rows-cut head f rows c.next.new.self _ _ _ (string_bytes c.push_row.new.text)
     (rows-more head f rows c.loop-row.walk (row_lent row) c.next.new.self _ _ old (string_bytes c.push_row.new.text)
     c.loop-row.invariant.far first more)
@@ -50,28 +56,32 @@ returns-in-Err-write_piece-clause-stops g c =
 pub returns-clause-stops : goal.returns-clause-stops
 returns-clause-stops g c =
     let head = string_bytes c.args.head in
-    let lines = lives_text c.args.form c.args.width c.args.end.nanos in
+    let lines = lives_text c.args.lines.form c.args.lines.width c.args.lines.end.nanos in
     subst (λ (t : List ℕ). AppendsPrefix (g.W.Sink.written c.args.out.now) (g.W.Sink.written c.write_whole.new.out) (head ++ t))
-    (kept-texts c.args.about.now lines c.args.rows)
-    (rows-cut head (kept_text c.args.about.now lines) c.args.rows c.loop-row.walk _ _ _ (string_bytes c.loop-row.text)
+    (kept-texts c.args.lines.about.now lines c.args.rows)
+    (rows-cut head (kept_text c.args.lines.about.now lines) c.args.rows c.loop-row.walk _ _ _ (string_bytes c.loop-row.text)
     c.loop-row.invariant.far
     (subst (AppendsPrefix (g.W.Sink.written c.loop-row.out) (g.W.Sink.written c.write_whole.new.out)) c.as_bytes.ensures.value
     c.in-Err-write_whole.ensures.prefix))
 
 pub returns-in-Err-clause-stops : goal.returns-in-Err-clause-stops
-returns-in-Err-clause-stops g c = search (rules, kept-stop, string_bytes)
+returns-in-Err-clause-stops g c =
+    kept-stop c.args.lines.about.now (lives_text c.args.lines.form c.args.lines.width c.args.lines.end.nanos) (string_bytes c.args.head) c.args.rows
+    c.loop-row.walk _ _ (string_bytes c.loop-row.text) c.loop-row.invariant.far
 
 pub returns-in-Err-push_row-clause-stops : goal.returns-in-Err-push_row-clause-stops
-returns-in-Err-push_row-clause-stops g c = search (rules, kept-stop, string_bytes)
+returns-in-Err-push_row-clause-stops g c =
+    kept-stop c.args.lines.about.now (lives_text c.args.lines.form c.args.lines.width c.args.lines.end.nanos) (string_bytes c.args.head) c.args.rows
+    c.loop-row.walk _ _ (string_bytes c.loop-row.text) c.loop-row.invariant.far
 
 pub returns-in-Ok-write_whole-clause-written : goal.returns-in-Ok-write_whole-clause-written
 returns-in-Ok-write_whole-clause-written g c =
     let head = string_bytes c.args.head in
-    let lines = lives_text c.args.form c.args.width c.args.end.nanos in
+    let lines = lives_text c.args.lines.form c.args.lines.width c.args.lines.end.nanos in
     let none : c.loop-row.walk ≡ [] = search rules in
     subst (λ (t : List ℕ). Appends (g.W.Sink.written c.args.out.now) (g.W.Sink.written c.write_whole.new.out) (head ++ t))
-    (kept-texts c.args.about.now lines c.args.rows)
-    (rows-all head (kept_text c.args.about.now lines) c.args.rows c.loop-row.walk _ _ _ (string_bytes c.loop-row.text)
+    (kept-texts c.args.lines.about.now lines c.args.rows)
+    (rows-all head (kept_text c.args.lines.about.now lines) c.args.rows c.loop-row.walk _ _ _ (string_bytes c.loop-row.text)
     c.loop-row.invariant.far none
     (subst (Appends (g.W.Sink.written c.loop-row.out) (g.W.Sink.written c.write_whole.new.out)) c.as_bytes.ensures.value
     c.in-Ok-write_whole.ensures.whole))
