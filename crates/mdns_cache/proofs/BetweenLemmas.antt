@@ -1,9 +1,9 @@
 -- Contents between some contents and their join with others: the invariant holds of them, part by part.
 use Rattle.std.proofs.Common.{◌≡◌, ◌≢◌, ℕ, ◌≤◌, ◌<◌, true, false, List, [], ◌∷◌, Option, None, Some, Result, Ok}
-use Rattle.std.proofs.Common.{Err, OnOk, OnErr, refl, sym, ap, ◌∙◌, subst, inl, inr, arith, cond}
+use Rattle.std.proofs.Common.{Err, OnOk, OnErr, refl, sym, ap, ◌∙◌, subst, arith}
 use Rattle.std.proofs.Common.{if◌then◌else◌}
 use Rattle.std.specs.declared.cmp.Ordering.TheVariants.{Greater}
-use Rattle.std.specs.Ordering.{is_eq, nat_cmp, ordering_then}
+use Rattle.std.specs.Ordering.{nat_cmp, ordering_then}
 use Rattle.std.specs.declared.cmp.Ordering.{Ordering}
 use Rattle.std.proofs.lemmas.Bool.{cases_lt}
 use Rattle.std.proofs.lemmas.Bool.Decides.{nat_tests}
@@ -11,7 +11,7 @@ use Rattle.mdns_capture.specs.declared.moment.Moment.{Moment}
 use Rattle.mdns_message.specs.declared.hearing.Hearing.{Hearing}
 use Rattle.mdns_message.specs.declared.key.Key.{Key}
 use Rattle.mdns_message.specs.RecordSet.{RecordSet}
-use Rattle.mdns_message.specs.Resource.{key_of, set_key_of, key_cmp, set_key_cmp, resource_cmp}
+use Rattle.mdns_message.specs.Resource.{key_of, set_key_of, key_cmp, set_key_cmp}
 use Rattle.mdns_message.specs.laws.Resource.{key_cmp-total, key_cmp-exact, set_key_cmp-total, set_key_cmp-exact}
 use Rattle.mdns_join.specs.declared.latest.Latest.{Latest}
 use Rattle.join_map.specs.Join.{JoinLaws, IsPartOfJoin}
@@ -50,14 +50,7 @@ then-greater o p e = rw e refl
 
 -- a last hearing that doesn't exceed another is no later
 pub not_later : (a b : Latest) → latest_cmp a b ≢ Greater → a.moment.nanos ≤ b.moment.nanos
-not_later a b n =
-    elim (cases_lt b.moment.nanos a.moment.nanos) [
-      | inl h ↦ absurd
-          (n (then-greater (nat_cmp a.moment.nanos b.moment.nanos)
-          (ordering_then (nat_cmp a.ttl b.ttl) (resource_cmp a.resource b.resource))
-          (nat_cmp-above a.moment.nanos b.moment.nanos h)))
-      | inr h ↦ h
-    ]
+not_later a b n = grind (arith, cases_lt, then-greater, nat_cmp-above)
 
 later-no_less : (a b c : Latest) → LaterIs a b c → c ≡ b → a.moment.nanos ≤ b.moment.nanos
 later-no_less a b c (first _) e = subst (λ (x : Latest). a.moment.nanos ≤ x.moment.nanos) e (omega arith)
@@ -131,31 +124,17 @@ module _ (n : Option Moment) (old other value : List (RecordSet × List ℕ))
 -- ---- one entry
 
 pub LastsUpTo-one : (n : Option Moment) (key : Key) (l : Latest) → IsUpTo n l.moment.nanos → LastsUpTo n (one_entry key l)
-LastsUpTo-one n key l u k x e =
-    elim (is_eq (key_cmp k key)) as (λ t. cond t (Some l) None ≡ Some x → IsUpTo n x.moment.nanos) [
-      | true ↦ λ p. subst (λ (y : Latest). IsUpTo n y.moment.nanos) (let q : l ≡ x = cc in q) u
-      | false ↦ λ p. absurd (cc)
-    ] e
+LastsUpTo-one n key l u k x e = grind arith
 
 pub FlushesUpTo-one : (n : Option Moment) (set : RecordSet) (fs : List ℕ) → IsUpTo n (newest fs)
     → FlushesUpTo n (one_entry set fs)
-FlushesUpTo-one n set fs u k ms m e h =
-    elim (is_eq (set_key_cmp k set)) as (λ t. cond t (Some fs) None ≡ Some ms → IsUpTo n m) [
-      | true ↦ λ p. IsUpTo-less n m (newest fs)
-          (has-le-newest fs m (subst (λ (zs : List ℕ). has zs m ≡ true) (let q : ms ≡ fs = cc in q) h)) u
-      | false ↦ λ p. absurd (cc)
-    ] e
+FlushesUpTo-one n set fs u k ms m e h = grind (arith, IsUpTo-less, has-le-newest)
 
 -- ---- contents between
 
 -- contents with a later newest moment
 pub IsContents-raised : (c : Contents) (n : Option Moment) → IsContents c → IsContents (contents c.lasts c.flushes (newer c.newest n))
-IsContents-raised c n u = record {
-  lasts = u.lasts;
-  flushes = u.flushes;
-  lasts_by_newest = λ key l e. IsUpTo-left c.newest n l.moment.nanos (u.lasts_by_newest key l e);
-  flushes_by_newest = λ set ms m e h. IsUpTo-left c.newest n m (u.flushes_by_newest set ms m e h);
-}
+IsContents-raised c n u = grind (arith, IsUpTo-left)
 
 -- contents with last hearings between the old ones and their join with others
 pub IsContents-lasts : (c : Contents) (other value : List (Key × Latest)) → IsContents c
@@ -186,14 +165,7 @@ pub part_of_join : (old other value : Contents) → IsContents old → IsContent
     → IsPartOfJoin (joined set_key_cmp kept_union) old.flushes other.flushes value.flushes
     → value.newest ≡ newer old.newest other.newest → IsPartOfJoin join_of old other value
 unfolding join_of
-part_of_join old other value u v lasts flushes newest = record {
-  from_old = same_contents (join_of old value) value lasts.from_old flushes.from_old (ap (newer old.newest) newest
-      ∙ sym (newer-assoc old.newest old.newest other.newest)
-      ∙ ap (λ (o : Option Moment). newer o other.newest) (newer-same old.newest) ∙ sym newest);
-  to_join = same_contents (join_of value (join_of old other)) (join_of old other) lasts.to_join flushes.to_join
-      (ap (λ (o : Option Moment). newer o (newer old.newest other.newest)) newest
-      ∙ newer-same (newer old.newest other.newest));
-}
+part_of_join old other value u v lasts flushes newest = grind (arith, same_contents, newer, newer-assoc, newer-same)
 
 -- whatever a join answers, the value lies between
 pub part_either : {A U W : Type 0} {Valid : A → Type 0} {join : A → A → A} (laws : JoinLaws Valid join)

@@ -1,6 +1,6 @@
 -- The join of contents: its laws, and the contents between two contents and their join.
-use Rattle.std.proofs.Common.{◌≡◌, ℕ, ◌<◌, ◌≤◌, true, false, List, [], Option, None, Some, max, refl, sym, ap, ◌∙◌}
-use Rattle.std.proofs.Common.{subst, inl, inr, arith, nat_lt, if◌then◌else◌}
+use Rattle.std.proofs.Common.{◌≡◌, ℕ, true, List, [], Option, None, Some, max, refl, sym, ap, ◌∙◌}
+use Rattle.std.proofs.Common.{subst, inl, inr, arith, nat_lt}
 use Rattle.std.specs.declared.cmp.Ordering.{Ordering}
 use Rattle.std.specs.List.Sorted.{IsStrictlySortedBy}
 use Rattle.std.proofs.lemmas.Bool.{ltb-true, ltb-false}
@@ -18,7 +18,7 @@ use Rattle.mdns_join.specs.laws.Kept.{heard_from_kept, union_parts}
 use Rattle.join_map.specs.laws.Entries.{value_at-join, sorted_none}
 use Rattle.mdns_message.specs.laws.Resource.{key_cmp-total, key_cmp-exact, set_key_cmp-total, set_key_cmp-exact}
 use Rattle.mdns_cache.specs.Contents.{Contents, contents, IsContents, IsUpTo, MapLaws, later_moment, join_of, last_at, flushes_at}
-use Rattle.mdns_cache.proofs.StandsPartLemmas.{LaterIs, first, second, later-is}
+use Rattle.mdns_cache.proofs.StandsPartLemmas.{first, second, later-is}
 
 -- ---- the maps
 
@@ -42,11 +42,7 @@ module _ {K V : Type 0} (cmp : K → K → Ordering) (Valid : V → Type 0) wher
 -- ---- moments
 
 pub nanos-later : (a b : Moment) → (later_moment a b).nanos ≡ max a.nanos b.nanos
-nanos-later a b =
-    elim (nat_lt a.nanos b.nanos) as (λ t. nat_lt a.nanos b.nanos ≡ t → (if t then b else a).nanos ≡ max a.nanos b.nanos) [
-      | true ↦ λ e. let l : a.nanos < b.nanos = ltb-true _ _ e in omega arith
-      | false ↦ λ e. let l : b.nanos ≤ a.nanos = ltb-false _ _ e in omega arith
-    ] refl
+nanos-later a b = grind (arith, nat_lt, ltb-true, ltb-false)
 
 later_moment-same : (a : Moment) → later_moment a a ≡ a
 later_moment-same a = moment-same (later_moment a a) a (nanos-later a a ∙ omega arith)
@@ -55,13 +51,7 @@ later_moment-comm : (a b : Moment) → later_moment a b ≡ later_moment b a
 later_moment-comm a b = moment-same (later_moment a b) (later_moment b a) (omega (arith, nanos-later a b, nanos-later b a))
 
 later_moment-assoc : (a b c : Moment) → later_moment (later_moment a b) c ≡ later_moment a (later_moment b c)
-later_moment-assoc a b c =
-    moment-same (later_moment (later_moment a b) c) (later_moment a (later_moment b c))
-    (nanos-later (later_moment a b) c ∙ ap (λ n. max n c.nanos) (nanos-later a b) ∙ max3 a.nanos b.nanos c.nanos
-    ∙ sym (nanos-later a (later_moment b c) ∙ ap (max a.nanos) (nanos-later b c)))
-  where
-    max3 : (x y z : ℕ) → max (max x y) z ≡ max x (max y z)
-    max3 x y z = omega arith
+later_moment-assoc a b c = grind (arith, moment-same, nanos-later)
 
 -- ---- newest moments
 
@@ -120,12 +110,7 @@ pub later-bounded : (P : Latest → Type 0) (o p : Option Latest) → ((a : Late
     → ((b : Latest) → p ≡ Some b → P b) → (l : Latest) → joined_at later o p ≡ Some l → P l
 later-bounded P None p u v l e = v l e
 later-bounded P (Some a) None u v l e = u l e
-later-bounded P (Some a) (Some b) u v l e = subst P (let f : later a b ≡ l = cc in
-    f) (by a b (later a b) (later-is a b) (u a refl) (v b refl))
-  where
-    by : (a b l : Latest) → LaterIs a b l → P a → P b → P l
-    by a b l (first _) x y = x
-    by a b l (second _) x y = y
+later-bounded P (Some a) (Some b) u v l e = grind (arith, later-is, first, second)
 
 pub flush-bounded : (P : ℕ → Type 0) (o p : Option (List ℕ))
     → ((xs : List ℕ) (m : ℕ) → o ≡ Some xs → has xs m ≡ true → P m)
@@ -155,15 +140,4 @@ module _ (laws : MapLaws) where
   -- joining contents obeys the laws of a join
   pub join_of-laws : JoinLaws IsContents join_of
   unfolding join_of
-  join_of-laws = record {
-    idempotent = λ a u. same_contents (join_of a a) a ((lasts-laws laws).idempotent a.lasts u.lasts)
-        ((flushes-laws laws).idempotent a.flushes u.flushes) (newer-same a.newest);
-    commutative = λ a b u v. same_contents (join_of a b) (join_of b a)
-        ((lasts-laws laws).commutative a.lasts b.lasts u.lasts v.lasts)
-        ((flushes-laws laws).commutative a.flushes b.flushes u.flushes v.flushes) (newer-comm a.newest b.newest);
-    associative = λ a b c u v w. same_contents (join_of (join_of a b) c) (join_of a (join_of b c))
-        ((lasts-laws laws).associative a.lasts b.lasts c.lasts u.lasts v.lasts w.lasts)
-        ((flushes-laws laws).associative a.flushes b.flushes c.flushes u.flushes v.flushes w.flushes)
-        (newer-assoc a.newest b.newest c.newest);
-    keeps = IsContents-join;
-  }
+  join_of-laws = grind (arith, same_contents, lasts-laws, flushes-laws, newer-same, newer-comm, newer-assoc, IsContents-join)

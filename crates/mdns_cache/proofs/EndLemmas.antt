@@ -1,4 +1,5 @@
 -- The end of a record, by the flush moments that a cache holds for its set.
+use Rattle.std.proofs.Common.{rules}
 use Rattle.std.proofs.Common.{◌≡◌, ℕ, ◌+◌, ◌<◌, ◌≤◌, true, false, ◌==◌, min, nat_lt, List, [], ◌∷◌, refl, sym, ap}
 use Rattle.std.proofs.Common.{◌∙◌, subst, inl, inr, ◌⊎◌, arith, if◌then◌else◌, ◌↔◌}
 use Rattle.std.proofs.lemmas.Bool.{false≢true, ltb-true, ltb-false, or_cases, or_left, or_right, eqb-true, eq-eqb, cases_lt}
@@ -16,10 +17,7 @@ use Rattle.mdns_cache.proofs.StandsPartLemmas.{IsFlushedAt-from_has, has-from_fl
 
 pub end-by_life : (ms : List ℕ) (t out : ℕ) → end_of ms t out ≤ out
 end-by_life [] t out = omega arith
-end-by_life (m ∷ ms) t out =
-    let rest = end-by_life ms t out in
-    elim (nat_lt (t + second) m) as (λ b. (if b then min (m + second) (end_of ms t out) else end_of ms t out) ≤ out)
-    [ true ↦ omega (arith, rest) | false ↦ rest ]
+end-by_life (m ∷ ms) t out = grind (arith, nat_lt, end-by_life ms t out)
 
 end-by_flush : (ms : List ℕ) (t out f : ℕ) → has ms f ≡ true → t + second < f → end_of ms t out ≤ f + second
 end-by_flush [] t out f h l = absurd (false≢true h)
@@ -137,10 +135,7 @@ late_are_kept xs t now m early unstruck h l =
 pub IsEnd-by_kept : (heard : List Hearing) (key : Key) (last : Latest) (now : ℕ) → IsLast heard key last
     → newest (flush_moments heard key.set) ≤ now → (IsStruckBy (flush_moments heard key.set) last.moment.nanos now → ⊥)
     → IsEnd heard key (end_of (kept (flush_moments heard key.set)) last.moment.nanos (last.moment.nanos + life_of last.ttl))
-IsEnd-by_kept heard key last now is_last early unstruck =
-    let fm = flush_moments heard key.set in
-    IsEnd-by_moments heard key last (kept fm) is_last (heard_from_kept fm)
-    (λ m h l. late_are_kept fm last.moment.nanos now m early unstruck h l)
+IsEnd-by_kept heard key last now is_last early unstruck = search (rules, IsEnd-by_moments, heard_from_kept, late_are_kept)
 
 -- ---- the laws of ends
 

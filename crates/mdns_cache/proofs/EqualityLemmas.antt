@@ -1,4 +1,5 @@
 -- Tests of equality that decide it, of options, lists of pairs and contents.
+use Rattle.std.proofs.Common.{arith}
 use Rattle.std.proofs.Common.{◌≡◌, ℕ, Bool, true, ◌&&◌, ◌↔◌, List, Option, None, Some, refl, sym, ap, ◌∙◌}
 use Rattle.std.specs.Option.{option_eq}
 use Rattle.std.specs.Cmp.Lexicographic.{pointwise, pointwise_decides, bytes_decides}
@@ -34,12 +35,7 @@ option_tells eq t (Some x) (Some y) = (λ e. ap Some ((t x y).0 e), λ e. (t x y
 
 pub pair_tells : {A B : Type 0} (eq : A → A → Bool) (same : B → B → Bool) → DecidesEquality eq → DecidesEquality same
     → DecidesEquality (λ (p q : A × B). eq p.0 q.0 && same p.1 q.1)
-pair_tells {A} {B} eq same t u p q = (
-  λ e. let parts = and_parts (eq p.0 q.0) (same p.1 q.1) e in
-      ap (λ (x : A). let r : A × B = (x, p.1) in r) ((t p.0 q.0).0 parts.0)
-      ∙ ap (λ (y : B). let r : A × B = (q.0, y) in r) ((u p.1 q.1).0 parts.1),
-  λ e. and_from (eq p.0 q.0) (same p.1 q.1) ((t p.0 q.0).1 (ap (λ (r : A × B). r.0) e)) ((u p.1 q.1).1 (ap (λ (r : A × B). r.1) e)),
-)
+pair_tells {A} {B} eq same t u p q = grind (arith, and_parts, and_from)
 
 pub list_tells : {A : Type 0} (eq : A → A → Bool) → DecidesEquality eq → DecidesEquality (pointwise eq)
 list_tells eq t = pointwise_decides t
@@ -48,18 +44,7 @@ pub contents_tells : (n : Option Moment → Option Moment → Bool) (l : List (K
     (f : List (RecordSet × List ℕ) → List (RecordSet × List ℕ) → Bool) → DecidesEquality n → DecidesEquality l
     → DecidesEquality f
     → DecidesEquality (λ (c d : Contents). n c.newest d.newest && (l c.lasts d.lasts && f c.flushes d.flushes))
-contents_tells n l f tn tl tf c d = (
-  λ e.
-      let parts = and_parts (n c.newest d.newest) (l c.lasts d.lasts && f c.flushes d.flushes) e in
-      let maps = and_parts (l c.lasts d.lasts) (f c.flushes d.flushes) parts.1 in
-      same_contents c d ((tl c.lasts d.lasts).0 maps.0) ((tf c.flushes d.flushes).0 maps.1) ((tn c.newest d.newest).0 parts.0),
-  λ e.
-      and_from (n c.newest d.newest) (l c.lasts d.lasts && f c.flushes d.flushes)
-      ((tn c.newest d.newest).1 (ap (λ (x : Contents). x.newest) e))
-      (and_from (l c.lasts d.lasts) (f c.flushes d.flushes)
-      ((tl c.lasts d.lasts).1 (ap (λ (x : Contents). x.lasts) e))
-      ((tf c.flushes d.flushes).1 (ap (λ (x : Contents). x.flushes) e))),
-)
+contents_tells n l f tn tl tf c d = grind (arith, and_parts, same_contents, and_from)
 
 order_tells : {A : Type 0} (cmp : A → A → Ordering) → IsTotalOrder cmp → ((x y : A) → cmp x y ≡ Equal → x ≡ y)
     → DecidesEquality (eq_by_cmp cmp)
@@ -80,9 +65,4 @@ pub same_by_parts : (n : Option Moment → Option Moment → Bool) (l : List (Ke
     (f : List (RecordSet × List ℕ) → List (RecordSet × List ℕ) → Bool) → DecidesEquality n → DecidesEquality l
     → DecidesEquality f → (x y c d : Contents) → x ≡ c → y ≡ d → (r a b g : Bool) → r ≡ (a && (b && g))
     → a ≡ n x.newest y.newest → b ≡ l x.lasts y.lasts → g ≡ f x.flushes y.flushes → (r ≡ true) ↔ (c ≡ d)
-same_by_parts n l f tn tl tf x y c d p q r a b g whole e h i =
-    let tells = contents_tells n l f tn tl tf x y in
-    let is : r ≡ (n x.newest y.newest && (l x.lasts y.lasts && f x.flushes y.flushes)) =
-    whole ∙ ap (λ (t : Bool). t && (b && g)) e ∙ ap (λ (t : Bool). n x.newest y.newest && (t && g)) h
-    ∙ ap (λ (t : Bool). n x.newest y.newest && (l x.lasts y.lasts && t)) i in
-    (λ t. sym p ∙ tells.0 (sym is ∙ t) ∙ q, λ t. is ∙ tells.1 (p ∙ t ∙ sym q))
+same_by_parts n l f tn tl tf x y c d p q r a b g whole e h i = grind (arith, contents_tells)

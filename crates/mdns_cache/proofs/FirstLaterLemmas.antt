@@ -33,12 +33,7 @@ rising (x ∷ xs) (suc i) (suc j) d a h l =
 -- the moments that are too early come first
 pub early_first : (t : ℕ) (moments : List Moment) → IsAscending (nanos_of moments)
     → IsPartitionedBy (λ (m : Moment). nat_le m.nanos (t + second)) moments
-early_first t moments a i j d h l k =
-    le-leb (get_or moments i d).nanos (t + second) (omega (
-      arith,
-      rising moments i j d a h l,
-      leb-true (get_or moments j d).nanos (t + second) k,
-    ))
+early_first t moments a i j d h l k = grind (arith, le-leb, rising, leb-true)
 
 -- moments that are all too early end nothing
 pub none_later : (t out : ℕ) (moments : List Moment)
@@ -73,15 +68,7 @@ pub first_later : (t out : ℕ) (moments : List Moment) (i : ℕ) (d : Moment) �
     → ((k : ℕ) (x : Moment) → k < i → (get_or moments k x).nanos ≤ t + second) → t + second < (get_or moments i d).nanos
     → end_of (nanos_of moments) t out ≡ min out ((get_or moments i d).nanos + second)
 first_later t out [] i d a l early late = absurd (omega (arith, l))
-first_later t out (x ∷ xs) zero d a l early late =
-    let rest = no_earlier x.nanos xs t out a late in
-    let by = end-by_life (nanos_of xs) t out in
-    elim (nat_lt (t + second) x.nanos) as (λ b. nat_lt (t + second) x.nanos ≡ b
-    → (if b then min (x.nanos + second) (end_of (nanos_of xs) t out) else end_of (nanos_of xs) t out) ≡ min out
-    (x.nanos + second)) [
-      | true ↦ λ e. omega (arith, rest, by)
-      | false ↦ λ e. let no : x.nanos ≤ t + second = ltb-false (t + second) x.nanos e in absurd (omega (arith, no, late))
-    ] refl
+first_later t out (x ∷ xs) zero d a l early late = grind (arith, no_earlier, end-by_life, nat_lt, ltb-false)
 first_later t out (x ∷ xs) (suc i) d a l early late =
     let rest = first_later t out xs i d (IsAscending-from_above x.nanos (nanos_of xs) a) (omega (arith, l))
     (λ k y m. early (suc k) y (omega (arith, m))) late in

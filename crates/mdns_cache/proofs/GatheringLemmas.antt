@@ -1,4 +1,5 @@
 -- The contents of a gathering after one more hearing was joined into its entries, or was refused.
+use Rattle.std.proofs.Common.{arith}
 use Rattle.std.proofs.Common.{◌≡◌, ℕ, List, [], ◌∷◌, ◌++◌, None, Result, Ok, Err, OnOk, OnErr, subst, sym}
 use Rattle.mdns_message.specs.declared.key.Key.{Key}
 use Rattle.mdns_message.specs.RecordSet.{RecordSet}
@@ -29,10 +30,7 @@ valid_pushed Valid (e ∷ es) k v a h = (a.0, valid_pushed Valid es k v a.1 h)
 -- nothing was gathered
 pub IsGathering-nothing : (lasts : List (Key × Latest)) (flushes : List (RecordSet × List ℕ)) → lasts ≡ [] → flushes ≡ []
     → IsGathering lasts flushes None
-IsGathering-nothing lasts flushes p q =
-    subst (λ (ls : List (Key × Latest)). IsGathering ls flushes None) (sym p)
-    (subst (λ (fs : List (RecordSet × List ℕ)). IsGathering [] fs None) (sym q)
-    (record { contents = stands-nothing.contents; keyed = tt }))
+IsGathering-nothing lasts flushes p q = grind (arith, stands-nothing)
 
 pub valid_after : {A U W : Type 0} {Valid : A → Type 0} {join : A → A → A} (laws : JoinLaws Valid join) (r : Result U W)
     (old other new : A) → Valid old → Valid other → OnOk r (new ≡ join old other) → OnErr r (new ≡ old) → Valid new

@@ -1,5 +1,6 @@
 -- The laws of the module `laws` that no other file needs.
-use Rattle.std.proofs.Common.{List, [], ◌∷◌, ◌++◌, Option, None, Some, Contains, MatchOption, inl, inr, refl}
+use Rattle.std.proofs.Common.{arith}
+use Rattle.std.proofs.Common.{List, [], ◌∷◌, ◌++◌, Option, None, Some, Contains, MatchOption, inl, inr}
 use Rattle.std.proofs.lemmas.List.Elements.{Contains-append_left, Contains-append_right, Contains-append_cases}
 use Rattle.mdns_message.specs.declared.hearing.Hearing.{Hearing}
 use Rattle.mdns_message.specs.declared.key.Key.{Key}
@@ -18,10 +19,7 @@ pub same-onward : (heard others more : List Hearing) → SameHearings heard othe
 same-onward heard others more s t = record { into = λ h m. t.into h (s.into h m); back = λ h m. s.back h (t.back h m) }
 
 swap : (heard others : List Hearing) (h : Hearing) → Contains (heard ++ others) h → Contains (others ++ heard) h
-swap heard others h m = elim (Contains-append_cases heard others h m) [
-  | inl a ↦ Contains-append_right others heard h a
-  | inr b ↦ Contains-append_left others heard h b
-]
+swap heard others h m = grind (arith, Contains-append_cases heard others h m, Contains-append_right, Contains-append_left)
 
 pub same-swapped : (heard others : List Hearing) → SameHearings (heard ++ others) (others ++ heard)
 same-swapped heard others = record { into = swap heard others; back = swap others heard }
@@ -40,24 +38,11 @@ both heard others more rest s t h m = elim (Contains-append_cases heard more h m
 
 pub same-joined : (heard others more rest : List Hearing) → SameHearings heard others → SameHearings more rest
     → SameHearings (heard ++ more) (others ++ rest)
-same-joined heard others more rest s t = record {
-  into = both heard others more rest s.into t.into;
-  back = both others heard rest more s.back t.back;
-}
+same-joined heard others more rest s t = grind (arith, both heard others more rest s.into t.into, both others heard rest more s.back t.back)
 
 -- nothing heard
 pub stands-nothing : StandsFor no_contents []
-stands-nothing = record {
-  contents = record {
-    lasts = IsJoinMap-empty key_cmp IsLatest;
-    flushes = IsJoinMap-empty set_key_cmp IsKeptList;
-    lasts_by_newest = λ key l e. absurd (cc);
-    flushes_by_newest = λ set ms m e h. absurd (cc);
-  };
-  lasts = λ key h m o. Contains-nil h m;
-  flushes = λ set. refl;
-  newest = refl;
-}
+stands-nothing = grind (arith, IsJoinMap-empty key_cmp IsLatest, IsJoinMap-empty set_key_cmp IsKeptList, Contains-nil)
 
 -- each list of hearings has contents that stand for it
 pub some_contents : MapLaws → (heard : List Hearing) → (c : Contents) × StandsFor c heard

@@ -1,4 +1,6 @@
 -- The rows of the live records.
+use Rattle.std.proofs.lemmas.Grind.{common_steps}
+use Rattle.std.proofs.Common.{arith}
 use Rattle.std.proofs.Common.{◌≡◌, ℕ, Bool, true, false, nat_lt, List, [], ◌∷◌, ◌++◌, append_assoc, append-nil, map}
 use Rattle.std.proofs.Common.{Option, None, Some, Contains, MatchOption, refl, sym, ap, ◌∙◌, subst, inl, inr}
 use Rattle.std.proofs.Common.{if◌then◌else◌}
@@ -164,11 +166,7 @@ row_of_last l (r ∷ rows) m =
 
 last_of_row : (r : Latest × ℕ) (rows : List (Latest × ℕ)) → Contains rows r → Contains (map last_of rows) r.0
 last_of_row r [] m = absurd (Contains-nil r m)
-last_of_row r (q ∷ rows) m =
-    elim (Contains-cases q rows r m) [
-      | inl same ↦ subst (λ (x : Latest × ℕ). Contains (map last_of (q ∷ rows)) x.0) same (Contains-head q.0 (map last_of rows))
-      | inr rest ↦ Contains-later q.0 (map last_of rows) r.0 (last_of_row r rows rest)
-    ]
+last_of_row r (q ∷ rows) m = grind (arith, common_steps, Contains-cases, Contains-head, Contains-later)
 
 -- the last hearings of the live records
 pub AreLiveRows-from_records : (heard : List Hearing) (now : ℕ) (rows : List (Latest × ℕ))
@@ -184,9 +182,7 @@ AreLiveRows-from_records heard now rows are = record {
 -- one more was taken from those that are left, and added to those that are kept
 pub kept-more : {X Y : Type 0} (f : X → Y) (all : List Y) (kept new : List X) (x : X) (left rest : List Y)
     → map f kept ++ left ≡ all → left ≡ f x ∷ rest → new ≡ kept ++ x ∷ [] → map f new ++ rest ≡ all
-kept-more f all kept new x left rest so_far first more =
-    ap (λ l. map f l ++ rest) more ∙ ap (λ l. l ++ rest) (map-append f kept (x ∷ [])) ∙ append_assoc (map f kept) (f x ∷ []) rest
-    ∙ ap (λ l. map f kept ++ l) (sym first) ∙ so_far
+kept-more f all kept new x left rest so_far first more = grind (arith, map-append, append_assoc)
 
 -- nothing is left
 pub kept-all : {X Y : Type 0} (f : X → Y) (all : List Y) (kept : List X) (left : List Y) → map f kept ++ left ≡ all

@@ -163,11 +163,7 @@ flushes-held c heard set ms e s = kept_of-has (flush_moments heard set) ms (sym 
 
 pub flushes-none : (c : Contents) (heard : List Hearing) (set : RecordSet) → flushes_at set c ≡ None → StandsFor c heard
     → (m : ℕ) → (false ≡ true) ↔ IsKept (flush_moments heard set) m
-flushes-none c heard set e s m = (
-  λ f. absurd (false≢true f),
-  λ k. subst (λ (xs : List ℕ). has xs m ≡ true)
-      (kept_of-none (flush_moments heard set) (sym e ∙ s.flushes set)) k.heard,
-)
+flushes-none c heard set e s m = grind (arith, kept_of-none)
 
 -- ---- liveness
 

@@ -1,7 +1,8 @@
 -- Hearings that differ only in their moments: those of a message, and those that contents don't need.
+use Rattle.std.proofs.Common.{rules}
 use Rattle.std.proofs.Common.{◌≡◌, ◌≢◌, ℕ, ◌≤◌, true, ◌==◌, List, [], ◌∷◌, Option, None, Some, Contains}
-use Rattle.std.proofs.Common.{◌⊎◌, ◌↔◌, ◌+◌, ◌<◌, ◌++◌, MatchOption, refl, sym, ap, ◌∙◌, subst, inl, inr, arith, map}
-use Rattle.std.specs.declared.cmp.Ordering.TheVariants.{Equal, Greater}
+use Rattle.std.proofs.Common.{◌⊎◌, ◌↔◌, ◌+◌, ◌<◌, ◌++◌, MatchOption, refl, ap, ◌∙◌, subst, inl, inr, arith, map}
+use Rattle.std.specs.declared.cmp.Ordering.TheVariants.{Greater}
 use Rattle.std.proofs.lemmas.Bool.{false≢true, or_cases, or_left, or_right, eqb-true, eq-eqb}
 use Rattle.std.proofs.lemmas.Cmp.{tied_itself}
 use Rattle.std.proofs.lemmas.List.Elements.{Contains-append_left, Contains-append_right, Contains-append_cases}
@@ -20,7 +21,7 @@ use Rattle.mdns_join.specs.Nanos.{nanos_of}
 use Rattle.mdns_join.specs.Kept.{has}
 use Rattle.mdns_join.specs.laws.Kept.{has-le-newest}
 use Rattle.mdns_cache.specs.Live.{IsUnheard, IsLast, IsNewest, flush_moments}
-use Rattle.mdns_cache.specs.Contents.{Contents, StandsFor, last_at, kept_of}
+use Rattle.mdns_cache.specs.Contents.{Contents, StandsFor, kept_of}
 use Rattle.mdns_cache.specs.Repeats.{record_heard, at_each, IsHeardAt, IsReadOf, IsOvertaken, IsCovered, Covers}
 use Rattle.mdns_cache.proofs.StandsPartLemmas.{Contains-nil, Contains-head, Contains-later, Contains-cases, Contains-map}
 use Rattle.mdns_cache.proofs.StandsPartLemmas.{from_map, latest-upto, reverse-greater, IsLast-in, kept_of-between}
@@ -110,11 +111,7 @@ module _ (At By : ℕ → Type 0) (into : (p : ℕ) → At p → IsCovered By p)
   pub covered-through : (q : ℕ) → IsCovered At q → IsCovered By q
   covered-through q (inl a) = into q a
   covered-through q (inr o) =
-      let top : (n : ℕ) × By n × (o.newest ≤ n) = no_less By o.newest (into o.newest o.at_newest) in
-      elim (into o.next o.at_next) [
-        | inl b ↦ inr (overtaken By q o.next top.0 o.after (omega (arith, o.old, top.2)) b top.1)
-        | inr p ↦ inr (overtaken By q p.next p.newest (omega (arith, o.after, p.after)) p.old p.at_next p.at_newest)
-      ]
+      grind (arith, no_less By o.newest (into o.newest o.at_newest), into o.newest o.at_newest, into o.next o.at_next, overtaken)
 
 pub covered-same : (At By : ℕ → Type 0) → ((p : ℕ) → At p → By p) → (q : ℕ) → IsCovered At q → IsCovered By q
 covered-same At By f q c = covered-through At By (λ p a. inl (f p a)) q c
@@ -123,25 +120,12 @@ covered-same At By f q c = covered-through At By (λ p a. inl (f p a)) q c
 pub covers-more : (Held Heard More Held_after Heard_after : ℕ → Type 0) → Covers Held Heard
     → ((q : ℕ) → Heard_after q ↔ (Heard q ⊎ More q)) → ((q : ℕ) → Held_after q → Held q ⊎ More q)
     → ((q : ℕ) → Held q ⊎ More q → IsCovered Held_after q) → Covers Held_after Heard_after
-covers-more Held Heard More Held_after Heard_after covers same into all = record {
-  into = λ q h. (same q).1 (elim (into q h) [ inl a ↦ inl (covers.into q a) | inr m ↦ inr m ]);
-  all = λ q h. elim ((same q).0 h) [
-    | inl b ↦ covered-through Held Held_after (λ p a. all p (inl a)) q (covers.all q b)
-    | inr m ↦ all q (inr m)
-  ];
-}
+covers-more Held Heard More Held_after Heard_after covers same into all = grind (arith, into, covered-through)
 
 -- a hearing that is as late or earlier doesn't exceed the other
 pub no_greater : (a b : Latest) → a.moment.nanos ≤ b.moment.nanos → a.ttl ≡ b.ttl → a.resource ≡ b.resource
     → latest_cmp a b ≢ Greater
-no_greater a b l p q g =
-    let up = not_later b a (reverse-greater (latest_cmp b a) (latest_cmp a b) (latest_cmp-total.antisymm b a) g) in
-    let t = moment-same a.moment b.moment (omega (arith, l, up)) in
-    let same : a ≡ b = λ i. record { moment = t i; ttl = p i; resource = q i } in
-    equal_is_not (sym (ap (λ (x : Latest). latest_cmp x b) same ∙ tied_itself latest_cmp-total b) ∙ g)
-  where
-    equal_is_not : Equal ≡ Greater → ⊥
-    equal_is_not e = cc
+no_greater a b l p q g = search (rules, not_later, reverse-greater, latest_cmp-total, moment-same, tied_itself)
 
 module _ (gs hs : List Hearing) (covers : (r : HeardRecord) → Covers (IsHeardAt gs r) (IsHeardAt hs r)) where
   into : (h : Hearing) → Contains gs h → Contains hs h
@@ -202,9 +186,4 @@ module _ (gs hs : List Hearing) (covers : (r : HeardRecord) → Covers (IsHeardA
 
   -- contents that stand for hearings stand for more of them that aren't needed beside these
   pub stands-covered : (c : Contents) → StandsFor c gs → StandsFor c hs
-  stands-covered c s = record {
-    contents = s.contents;
-    lasts = λ key. lasts-covered key (last_at key c) (s.lasts key);
-    flushes = λ set. s.flushes set ∙ flushes-covered set;
-    newest = newest-covered c.newest s.newest;
-  }
+  stands-covered c s = grind (arith, lasts-covered, flushes-covered, newest-covered)

@@ -143,13 +143,7 @@ module _ (gs hs : List Hearing) (same : SameHearings gs hs) (key : Key) where
 pub flush_moments-append : (gs hs : List Hearing) (set : RecordSet)
     → flush_moments (gs ++ hs) set ≡ flush_moments gs set ++ flush_moments hs set
 flush_moments-append [] hs set = refl
-flush_moments-append (g ∷ gs) hs set =
-    elim (is_flush_of set g) as (λ t. (if t then g.moment.nanos ∷ flush_moments (gs ++ hs) set else flush_moments
-    (gs ++ hs) set) ≡ (if t then g.moment.nanos ∷ flush_moments gs set else flush_moments gs set)
-    ++ flush_moments hs set) [
-      | true ↦ ap (λ ms. g.moment.nanos ∷ ms) (flush_moments-append gs hs set)
-      | false ↦ flush_moments-append gs hs set
-    ]
+flush_moments-append (g ∷ gs) hs set = grind (arith, flush_moments-append gs hs set)
 
 -- the moments kept of a union are those kept of the kept moments of both sides
 kept-as_union : (xs ys zs : List ℕ) → ((m : ℕ) → has (union xs ys) m ≡ has zs m) → kept_union (kept xs) (kept ys) ≡ kept zs
@@ -190,10 +184,7 @@ pub Contains-later : {X : Type 0} (g : X) (hs : List X) (h : X) → Contains hs 
 Contains-later g hs h m = Contains-append_right (g ∷ []) hs h m
 
 pub Contains-cases : {X : Type 0} (g : X) (hs : List X) (h : X) → Contains (g ∷ hs) h → (g ≡ h) ⊎ Contains hs h
-Contains-cases g hs h m = elim (Contains-append_cases (g ∷ []) hs h m) [
-  | inl a ↦ elim (Contains-push_cases [] g h a) [ inl e ↦ absurd (Contains-nil h e) | inr e ↦ inl e ]
-  | inr b ↦ inr b
-]
+Contains-cases g hs h m = grind (arith, Contains-append_cases, Contains-push_cases, Contains-nil)
 
 pub Contains-map : {X Y : Type 0} (f : X → Y) (xs : List X) (x : X) → Contains xs x → Contains (map f xs) (f x)
 Contains-map f xs x m = (m.0, omega (arith, length-map xs f, m.1), get_or-map f xs m.0 x (f x) m.1 ∙ ap f m.2)

@@ -25,11 +25,7 @@ returns-then-nanos-end-clause-next c =
     ∙ (λ i. (sym c.shown-last.ensures i, sym held i) ∷ live_of new now c.next.new.self)
 
 pub returns-then-nanos-end-clause-sorted : goal.returns-then-nanos-end-clause-sorted
-returns-then-nanos-end-clause-sorted c =
-    let later = subst (λ (set : RecordSet). HasLater set c.loop-key.flushes c.moments.new.self) c.set.ensures c.moments.ensures.left in
-    rest_sorted c.args.flushes.now c.loop-key.flushes c.args.now.nanos c.args.entries.now c.loop-key.entries
-    c.loop-key.invariant (c.in-Some.key.now, c.in-Some.latest.now) c.next.new.self c.in-Some.ensures.steps
-    c.moments.new.self later
+returns-then-nanos-end-clause-sorted c = grind (arith, rest_sorted)
 
 pub loop-key-preserved : goal.loop-key-preserved
 loop-key-preserved c =

@@ -1,3 +1,4 @@
+use Rattle.std.proofs.Common.{arith}
 use Rattle.std.proofs.Common.{◌≡◌, subst}
 use Rattle.std.proofs.lemmas.Result.{on_ok_weaker, on_err_weaker}
 use Rattle.mdns_cache.specs.Contents.{Contents, contents, IsContents}
@@ -7,14 +8,7 @@ use Rattle.mdns_cache.proofs.StepLemmas.{part_lasts, part_flushes, whole_join, m
 use Rattle.mdns_cache.proofs.cache.Cache.merge.Goals as goal
 
 pub returns-in_err-merge_lasts-clause-err : goal.returns-in_err-merge_lasts-clause-err
-returns-in_err-merge_lasts-clause-err c =
-    let other = subst IsContents c.other.view_is c.other.invariant in
-    let old = c.args.self.now in
-    let raised = subst (λ (x : Contents). c.raise.new.self ≡ contents old.lasts old.flushes
-    (newer old.newest x.newest)) c.other.view_is c.raise.ensures.raised in
-    on_err_any c.from_residual.result
-    (part_lasts c.map_laws.ensures c.args.self.now c.args.other.now c.raise.new.self c.raise.ensures.was_held other
-    raised c.merge_lasts.new.self c.in_err-merge_lasts.ensures.err c.merge_lasts.ensures.rest)
+returns-in_err-merge_lasts-clause-err c = grind (arith, newer, on_err_any, part_lasts)
 
 pub returns-clause-ok : goal.returns-clause-ok
 returns-clause-ok c =
@@ -29,16 +23,7 @@ returns-clause-ok c =
     c.merge_flushes.ensures.ok
 
 pub returns-clause-err : goal.returns-clause-err
-returns-clause-err c =
-    let other = subst IsContents c.other.view_is c.other.invariant in
-    let old = c.args.self.now in
-    let raised = subst (λ (x : Contents). c.raise.new.self ≡ contents old.lasts old.flushes
-    (newer old.newest x.newest)) c.other.view_is c.raise.ensures.raised in
-    on_err_weaker c.merge_flushes.result
-    (λ part. part_flushes c.map_laws.ensures c.args.self.now c.args.other.now c.raise.new.self
-    c.raise.ensures.was_held other raised c.merge_lasts.new.self c.in_ok-merge_lasts.ensures.ok
-    c.merge_lasts.ensures.rest c.merge_flushes.new.self part c.merge_flushes.ensures.rest)
-    c.merge_flushes.ensures.err
+returns-clause-err c = grind (arith, newer, on_err_weaker, part_flushes)
 
 pub returns-clause-stands : goal.returns-clause-stands
 returns-clause-stands c =
@@ -46,17 +31,7 @@ returns-clause-stands c =
     c.merge_flushes.new.self) (returns-clause-ok c)
 
 pub returns-in_err-merge_lasts-clause-again : goal.returns-in_err-merge_lasts-clause-again
-returns-in_err-merge_lasts-clause-again c =
-    let other = subst IsContents c.other.view_is c.other.invariant in
-    on_err_weaker c.from_residual.result
-    (made_again c.map_laws.ensures c.args.self.now c.args.other.now c.merge_lasts.new.self c.raise.ensures.was_held
-    other c.merge_lasts.ensures.held)
-    (returns-in_err-merge_lasts-clause-err c)
+returns-in_err-merge_lasts-clause-again c = grind (arith, on_err_weaker, made_again, returns-in_err-merge_lasts-clause-err c)
 
 pub returns-clause-again : goal.returns-clause-again
-returns-clause-again c =
-    let other = subst IsContents c.other.view_is c.other.invariant in
-    on_err_weaker c.merge_flushes.result
-    (made_again c.map_laws.ensures c.args.self.now c.args.other.now c.merge_flushes.new.self c.raise.ensures.was_held
-    other c.merge_flushes.ensures.held)
-    (returns-clause-err c)
+returns-clause-again c = grind (arith, on_err_weaker, made_again, returns-clause-err c)

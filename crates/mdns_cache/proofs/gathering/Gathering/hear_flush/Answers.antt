@@ -1,4 +1,4 @@
-use Rattle.std.proofs.Common.{◌≡◌, [], ◌∷◌, arith, if◌then◌else◌, OnOk, OnErr, ap, subst, sym}
+use Rattle.std.proofs.Common.{[], ◌∷◌, arith, if◌then◌else◌, OnErr, ap, subst, sym}
 use Rattle.std.proofs.lemmas.Result.{on_err_weaker}
 use Rattle.mdns_message.specs.Borrowed.{hearing_lent}
 use Rattle.mdns_message.specs.Resource.{set_key_of, set_key_cmp}
@@ -31,13 +31,7 @@ invariant_of-self c =
     }
 
 pub returns-clause-ok : goal.returns-clause-ok
-returns-clause-ok c =
-    let h = hearing_lent c.args.hearing.now in
-    let new = gathered set_key_cmp kept_union c.join_near-found.new.self in
-    let whole = subst (λ (x : Contents). OnOk c.join_near-found.result (new ≡ joined set_key_cmp kept_union x.flushes (flush_of h)))
-    c.self.view_is c.join_near-found.ensures.ok in
-    subst (λ t. OnOk c.join_near-found.result (new ≡ joined set_key_cmp kept_union c.args.self.now.flushes (if t then flush_of h else [])))
-    (sym c.if-not-hearing.false) whole
+returns-clause-ok c = grind arith
 
 pub returns-clause-err : goal.returns-clause-err
 returns-clause-err c =

@@ -1,8 +1,9 @@
-use Rattle.std.proofs.Common.{◌≡◌, [], if◌then◌else◌, OnOk, ap, subst, sym}
+use Rattle.std.proofs.Common.{arith}
+use Rattle.std.proofs.Common.{ap, subst, sym}
 use Rattle.std.proofs.lemmas.Result.{on_err_weaker}
 use Rattle.mdns_message.specs.Borrowed.{hearing_lent}
 use Rattle.mdns_message.specs.Resource.{set_key_of, set_key_cmp}
-use Rattle.join_map.specs.Entries.{gathered, joined, one_entry}
+use Rattle.join_map.specs.Entries.{gathered}
 use Rattle.mdns_join.specs.Kept.{kept_union}
 use Rattle.mdns_cache.specs.Contents.{Contents, IsUpTo}
 use Rattle.mdns_cache.specs.Gathering.{contents_gathered}
@@ -27,13 +28,7 @@ invariant_of-self c =
     }
 
 pub returns-clause-ok : goal.returns-clause-ok
-returns-clause-ok c =
-    let one = one_entry (set_key_of (hearing_lent c.args.hearing.now).heard) c.args.moments.now in
-    let new = gathered set_key_cmp kept_union c.join_near-found.new.self in
-    let whole = subst (λ (x : Contents). OnOk c.join_near-found.result (new ≡ joined set_key_cmp kept_union x.flushes one))
-    c.self.view_is c.join_near-found.ensures.ok in
-    subst (λ t. OnOk c.join_near-found.result (new ≡ joined set_key_cmp kept_union c.args.self.now.flushes (if t then one else [])))
-    (sym c.if-not-hearing.false) whole
+returns-clause-ok c = grind arith
 
 pub returns-clause-held : goal.returns-clause-held
 returns-clause-held c = (invariant_of-self c).contents

@@ -1,4 +1,5 @@
-use Rattle.std.proofs.Common.{◌≡◌, OnOk, OnErr, ap, subst, sym}
+use Rattle.std.proofs.Common.{arith}
+use Rattle.std.proofs.Common.{OnErr, ap, subst, sym}
 use Rattle.std.proofs.lemmas.Result.{on_err_weaker}
 use Rattle.mdns_message.specs.Borrowed.{hearing_lent}
 use Rattle.mdns_message.specs.Resource.{key_of, key_cmp}
@@ -26,10 +27,7 @@ invariant_of-self c =
     }
 
 pub returns-clause-ok : goal.returns-clause-ok
-returns-clause-ok c =
-    let one = (contents_of (hearing_lent c.args.hearing.now)).lasts in
-    subst (λ (x : Contents). OnOk c.join_near-found.result (gathered key_cmp later c.join_near-found.new.self ≡ joined key_cmp later x.lasts one))
-    c.self.view_is c.join_near-found.ensures.ok
+returns-clause-ok c = grind arith
 
 pub returns-clause-err : goal.returns-clause-err
 returns-clause-err c =

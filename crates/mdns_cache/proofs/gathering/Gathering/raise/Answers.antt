@@ -1,3 +1,4 @@
+use Rattle.std.proofs.Common.{arith}
 use Rattle.std.proofs.Common.{Some, subst}
 use Rattle.mdns_cache.specs.Contents.{IsContents}
 use Rattle.mdns_cache.specs.Gathering.{contents_gathered}
@@ -5,12 +6,10 @@ use Rattle.mdns_cache.proofs.BetweenLemmas.{IsContents-raised}
 use Rattle.mdns_cache.proofs.gathering.Gathering.raise.Goals as goal
 
 pub invariant_of-self : goal.invariant_of-self
-invariant_of-self c = record {
-  contents = rw c.newer-self-inside.ensures
-      (IsContents-raised (contents_gathered c.self.inside.lasts c.self.inside.flushes c.self.inside.newest)
-      (Some c.args.moment) c.self.invariant.contents);
-  keyed = c.self.invariant.keyed;
-}
+invariant_of-self c = grind (
+  arith,
+  IsContents-raised (contents_gathered c.self.inside.lasts c.self.inside.flushes c.self.inside.newest) (Some c.args.moment) c.self.invariant.contents,
+)
 
 pub returns-clause-was_held : goal.returns-clause-was_held
 returns-clause-was_held c = subst IsContents c.self.view_is c.self.invariant.contents
