@@ -1,5 +1,5 @@
 -- What is about subjects, one text and one value at a time.
-use Rattle.std.proofs.Common.{◌≡◌, refl, sym, ◌∙◌, ap, ℕ, ◌<◌, ◌≤◌, ◌==◌, inl, inr, Bool, true, false, ◌||◌}
+use Rattle.std.proofs.Common.{◌≡◌, refl, sym, ◌∙◌, ap, ℕ, ◌<◌, ◌≤◌, ◌==◌, Bool, true, false, ◌||◌}
 use Rattle.std.proofs.Common.{List, [], ◌∷◌, ◌++◌, length, map, take, drop, length-append, codes, string_bytes, arith}
 use Rattle.std.proofs.Math.Seq.{drop-append_seam, take-append_seam}
 use Rattle.std.proofs.lemmas.Bool.{cases_lt, eqb-true, false_from_ne_true, false≢true, or_left}
@@ -98,18 +98,10 @@ local-front word text front end whole same =
     )
 
 below_six : (n : ℕ) → (6 ≤ n → ⊥) → n < 6
-below_six n small = elim (cases_lt n 6) [
-  | inl less ↦ less
-  | inr enough ↦ absurd (small enough)
-]
+below_six n small = grind (arith, cases_lt)
 
 pub local-short : (word text : List ℕ) → (6 ≤ length text → ⊥) → same_text (word ++ in_local) text ≡ false
-local-short word text small =
-    let short = below_six (length text) small in
-    false_from_ne_true (same_text (word ++ in_local) text)
-    (λ yes.
-    let same = ap length ((same_text-decides (word ++ in_local) text).0 yes) in
-    omega (arith, length-folded (word ++ in_local), length-folded text, length-append word in_local, same, short))
+local-short word text small = grind (arith, below_six, false_from_ne_true, same_text-decides, length-folded, length-append)
 
 pub local-other : (word text front end : List ℕ) → text ≡ front ++ end → length end ≡ 6 → (folded end ≡ folded in_local → ⊥)
     → same_text (word ++ in_local) text ≡ false
@@ -188,10 +180,7 @@ label-none about name wire same none is =
     sym (ap (any_label about) (no_labels name wire same none is) ∙ any-none (λ subject. false) (λ subject. refl) about)
 
 pub rest-wire : (label rest wire : List ℕ) → Begins label rest wire → IsWire wire → IsWire rest
-rest-wire label rest wire head is = record {
-  form = IsForm-after label rest wire head is.form;
-  short = omega (arith, length-after label rest wire head, is.short);
-}
+rest-wire label rest wire head is = grind (arith, IsForm-after, length-after)
 
 abbrev pub any_rest : List Subject → List (List ℕ) → Bool
 any_rest about labels = list_any (λ subject. is_rest (string_bytes subject.text) labels) about
@@ -199,9 +188,7 @@ any_rest about labels = list_any (λ subject. is_rest (string_bytes subject.text
 pub rest-name : (about : List Subject) (name wire label rest held : List ℕ) → wire ≡ name → Begins label rest wire → IsWire wire
     → held ≡ rest → list_any (is_type_about held) about ≡ any_rest about (labels_of name)
 rest-name about name wire label rest held same head is kept =
-    let form = (rest-wire label rest wire head is).form in
-    ap (λ bytes. list_any (is_type_about bytes) about) (kept ∙ sym (labels_of-form rest form).1)
-    ∙ ap (any_rest about) (sym (labels_of-after label rest wire head) ∙ ap labels_of same)
+    grind (arith, rest-wire label rest wire head is, labels_of-form, labels_of-after label rest wire head)
 
 pub rest-none : (about : List Subject) (name wire : List ℕ) → wire ≡ name
     → ((label rest : List ℕ) → IsLabel label → (wire ≡ length label ∷ (label ++ rest)) → ⊥) → IsWire wire
@@ -222,16 +209,14 @@ any_in_text about bytes = list_any (λ subject. is_in_data subject (Txt bytes)) 
 one_string : (subject : Subject) (bytes string after : List ℕ) → strings_of bytes ≡ string ∷ strings_of after
     → is_in_data subject (Txt bytes) ≡ (is_string_about string subject || is_in_data subject (Txt after))
 unfolding is_in_data
-one_string subject bytes string after split =
-    let word = string_bytes subject.text in
-    ap (λ texts. is_one_of word texts || is_one_of word (shown_strings bytes)) (text_words-cons bytes string after split)
-    ∙ ap (λ texts. is_one_of word (string_words string ++ text_words after) || is_one_of word texts) (strings-cons bytes string after split)
-    ∙ ap (λ b. b || is_one_of word (shown_string string ++ shown_strings after))
-    (list_any-append (same_text word) (string_words string) (text_words after))
-    ∙ ap (λ b. (is_one_of word (string_words string) || is_one_of word (text_words after)) || b)
-    (list_any-append (same_text word) (shown_string string) (shown_strings after))
-    ∙ mixed (is_one_of word (string_words string)) (is_one_of word (text_words after)) (is_one_of word (shown_string string))
-    (is_one_of word (shown_strings after))
+one_string subject bytes string after split = grind (
+  arith,
+  string_bytes subject.text,
+  text_words-cons bytes string after split,
+  strings-cons bytes string after split,
+  list_any-append,
+  mixed,
+)
 
 pub strings-parts : (about : List Subject) (bytes string after : List ℕ) → strings_of bytes ≡ string ∷ strings_of after
     → any_in_text about bytes ≡ (list_any (is_string_about string) about || any_in_text about after)
@@ -252,10 +237,7 @@ word_string : (subject : Subject) (string : List ℕ) → 0 < length string
     → (same_text (string_bytes subject.text) (bytes_text false string) || same_text (string_bytes subject.text) (shown string))
     ≡ is_string_about string subject
 word_string subject [] some = absurd (omega (arith, some))
-word_string subject (b ∷ bytes) some =
-    let word = string_bytes subject.text in
-    ap (λ c. c || same_text word (shown (b ∷ bytes))) (sym (or_false (same_text word (bytes_text false (b ∷ bytes)))))
-    ∙ ap (λ c. (same_text word (bytes_text false (b ∷ bytes)) || false) || c) (sym (or_false (same_text word (shown (b ∷ bytes)))))
+word_string subject (b ∷ bytes) some = grind (arith, string_bytes, or_false)
 
 pub string-word : (about : List Subject) (string : List ℕ) → 0 < length string
     → list_any (λ subject. same_text (string_bytes subject.text) (bytes_text false string)

@@ -1,4 +1,5 @@
 -- What service instances are about subjects.
+use Rattle.std.proofs.Common.{arith}
 use Rattle.std.proofs.Common.{◌≡◌, refl, sym, ◌∙◌, ap, ℕ, ◌+◌, ◌<◌, ◌≤◌, Bool, false, true, ◌||◌, List, [], ◌∷◌}
 use Rattle.std.proofs.Common.{length, map, take, get_or, string_bytes}
 use Rattle.std.proofs.lemmas.Bool.{or_from}
@@ -9,7 +10,7 @@ use Rattle.dns_name.specs.Name.{labels_of}
 use Rattle.mdns_message.specs.Resource.{Body}
 use Rattle.mdns_message.specs.declared.body.RecordData.TheVariants.{A, Aaaa, Ptr, Txt, Srv}
 use Rattle.mdns_join.specs.declared.latest.Latest.{Latest}
-use Rattle.mdns_browse.specs.About.{is_heard_about, is_heard_server_about, is_in_data, is_instance_about, is_name}
+use Rattle.mdns_browse.specs.About.{is_heard_about, is_heard_server_about, is_in_data, is_name}
 use Rattle.mdns_browse.specs.About.{is_rest, is_server_about, is_type_about, keeps_heard, keeps_instance}
 use Rattle.mdns_browse.specs.Services.{addresses_in, body_of, data_of_set, instance_in, rows_of_set, server_in}
 use Rattle.mdns_browse.specs.declared.about.Subject.{Subject}
@@ -102,17 +103,13 @@ module _ (rows : List Latest) where
   server-in : (subject : Subject) (priority weight port : ℕ) (target : List ℕ)
       → is_heard_server_about rows (Srv priority weight port target) subject
       ≡ (is_name (string_bytes subject.text) target || list_any (is_in_data subject) (addresses_in rows target))
-  server-in subject priority weight port target =
-      ap (λ b. is_name (string_bytes subject.text) target || b)
-      (sym (list_any-append (is_in_data subject) (data_of_set rows target 1) (data_of_set rows target 28)))
+  server-in subject priority weight port target = grind (arith, string_bytes, list_any-append)
 
   servers-in : (subject : Subject) (bodies : List Body) → list_any (λ body. is_heard_server_about rows body subject) bodies
       ≡ list_any (λ server. is_server_about server subject) (filter_map (server_in rows) bodies)
   servers-in subject [] = refl
   servers-in subject (Srv priority weight port target ∷ bodies) =
-      ap (λ b. b || list_any (λ body. is_heard_server_about rows body subject) bodies) (server-in subject priority weight port target)
-      ∙ ap (λ b. (is_name (string_bytes subject.text) target || list_any (is_in_data subject) (addresses_in rows target)) || b)
-      (servers-in subject bodies)
+      grind (arith, server-in subject priority weight port target, string_bytes subject.text, servers-in subject bodies)
   servers-in subject (A octets ∷ bodies) = false_or _ ∙ servers-in subject bodies
   servers-in subject (Aaaa octets ∷ bodies) = false_or _ ∙ servers-in subject bodies
   servers-in subject (Ptr target ∷ bodies) = false_or _ ∙ servers-in subject bodies
@@ -122,8 +119,4 @@ module _ (rows : List Latest) where
   pub keeps-in : (about : List Subject) (name : List ℕ) → keeps_heard about rows name ≡ keeps_instance about (instance_in rows name)
   unfolding keeps_heard keeps_instance
   keeps-in [] name = refl
-  keeps-in (subject ∷ subjects) name =
-      any-same (is_heard_about rows name) (is_instance_about (instance_in rows name))
-      (λ asked. ap (λ b. is_name (string_bytes asked.text) name || (is_rest (string_bytes asked.text) (labels_of name) || b))
-      (servers-in asked (data_of_set rows name 33)))
-      (subject ∷ subjects)
+  keeps-in (subject ∷ subjects) name = grind (arith, any-same, string_bytes, servers-in)

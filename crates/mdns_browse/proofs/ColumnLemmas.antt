@@ -1,7 +1,6 @@
 -- Columns, their widths, and pages by the pieces that are written of them.
-use Rattle.std.proofs.Common.{◌≡◌, refl, sym, ◌∙◌, ap, ℕ, ◌+◌, ◌-◌, ◌<◌, ◌≤◌, ◌==◌, max, true, false, List, [], ◌∷◌, ◌++◌}
+use Rattle.std.proofs.Common.{◌≡◌, refl, sym, ℕ, ◌+◌, ◌-◌, ◌<◌, ◌≤◌, ◌==◌, max, true, false, List, [], ◌∷◌, ◌++◌}
 use Rattle.std.proofs.Common.{length, map, take, get_or, add-one, arith, codes}
-use Rattle.std.proofs.lemmas.Bool.Decides.{nat_tests}
 use Rattle.std.proofs.lemmas.List.{append-nil, append_assoc, length-append, length-map}
 use Rattle.std.proofs.lemmas.Simd.{map-map}
 use Rattle.std.specs.List.{flat_map}
@@ -18,9 +17,7 @@ use Rattle.mdns_browse.proofs.ListLemmas.{map_more}
 -- one space more
 pub spaces-more : (old mid new : List ℕ) (n : ℕ) → mid ≡ old ++ spaces n → new ≡ mid ++ 32 ∷ [] → new ≡ old ++ spaces (n + 1)
 unfolding spaces
-spaces-more old mid new n before written =
-    written ∙ ap (λ text. text ++ 32 ∷ []) before ∙ append_assoc old (spaces n) (32 ∷ [])
-    ∙ ap (λ count. old ++ spaces count) (sym (add-one n))
+spaces-more old mid new n before written = grind (arith, append_assoc, add-one)
 
 pub spaces-none : (old : List ℕ) → old ≡ old ++ spaces 0
 unfolding spaces
@@ -31,26 +28,17 @@ pub padded_by_parts : (old text mid new : List ℕ) (width begin end len count :
     → end ≡ length mid
     → len ≡ end - begin → count ≡ width - len → new ≡ mid ++ spaces count → new ≡ old ++ padded width text
 unfolding padded
-padded_by_parts old text mid new width begin end len count written begins ends is counts spaced =
-    let whole : length mid ≡ length old + length text = ap length written ∙ length-append old text in
-    let own : len ≡ length text = omega (arith, whole, begins, ends, is) in
-    spaced ∙ ap (λ n. mid ++ spaces n) (counts ∙ ap (λ n. width - n) own)
-    ∙ ap (λ front. front ++ spaces (width - length text)) written
-    ∙ append_assoc old text (spaces (width - length text))
+padded_by_parts old text mid new width begin end len count written begins ends is counts spaced = grind (arith, length-append, append_assoc)
 
 -- a text that is as wide as its column
 padded-exact : (width : ℕ) (text : List ℕ) → length text ≡ width → padded width text ≡ text
 unfolding padded spaces
-padded-exact width text is =
-    let none : width - length text ≡ 0 = omega (arith, is) in
-    ap (λ n. text ++ spaces n) none ∙ append-nil text
+padded-exact width text is = grind (arith, append-nil)
 
 pub widest-append : (texts others : List (List ℕ)) → widest (texts ++ others) ≡ max (widest texts) (widest others)
 unfolding widest
 widest-append [] others = omega arith
-widest-append (first ∷ texts) others =
-    let rest = widest-append texts others in
-    omega (arith, rest)
+widest-append (first ∷ texts) others = grind (arith, widest-append texts others)
 
 -- one text more
 widest-more : (texts : List (List ℕ)) (text : List ℕ) → widest (texts ++ text ∷ []) ≡ max (widest texts) (length text)
@@ -65,18 +53,12 @@ pub width-more : {R : Type 0} (text : R → List ℕ) (rows : List R) (i : ℕ) 
     → row ≡ get_or rows i row → width ≡ widest (map text (take i rows)) → len ≡ length (text row) → new ≡ max width len
     → new ≡ widest (map text (take (i + 1) rows))
 width-more text rows i row width len new within at before own is =
-    is ∙ ap (λ w. max w len) before ∙ ap (max (widest (map text (take i rows)))) own
-    ∙ sym (widest-more (map text (take i rows)) (text row))
-    ∙ sym (ap widest (map_more text rows i row within at))
+    grind (arith, widest-more (map text (take i rows)) (text row), map_more text rows i row within at)
 
 pub lent_width-more : {R Y : Type 0} (text : Y → List ℕ) (f : R → Y) (rows : List R) (i : ℕ) (row : R) (width len new : ℕ)
     → i < length rows → row ≡ get_or rows i row → width ≡ widest (map text (map f (take i rows))) → len ≡ length (text (f row))
     → new ≡ max width len → new ≡ widest (map text (map f (take (i + 1) rows)))
-lent_width-more text f rows i row width len new within at before own is =
-    let both : (count : ℕ) → map text (map f (take count rows)) ≡ map (λ r. text (f r)) (take count rows)
-    = λ count. map-map text f (take count rows) in
-    width-more (λ r. text (f r)) rows i row width len new within at (before ∙ ap widest (both i)) own is
-    ∙ sym (ap widest (both (i + 1)))
+lent_width-more text f rows i row width len new within at before own is = grind (arith, map-map, width-more)
 
 -- a moment has twenty letters
 seconds-len : (nanos : ℕ) → length (seconds_text nanos) ≡ 20
@@ -127,21 +109,13 @@ table_wide now left heard kind rows = record_heads left heard kind ++ flat_map (
 table_widths : (now left : ℕ) (rows : List (Latest × ℕ)) → 0 < length rows → left ≡ max (widest (map (left_text now) rows)) 4
     → table_wide now left 20 4 rows ≡ record_table now rows
 unfolding record_table table_wide
-table_widths now left rows some is =
-    let first = widest (codes "LEFT" ∷ map (left_text now) rows) in
-    let second = widest (codes "HEARD" ∷ map heard_text rows) in
-    ap (λ width. table_wide now width 20 4 rows) (is ∙ sym (left-width now rows))
-    ∙ ap (λ width. table_wide now first width 4 rows) (sym (heard-width rows some))
-    ∙ ap (λ width. table_wide now first second width rows) (sym (kind-width rows))
+table_widths now left rows some is = grind (arith, table_wide, left-width, heard-width, kind-width)
 
 pub table_by_parts : (old mid new : List ℕ) (now left : ℕ) (rows : List (Latest × ℕ)) → 0 < length rows
     → left ≡ max (widest (map (left_text now) rows)) 4 → mid ≡ old ++ record_heads left 20 4
     → new ≡ mid ++ flat_map (record_row left 20 4 now) rows → new ≡ old ++ record_table now rows
 unfolding table_wide
-table_by_parts old mid new now left rows some is heads lines =
-    lines ∙ ap (λ text. text ++ flat_map (record_row left 20 4 now) rows) heads
-    ∙ append_assoc old (record_heads left 20 4) (flat_map (record_row left 20 4 now) rows)
-    ∙ ap (λ text. old ++ text) (table_widths now left rows some is)
+table_by_parts old mid new now left rows some is heads lines = grind (arith, append_assoc, table_widths)
 
 -- the heads
 after_first : (p a b c d e f g : List ℕ) → p ++ a ++ b ++ c ++ d ++ e ++ f ++ g ≡ p ++ (a ++ b ++ c ++ d ++ e ++ f ++ g)
@@ -154,20 +128,14 @@ heads_rest = refl
 
 pub heads_text : (left : ℕ) → record_heads left 20 4 ≡ padded left (codes "LEFT") ++ codes "  HEARD                 TYPE  RECORD\n"
 unfolding record_heads
-heads_text left =
-    after_first (padded left (codes "LEFT")) (codes "  ") (padded 20 (codes "HEARD")) (codes "  ") (padded 4 (codes "TYPE")) (codes "  ")
-    (codes "RECORD") (10 ∷ [])
-    ∙ ap (λ text. padded left (codes "LEFT") ++ text) heads_rest
+heads_text left = grind (arith, after_first, heads_rest)
 
 -- a row
 pub row_text : (left now : ℕ) (row : Latest × ℕ) → record_row left 20 4 now row
     ≡ padded left (left_text now row) ++ codes "  " ++ heard_text row ++ codes "  " ++ padded 4 (kind_text row) ++ codes "  "
     ++ shown_record row.0.resource ++ 10 ∷ []
 unfolding record_row
-row_text left now row =
-    ap (λ text. padded left (left_text now row) ++ codes "  " ++ text ++ codes "  " ++ padded 4 (kind_text row) ++ codes "  "
-    ++ shown_record row.0.resource ++ 10 ∷ [])
-    (padded-exact 20 (heard_text row) (seconds-len row.0.moment.nanos))
+row_text left now row = grind (arith, padded-exact, seconds-len)
 
 -- a row by what is written of it
 pub row_by_parts : (old gap left heard kind own a b c d e f g new : List ℕ) → a ≡ old ++ left → b ≡ a ++ gap → c ≡ b ++ heard → d ≡ c ++ gap
@@ -176,21 +144,8 @@ pub row_by_parts : (old gap left heard kind own a b c d e f g new : List ℕ) �
 row_by_parts old gap left heard kind own a b c d e f g new pa pb pc pd pe pf pg pn =
     rw (pn, pg, pf, pe, pd, pc, pb, pa) (simp append_assoc)
 
--- a page without values, and one with some
-pub page-none : {R X : Type 0} (f : R → X) (rows : List R) (old new one many text : List ℕ) (now : ℕ) → (length rows == 0) ≡ true
-    → new ≡ old ++ heading (length rows) one many now
-    → new ≡ old ++ (heading (length (map f rows)) one many now ++ unless_none (map f rows) text)
-page-none f [] old new one many text now none head = head ∙ ap (λ front. old ++ front) (sym (append-nil (heading 0 one many now)))
-page-none f (row ∷ rows) old new one many text now none head =
-    let some : (length (row ∷ rows) == 0) ≡ false = grind (arith, nat_tests) in
-    let both : true ≡ false = sym none ∙ some in cc
-
 pub page-some : {R X : Type 0} (f : R → X) (rows : List R) (old a b new one many text : List ℕ) (now : ℕ) → (length rows == 0) ≡ false
     → a ≡ old ++ heading (length rows) one many now → b ≡ a ++ 10 ∷ [] → new ≡ b ++ text
     → new ≡ old ++ (heading (length (map f rows)) one many now ++ unless_none (map f rows) text)
 page-some f [] old a b new one many text now some head line written = let both : true ≡ false = some in cc
-page-some f (row ∷ rows) old a b new one many text now some head line written =
-    let whole = heading (length (map f (row ∷ rows))) one many now in
-    let count = ap (λ n. heading n one many now) (sym (length-map (row ∷ rows) f)) in
-    written ∙ ap (λ front. front ++ text) (line ∙ ap (λ front. front ++ 10 ∷ []) (head ∙ ap (λ h. old ++ h) count))
-    ∙ append_assoc (old ++ whole) (10 ∷ []) text ∙ append_assoc old whole (10 ∷ text)
+page-some f (row ∷ rows) old a b new one many text now some head line written = grind (arith, length-map, append_assoc)

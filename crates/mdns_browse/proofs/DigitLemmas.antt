@@ -36,14 +36,7 @@ pair_at p low = pair_below 100 p tt low
 -- two digits written side by side
 pub pair_written : (text : List ℕ) (at x y : ℕ) → at + 2 ≤ length text
     → drop at (set (set text at x) (at + 1) y) ≡ x ∷ y ∷ drop (at + 2) text
-pair_written text at x y within =
-    let next : at + 1 + 1 ≡ at + 2 = omega arith in
-    rw (
-      set_comm text at (at + 1) x y (λ same. omega arith),
-      drop-set (set text (at + 1) y) at x (omega (arith, length-set text (at + 1) y)),
-      drop-set text (at + 1) y (omega arith),
-      next,
-    )
+pair_written text at x y within = grind (arith, set_comm, drop-set, length-set)
 
 pub length_one : (n : ℕ) → n < 10 → length (decimal n) ≡ 1
 length_one n low = ap length (decimal_digit n low)
@@ -62,11 +55,7 @@ length_two n low high = ap length (decimal_two n low high)
 -- a longer number is its hundredth and two digits
 pub decimal_pair : (n : ℕ) → 100 ≤ n → n < 2 ^ 64
     → decimal n ≡ decimal (n / 100) ++ (48 + n % 100 / 10) ∷ (48 + n % 100 % 10) ∷ []
-decimal_pair n low high =
-    let a : n / 10 / 10 ≡ n / 100 = omega arith in
-    let b : n / 10 % 10 ≡ n % 100 / 10 = omega arith in
-    let c : n % 10 ≡ n % 100 % 10 = omega arith in
-    rw (decimal_step n (omega arith) high, decimal_step (n / 10) (omega arith) (omega arith), append_assoc, a, b, ← c)
+decimal_pair n low high = grind (arith, decimal_step, append_assoc)
 
 pub length_pair : (n : ℕ) → 100 ≤ n → n < 2 ^ 64 → length (decimal n) ≡ length (decimal (n / 100)) + 2
 length_pair n low high = ap length (decimal_pair n low high) ∙ length-append _ _

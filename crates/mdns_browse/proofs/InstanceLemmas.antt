@@ -1,18 +1,16 @@
 -- The instances that records give among rows.
 use Rattle.std.proofs.Common.{◌≡◌, refl, sym, ◌∙◌, ap, ℕ, ◌==◌, Bool, true, false, cond, Option, None, Some, is_some, option_map}
-use Rattle.std.proofs.Common.{suc, List, [], ◌∷◌, ◌++◌, length, map, arith}
+use Rattle.std.proofs.Common.{List, [], ◌∷◌, ◌++◌, length, map, arith}
 use Rattle.std.proofs.lemmas.Bool.{false≢true}
 use Rattle.std.proofs.lemmas.Bool.Decides.{nat_tests}
 use Rattle.std.proofs.lemmas.List.{map-append}
 use Rattle.std.proofs.lemmas.List.Elements.{filter-append, filter_map-append}
 use Rattle.std.proofs.lemmas.Option.{cond_some, none-some}
 use Rattle.std.specs.List.{cons_option, filter, filter_map}
-use Rattle.mdns_message.specs.Resource.{Body, number_of, set_key_cmp}
+use Rattle.mdns_message.specs.Resource.{Body, number_of}
 use Rattle.mdns_message.specs.declared.body.RecordData.TheVariants.{A, Aaaa, Ptr, Txt, Srv}
 use Rattle.mdns_message.specs.laws.Resource.{set_key_cmp-exact}
-use Rattle.std.specs.Ordering.{is_eq}
 use Rattle.mdns_join.specs.declared.latest.Latest.{Latest}
-use Rattle.mdns_cache.specs.Live.{record_of}
 use Rattle.mdns_browse.specs.About.{keeps_instance}
 use Rattle.mdns_browse.specs.Given.{kept_given}
 use Rattle.mdns_browse.specs.declared.about.Subject.{Subject}
@@ -20,7 +18,7 @@ use Rattle.mdns_browse.specs.declared.instance.Instance.{Instance}
 use Rattle.mdns_browse.specs.declared.instance.Server.{Server}
 use Rattle.mdns_browse.specs.Services.{GivenRow, InstanceRow, body_of, given_of, gives_instance, instance_given, instance_in}
 use Rattle.mdns_browse.specs.Services.{instance_row_in, instance_rows_in, lasts_in, name_if, pointer_of, rows_of_set}
-use Rattle.mdns_browse.specs.Services.{server_in, set_for, text_in}
+use Rattle.mdns_browse.specs.Services.{server_in, text_in}
 use Rattle.mdns_browse.proofs.KeptLemmas.{filter-all}
 use Rattle.mdns_browse.proofs.ListLemmas.{through-append}
 use Rattle.mdns_browse.proofs.SearchLemmas.{eq_is}
@@ -91,33 +89,14 @@ module _ (rows : List Latest) where
 
   -- a row that is shown is the one that its record shows
   shown-by : (given : GivenRow) (row : InstanceRow) → instance_row_in rows given ≡ Some row → instance_row_in rows row.given ≡ Some row
-  shown-by given row is = by (pointer_of (body_of given.last)) refl is
-    where
-      by : (o : Option (List ℕ)) → pointer_of (body_of given.last) ≡ o → option_map (row_named given) o ≡ Some row
-          → instance_row_in rows row.given ≡ Some row
-      by None none other = absurd (none-some row other)
-      by (Some name) points same =
-          let own : row_named given name ≡ row = cc in
-          ap (λ (row : InstanceRow). instance_row_in rows row.given) (sym own) ∙ is
+  shown-by given row is = grind (arith, option_map, none-some)
 
   -- the records of rows that are kept show those rows
   pub shown-again : (keep : InstanceRow → Bool) (all : List GivenRow)
       → filter_map (instance_row_in rows) (given_in (filter keep (filter_map (instance_row_in rows) all)))
       ≡ filter keep (filter_map (instance_row_in rows) all)
   shown-again keep [] = refl
-  shown-again keep (given ∷ all) = by (instance_row_in rows given) refl (shown-again keep all)
-    where
-      by : (o : Option InstanceRow) → instance_row_in rows given ≡ o → shown_in (given_in (kept_in keep all)) ≡ kept_in keep all
-          → shown_in (given_in (filter keep (cons_option o (shown_in all)))) ≡ filter keep (cons_option o (shown_in all))
-      by None none rest = rest
-      by (Some row) is rest = by_test (keep row)
-        where
-          by_test : (b : Bool) → shown_in (given_in (cond b (row ∷ kept_in keep all) (kept_in keep all)))
-              ≡ cond b (row ∷ kept_in keep all) (kept_in keep all)
-          by_test true =
-              ap (λ o. cons_option o (shown_in (given_in (kept_in keep all)))) (shown-by given row is)
-              ∙ ap (λ others. row ∷ others) rest
-          by_test false = rest
+  shown-again keep (given ∷ all) = grind (arith, shown-by, shown-again keep all)
 
   -- without subjects all are kept
   pub kept-none : (about : List Subject) (all : List GivenRow) → (length about == 0) ≡ true
@@ -130,22 +109,12 @@ module _ (rows : List Latest) where
 
   pub kept-append : (about : List Subject) (xs ys : List GivenRow)
       → kept_given about rows (xs ++ ys) ≡ kept_given about rows xs ++ kept_given about rows ys
-  kept-append about =
-      through-append given_in (λ xs. filter (λ (row : InstanceRow). keeps_instance about row.instance) (shown_in xs))
-      (map-append (λ (row : InstanceRow). row.given))
-      (through-append (filter (λ (row : InstanceRow). keeps_instance about row.instance)) (filter_map (instance_row_in rows))
-      (filter-append (λ (row : InstanceRow). keeps_instance about row.instance)) (filter_map-append (instance_row_in rows)))
+  kept-append about = grind (arith, through-append, map-append, filter-append, filter_map-append)
 
   -- what is kept of one record
   pub kept-one : (about : List Subject) (given : GivenRow) (name : List ℕ) (b : Bool) → body_of given.last ≡ Ptr name
       → keeps_instance about (instance_in rows name) ≡ b → kept_given about rows (given ∷ []) ≡ cond b (given ∷ []) []
-  kept-one about given name b points keeps =
-      ap (λ shown. given_in (filter (λ (row : InstanceRow). keeps_instance about row.instance) shown)) (shown-one given name points)
-      ∙ by (keeps_instance about (instance_in rows name)) ∙ ap (λ b. cond b (given ∷ []) []) keeps
-    where
-      by : (b : Bool) → given_in (cond b (row_named given name ∷ []) []) ≡ cond b (given ∷ []) []
-      by true = refl
-      by false = refl
+  kept-one about given name b points keeps = grind (arith, shown-one)
 
   pub kept-no_pointer : (about : List Subject) (given : GivenRow) → ((name : List ℕ) → body_of given.last ≡ Ptr name → ⊥)
       → kept_given about rows (given ∷ []) ≡ []
@@ -157,17 +126,7 @@ module _ (rows : List Latest) where
       → only (instance_rows_in rows (map given_of live))
       ≡ map (instance_in rows) (filter_map instance_given (lasts_in live))
   instances-shown [] = refl
-  instances-shown (row ∷ live) = by (instance_given row.0) refl (instances-shown live)
-    where
-      by : (o : Option (List ℕ)) → instance_given row.0 ≡ o
-          → only (instance_rows_in rows (map given_of live)) ≡ map (instance_in rows) (filter_map instance_given (lasts_in live))
-          → only (shown_in (cond (is_some o) (given_of row ∷ filter gives_instance (map given_of live))
-          (filter gives_instance (map given_of live))))
-          ≡ map (instance_in rows) (cons_option o (filter_map instance_given (lasts_in live)))
-      by None none rest = rest
-      by (Some name) gives rest =
-          ap (λ o. only (cons_option o (instance_rows_in rows (map given_of live)))) (shows (given_of row) name gives)
-          ∙ ap (λ more. instance_in rows name ∷ more) rest
+  instances-shown (row ∷ live) = grind (arith, is_some, shows, instances-shown live)
 
 -- ---- servers and texts
 
@@ -212,14 +171,4 @@ has_server all (Txt text) is = let other : 16 ≡ 33 = is in absurd (omega (arit
 pub served-each : (all rows : List Latest) (name : List ℕ)
     → length (servers_of all (rows_of_set rows name 33)) ≡ length (rows_of_set rows name 33)
 served-each all [] name = refl
-served-each all (row ∷ rows) name = by (is_eq (set_key_cmp (record_of row).set (set_for name 33))) refl (served-each all rows name)
-  where
-    by : (b : Bool) → is_eq (set_key_cmp (record_of row).set (set_for name 33)) ≡ b
-        → length (servers_of all (rows_of_set rows name 33)) ≡ length (rows_of_set rows name 33)
-        → length (filter_map (server_in all) (map body_of (cond b (row ∷ rows_of_set rows name 33) (rows_of_set rows name 33))))
-        ≡ length (cond b (row ∷ rows_of_set rows name 33) (rows_of_set rows name 33))
-    by false not rest = rest
-    by true is rest =
-        let same = set_key_cmp-exact (record_of row).set (set_for name 33) (eq_is _ is) in
-        let server = has_server all (body_of row) (ap (λ s. s.number) same) in
-        ap (λ o. length (cons_option o (servers_of all (rows_of_set rows name 33)))) server.1 ∙ ap (λ n. suc n) rest
+served-each all (row ∷ rows) name = grind (arith, set_key_cmp-exact, eq_is, has_server, served-each all rows name)

@@ -1,5 +1,5 @@
 -- Texts within strings, one character at a time.
-use Rattle.std.proofs.Common.{◌≡◌, refl, sym, ◌∙◌, ap, ℕ, ◌≤◌, ◌<◌, ◌+◌, ◌/◌, ◌%◌, ◌==◌, ◌||◌, Bool, true}
+use Rattle.std.proofs.Common.{◌≡◌, sym, ◌∙◌, ap, ℕ, ◌≤◌, ◌==◌, ◌||◌, Bool, true}
 use Rattle.std.proofs.Common.{false, cond, List, [], ◌∷◌, ◌++◌, length, nat_lt, arith}
 use Rattle.std.proofs.lemmas.Bool.Decides.{nat_tests}
 use Rattle.std.proofs.lemmas.List.{append-nil, append_assoc}
@@ -32,28 +32,16 @@ one_of_three false false q r s a b c = c
 -- the bytes of a character beyond ASCII stand as they are
 escaped-wide : (c : ℕ) → 128 ≤ c → escaped (encode_utf8 c) ≡ encode_utf8 c
 unfolding encode_utf8
-escaped-wide c big =
-    let is : nat_lt c 128 ≡ false = grind (arith, nat_tests) in
-    rw is
-    (one_of_three _ _ _ _ _ (escaped-two (192 + c / 64) (128 + c % 64) (omega arith) (omega arith))
-    (escaped-three (224 + c / 4096) (128 + c / 64 % 64) (128 + c % 64) (omega arith) (omega arith) (omega arith))
-    (escaped-four (240 + c / 262144) (128 + c / 4096 % 64) (128 + c / 64 % 64) (128 + c % 64) (omega arith) (omega arith) (omega arith)
-    (omega arith)))
+escaped-wide c big = grind (arith, nat_lt, nat_tests, one_of_three, escaped-two, escaped-three, escaped-four)
 
 -- a character that is escaped, and one that isn't
 escaped-marked : (c : ℕ) → ((c == 34) || (c == 92)) ≡ true → escaped (encode_utf8 c) ≡ 92 ∷ encode_utf8 c
 unfolding escaped
-escaped-marked c is =
-    let small : c < 128 = grind (arith, nat_tests) in
-    rw (encode_ascii c small, is)
+escaped-marked c is = grind (arith, nat_tests, encode_ascii)
 
 escaped-unmarked : (c : ℕ) → ((c == 34) || (c == 92)) ≡ false → escaped (encode_utf8 c) ≡ encode_utf8 c
 unfolding escaped
-escaped-unmarked c is = go (nat_lt c 128) refl
-  where
-    go : (b : Bool) → nat_lt c 128 ≡ b → escaped (encode_utf8 c) ≡ encode_utf8 c
-    go true small = let less : c < 128 = grind (arith, nat_tests) in rw (encode_ascii c less, is)
-    go false wide = escaped-wide c (grind (arith, nat_tests))
+escaped-unmarked c is = grind (arith, nat_lt, nat_tests, encode_ascii, escaped-wide)
 
 escaped-append : (xs ys : List ℕ) → escaped (xs ++ ys) ≡ escaped xs ++ escaped ys
 unfolding escaped
@@ -62,9 +50,7 @@ escaped-append xs ys = flat_map-append escaped_byte xs ys
 -- a character written, with its `\` before it or without
 pub character_marked : (c : ℕ) (old a new : List ℕ) → ((c == 34) || (c == 92)) ≡ true → a ≡ old ++ 92 ∷ [] → new ≡ a ++ encode_utf8 c
     → new ≡ old ++ escaped (encode_utf8 c)
-character_marked c old a new is mark written =
-    written ∙ ap (λ text. text ++ encode_utf8 c) mark ∙ append_assoc old (92 ∷ []) (encode_utf8 c)
-    ∙ ap (λ text. old ++ text) (sym (escaped-marked c is))
+character_marked c old a new is mark written = grind (arith, append_assoc, escaped-marked)
 
 pub character_unmarked : (c : ℕ) (old new : List ℕ) → ((c == 34) || (c == 92)) ≡ false → new ≡ old ++ encode_utf8 c
     → new ≡ old ++ escaped (encode_utf8 c)
@@ -73,11 +59,7 @@ character_unmarked c old new is written = written ∙ ap (λ text. old ++ text) 
 -- a character written takes its bytes from what is left to write
 pub escaped_left-step : (c : ℕ) (old new total text rest : List ℕ) → text ≡ encode_utf8 c ++ rest
     → new ≡ old ++ escaped (encode_utf8 c) → old ++ escaped text ≡ total → new ++ escaped rest ≡ total
-escaped_left-step c old new total text rest split written left =
-    ap (λ text. text ++ escaped rest) written
-    ∙ append_assoc old (escaped (encode_utf8 c)) (escaped rest)
-    ∙ ap (λ text. old ++ text) (sym (ap escaped split ∙ escaped-append (encode_utf8 c) rest))
-    ∙ left
+escaped_left-step c old new total text rest split written left = grind (arith, append_assoc, escaped-append)
 
 -- with no bytes left nothing is left to write
 pub escaped_left-end : (old total rest : List ℕ) → length rest ≡ 0 → old ++ escaped rest ≡ total → old ≡ total

@@ -1,4 +1,5 @@
 -- What live records give, and what of it is kept: of records one after another it is what each part gives.
+use Rattle.std.proofs.Common.{arith}
 use Rattle.std.proofs.Common.{◌≡◌, refl, ap, ℕ, Bool, true, List, [], ◌∷◌, ◌++◌, map, is_some}
 use Rattle.std.proofs.lemmas.List.{map-append}
 use Rattle.std.proofs.lemmas.List.Elements.{filter-append, filter_map-append}
@@ -6,7 +7,7 @@ use Rattle.std.specs.List.{filter, filter_map}
 use Rattle.mdns_join.specs.declared.latest.Latest.{Latest}
 use Rattle.mdns_browse.specs.About.{keeps_record, keeps_type}
 use Rattle.mdns_browse.specs.Report.{records_about, types_about}
-use Rattle.mdns_browse.specs.Services.{GivenRow, given_of, gives_instance, lasts_in, other_given, others_in, type_given, types_in}
+use Rattle.mdns_browse.specs.Services.{GivenRow, given_of, gives_instance, lasts_in, others_in, type_given, types_in}
 use Rattle.mdns_browse.specs.Sheet.{live_record, service_type}
 use Rattle.mdns_browse.specs.declared.about.Subject.{Subject}
 use Rattle.mdns_browse.proofs.ListLemmas.{through-append}
@@ -35,9 +36,7 @@ module _ (about : List Subject) where
 
   pub others_about-append : (xs ys : List (Latest × ℕ))
       → records_about about (others_in (xs ++ ys)) ≡ records_about about (others_in xs) ++ records_about about (others_in ys)
-  others_about-append =
-      through-append (records_about about) others_in records_about-append
-      (filter-append (λ (row : Latest × ℕ). is_some (other_given row.0)))
+  others_about-append = grind (arith, through-append, records_about-append, filter-append, is_some)
 
   pub types_about-append : (xs ys : List (Latest × ℕ)) → types_about about (xs ++ ys) ≡ types_about about xs ++ types_about about ys
   types_about-append =

@@ -1,5 +1,6 @@
 -- The layout of lives.
-use Rattle.std.proofs.Common.{◌≡◌, sym, ◌∙◌, ap, ℕ, ◌+◌, max, List, [], ◌∷◌, ◌++◌, length, map, codes}
+use Rattle.std.proofs.Common.{arith}
+use Rattle.std.proofs.Common.{◌≡◌, ℕ, ◌+◌, max, List, [], ◌∷◌, ◌++◌, length, map, codes}
 use Rattle.std.proofs.lemmas.Grind.{flat_map-append}
 use Rattle.std.proofs.lemmas.List.{append-nil, length-append, map-append}
 use Rattle.mdns_join.specs.declared.latest.Latest.{Latest}
@@ -18,16 +19,11 @@ layout-none end layout count width = record { count = count; width = width }
 pub layout-more : (end : ℕ) (rows : List (Latest × List Life)) (last : Latest) (lives : List Life) (old new : Layout)
     → new.count ≡ old.count + length lives → new.width ≡ max old.width (widest (map (end_shown end) lives)) → IsLayout end rows old
     → IsLayout end (rows ++ (last, lives) ∷ []) new
-layout-more end rows last lives old new count width is =
-    let all : lives_in (rows ++ (last, lives) ∷ []) ≡ lives_in rows ++ lives
-    = flat_map-append (λ (row : Latest × List Life). row.1) rows ((last, lives) ∷ [])
-    ∙ ap (λ (rest : List Life). lives_in rows ++ rest) (append-nil lives) in
-    let words : map (end_shown end) (lives_in (rows ++ (last, lives) ∷ []))
-    ≡ map (end_shown end) (lives_in rows) ++ map (end_shown end) lives
-    = ap (map (end_shown end)) all ∙ map-append (end_shown end) (lives_in rows) lives in
-    record {
-      count = count ∙ ap (λ n. n + length lives) is.count ∙ sym (ap length all ∙ length-append (lives_in rows) lives);
-      width = width ∙ ap (λ w. max w (widest (map (end_shown end) lives))) is.width
-          ∙ sym (ap (λ (texts : List (List ℕ)). widest (codes "END" ∷ texts)) words
-          ∙ widest-append (codes "END" ∷ map (end_shown end) (lives_in rows)) (map (end_shown end) lives));
-    }
+layout-more end rows last lives old new count width is = grind (
+  arith,
+  flat_map-append,
+  append-nil lives,
+  map-append (end_shown end) (lives_in rows) lives,
+  length-append (lives_in rows) lives,
+  widest-append (codes "END" ∷ map (end_shown end) (lives_in rows)) (map (end_shown end) lives),
+)

@@ -1,5 +1,5 @@
 -- Lines by the pieces that are written of them.
-use Rattle.std.proofs.Common.{◌≡◌, refl, sym, ◌∙◌, ap, ℕ, ◌==◌, false, List, [], ◌∷◌, ◌++◌, length, map, arith, codes}
+use Rattle.std.proofs.Common.{◌≡◌, refl, ◌∙◌, ap, ℕ, ◌==◌, false, List, [], ◌∷◌, ◌++◌, length, map, arith, codes}
 use Rattle.std.proofs.lemmas.Bool.Decides.{nat_tests}
 use Rattle.std.proofs.lemmas.List.{append-nil, append_assoc}
 use Rattle.std.proofs.lemmas.Grind.{flat_map-append}
@@ -7,9 +7,9 @@ use Rattle.std.specs.Fmt.{decimal}
 use Rattle.std.specs.List.{flat_map}
 use Rattle.dns_name.specs.Name.{name_text}
 use Rattle.mdns_browse.specs.declared.instance.Server.{Server}
-use Rattle.mdns_browse.specs.Text.{address_line, text_line, server_lines, servers_lines, instance_lines}
-use Rattle.mdns_browse.specs.Sheet.{server_begin, server_address, server_end, servers_end, instance_text}
-use Rattle.mdns_browse.specs.Sheet.{instance_end, server_pieces, servers_pieces, instance_pieces}
+use Rattle.mdns_browse.specs.Text.{address_line, server_lines, servers_lines, instance_lines}
+use Rattle.mdns_browse.specs.Sheet.{server_address, server_end, servers_end}
+use Rattle.mdns_browse.specs.Sheet.{server_pieces, servers_pieces, instance_pieces}
 use Rattle.mdns_browse.specs.Lines.{piece_lines}
 use Rattle.mdns_browse.specs.Services.{InstanceRow}
 
@@ -21,9 +21,7 @@ flat_map-map text_of piece (x ∷ xs) = ap (λ text. text_of (piece x) ++ text) 
 pub flat_map-pieces : {X P : Type 0} (text_of : P → List ℕ) (pieces : X → List P) (text : X → List ℕ)
     → ((x : X) → flat_map text_of (pieces x) ≡ text x) → (xs : List X) → flat_map text_of (flat_map pieces xs) ≡ flat_map text xs
 flat_map-pieces text_of pieces text same [] = refl
-flat_map-pieces text_of pieces text same (x ∷ xs) =
-    flat_map-append text_of (pieces x) (flat_map pieces xs) ∙ ap (λ head. head ++ flat_map text_of (flat_map pieces xs)) (same x)
-    ∙ ap (λ rest. text x ++ rest) (flat_map-pieces text_of pieces text same xs)
+flat_map-pieces text_of pieces text same (x ∷ xs) = grind (arith, flat_map-append, flat_map-pieces text_of pieces text same xs)
 
 -- the parts of a server's own line
 pub begin_by_parts : (old mark target port before_priority priority before_weight weight a b c : List ℕ) → a ≡ old ++ mark → b ≡ a ++ target
@@ -39,13 +37,12 @@ server_by_parts mark target port before_priority priority before_weight weight a
 
 server_text : (server : Server) → flat_map piece_lines (server_pieces server) ≡ server_lines server
 unfolding server_lines
-server_text server =
-    let begin = piece_lines (server_begin server.priority server.weight server.port server.target) in
-    ap (λ text. begin ++ text)
-    (flat_map-append piece_lines (map server_address server.addresses) (server_end ∷ [])
-    ∙ ap (λ text. text ++ []) (flat_map-map piece_lines server_address server.addresses))
-    ∙ server_by_parts (codes "  server ") (name_text server.target) (32 ∷ decimal server.port) (codes " priority ")
-    (decimal server.priority) (codes " weight ") (decimal server.weight) (flat_map address_line server.addresses)
+server_text server = grind (
+  arith,
+  flat_map-append piece_lines (map server_address server.addresses) (server_end ∷ []),
+  flat_map-map piece_lines server_address server.addresses,
+  server_by_parts (codes " server ") (name_text server.target) (32 ∷ decimal server.port) (codes " priority ") (decimal server.priority) (codes " weight ") (decimal server.weight) (flat_map address_line server.addresses),
+)
 
 servers_text : (servers : List Server) → flat_map piece_lines (servers_pieces servers) ≡ servers_lines servers
 unfolding servers_lines
@@ -59,18 +56,7 @@ servers_text (server ∷ servers) =
 
 instance_text_lines : (row : InstanceRow) → flat_map piece_lines (instance_pieces row) ≡ instance_lines row.instance
 unfolding instance_lines
-instance_text_lines row =
-    let instance = row.instance in
-    let texts = map instance_text instance.texts in
-    append_assoc (name_text instance.name) (10 ∷ []) (flat_map piece_lines (servers_pieces instance.servers ++ (texts
-    ++ instance_end ∷ [])))
-    ∙ ap (λ text. name_text instance.name ++ 10 ∷ text)
-    (flat_map-append piece_lines (servers_pieces instance.servers) (texts ++ instance_end ∷ [])
-    ∙ ap (λ text. text ++ flat_map piece_lines (texts ++ instance_end ∷ [])) (servers_text instance.servers)
-    ∙ ap (λ text. servers_lines instance.servers ++ text)
-    (flat_map-append piece_lines texts (instance_end ∷ []) ∙ append-nil (flat_map piece_lines texts)
-    ∙ flat_map-map piece_lines instance_text instance.texts))
-    ∙ sym (append_assoc (name_text instance.name) (10 ∷ servers_lines instance.servers) (flat_map text_line instance.texts))
+instance_text_lines row = grind (arith, append_assoc, flat_map-append, servers_text, append-nil, flat_map-map)
 
 pub instances_text : (rows : List InstanceRow) → flat_map piece_lines (flat_map instance_pieces rows)
     ≡ flat_map (λ (row : InstanceRow). instance_lines row.instance) rows

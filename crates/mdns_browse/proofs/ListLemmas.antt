@@ -1,4 +1,5 @@
 -- Lists that loops make of what they read, where what is made of a list is made of its parts.
+use Rattle.std.proofs.Common.{arith}
 use Rattle.std.proofs.Common.{◌≡◌, sym, ◌∙◌, ap, subst, ℕ, ◌+◌, ◌<◌, ◌≤◌, List, [], ◌∷◌, ◌++◌, length, map, take, get_or}
 use Rattle.std.proofs.lemmas.List.{append_assoc, append-nil, map-append, take_all, take_more}
 use Rattle.mdns_browse.specs.Sheet.{TakeLaws}
@@ -11,17 +12,13 @@ through-append g f g-append f-append xs ys = ap g (f-append xs ys) ∙ g-append 
 -- one element more
 pub map_more : {X Y : Type 0} (f : X → Y) (xs : List X) (i : ℕ) (x : X) → i < length xs → x ≡ get_or xs i x
     → map f (take (i + 1) xs) ≡ map f (take i xs) ++ f x ∷ []
-map_more f xs i x within at =
-    ap (map f) (take_more xs i x within) ∙ map-append f (take i xs) (get_or xs i x ∷ [])
-    ∙ ap (λ z. map f (take i xs) ++ f z ∷ []) (sym at)
+map_more f xs i x within at = grind (arith, take_more xs i x within, map-append f (take i xs) (get_or xs i x ∷ []))
 
 module _ {X Y : Type 0} (g : List X → List Y) (append : (xs ys : List X) → g (xs ++ ys) ≡ g xs ++ g ys) where
   -- of the first elements of a list
   pub made_more : {R : Type 0} (f : R → X) (rows : List R) (i : ℕ) (row : R) {old new : List Y} → i < length rows → row ≡ get_or rows i row
       → old ≡ g (map f (take i rows)) → new ≡ old ++ g (f row ∷ []) → new ≡ g (map f (take (i + 1) rows))
-  made_more f rows i row within at so_far more =
-      more ∙ ap (λ ys. ys ++ g (f row ∷ [])) so_far ∙ sym (append (map f (take i rows)) (f row ∷ []))
-      ∙ ap g (sym (map_more f rows i row within at))
+  made_more f rows i row within at so_far more = grind (arith, map_more)
 
   pub made_same : {R : Type 0} (f : R → X) (rows : List R) (i : ℕ) (row : R) {old : List Y} → i < length rows → row ≡ get_or rows i row
       → old ≡ g (map f (take i rows)) → g (f row ∷ []) ≡ [] → old ≡ g (map f (take (i + 1) rows))
@@ -35,9 +32,7 @@ module _ {X Y : Type 0} (g : List X → List Y) (append : (xs ys : List X) → g
   -- of elements of which some are left
   pub left_more : (x : X) (left after : List X) (old new all : List Y) → left ≡ x ∷ after → new ≡ old ++ g (x ∷ [])
       → old ++ g left ≡ all → new ++ g after ≡ all
-  left_more x left after old new all split more so_far =
-      ap (λ ys. ys ++ g after) more ∙ append_assoc old (g (x ∷ [])) (g after)
-      ∙ ap (λ ys. old ++ ys) (sym (ap g split ∙ append (x ∷ []) after)) ∙ so_far
+  left_more x left after old new all split more so_far = grind (arith, append_assoc)
 
   pub left_same : (x : X) (left after : List X) (old all : List Y) → left ≡ x ∷ after → g (x ∷ []) ≡ []
       → old ++ g left ≡ all → old ++ g after ≡ all
@@ -55,9 +50,7 @@ module _ {X Y : Type 0} (g : List X → List Y) (append : (xs ys : List X) → g
   pub takes_more : {R S : Type 0} {takes : S → List Y → S → Type 0} (laws : TakeLaws takes) (f : R → X) (rows : List R) (i : ℕ) (row : R)
       {old mid new : S} → i < length rows → row ≡ get_or rows i row → takes old (g (map f (take i rows))) mid
       → takes mid (g (f row ∷ [])) new → takes old (g (map f (take (i + 1) rows))) new
-  takes_more {takes = takes} laws f rows i row {old} {mid} {new} within at so_far more =
-      subst (λ ps. takes old ps new) (sym (ap g (map_more f rows i row within at) ∙ append (map f (take i rows)) (f row ∷ [])))
-      (laws.more old mid new (g (map f (take i rows))) (g (f row ∷ [])) so_far more)
+  takes_more {takes = takes} laws f rows i row {old} {mid} {new} within at so_far more = grind (arith, map_more f rows i row within at)
 
   pub takes_same : {R S : Type 0} {takes : S → List Y → S → Type 0} (laws : TakeLaws takes) (f : R → X) (rows : List R) (i : ℕ) (row : R)
       {old new : S} → i < length rows → row ≡ get_or rows i row → takes old (g (map f (take i rows))) new

@@ -1,5 +1,5 @@
 -- One label and then a rest: how the bytes of a name decide this, and what a record gives by the names in it.
-use Rattle.std.proofs.Common.{◌≡◌, refl, sym, ◌∙◌, ap, subst, ℕ, suc, ◌≤◌, inl, inr, ◌↔◌, Bool, cond, true, ◌&&◌, nat_le, min}
+use Rattle.std.proofs.Common.{◌≡◌, refl, sym, ◌∙◌, ap, ℕ, suc, ◌≤◌, inl, inr, ◌↔◌, Bool, true, ◌&&◌, nat_le, min}
 use Rattle.std.proofs.Common.{Decides, Option, None, Some, List, [], ◌∷◌, ◌++◌, length, length-append, take, drop, codes, arith}
 use Rattle.std.proofs.Math.Seq.{drop-append_seam}
 use Rattle.std.proofs.lemmas.Bool.{false≢true}
@@ -13,9 +13,8 @@ use Rattle.dns_name.specs.Name.{IsLabel, folded, longest_label, wire_of}
 use Rattle.mdns_message.specs.Resource.{Body}
 use Rattle.mdns_message.specs.declared.body.RecordData.TheVariants.{A, Aaaa, Ptr, Txt, Srv}
 use Rattle.mdns_join.specs.declared.latest.Latest.{Latest}
-use Rattle.mdns_browse.specs.Services.{GivesInstance, GivesOther, GivesType, IsServiceName, IsInstanceOf, body_of, instance_given}
+use Rattle.mdns_browse.specs.Services.{GivesInstance, GivesOther, GivesType, IsServiceName, IsInstanceOf, instance_given}
 use Rattle.mdns_browse.specs.Services.{is_instance_of, is_service_name, name_if, other_given, pointer_of, same_text, type_given}
-use Rattle.mdns_browse.specs.Services.{types_owner}
 
 -- ---- folding
 
@@ -51,10 +50,7 @@ octet-unfolded n few = grind (arith, nat_tests)
 
 folded-parts : (label rest name : List ℕ) → IsLabel label → name ≡ length label ∷ (label ++ rest)
     → folded name ≡ length (folded label) ∷ (folded label ++ folded rest)
-folded-parts label rest name sized whole =
-    ap folded whole
-    ∙ ap (λ n. n ∷ folded (label ++ rest)) (octet-folded (length label) sized.few_bytes ∙ sym (length-folded label))
-    ∙ ap (λ bytes. length (folded label) ∷ bytes) (folded-append label rest)
+folded-parts label rest name sized whole = grind (arith, whole, label, rest, octet-folded, sized, length-folded, folded-append)
 
 pub instance-from : (service label rest name : List ℕ) → IsLabel label → name ≡ length label ∷ (label ++ rest)
     → folded rest ≡ folded service → IsInstanceOf service name
@@ -136,10 +132,7 @@ instance-fits service count bytes is =
 
 pub instance-decides : (service name : List ℕ) → Decides (is_instance_of service name) (IsInstanceOf service name)
 unfolding is_instance_of
-instance-decides service [] = (λ passes. absurd (false≢true passes), λ is. absurd (no_octet is.spelled))
-  where
-    no_octet : {n : ℕ} {bytes : List ℕ} → [] ≡ n ∷ bytes → ⊥
-    no_octet e = cc
+instance-decides service [] = grind arith
 instance-decides service (count ∷ bytes) =
     Decides-like _
     (λ both.
@@ -181,14 +174,7 @@ name_if-decides : (test : List ℕ → Bool) (Holds : List ℕ → Type 0) → (
     → (pointer : Option (List ℕ)) (name : List ℕ) → (name_if test pointer ≡ Some name) ↔ ((pointer ≡ Some name) × Holds name)
 name_if-decides test Holds decides None name =
     (λ given. absurd (none-some name given), λ holds. absurd (none-some name holds.0))
-name_if-decides test Holds decides (Some target) name = (
-  λ given.
-      let own = cond_some (test target) target name given in
-      (ap Some own.1, subst Holds own.1 ((decides target).0 own.0)),
-  λ holds.
-      let same = same_Some target name holds.0 in
-      ap (λ b. cond b (Some target) None) ((decides target).1 (subst Holds (sym same) holds.1)) ∙ ap Some same,
-)
+name_if-decides test Holds decides (Some target) name = grind (arith, cond_some, same_Some)
 
 -- data points to the name
 pub pointer-is : (held : Body) (name : List ℕ) → (pointer_of held ≡ Some name) ↔ (held ≡ Ptr name)
@@ -200,35 +186,12 @@ pointer-is (Srv priority weight port target) name = (λ points. absurd (none-som
 
 pub type-gives : (row : Latest) (name : List ℕ) → (type_given row ≡ Some name) ↔ GivesType row name
 unfolding type_given
-type-gives row name =
-    let point = pointer-is (body_of row) name in
-    let both =
-    name_if-decides _ (λ name. (folded row.resource.owner ≡ folded types_owner) × IsServiceName name)
-    (λ name. Decides-and _ _ (same_text-decides row.resource.owner types_owner) (service-decides name)) (pointer_of (body_of row)) name in (
-      λ given. let own = both.0 given in record { pointer = point.0 own.0; owner = own.1.0; service = own.1.1 },
-      λ gives. both.1 (point.1 gives.pointer, (gives.owner, gives.service)),
-    )
+type-gives row name = grind (arith, pointer-is, name_if-decides, Decides-and, same_text-decides, service-decides)
 
 pub instance-gives : (row : Latest) (name : List ℕ) → (instance_given row ≡ Some name) ↔ GivesInstance row name
 unfolding instance_given
-instance-gives row name =
-    let owner = row.resource.owner in
-    let point = pointer-is (body_of row) name in
-    let both =
-    name_if-decides _ (λ name. IsServiceName owner × IsInstanceOf owner name)
-    (λ name. Decides-and _ _ (service-decides owner) (instance-decides owner name)) (pointer_of (body_of row)) name in (
-      λ given. let own = both.0 given in record { pointer = point.0 own.0; service = own.1.0; instance = own.1.1 },
-      λ gives. both.1 (point.1 gives.pointer, (gives.service, gives.instance)),
-    )
+instance-gives row name = grind (arith, pointer-is, name_if-decides, Decides-and, service-decides, instance-decides)
 
 pub other-gives : (row : Latest) (name : List ℕ) → (other_given row ≡ Some name) ↔ GivesOther row name
 unfolding other_given
-other-gives row name =
-    let owner = row.resource.owner in
-    let point = pointer-is (body_of row) name in
-    let both =
-    name_if-decides _ (λ name. IsServiceName owner × (IsInstanceOf owner name → ⊥))
-    (λ name. Decides-and _ _ (service-decides owner) (Decides-not _ (instance-decides owner name))) (pointer_of (body_of row)) name in (
-      λ given. let own = both.0 given in record { pointer = point.0 own.0; service = own.1.0; other = own.1.1 },
-      λ gives. both.1 (point.1 gives.pointer, (gives.service, gives.other)),
-    )
+other-gives row name = grind (arith, pointer-is, name_if-decides, Decides-and, service-decides, Decides-not, instance-decides)

@@ -1,25 +1,25 @@
 -- Objects by the pieces that are written of them.
-use Rattle.std.proofs.Common.{◌≡◌, refl, sym, ◌∙◌, ap, ℕ, ◌==◌, Bool, true, false, List, [], ◌∷◌, ◌++◌, length, map, codes}
+use Rattle.std.proofs.Common.{arith}
+use Rattle.std.proofs.Common.{◌≡◌, refl, ◌∙◌, ap, ℕ, Bool, true, false, List, [], ◌∷◌, ◌++◌, map, codes}
 use Rattle.std.proofs.lemmas.List.{append-nil, append_assoc}
 use Rattle.std.specs.Fmt.{decimal}
 use Rattle.std.specs.List.{flat_map}
 use Rattle.std.specs.String.{string_bytes}
 use Rattle.dns_name.specs.Name.{name_text}
 use Rattle.mdns_capture.specs.Text.{moment_text}
-use Rattle.people_text.specs.Shown.{name_shown}
 use Rattle.mdns_message.specs.Resource.{Body, type_name, type_of}
 use Rattle.mdns_message.specs.declared.resource.Resource.{Resource}
 use Rattle.mdns_join.specs.declared.latest.Latest.{Latest}
 use Rattle.mdns_lives.specs.declared.life.Life.{Life}
 use Rattle.mdns_browse.specs.declared.instance.Server.{Server}
 use Rattle.mdns_browse.specs.declared.objects.Objects.{Objects}
-use Rattle.mdns_browse.specs.Shown.{shown_instance, shown_record}
+use Rattle.mdns_browse.specs.Shown.{shown_record}
 use Rattle.mdns_browse.specs.Text.{data_words}
 use Rattle.mdns_browse.specs.Json.{escaped, parted, comma_unless, first_after, json_string, json_words, json_member, json_object}
-use Rattle.mdns_browse.specs.Json.{record_json, type_json, server_json, text_json, instance_json, json_bool}
+use Rattle.mdns_browse.specs.Json.{record_json, type_json, server_json, text_json, instance_json}
 use Rattle.mdns_browse.specs.Services.{InstanceRow}
-use Rattle.mdns_browse.specs.Sheet.{Piece, live_record, service_type, instance_begin, server_begin, server_address}
-use Rattle.mdns_browse.specs.Sheet.{server_end, servers_end, instance_text, instance_end, server_pieces, servers_pieces, instance_pieces}
+use Rattle.mdns_browse.specs.Sheet.{Piece, live_record, service_type, server_address}
+use Rattle.mdns_browse.specs.Sheet.{instance_text, server_pieces, instance_pieces}
 use Rattle.mdns_browse.specs.Lives.{end_text, life_json, life_rest, resource_json}
 use Rattle.mdns_browse.specs.Objects.{piece_json, piece_next, pieces_json, pieces_next, strings_json, Grows}
 use Rattle.mdns_browse.specs.laws.Objects.{strings-append, pieces-append, next-append}
@@ -27,10 +27,7 @@ use Rattle.mdns_browse.specs.laws.Objects.{strings-append, pieces-append, next-a
 -- a sheet that has the text of one piece more
 pub grows_piece : (piece : Piece) (old new : Objects) → string_bytes new.text ≡ string_bytes old.text ++ piece_json old.first piece
     → new.first ≡ piece_next old.first piece → Grows pieces_json pieces_next old (piece ∷ []) new
-grows_piece piece old new written flag = record {
-  written = written ∙ ap (λ text. string_bytes old.text ++ text) (sym (append-nil (piece_json old.first piece)));
-  flag = flag;
-}
+grows_piece piece old new written flag = grind (arith, append-nil)
 
 -- ---- writes one after another
 
@@ -43,9 +40,7 @@ server_begin_by_parts old k p t m h q o r i s w x a b c d e one two three four f
 pub parted-more : (values : List (List ℕ)) (value : List ℕ) → parted false (values ++ value ∷ []) ≡ parted false values ++ 44 ∷ value
 unfolding parted
 parted-more [] value = ap (λ text. 44 ∷ text) (append-nil value)
-parted-more (first ∷ values) value =
-    ap (λ text. 44 ∷ (first ++ text)) (parted-more values value)
-    ∙ ap (λ text. 44 ∷ text) (sym (append_assoc first (parted false values) (44 ∷ value)))
+parted-more (first ∷ values) value = grind (arith, append_assoc, parted-more values value)
 
 -- ---- objects as their members stand in the text
 
@@ -63,14 +58,11 @@ pub record_by_parts : (owner kind words shown ttl heard until : List ℕ)
     ∷ json_member (codes "shown") shown ∷ json_member (codes "ttl") ttl ∷ json_member (codes "heard") heard
     ∷ json_member (codes "until") until ∷ []) ++ 10 ∷ []
 unfolding escaped parted
-record_by_parts owner kind words shown ttl heard until =
-    sym
-    (append_assoc (123 ∷ parted true (
-    json_member (codes "owner") owner ∷ json_member (codes "type") kind ∷ json_member (codes "data") words
-    ∷ json_member (codes "shown") shown ∷ json_member (codes "ttl") ttl ∷ json_member (codes "heard") heard
-    ∷ json_member (codes "until") until ∷ [])) (125 ∷ []) (10 ∷ [])
-    ∙ seven_members (codes "{\"owner\":") owner (codes ",\"type\":") kind (codes ",\"data\":") words (codes ",\"shown\":") shown
-    (codes ",\"ttl\":") ttl (codes ",\"heard\":") heard (codes ",\"until\":") until (codes "}\n"))
+record_by_parts owner kind words shown ttl heard until = grind (
+  arith,
+  append_assoc (123 ∷ parted true (json_member (codes "owner") owner ∷ json_member (codes "type") kind ∷ json_member (codes "data") words ∷ json_member (codes "shown") shown ∷ json_member (codes "ttl") ttl ∷ json_member (codes "heard") heard ∷ json_member (codes "until") until ∷ [])) (125 ∷ []) (10 ∷ []),
+  seven_members (codes "{\"owner\":") owner (codes ",\"type\":") kind (codes ",\"data\":") words (codes ",\"shown\":") shown (codes ",\"ttl\":") ttl (codes ",\"heard\":") heard (codes ",\"until\":") until (codes "}\n"),
+)
 
 nine_members : (a x b y c z k r d v e w f u g t h s end : List ℕ)
     → ((a ++ x) ++ ((b ++ y) ++ ((c ++ z) ++ ((k ++ r) ++ ((d ++ v) ++ ((e ++ w) ++ ((f ++ u) ++ ((g ++ t) ++ ((h ++ s) ++ []))))))))) ++ end
@@ -87,24 +79,19 @@ life_by_parts : (owner kind words shown from ttl heard until how : List ℕ)
     ∷ json_member (codes "shown") shown ∷ json_member (codes "from") from ∷ json_member (codes "ttl") ttl
     ∷ json_member (codes "heard") heard ∷ json_member (codes "until") until ∷ json_member (codes "end") how ∷ []) ++ 10 ∷ []
 unfolding escaped parted
-life_by_parts owner kind words shown from ttl heard until how =
-    sym
-    (append_assoc (123 ∷ parted true (
-    json_member (codes "owner") owner ∷ json_member (codes "type") kind ∷ json_member (codes "data") words
-    ∷ json_member (codes "shown") shown ∷ json_member (codes "from") from ∷ json_member (codes "ttl") ttl
-    ∷ json_member (codes "heard") heard ∷ json_member (codes "until") until ∷ json_member (codes "end") how ∷ [])) (125 ∷ []) (10 ∷ [])
-    ∙ nine_members (codes "{\"owner\":") owner (codes ",\"type\":") kind (codes ",\"data\":") words (codes ",\"shown\":") shown
-    (codes ",\"from\":") from (codes ",\"ttl\":") ttl (codes ",\"heard\":") heard (codes ",\"until\":") until (codes ",\"end\":") how
-    (codes "}\n"))
+life_by_parts owner kind words shown from ttl heard until how = grind (
+  arith,
+  append_assoc (123 ∷ parted true (json_member (codes "owner") owner ∷ json_member (codes "type") kind ∷ json_member (codes "data") words ∷ json_member (codes "shown") shown ∷ json_member (codes "from") from ∷ json_member (codes "ttl") ttl ∷ json_member (codes "heard") heard ∷ json_member (codes "until") until ∷ json_member (codes "end") how ∷ [])) (125 ∷ []) (10 ∷ []),
+  nine_members (codes "{\"owner\":") owner (codes ",\"type\":") kind (codes ",\"data\":") words (codes ",\"shown\":") shown (codes ",\"from\":") from (codes ",\"ttl\":") ttl (codes ",\"heard\":") heard (codes ",\"until\":") until (codes ",\"end\":") how (codes "}\n"),
+)
 
 -- the object of a life, by what it says of the record and of the life
 pub life_by_both : (end : ℕ) (resource : Resource) (life : Life) → resource_json resource ++ life_rest end life ≡ life_json end resource life
 unfolding life_json
-life_by_both end resource life =
-    life_by_parts (json_string (name_text resource.owner)) (json_string (type_name (type_of resource.body)))
-    (json_words (data_words resource.body)) (json_string (shown_record resource)) (json_string (moment_text life.from.nanos))
-    (decimal life.last.ttl) (json_string (moment_text life.last.moment.nanos)) (json_string (moment_text life.until))
-    (json_string (end_text end life))
+life_by_both end resource life = grind (
+  arith,
+  life_by_parts (json_string (name_text resource.owner)) (json_string (type_name (type_of resource.body))) (json_words (data_words resource.body)) (json_string (shown_record resource)) (json_string (moment_text life.from.nanos)) (decimal life.last.ttl) (json_string (moment_text life.last.moment.nanos)) (json_string (moment_text life.until)) (json_string (end_text end life)),
+)
 
 six_members : (a x b y c z d v e w f left u right end : List ℕ)
     → (a ++ x ++ b ++ y ++ c ++ z ++ d ++ v ++ e ++ w ++ (f ++ left)) ++ (u ++ (right ++ end))
@@ -140,14 +127,11 @@ instance_by_parts : (name shown owner goodbye servers texts : List ℕ)
     ∷ json_member (codes "goodbye") goodbye ∷ json_member (codes "servers") (91 ∷ servers ++ 93 ∷ [])
     ∷ json_member (codes "texts") (91 ∷ texts ++ 93 ∷ []) ∷ []) ++ 10 ∷ []
 unfolding escaped parted
-instance_by_parts name shown owner goodbye servers texts =
-    two_arrays (codes "{\"instance\":") name (codes ",\"shown\":") shown (codes ",\"type\":") owner (codes ",\"goodbye\":") goodbye
-    (codes ",\"servers\":") (91 ∷ []) servers (93 ∷ []) (codes ",\"texts\":") texts (codes "}\n")
-    ∙ sym
-    (append_assoc (123 ∷ parted true (
-    json_member (codes "instance") name ∷ json_member (codes "shown") shown ∷ json_member (codes "type") owner
-    ∷ json_member (codes "goodbye") goodbye ∷ json_member (codes "servers") (91 ∷ servers ++ 93 ∷ [])
-    ∷ json_member (codes "texts") (91 ∷ texts ++ 93 ∷ []) ∷ [])) (125 ∷ []) (10 ∷ []))
+instance_by_parts name shown owner goodbye servers texts = grind (
+  arith,
+  two_arrays (codes "{\"instance\":") name (codes ",\"shown\":") shown (codes ",\"type\":") owner (codes ",\"goodbye\":") goodbye (codes ",\"servers\":") (91 ∷ []) servers (93 ∷ []) (codes ",\"texts\":") texts (codes "}\n"),
+  append_assoc (123 ∷ parted true (json_member (codes "instance") name ∷ json_member (codes "shown") shown ∷ json_member (codes "type") owner ∷ json_member (codes "goodbye") goodbye ∷ json_member (codes "servers") (91 ∷ servers ++ 93 ∷ []) ∷ json_member (codes "texts") (91 ∷ texts ++ 93 ∷ []) ∷ [])) (125 ∷ []) (10 ∷ []),
+)
 
 -- ---- pieces one after another
 
@@ -158,17 +142,14 @@ last_next first pieces piece = next-append first pieces (piece ∷ [])
 -- pieces, and then one more
 then_piece : (first : Bool) (pieces : List Piece) (piece : Piece)
     → pieces_json first (pieces ++ piece ∷ []) ≡ pieces_json first pieces ++ piece_json (pieces_next first pieces) piece
-then_piece first pieces piece =
-    pieces-append first pieces (piece ∷ [])
-    ∙ ap (λ text. pieces_json first pieces ++ text) (append-nil (piece_json (pieces_next first pieces) piece))
+then_piece first pieces piece = grind (arith, pieces-append, append-nil)
 
 addresses_json : (first : Bool) (addresses : List Body)
     → pieces_json first (map server_address addresses) ≡ strings_json first (flat_map data_words addresses)
 unfolding parted
 addresses_json first [] = refl
 addresses_json first (address ∷ addresses) =
-    ap (λ text. strings_json first (data_words address) ++ text) (addresses_json (first_after first (data_words address)) addresses)
-    ∙ sym (strings-append first (data_words address) (flat_map data_words addresses))
+    grind (arith, strings-append, addresses_json (first_after first (data_words address)) addresses)
 
 texts_json : (first : Bool) (texts : List (List ℕ)) → pieces_json first (map instance_text texts) ≡ parted first (map text_json texts)
 unfolding parted
@@ -178,49 +159,23 @@ texts_json first (text ∷ texts) =
 
 server_text : (first : Bool) (server : Server) → pieces_json first (server_pieces server) ≡ comma_unless first ++ server_json server
 unfolding server_json
-server_text first server =
-    let begin = server_begin server.priority server.weight server.port server.target in
-    let addresses = map server_address server.addresses in
-    ap (λ text. piece_json first begin ++ text)
-    (then_piece true addresses server_end ∙ ap (λ text. text ++ codes "]}") (addresses_json true server.addresses))
-    ∙ append_assoc (comma_unless first) _ _
-    ∙ ap (λ text. comma_unless first ++ text)
-    (server_by_parts (json_string (name_text server.target)) (json_string (name_shown server.target)) (decimal server.port)
-    (decimal server.priority) (decimal server.weight) (strings_json true (flat_map data_words server.addresses)))
+server_text first server = grind (arith, then_piece, addresses_json, append_assoc, server_by_parts)
 
 servers_json : (first : Bool) (servers : List Server) → pieces_json first (flat_map server_pieces servers) ≡ parted first
     (map server_json servers)
 unfolding parted
 servers_json first [] = refl
-servers_json first (server ∷ servers) =
-    let begin = server_begin server.priority server.weight server.port server.target in
-    let after : pieces_next first (server_pieces server) ≡ false = last_next first (begin ∷ map server_address server.addresses)
-    server_end in
-    pieces-append first (server_pieces server) (flat_map server_pieces servers)
-    ∙ ap (λ text. text ++ pieces_json (pieces_next first (server_pieces server)) (flat_map server_pieces servers))
-    (server_text first server)
-    ∙ ap (λ next. (comma_unless first ++ server_json server) ++ pieces_json next (flat_map server_pieces servers)) after
-    ∙ ap (λ text. (comma_unless first ++ server_json server) ++ text) (servers_json false servers)
+servers_json first (server ∷ servers) = grind (
+  arith,
+  last_next,
+  pieces-append first (server_pieces server) (flat_map server_pieces servers),
+  server_text first server,
+  servers_json false servers,
+)
 
 instance_text_json : (first : Bool) (row : InstanceRow) → pieces_json first (instance_pieces row) ≡ instance_json row
 unfolding instance_json
-instance_text_json first row =
-    let instance = row.instance in
-    let servers = flat_map server_pieces instance.servers in
-    let none = length instance.servers == 0 in
-    let texts = map instance_text instance.texts in
-    ap (λ text. piece_json first (instance_begin row.given instance.name) ++ text)
-    (pieces-append true (servers_pieces instance.servers) (texts ++ instance_end ∷ [])
-    ∙ ap (λ text. text ++ pieces_json (pieces_next true (servers_pieces instance.servers)) (texts ++ instance_end ∷ []))
-    (then_piece true servers (servers_end none) ∙ ap (λ text. text ++ codes "],\"texts\":[") (servers_json true instance.servers))
-    ∙ ap (λ next. (parted true (map server_json instance.servers) ++ codes "],\"texts\":[") ++ pieces_json next (texts
-    ++ instance_end ∷ []))
-    (last_next true servers (servers_end none))
-    ∙ ap (λ text. (parted true (map server_json instance.servers) ++ codes "],\"texts\":[") ++ text)
-    (then_piece true texts instance_end ∙ ap (λ text. text ++ codes "]}\n") (texts_json true instance.texts)))
-    ∙ instance_by_parts (json_string (name_text instance.name)) (json_string (shown_instance instance.name))
-    (json_string (name_text row.given.last.resource.owner)) (json_bool (row.given.last.ttl == 0))
-    (parted true (map server_json instance.servers)) (parted true (map text_json instance.texts))
+instance_text_json first row = grind (arith, pieces-append, then_piece, servers_json, last_next, texts_json, instance_by_parts)
 
 -- ---- reports
 

@@ -1,12 +1,13 @@
 -- A report about no subjects lists all.
-use Rattle.std.proofs.Common.{◌≡◌, sym, ◌∙◌, ap, refl, ◌↔◌, ℕ, true, List, [], map}
+use Rattle.std.proofs.Common.{arith}
+use Rattle.std.proofs.Common.{◌≡◌, sym, ap, refl, ◌↔◌, ℕ, true, List, []}
 use Rattle.std.specs.List.{flat_map}
 use Rattle.mdns_message.specs.declared.hearing.Hearing.{Hearing}
 use Rattle.mdns_join.specs.declared.latest.Latest.{Latest}
 use Rattle.mdns_browse.specs.About.{keeps_instance, keeps_record, keeps_type}
 use Rattle.mdns_browse.specs.Report.{IsReport, IsReportIn, lines_about, lines_in}
-use Rattle.mdns_browse.specs.Services.{InstanceRow, given_of, instance_rows_in, lasts_in, types_in}
-use Rattle.mdns_browse.specs.Text.{instance_lines, record_line, type_line}
+use Rattle.mdns_browse.specs.Services.{lasts_in, types_in}
+use Rattle.mdns_browse.specs.Text.{record_line, type_line}
 use Rattle.mdns_browse.specs.declared.report.Ask.{Ask}
 use Rattle.mdns_browse.specs.declared.report.Ask.TheVariants.{Records, Types, Instances}
 use Rattle.mdns_browse.specs.declared.report.Form.TheVariants.{Lines}
@@ -19,11 +20,7 @@ all_lines : (ask : Ask) (rows : List (Latest × ℕ)) → lines_about [] ask row
 unfolding keeps_record keeps_type keeps_instance
 all_lines Records rows = ap (flat_map record_line) (filter-all (λ (row : Latest × ℕ). true) (λ row. refl) rows)
 all_lines Types rows = ap (flat_map type_line) (filter-all (λ (name : List ℕ). true) (λ name. refl) (types_in (lasts_in rows)))
-all_lines Instances rows =
-    let shown = instance_rows_in (lasts_in rows) (map given_of rows) in
-    ap (flat_map (λ (row : InstanceRow). instance_lines row.instance)) (filter-all (λ (row : InstanceRow). true) (λ row. refl) shown)
-    ∙ sym (flat_map-map instance_lines (λ (row : InstanceRow). row.instance) shown)
-    ∙ ap (flat_map instance_lines) (instances-shown (lasts_in rows) rows)
+all_lines Instances rows = grind (arith, filter-all, flat_map-map, instances-shown (lasts_in rows) rows)
 
 pub about_all : (ask : Ask) (heard : List Hearing) (now : ℕ) (text : List ℕ)
     → IsReportIn [] Lines ask heard now text ↔ IsReport ask heard now text

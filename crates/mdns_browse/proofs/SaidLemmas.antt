@@ -1,4 +1,6 @@
 -- Names as people write them.
+use Rattle.std.proofs.lemmas.Grind.{common_steps}
+use Rattle.std.proofs.Common.{arith}
 use Rattle.std.proofs.Common.{◌≡◌, refl, sym, ◌∙◌, ap, ℕ, Bool, true, false, if◌then◌else◌, List, [], ◌∷◌, ◌++◌, append_assoc}
 use Rattle.people_text.specs.Shown.{shown}
 use Rattle.mdns_browse.specs.Said.{after_front, before_type, from_type, front, further_said, is_of_type, labels_said}
@@ -21,9 +23,7 @@ from-other labels label after first other = ap from_type first ∙ rw other refl
 pub before-written : (old new label whole : List ℕ) (labels : List (List ℕ)) → old ++ further_said (before_type labels) ≡ whole
     → (after : List (List ℕ)) → labels ≡ label ∷ after → is_of_type label ≡ false → new ≡ old ++ 46 ∷ shown label
     → new ++ further_said (before_type after) ≡ whole
-before-written old new label whole labels at after first other more =
-    label-written old new label whole (before_type labels) at (before_type after)
-    (ap before_type first ∙ before-other label after other) more
+before-written old new label whole labels at after first other more = grind (arith, common_steps, label-written, before-other)
 
 -- what stands before a type, and what follows
 parts_if : (of_type : Bool) (label : List ℕ) (labels : List (List ℕ))
@@ -49,6 +49,4 @@ said-parts (label ∷ labels) = rw append_assoc (ap (λ text. shown label ++ tex
 -- both were written
 pub said-written : (first whole : List ℕ) (labels rest : List (List ℕ)) → first ≡ labels_said (front labels) → rest ≡ after_front labels
     → whole ≡ first ++ further_said rest → whole ≡ labels_said labels
-said-written first whole labels rest begun left both =
-    both ∙ ap (λ text. text ++ further_said rest) begun ∙ ap (λ these. labels_said (front labels) ++ further_said these) left
-    ∙ said-parts labels
+said-written first whole labels rest begun left both = grind (arith, said-parts)

@@ -7,7 +7,7 @@ use Rattle.std.proofs.lemmas.Cmp.{tied_itself}
 use Rattle.std.proofs.lemmas.Simd.{map-map}
 use Rattle.std.specs.List.{AllByRecursion, AllWithin, filter}
 use Rattle.std.specs.List.Sorted.{IsStrictlySortedBy, IsPartitionPoint, IsPartitionedBy}
-use Rattle.std.specs.Cmp.{IsTotalOrder, alike_right}
+use Rattle.std.specs.Cmp.{IsTotalOrder}
 use Rattle.std.specs.Ordering.{is_eq, is_lt, is_le, ordering_then}
 use Rattle.std.specs.declared.cmp.Ordering.{Ordering}
 use Rattle.std.specs.declared.cmp.Ordering.TheVariants.{Less, Equal, Greater}
@@ -60,10 +60,7 @@ module _ {K : Type 0} (R : K → K → Ordering) (o : IsTotalOrder R) where
 
   pub not_above-before : (s t k : K) → NotAbove s t → is_le (R t k) ≡ true → is_le (R s k) ≡ true
   not_above-before s t k (inr same) le = ap is_le (o.congr s t k same) ∙ le
-  not_above-before s t k (inl less) le = elim (le_is (R t k) le) [
-    | inl below ↦ ap is_le (o.trans s t k less below)
-    | inr tied ↦ ap is_le (sym (alike_right o t k s tied) ∙ less)
-  ]
+  not_above-before s t k (inl less) le = grind (arith, le_is)
 
 first_part : (o p : Ordering) → ordering_then o p ≡ Less → (o ≡ Less) ⊎ (o ≡ Equal)
 first_part Less p e = inl refl
@@ -116,24 +113,14 @@ module _ {X : Type 0} (key : X → Key) (set : RecordSet) where
   sets-ordered (x ∷ xs) (suc i) (suc j) d le lt sorted = sets-ordered xs i j d (omega arith) (omega arith) sorted.1
 
   pub parted_below : (xs : List X) → IsStrictlySortedBy key_cmp (map key xs) → IsPartitionedBy (λ x. is_lt (against x)) xs
-  parted_below xs sorted i j d le lt below =
-      below-before set_key_cmp set_key_cmp-total (key (get_or xs i d)).set (key (get_or xs j d)).set set
-      (sets-ordered xs i j d le lt sorted) below
+  parted_below xs sorted i j d le lt below = grind (arith, below-before, set_key_cmp-total, sets-ordered)
 
   parted_upto : (xs : List X) → IsStrictlySortedBy key_cmp (map key xs) → IsPartitionedBy (λ x. is_le (against x)) xs
-  parted_upto xs sorted i j d le lt below =
-      not_above-before set_key_cmp set_key_cmp-total (key (get_or xs i d)).set (key (get_or xs j d)).set set
-      (sets-ordered xs i j d le lt sorted) below
+  parted_upto xs sorted i j d le lt below = grind (arith, not_above-before, set_key_cmp-total, sets-ordered)
 
   pub parted_after : (xs ys : List X) (first : ℕ) → ys ≡ drop first xs → IsStrictlySortedBy key_cmp (map key xs)
       → IsPartitionedBy (λ x. is_le (against x)) ys
-  parted_after xs ys first rest sorted =
-      subst (IsPartitionedBy (λ x. is_le (against x))) (sym rest)
-      (λ i j d le lt below.
-      let within : first + j < length xs = omega (arith, length-drop first xs) in
-      subst (λ x. is_le (against x) ≡ true) (sym (get_or-drop first xs i d))
-      (parted_upto xs sorted (first + i) (first + j) d (omega arith) within
-      (subst (λ x. is_le (against x) ≡ true) (get_or-drop first xs j d) below)))
+  parted_after xs ys first rest sorted = grind (arith, length-drop, get_or-drop, parted_upto)
 
   -- the rows of the set are those between the two places that the searches find
   pub filter-rest : (xs ys : List X) (first count : ℕ) → ys ≡ drop first xs → count ≤ length ys
@@ -155,13 +142,7 @@ module _ {X : Type 0} (key : X → Key) (set : RecordSet) where
 
 filter-map : {X Y : Type 0} (f : X → Y) (test : Y → Bool) (xs : List X) → filter test (map f xs) ≡ map f (filter (λ x. test (f x)) xs)
 filter-map f test [] = refl
-filter-map f test (x ∷ xs) = by (test (f x)) (filter-map f test xs)
-  where
-    by : (passes : Bool) → filter test (map f xs) ≡ map f (filter (λ x. test (f x)) xs)
-        → cond passes (f x ∷ filter test (map f xs)) (filter test (map f xs))
-        ≡ map f (cond passes (x ∷ filter (λ x. test (f x)) xs) (filter (λ x. test (f x)) xs))
-    by true rest = ap (λ ys. f x ∷ ys) rest
-    by false rest = rest
+filter-map f test (x ∷ xs) = grind (arith, filter-map f test xs)
 
 -- what is found in the rows is the record set among their values
 pub set-found : {X : Type 0} (f : X → Latest) (owner : List ℕ) (number : ℕ) (xs found : List X)

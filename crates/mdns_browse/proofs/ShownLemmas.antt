@@ -1,4 +1,5 @@
 -- Texts for people, one string at a time.
+use Rattle.std.proofs.Common.{arith}
 use Rattle.std.proofs.Common.{◌≡◌, refl, sym, ◌∙◌, ap, ℕ, List, [], ◌∷◌, ◌++◌}
 use Rattle.std.proofs.lemmas.List.{append-nil, append_assoc}
 use Rattle.std.proofs.lemmas.Grind.{flat_map-append}
@@ -15,13 +16,12 @@ strings-cons bytes string after split = rw split refl
 pub shown_left-step : (old new total bytes string after : List ℕ) → strings_of bytes ≡ string ∷ strings_of after
     → new ≡ old ++ spaced_wide (shown_string string) → old ++ spaced_wide (shown_strings bytes) ≡ total
     → new ++ spaced_wide (shown_strings after) ≡ total
-shown_left-step old new total bytes string after split written left =
-    ap (λ text. text ++ spaced_wide (shown_strings after)) written
-    ∙ append_assoc old (spaced_wide (shown_string string)) (spaced_wide (shown_strings after))
-    ∙ ap (λ text. old ++ text)
-    (sym (ap spaced_wide (strings-cons bytes string after split)
-    ∙ flat_map-append (λ word. 32 ∷ 32 ∷ word) (shown_string string) (shown_strings after)))
-    ∙ left
+shown_left-step old new total bytes string after split written left = grind (
+  arith,
+  append_assoc old (spaced_wide (shown_string string)) (spaced_wide (shown_strings after)),
+  strings-cons bytes string after split,
+  flat_map-append,
+)
 
 -- with no bytes left nothing is left to write
 pub shown_left-end : (old total bytes : List ℕ) → bytes ≡ [] → old ++ spaced_wide (shown_strings bytes) ≡ total → old ≡ total

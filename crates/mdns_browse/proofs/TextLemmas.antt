@@ -1,4 +1,5 @@
 -- The texts of groups, strings and pieces, one step at a time.
+use Rattle.std.proofs.Common.{arith}
 use Rattle.std.proofs.Common.{◌≡◌, refl, sym, ◌∙◌, ap, ℕ, ◌+◌, List, [], ◌∷◌, ◌++◌, add-one}
 use Rattle.std.proofs.lemmas.List.{append_assoc}
 use Rattle.mdns_message.specs.TextData.{strings_of}
@@ -9,8 +10,7 @@ pub groups_before-step : (octets text new all : List ℕ) (count k : ℕ) → co
     → new ≡ placed_group octets k ++ text → groups_text octets k ++ new ≡ all
 unfolding groups_text
 groups_before-step octets text new all count k next before written =
-    ap (λ xs. groups_text octets k ++ xs) written ∙ sym (append_assoc (groups_text octets k) (placed_group octets k) text)
-    ∙ ap (λ n. groups_text octets n ++ text) (sym (next ∙ add-one k)) ∙ before
+    grind (arith, append_assoc (groups_text octets k) (placed_group octets k) text, add-one k)
 
 -- all groups once no group is left to write
 pub groups_before-all : (octets text all : List ℕ) (count : ℕ) → count ≡ 0 → groups_text octets count ++ text ≡ all → text ≡ all

@@ -1,3 +1,4 @@
+use Rattle.std.proofs.Common.{arith}
 use Rattle.std.proofs.Common.{sym, ◌∙◌}
 use Rattle.std.proofs.lemmas.Bool.{false≢true}
 use Rattle.std.proofs.lemmas.Result.{IfOk-weaker}
@@ -10,7 +11,4 @@ returns-then-not-is_word c =
     (λ some. false≢true (sym c.if-not-is_word.true ∙ c.is_word.ensures.1 some))
 
 pub returns : goal.returns
-returns c =
-    IfOk-weaker c.is_bytes.result _ _
-    (λ is same. same ∙ string-word c.args.about.now c.args.string.now (c.is_word.ensures.0 c.if-not-is_word.false))
-    c.is_bytes.ensures
+returns c = grind (arith, IfOk-weaker, string-word)

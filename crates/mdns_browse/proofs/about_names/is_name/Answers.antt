@@ -1,3 +1,4 @@
+use Rattle.std.proofs.Common.{arith}
 use Rattle.std.proofs.Common.{sym, ◌∙◌, ap, ◌++◌}
 use Rattle.std.proofs.lemmas.Result.{IfOk-weaker}
 use Rattle.dns_name.specs.Name.{name_text}
@@ -7,38 +8,13 @@ use Rattle.mdns_browse.proofs.AboutLemmas.{label-first, label-none, name-parts, 
 use Rattle.mdns_browse.proofs.about_names.is_name.Goals as goal
 
 pub returns-then-is_text_in_local : goal.returns-then-is_text_in_local
-returns-then-is_text_in_local c =
-    let written = name_text c.args.name.now in
-    let text = c.as_bytes.ensures.value ∙ c.in_ok-push_text.ensures.ok ∙ ap (λ text. text ++ written) c.clear.ensures.bytes in
-    or-first _ (name-parts c.args.about.now c.args.name.now)
-    (text-written is_text_in_local c.args.about.now written _ _ _ text c.is_text_in_local.ensures c.if-is_text_in_local.true)
+returns-then-is_text_in_local c = grind (arith, or-first, name-parts, text-written)
 
 pub returns-then-is_text_in_local-2 : goal.returns-then-is_text_in_local-2
-returns-then-is_text_in_local-2 c =
-    let written = name_text c.args.name.now in
-    let read = name_shown c.args.name.now in
-    let text = c.as_bytes.ensures.value ∙ c.in_ok-push_text.ensures.ok ∙ ap (λ text. text ++ written) c.clear.ensures.bytes in
-    let other = c.as_bytes-2.ensures.value ∙ c.in_ok-push_shown_name.ensures ∙ ap (λ text. text ++ read) c.clear-2.ensures.bytes in
-    or-first _
-    (sym
-    (or-rest (name-parts c.args.about.now c.args.name.now)
-    (text-written is_text_in_local c.args.about.now written _ _ _ text c.is_text_in_local.ensures c.if-is_text_in_local.false)))
-    (text-written is_text_in_local c.args.about.now read _ _ _ other c.is_text_in_local-2.ensures c.if-is_text_in_local-2.true)
+returns-then-is_text_in_local-2 c = grind (arith, or-first, or-rest, name-parts, text-written)
 
 pub returns-then-branch : goal.returns-then-branch
-returns-then-branch c =
-    let written = name_text c.args.name.now in
-    let read = name_shown c.args.name.now in
-    let text = c.as_bytes.ensures.value ∙ c.in_ok-push_text.ensures.ok ∙ ap (λ text. text ++ written) c.clear.ensures.bytes in
-    let other = c.as_bytes-2.ensures.value ∙ c.in_ok-push_shown_name.ensures ∙ ap (λ text. text ++ read) c.clear-2.ensures.bytes in
-    or-first _
-    (sym
-    (or-rest
-    (sym
-    (or-rest (name-parts c.args.about.now c.args.name.now)
-    (text-written is_text_in_local c.args.about.now written _ _ _ text c.is_text_in_local.ensures c.if-is_text_in_local.false)))
-    (text-written is_text_in_local c.args.about.now read _ _ _ other c.is_text_in_local-2.ensures c.if-is_text_in_local-2.false)))
-    (sym c.in_ok-is_said.ensures ∙ c.if-branch.true)
+returns-then-branch c = grind (arith, or-first, or-rest, name-parts, text-written)
 
 pub returns-in-Some : goal.returns-in-Some
 returns-in-Some c =

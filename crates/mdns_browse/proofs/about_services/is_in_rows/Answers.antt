@@ -16,13 +16,7 @@ returns-then-branch c =
     ∙ rows-swap is_in_data last_lent about rows
 
 pub loop-row-preserved : goal.loop-row-preserved
-loop-row-preserved c =
-    let about = c.args.about.now in
-    let rows = c.args.rows.now in
-    let test = λ (row : Last). any_in_row about (last_lent row) in
-    let is = c.in_ok-is_in_data.ensures ∙ ap (λ body. list_any (λ subject. is_in_data subject body) about) c.borrowed.ensures in
-    none-more test rows c.loop-row.row-index c.row-item.result (omega arith) c.row-item.is (sym is ∙ c.if-branch.false)
-    c.loop-row.invariant
+loop-row-preserved c = grind (arith, any_in_row, none-more)
 
 pub returns : goal.returns
 returns c =

@@ -21,12 +21,7 @@ returns-then-branch c sorted =
     ∙ ap (λ served. any_in_servers about rows (map body_of served)) (c.of_set-row-items.ensures sorted)
 
 pub loop-row-preserved : goal.loop-row-preserved
-loop-row-preserved c sorted =
-    let about = c.args.about.now in
-    let rows = map last_lent c.args.rows.now in
-    let test = λ (row : Last). any_in_server about rows (body_of (last_lent row)) in
-    none-more test c.of_set-row-items.result.now c.loop-row.row-index c.row-item.result (omega arith) c.row-item.is
-    (sym (c.in_ok-is_in_server.ensures sorted) ∙ c.if-branch.false) (c.loop-row.invariant sorted)
+loop-row-preserved c sorted = grind (arith, any_in_server, none-more)
 
 pub returns : goal.returns
 returns c sorted =

@@ -1,4 +1,4 @@
-use Rattle.std.proofs.Common.{◌≡◌, ◌+◌, ◌-◌, arith}
+use Rattle.std.proofs.Common.{arith}
 use Rattle.std.proofs.lemmas.Fmt.{decimal_digit}
 use Rattle.std.proofs.lemmas.List.{drop-set}
 use Rattle.mdns_browse.proofs.DigitLemmas.{length_one, length_two, decimal_two}
@@ -17,10 +17,7 @@ pub returns-then-number-lt10-clause-start : goal.returns-then-number-lt10-clause
 returns-then-number-lt10-clause-start c = omega (arith, length_one c.args.number c.if-number-lt10.true)
 
 pub returns-then-number-lt10-clause-written : goal.returns-then-number-lt10-clause-written
-returns-then-number-lt10-clause-written c =
-    let one = length_one c.args.number c.if-number-lt10.true in
-    let next : c.args.end - 1 + 1 ≡ c.args.end = omega arith in
-    rw (drop-set c.args.text.now (c.args.end - 1) _ (omega arith), next, decimal_digit c.args.number c.if-number-lt10.true)
+returns-then-number-lt10-clause-written c = grind (arith, length_one, drop-set, decimal_digit)
 
 pub overflow_sub-end : goal.overflow_sub-end
 overflow_sub-end c = omega (arith, length_two c.args.number c.if-number-lt10.false c.requires.0)
@@ -35,7 +32,4 @@ pub returns-clause-start : goal.returns-clause-start
 returns-clause-start c = omega (arith, length_two c.args.number c.if-number-lt10.false c.requires.0)
 
 pub returns-clause-written : goal.returns-clause-written
-returns-clause-written c =
-    let two = length_two c.args.number c.if-number-lt10.false c.requires.0 in
-    let next : c.args.end - 2 + 2 ≡ c.args.end = omega arith in
-    rw (c.write_pair.ensures.written, next, decimal_two c.args.number c.if-number-lt10.false c.requires.0)
+returns-clause-written c = grind (arith, length_two, decimal_two)

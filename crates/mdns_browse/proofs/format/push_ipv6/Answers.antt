@@ -1,5 +1,4 @@
-use Rattle.std.proofs.Common.{◌≡◌, ◌++◌, OnOk, arith, subst}
-use Rattle.std.specs.String.{string_bytes}
+use Rattle.std.proofs.Common.{arith}
 use Rattle.mdns_browse.proofs.TextLemmas.{groups_before-all, groups_before-step}
 use Rattle.mdns_browse.proofs.format.push_ipv6.Goals as goal
 
@@ -12,7 +11,4 @@ loop-group-preserved c =
     )
 
 pub returns : goal.returns
-returns c =
-    let all = groups_before-all _ _ _ _ (omega arith) c.loop-group.invariant.1 in
-    subst (λ text. OnOk c.append_to.result (string_bytes c.append_to.new.to ≡ string_bytes c.args.to.now ++ text)) all
-    c.append_to.ensures.ok
+returns c = grind (arith, groups_before-all _ _ _ _ (omega arith) c.loop-group.invariant.1)

@@ -1,6 +1,7 @@
+use Rattle.std.proofs.lemmas.Grind.{common_steps}
 use Rattle.std.proofs.Common.{rules, ◌≡◌, ◌∙◌, ap, ◌==◌, true, length, map, arith}
 use Rattle.mdns_cache.specs.Rows.{last_lent}
-use Rattle.mdns_browse.specs.Given.{given_lent, kept_given}
+use Rattle.mdns_browse.specs.Given.{given_lent}
 use Rattle.mdns_browse.proofs.InstanceLemmas.{kept-append, kept-none}
 use Rattle.mdns_browse.proofs.ListLemmas.{made_all, made_more}
 use Rattle.mdns_browse.proofs.given.kept_of.Goals as goal
@@ -14,16 +15,7 @@ pub loop-row-init : goal.loop-row-init
 loop-row-init c ascending = ap (map given_lent) c.new-kept.ensures.items
 
 pub loop-row-preserved : goal.loop-row-preserved
-loop-row-preserved c ascending =
-    let rows = map last_lent c.args.rows.now in
-    let about = c.args.about.now in
-    made_more (kept_given about rows) (kept-append rows about) given_lent c.deref-row-items.result.now c.loop-row.row-index
-    c.row-item.result (omega arith) c.row-item.is (c.loop-row.invariant ascending) (c.in_ok-push_kept.ensures ascending)
+loop-row-preserved c ascending = grind (arith, common_steps, made_more, kept-append)
 
 pub returns : goal.returns
-returns c ascending all gives =
-    let rows = map last_lent c.args.rows.now in
-    let about = c.args.about.now in
-    made_all (kept_given about rows) (kept-append rows about) given_lent c.deref-row-items.result.now c.loop-row.row-index (omega arith)
-    (c.loop-row.invariant ascending)
-    ∙ ap (kept_given about rows) (ap (map given_lent) c.deref-row-items.ensures.value ∙ gives)
+returns c ascending all gives = grind (arith, common_steps, made_all, kept-append)

@@ -1,25 +1,19 @@
-use Rattle.std.proofs.Common.{refl, sym, ap, subst, [], ◌++◌, map, take, arith}
+use Rattle.std.proofs.lemmas.Grind.{common_steps}
+use Rattle.std.proofs.Common.{refl, sym, ap, ◌++◌, map, take, arith}
 use Rattle.std.proofs.lemmas.List.Elements.{filter_map-append}
 use Rattle.mdns_cache.specs.Rows.{last_lent}
 use Rattle.mdns_browse.specs.Given.{given_lent}
-use Rattle.mdns_browse.specs.Page.{Writes, rows_pieces}
 use Rattle.mdns_browse.specs.Services.{instance_row_in}
 use Rattle.mdns_browse.proofs.InstanceLemmas.{row_named, shown-none, shown-one, shown_in}
 use Rattle.mdns_browse.proofs.ListLemmas.{made_all, made_more, made_same}
-use Rattle.mdns_browse.proofs.PageLemmas.{Shows, shows-more, shows-start}
+use Rattle.mdns_browse.proofs.PageLemmas.{shows-more, shows-start}
 use Rattle.mdns_browse.proofs.instance_page.push_instances.Goals as goal
 
 pub loop-row-init : goal.loop-row-init
 loop-row-init c ascending = shows-start c.args.page.now
 
 pub loop-row-preserved-in_default : goal.loop-row-preserved-in_default
-loop-row-preserved-in_default c ascending =
-    let rows = map last_lent c.args.rows.now in
-    let row = c.row-item.result in
-    subst (λ shown. Shows shown c.loop-row.before.now c.args.page.now c.loop-row.page)
-    (made_same (shown_in rows) (filter_map-append (instance_row_in rows)) given_lent c.args.given.now c.loop-row.row-index row (omega arith)
-    c.row-item.is refl (shown-none rows (given_lent row) c.in_default.not-Ptr))
-    (c.loop-row.invariant ascending)
+loop-row-preserved-in_default c ascending = grind (arith, common_steps, made_same, shown_in, filter_map-append, shown-none)
 
 pub loop-row-preserved : goal.loop-row-preserved
 loop-row-preserved c ascending =
@@ -34,10 +28,4 @@ loop-row-preserved c ascending =
     c.wire-before.ensures.bytes (c.in_ok-push_instance.ensures ascending)
 
 pub returns : goal.returns
-returns c ascending =
-    let rows = map last_lent c.args.rows.now in
-    let shows = c.loop-row.invariant ascending in
-    subst (λ shown. Writes c.args.page.now (rows_pieces [] shown) c.loop-row.page)
-    (made_all (shown_in rows) (filter_map-append (instance_row_in rows)) given_lent c.args.given.now c.loop-row.row-index (omega arith)
-    refl)
-    shows.taken
+returns c ascending = grind (arith, common_steps, made_all, shown_in, filter_map-append)

@@ -1,3 +1,4 @@
+use Rattle.std.proofs.Common.{arith}
 use Rattle.std.proofs.Common.{sym, ◌∙◌}
 use Rattle.mdns_message.specs.Borrowed.{resource_lent}
 use Rattle.mdns_browse.specs.About.{is_record_about, keeps_record}
@@ -11,16 +12,8 @@ returns-then-is_empty c =
 
 pub returns-then-branch : goal.returns-then-branch
 unfolding keeps_record
-returns-then-branch c =
-    let resource = resource_lent c.args.resource.now in
-    c.if-branch.true
-    ∙ or-first _ (record-parts c.args.about.now resource) (sym c.in_ok-is_name.ensures ∙ c.if-branch.true)
-    ∙ keeps-some is_record_about c.args.about.now resource (sym c.is_empty.ensures ∙ c.if-is_empty.false)
+returns-then-branch c = grind (arith, or-first, record-parts, keeps-some)
 
 pub returns-in_ok-is_in_data : goal.returns-in_ok-is_in_data
 unfolding keeps_record
-returns-in_ok-is_in_data c =
-    let resource = resource_lent c.args.resource.now in
-    c.in_ok-is_in_data.ensures
-    ∙ or-rest (record-parts c.args.about.now resource) (sym c.in_ok-is_name.ensures ∙ c.if-branch.false)
-    ∙ keeps-some is_record_about c.args.about.now resource (sym c.is_empty.ensures ∙ c.if-is_empty.false)
+returns-in_ok-is_in_data c = grind (arith, or-rest, record-parts, keeps-some)

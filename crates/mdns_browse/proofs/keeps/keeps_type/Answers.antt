@@ -1,6 +1,6 @@
-use Rattle.std.proofs.Common.{sym, ◌∙◌, ap}
+use Rattle.std.proofs.Common.{arith}
+use Rattle.std.proofs.Common.{sym, ◌∙◌}
 use Rattle.std.proofs.lemmas.Result.{IfOk-weaker}
-use Rattle.std.specs.List.{list_any}
 use Rattle.mdns_browse.specs.About.{is_type_about, keeps_type}
 use Rattle.mdns_browse.proofs.AboutLemmas.{keeps-all, keeps-some}
 use Rattle.mdns_browse.proofs.keeps.keeps_type.Goals as goal
@@ -11,9 +11,4 @@ returns-then-is_empty c = keeps-all is_type_about c.args.about.now c.args.name.n
 
 pub returns : goal.returns
 unfolding keeps_type
-returns c =
-    IfOk-weaker c.is_name.result _ _
-    (λ is same.
-    same ∙ ap (λ name. list_any (is_type_about name) c.args.about.now) c.borrowed.ensures
-    ∙ keeps-some is_type_about c.args.about.now c.args.name.now (sym c.is_empty.ensures ∙ c.if-is_empty.false))
-    c.is_name.ensures
+returns c = grind (arith, IfOk-weaker, keeps-some)

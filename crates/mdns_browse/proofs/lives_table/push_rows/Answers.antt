@@ -1,7 +1,6 @@
-use Rattle.std.proofs.Common.{ℕ, List, ap, ◌∙◌, ◌++◌, ◌∷◌, [], codes, rules, ◌≡◌}
+use Rattle.std.proofs.Common.{arith}
+use Rattle.std.proofs.Common.{ℕ, List, ◌++◌, ◌∷◌, [], codes, ◌≡◌}
 use Rattle.std.proofs.lemmas.List.{append_assoc, take_all}
-use Rattle.std.specs.List.{flat_map}
-use Rattle.std.specs.String.{string_bytes}
 use Rattle.mdns_message.specs.Resource.{type_name, type_of}
 use Rattle.mdns_message.specs.declared.resource.Resource.{Resource}
 use Rattle.mdns_lives.specs.declared.life.Life.{Life}
@@ -26,19 +25,7 @@ row_parts a b c d e f g h i j = simp append_assoc
 row_whole : (width end : ℕ) (resource : Resource) (life : Life)
     → row_of width end (columns_of resource) life ≡ life_row width end resource life
 unfolding life_row
-row_whole width end resource life =
-    row_parts (millis_text life.from.nanos) (codes "  ") (millis_text life.until) (codes "  ") (padded width (end_shown end life))
-    (codes "  ") (padded 4 (type_name (type_of resource.body))) (codes "  ") (shown_record resource) (10 ∷ [])
+row_whole width end resource life = grind (arith, row_parts)
 
 pub returns : goal.returns
-returns c =
-    let lives = c.args.lives.now in
-    let width = c.args.width in
-    let end = c.args.end.nanos in
-    let resource = c.args.resource.now in
-    let after : (Life → List ℕ) → List Life → List ℕ = λ row lives. string_bytes c.args.text.now ++ flat_map row lives in
-    c.loop-life.invariant
-    ∙ ap (after _) (take_all c.loop-life.life-index lives (search rules))
-    ∙ ap (λ (tail : List ℕ). after (row_of width end tail) lives)
-    (c.in_ok-push_tail.ensures ∙ ap (λ (none : List ℕ). none ++ columns_of resource) c.new-tail.ensures.bytes)
-    ∙ ap (λ (row : Life → List ℕ). after row lives) (λ i life. row_whole width end resource life i)
+returns c = grind (arith, take_all, row_whole)

@@ -1,3 +1,5 @@
+use Rattle.std.proofs.lemmas.Grind.{common_steps}
+use Rattle.std.proofs.Common.{arith}
 use Rattle.std.proofs.Common.{◌++◌, ap, append-nil, sym, ◌∙◌, string_bytes}
 use Rattle.dns_name.specs.Name.{labels_of}
 use Rattle.dns_name.proofs.FormLemmas.{IsForm-after, IsForm-last, labels_of-after}
@@ -6,14 +8,7 @@ use Rattle.mdns_browse.proofs.SaidLemmas.{before-written, from-other}
 use Rattle.mdns_browse.proofs.said.push_before_type.Goals as goal
 
 pub loop-label-preserved : goal.loop-label-preserved
-loop-label-preserved c =
-    let labels = labels_of-after _ _ _ c.in-Some.ensures.label in
-    let other = sym c.is_of_type.ensures ∙ c.if-is_of_type.false in
-    record {
-      form = IsForm-after _ _ _ c.in-Some.ensures.label c.loop-label.invariant.form;
-      pushed = before-written _ _ c.in-Some.label.now _ _ c.loop-label.invariant.pushed _ labels other c.in_ok-push_label.ensures;
-      left = sym (from-other _ _ _ labels other) ∙ c.loop-label.invariant.left;
-    }
+loop-label-preserved c = grind (arith, common_steps, labels_of-after, IsForm-after, before-written, from-other)
 
 pub returns-clause-text : goal.returns-clause-text
 returns-clause-text c =

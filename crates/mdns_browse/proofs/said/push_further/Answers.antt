@@ -1,3 +1,5 @@
+use Rattle.std.proofs.lemmas.Grind.{common_steps}
+use Rattle.std.proofs.Common.{arith}
 use Rattle.std.proofs.Common.{◌++◌, ap, append-nil, sym, ◌∙◌, string_bytes}
 use Rattle.dns_name.specs.Name.{labels_of}
 use Rattle.dns_name.proofs.FormLemmas.{IsForm-after, IsForm-last, labels_of-after}
@@ -6,11 +8,7 @@ use Rattle.mdns_browse.proofs.SaidLemmas.{label-written}
 use Rattle.mdns_browse.proofs.said.push_further.Goals as goal
 
 pub loop-label-preserved : goal.loop-label-preserved
-loop-label-preserved c = record {
-  form = IsForm-after _ _ _ c.in-Some.ensures.label c.loop-label.invariant.form;
-  pushed = label-written _ _ c.in-Some.label.now _ _ c.loop-label.invariant.pushed _ (labels_of-after _ _ _ c.in-Some.ensures.label)
-      c.in_ok-push_label.ensures;
-}
+loop-label-preserved c = grind (arith, common_steps, IsForm-after, label-written, labels_of-after)
 
 pub returns : goal.returns
 returns c =

@@ -1,3 +1,4 @@
+use Rattle.std.proofs.lemmas.Grind.{common_steps}
 use Rattle.std.proofs.Common.{◌∙◌, ap, sym, ℕ, List, map, ◌++◌, [], ◌∷◌, arith}
 use Rattle.std.specs.List.{cons_option}
 use Rattle.mdns_message.specs.Resource.{Body}
@@ -33,9 +34,4 @@ loop-row-preserved c ascending =
     ∙ ap (λ held. c.loop-row.servers.items ++ cons_option (server_in rows held) []) (sym c.in-Srv.is))
 
 pub returns : goal.returns
-returns c ascending =
-    let rows = map last_lent c.args.rows.now in
-    c.from_vec.ensures
-    ∙ made_all (servers_of rows) (servers-append rows) last_lent c.of_set-row-items.result.now c.loop-row.row-index (omega arith)
-    (c.loop-row.invariant ascending)
-    ∙ ap (servers_of rows) (c.of_set-row-items.ensures ascending)
+returns c ascending = grind (arith, common_steps, made_all, servers_of, servers-append)

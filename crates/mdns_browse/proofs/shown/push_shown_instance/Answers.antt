@@ -1,15 +1,13 @@
+use Rattle.std.proofs.Common.{arith}
 use Rattle.std.proofs.Common.{ap, append-nil, sym, ◌∙◌, ◌++◌, string_bytes}
 use Rattle.std.proofs.lemmas.Result.{IfOk-equal}
 use Rattle.dns_name.proofs.FormLemmas.{IsForm-last, labels_of-after}
-use Rattle.mdns_browse.specs.Shown.{first_shown, shown_instance}
+use Rattle.mdns_browse.specs.Shown.{shown_instance}
 use Rattle.mdns_browse.proofs.shown.push_shown_instance.Goals as goal
 
 pub returns-in-Some : goal.returns-in-Some
 unfolding shown_instance
-returns-in-Some c =
-    let labels = labels_of-after _ _ _ c.in-Some.ensures.label in
-    IfOk-equal c.push_shown.result _ _ _ c.push_shown.ensures
-    (rw (← c.wire.ensures.bytes) (ap (λ labels. string_bytes c.args.to.now ++ first_shown labels) (sym labels)))
+returns-in-Some c = grind (arith, labels_of-after _ _ _ c.in-Some.ensures.label, IfOk-equal, string_bytes c.args.to.now)
 
 pub returns-in-None : goal.returns-in-None
 unfolding shown_instance

@@ -1,3 +1,4 @@
+use Rattle.std.proofs.Common.{arith}
 use Rattle.std.proofs.Common.{sym, subst}
 use Rattle.std.proofs.lemmas.Result.{on_ok_weaker}
 use Rattle.mdns_browse.specs.Sheet.{report_pieces}
@@ -5,30 +6,10 @@ use Rattle.mdns_browse.proofs.RowLemmas.{ascending_lasts}
 use Rattle.mdns_browse.proofs.walk.walk.Goals as goal
 
 pub returns-in-Records : goal.returns-in-Records
-returns-in-Records g c =
-    let records = c.walk_live-records.result in
-    on_ok_weaker c.walk_records.result
-    (λ taken heard stands. record {
-      value = records;
-      right = c.walk_live-records.ensures heard stands;
-      taken =
-          subst (λ ask. g.S.Sheet.takes c.args.sheet.now (report_pieces c.args.about.now ask records) c.walk_records.new.sheet)
-          (sym c.in-Records.is) taken;
-    })
-    c.walk_records.ensures
+returns-in-Records g c = grind (arith, on_ok_weaker)
 
 pub returns-in-Types : goal.returns-in-Types
-returns-in-Types g c =
-    let records = c.walk_live-records.result in
-    on_ok_weaker c.walk_types.result
-    (λ taken heard stands. record {
-      value = records;
-      right = c.walk_live-records.ensures heard stands;
-      taken =
-          subst (λ ask. g.S.Sheet.takes c.args.sheet.now (report_pieces c.args.about.now ask records) c.walk_types.new.sheet)
-          (sym c.in-Types.is) taken;
-    })
-    c.walk_types.ensures
+returns-in-Types g c = grind (arith, on_ok_weaker)
 
 pub returns : goal.returns
 returns g c =

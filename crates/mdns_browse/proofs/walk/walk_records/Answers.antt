@@ -1,19 +1,15 @@
-use Rattle.std.proofs.Common.{rules, refl, ◌≡◌, sym, ap, subst, map}
+use Rattle.std.proofs.Common.{arith}
+use Rattle.std.proofs.Common.{refl, map}
 use Rattle.mdns_cache.specs.Rows.{live_record_lent}
 use Rattle.mdns_browse.specs.Report.{records_about}
 use Rattle.mdns_browse.specs.Sheet.{live_record}
-use Rattle.mdns_browse.proofs.ReachLemmas.{Reaches, reaches-start, reaches-more, reaches-all}
+use Rattle.mdns_browse.proofs.ReachLemmas.{reaches-start, reaches-more, reaches-all}
 use Rattle.mdns_browse.proofs.KeptLemmas.{record_pieces-append}
 use Rattle.mdns_browse.proofs.ListLemmas.{left_split}
 use Rattle.mdns_browse.proofs.walk.walk_records.Goals as goal
 
 pub loop-record-init : goal.loop-record-init
-loop-record-init g c =
-    let about = c.args.about.now in
-    let all = map live_record (records_about about c.args.records) in
-    let same : c.into_iter-record-iterator.result ≡ c.args.records = search rules in
-    subst (λ left. Reaches g.S.Sheet.takes c.args.sheet.now all c.args.sheet.now (map live_record (records_about about left))) (sym same)
-    (reaches-start g.met.S.Sheet.laws c.args.sheet.now all)
+loop-record-init g c = grind (arith, reaches-start)
 
 pub loop-record-preserved : goal.loop-record-preserved
 loop-record-preserved g c =
@@ -24,6 +20,4 @@ loop-record-preserved g c =
     c.in_ok-walk_record.ensures
 
 pub returns : goal.returns
-returns g c =
-    reaches-all g.met.S.Sheet.laws c.loop-record.invariant
-    (ap (λ rows. map live_record (records_about c.args.about.now rows)) c.in-None.ensures.steps.0)
+returns g c = grind (arith, reaches-all)

@@ -1,7 +1,8 @@
+use Rattle.std.proofs.Common.{arith}
 use Rattle.std.proofs.Common.{sym, ◌∙◌, ap, subst, ◌++◌, [], ◌∷◌, map}
 use Rattle.std.proofs.lemmas.List.{append-nil, map-append}
 use Rattle.std.proofs.lemmas.Result.{on_ok_weaker}
-use Rattle.std.specs.List.{cons_option, filter_map, flat_map}
+use Rattle.std.specs.List.{filter_map, flat_map}
 use Rattle.mdns_cache.specs.Rows.{last_lent}
 use Rattle.mdns_browse.specs.Services.{body_of, data_of_set, server_in}
 use Rattle.mdns_browse.specs.Sheet.{server_begin, server_address, server_end, server_pieces}
@@ -10,10 +11,7 @@ use Rattle.mdns_browse.proofs.InstanceLemmas.{server-none}
 use Rattle.mdns_browse.proofs.walk.walk_server.Goals as goal
 
 pub returns-in_default : goal.returns-in_default
-returns-in_default g c ascending =
-    let none = server-none (map last_lent c.args.rows.now) (body_of (last_lent c.args.row.now)) c.in_default.not-Srv in
-    subst (λ o. g.S.Sheet.takes c.args.sheet.now (flat_map server_pieces (cons_option o [])) c.args.sheet.now) (sym none)
-    (g.met.S.Sheet.laws.nothing c.args.sheet.now)
+returns-in_default g c ascending = grind (arith, server-none)
 
 pub returns : goal.returns
 returns g c =

@@ -1,12 +1,12 @@
-use Rattle.std.proofs.Common.{◌≡◌, sym, ◌∙◌, ap, subst, ◌==◌, List, length, map, ◌++◌, [], ◌∷◌, arith}
+use Rattle.std.proofs.lemmas.Grind.{common_steps}
+use Rattle.std.proofs.Common.{◌≡◌, List, map, ◌++◌, arith}
 use Rattle.std.proofs.lemmas.Grind.{flat_map-append}
 use Rattle.std.proofs.lemmas.List.{length-map}
 use Rattle.std.proofs.lemmas.Result.{on_ok_weaker}
 use Rattle.std.specs.List.{flat_map}
 use Rattle.mdns_join.specs.declared.latest.Latest.{Latest}
 use Rattle.mdns_cache.specs.Rows.{last_lent}
-use Rattle.mdns_browse.specs.Services.{servers_in}
-use Rattle.mdns_browse.specs.Sheet.{Piece, server_pieces, servers_end}
+use Rattle.mdns_browse.specs.Sheet.{Piece, server_pieces}
 use Rattle.mdns_browse.proofs.InstanceLemmas.{served-each, servers-append, servers_of}
 use Rattle.mdns_browse.proofs.ListLemmas.{takes_all, takes_more, through-append}
 use Rattle.mdns_browse.proofs.walk.walk_servers.Goals as goal
@@ -28,18 +28,4 @@ loop-row-preserved g c ascending =
     (omega arith) c.row-item.is (c.loop-row.invariant ascending) (c.in_ok-walk_server.ensures ascending)
 
 pub returns : goal.returns
-returns g c =
-    let rows = map last_lent c.args.rows.now in
-    let name = c.args.name.now in
-    let servers = servers_in rows name in
-    on_ok_weaker c.servers_end.result
-    (λ end ascending.
-    let found = c.of_set-servers.ensures ascending in
-    let taken = subst (λ found. g.S.Sheet.takes c.args.sheet.now (pieces rows found) c.loop-row.sheet) found
-    (takes_all (pieces rows) (append rows) g.S.Sheet.takes last_lent c.of_set-servers.result.now c.loop-row.row-index (omega arith)
-    (c.loop-row.invariant ascending)) in
-    let count = sym (length-map c.of_set-servers.result.now last_lent) ∙ ap length found ∙ sym (served-each rows rows name) in
-    g.met.S.Sheet.laws.more _ _ _ (flat_map server_pieces servers) (servers_end (length servers == 0) ∷ []) taken
-    (subst (λ none. g.S.Sheet.takes c.loop-row.sheet (servers_end none ∷ []) c.servers_end.new.self)
-    (c.is_empty.ensures ∙ ap (λ n. n == 0) count) end))
-    c.servers_end.ensures
+returns g c = grind (arith, common_steps, on_ok_weaker, takes_all, append, length-map, served-each)

@@ -1,13 +1,11 @@
-use Rattle.std.proofs.Common.{length, ap, arith, length-drop}
+use Rattle.std.proofs.Common.{arith, length-drop}
 use Rattle.std.proofs.lemmas.Fmt.{IsAscii-decimal, length-decimal-le}
 use Rattle.std.proofs.lemmas.Str.{IsUtf8-append, IsUtf8-from_ascii}
 use Rattle.mdns_browse.proofs.short_text.ShortText.prepend_decimal.Goals as goal
 
 pub write_decimal-self-inside-requires : goal.write_decimal-self-inside-requires
 write_decimal-self-inside-requires c =
-    let before = c.self.inside in
-    let short = length-decimal-le 20 c.args.number (omega arith) (omega arith) c.ranges.number.fits in
-    (omega (arith, length-drop before.begin before.bytes, ap length c.self.view_is), omega arith)
+    grind (arith, length-decimal-le 20 c.args.number (omega arith) (omega arith) c.ranges.number.fits, length-drop)
 
 pub invariant_of-self : goal.invariant_of-self
 invariant_of-self c =
@@ -16,14 +14,4 @@ invariant_of-self c =
     (omega (arith, wrote.start), rw wrote.written (IsUtf8-append _ _ digits c.self.invariant.1))
 
 pub returns-clause-len : goal.returns-clause-len
-returns-clause-len c =
-    let before = c.self.inside in
-    let after = c.write_decimal-self-inside in
-    omega (
-      arith,
-      length-decimal-le 20 c.args.number (omega arith) (omega arith) c.ranges.number.fits,
-      after.ensures.start,
-      length-drop before.begin before.bytes,
-      ap length c.self.view_is,
-      length-drop after.result after.new.text,
-    )
+returns-clause-len c = grind (arith, length-decimal-le 20 c.args.number (omega arith) (omega arith) c.ranges.number.fits, length-drop)

@@ -1,13 +1,11 @@
-use Rattle.std.proofs.Common.{length, ap, arith, length-drop}
+use Rattle.std.proofs.Common.{arith, length-drop}
 use Rattle.std.proofs.lemmas.Str.{IsUtf8-append, IsUtf8-from_ascii}
 use Rattle.mdns_browse.specs.Text.{hex_octet}
 use Rattle.mdns_browse.proofs.DigitLemmas.{IsAscii-hex_octet}
 use Rattle.mdns_browse.proofs.short_text.ShortText.prepend_octet.Goals as goal
 
 pub write_octet-self-inside-requires : goal.write_octet-self-inside-requires
-write_octet-self-inside-requires c =
-    let before = c.self.inside in
-    (omega (arith, length-drop before.begin before.bytes, ap length c.self.view_is), omega arith)
+write_octet-self-inside-requires c = grind (arith, length-drop)
 
 pub invariant_of-self : goal.invariant_of-self
 invariant_of-self c =
