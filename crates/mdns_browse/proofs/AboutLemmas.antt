@@ -10,10 +10,11 @@ use Rattle.std.specs.List.{list_any}
 use Rattle.dns_name.specs.Name.{IsLabel, IsWire, bytes_text, folded, label_text, labels_of, name_text}
 use Rattle.dns_name.proofs.FormLemmas.{IsForm-after, IsForm-last, labels_of-after, labels_of-form, length-after}
 use Rattle.mdns_message.specs.TextData.{strings_of}
-use Rattle.mdns_message.specs.declared.body.RecordData.TheVariants.{Srv, Txt}
+use Rattle.mdns_message.specs.declared.parts.Content.TheVariants as content
+use Rattle.mdns_message.specs.declared.parts.Service.{Service}
 use Rattle.mdns_message.specs.declared.resource.Resource.{Resource}
 use Rattle.people_text.specs.Shown.{name_shown, shown}
-use Rattle.mdns_browse.specs.About.{is_first_label, is_in_data, is_name, is_one_of, is_record_about, is_rest, is_said}
+use Rattle.mdns_browse.specs.About.{is_first_label, is_in_content, is_in_data, is_name, is_one_of, is_record_about, is_rest, is_said}
 use Rattle.mdns_browse.specs.About.{is_text_about, is_text_in_local, is_type_about, keeps}
 use Rattle.mdns_browse.specs.Said.{front, labels_said}
 use Rattle.mdns_browse.specs.Shown.{shown_string, shown_strings}
@@ -204,34 +205,36 @@ is_string_about string subject =
     is_one_of (string_bytes subject.text) (string_words string) || is_one_of (string_bytes subject.text) (shown_string string)
 
 abbrev pub any_in_text : List Subject → List ℕ → Bool
-any_in_text about bytes = list_any (λ subject. is_in_data subject (Txt bytes)) about
+any_in_text about bytes = list_any (λ subject. is_in_content subject (content.Strings bytes)) about
 
 one_string : (subject : Subject) (bytes string after : List ℕ) → strings_of bytes ≡ string ∷ strings_of after
-    → is_in_data subject (Txt bytes) ≡ (is_string_about string subject || is_in_data subject (Txt after))
-unfolding is_in_data
-one_string subject bytes string after split = grind (
-  arith,
-  string_bytes subject.text,
-  text_words-cons bytes string after split,
-  strings-cons bytes string after split,
-  list_any-append,
-  mixed,
-)
+    → is_in_content subject (content.Strings bytes) ≡ (is_string_about string subject || is_in_content subject (content.Strings after))
+unfolding is_in_content
+one_string subject bytes string after split =
+    let word = string_bytes subject.text in
+    ap (λ texts. is_one_of word texts || is_one_of word (shown_strings bytes)) (text_words-cons bytes string after split)
+    ∙ ap (λ texts. is_one_of word (string_words string ++ text_words after) || is_one_of word texts) (strings-cons bytes string after split)
+    ∙ ap (λ b. b || is_one_of word (shown_string string ++ shown_strings after))
+    (list_any-append (same_text word) (string_words string) (text_words after))
+    ∙ ap (λ b. (is_one_of word (string_words string) || is_one_of word (text_words after)) || b)
+    (list_any-append (same_text word) (shown_string string) (shown_strings after))
+    ∙ mixed (is_one_of word (string_words string)) (is_one_of word (text_words after)) (is_one_of word (shown_string string))
+    (is_one_of word (shown_strings after))
 
 pub strings-parts : (about : List Subject) (bytes string after : List ℕ) → strings_of bytes ≡ string ∷ strings_of after
     → any_in_text about bytes ≡ (list_any (is_string_about string) about || any_in_text about after)
 strings-parts about bytes string after split =
-    any-same (λ subject. is_in_data subject (Txt bytes)) (λ subject. is_string_about string subject || is_in_data subject (Txt after))
+    any-same (λ subject. is_in_content subject (content.Strings bytes)) (λ subject. is_string_about string subject || is_in_content subject (content.Strings after))
     (λ subject. one_string subject bytes string after split) about
-    ∙ any-or (is_string_about string) (λ subject. is_in_data subject (Txt after)) about
+    ∙ any-or (is_string_about string) (λ subject. is_in_content subject (content.Strings after)) about
 
-no_string : (subject : Subject) → is_in_data subject (Txt []) ≡ false
-unfolding is_in_data text_words shown_strings
+no_string : (subject : Subject) → is_in_content subject (content.Strings []) ≡ false
+unfolding is_in_content text_words shown_strings
 no_string subject = refl
 
 pub strings-none : (about : List Subject) (bytes : List ℕ) → bytes ≡ [] → any_in_text about bytes ≡ false
 strings-none about bytes none =
-    ap (any_in_text about) none ∙ any-none (λ subject. is_in_data subject (Txt [])) no_string about
+    ap (any_in_text about) none ∙ any-none (λ subject. is_in_content subject (content.Strings [])) no_string about
 
 word_string : (subject : Subject) (string : List ℕ) → 0 < length string
     → (same_text (string_bytes subject.text) (bytes_text false string) || same_text (string_bytes subject.text) (shown string))
@@ -255,13 +258,18 @@ string-empty about string none = sym (any-none (is_string_about string) (λ subj
 abbrev pub any_text : List Subject → List ℕ → Bool
 any_text about text = list_any (is_text_about text) about
 
-pub service-parts : (about : List Subject) (priority weight port : ℕ) (target : List ℕ)
-    → list_any (λ subject. is_in_data subject (Srv priority weight port target)) about
-    ≡ (list_any (is_type_about target) about || (any_text about (decimal priority) || (any_text about (decimal weight)
-    || (any_text about (decimal port) || any_text about (name_shown target ++ 58 ∷ decimal port)))))
-unfolding is_in_data
-service-parts about priority weight port target =
+pub service-parts : (about : List Subject) (service : Service (List ℕ))
+    → list_any (λ subject. is_in_content subject (content.Service service)) about
+    ≡ (list_any (is_type_about service.target) about || (any_text about (decimal service.priority)
+    || (any_text about (decimal service.weight) || (any_text about (decimal service.port)
+    || any_text about (name_shown service.target ++ 58 ∷ decimal service.port)))))
+unfolding is_in_content
+service-parts about service =
     let is = is_text_about in
+    let target = service.target in
+    let priority = service.priority in
+    let weight = service.weight in
+    let port = service.port in
     let place = name_shown target ++ 58 ∷ decimal port in
     any-or (is_type_about target)
     (λ subject. is (decimal priority) subject || (is (decimal weight) subject

@@ -1,18 +1,19 @@
 -- What service instances are about subjects.
 use Rattle.std.proofs.Common.{arith}
 use Rattle.std.proofs.Common.{◌≡◌, refl, sym, ◌∙◌, ap, ℕ, ◌+◌, ◌<◌, ◌≤◌, Bool, false, true, ◌||◌, List, [], ◌∷◌}
-use Rattle.std.proofs.Common.{length, map, take, get_or, string_bytes}
+use Rattle.std.proofs.Common.{◌++◌, Option, None, Some, option_map, length, map, take, get_or, string_bytes}
 use Rattle.std.proofs.lemmas.Bool.{or_from}
 use Rattle.std.proofs.lemmas.List.{take_all}
 use Rattle.std.proofs.lemmas.List.Folds.{list_any-append, list_any_at, list_any_more}
-use Rattle.std.specs.List.{filter_map, list_any}
+use Rattle.std.specs.List.{cons_option, filter_map, list_any}
 use Rattle.dns_name.specs.Name.{labels_of}
 use Rattle.mdns_message.specs.Resource.{Body}
-use Rattle.mdns_message.specs.declared.body.RecordData.TheVariants.{A, Aaaa, Ptr, Txt, Srv}
+use Rattle.mdns_message.specs.Parts.{service_of}
+use Rattle.mdns_message.specs.declared.parts.Service.{Service}
 use Rattle.mdns_join.specs.declared.latest.Latest.{Latest}
-use Rattle.mdns_browse.specs.About.{is_heard_about, is_heard_server_about, is_in_data, is_name}
+use Rattle.mdns_browse.specs.About.{is_heard_about, is_heard_server_about, is_heard_service_about, is_in_data, is_name}
 use Rattle.mdns_browse.specs.About.{is_rest, is_server_about, is_type_about, keeps_heard, keeps_instance}
-use Rattle.mdns_browse.specs.Services.{addresses_in, body_of, data_of_set, instance_in, rows_of_set, server_in}
+use Rattle.mdns_browse.specs.Services.{body_of, data_of_set, instance_in, rows_of_set, server_at, server_in}
 use Rattle.mdns_browse.specs.declared.about.Subject.{Subject}
 use Rattle.mdns_browse.proofs.AboutLemmas.{any-map, any-none, any-or, any-same, any-swap, any_rest, false_or}
 
@@ -61,28 +62,24 @@ abbrev pub any_in_servers : List Subject → List Latest → List Body → Bool
 any_in_servers about rows bodies = list_any (λ subject. list_any (λ body. is_heard_server_about rows body subject) bodies) about
 
 -- other data never is
-pub no-server : (about : List Subject) (rows : List Latest) (body : Body)
-    → ((priority weight port : ℕ) (target : List ℕ) → body ≡ Srv priority weight port target → ⊥) → false ≡ any_in_server about rows body
-no-server about rows (A octets) other = sym (any-none (is_heard_server_about rows (A octets)) (λ subject. refl) about)
-no-server about rows (Aaaa octets) other = sym (any-none (is_heard_server_about rows (Aaaa octets)) (λ subject. refl) about)
-no-server about rows (Ptr target) other = sym (any-none (is_heard_server_about rows (Ptr target)) (λ subject. refl) about)
-no-server about rows (Txt text) other = sym (any-none (is_heard_server_about rows (Txt text)) (λ subject. refl) about)
-no-server about rows (Srv priority weight port target) other = absurd (other priority weight port target refl)
+pub no-server : (about : List Subject) (rows : List Latest) (body : Body) → None ≡ service_of body → false ≡ any_in_server about rows body
+no-server about rows body none =
+    sym (any-none (is_heard_service_about rows None) (λ subject. refl) about)
+    ∙ ap (λ o. list_any (is_heard_service_about rows o) about) none
 
 -- the target of a server, and its addresses among the rows
-pub server-parts : (about : List Subject) (rows : List Latest) (body : Body) (priority weight port : ℕ) (target : List ℕ)
-    (fours sixes : List Latest) → body ≡ Srv priority weight port target → fours ≡ rows_of_set rows target 1
-    → sixes ≡ rows_of_set rows target 28
+pub server-parts : (about : List Subject) (rows : List Latest) (body : Body) (service : Service (List ℕ)) (fours sixes : List Latest)
+    → Some service ≡ service_of body → fours ≡ rows_of_set rows service.target 1 → sixes ≡ rows_of_set rows service.target 28
     → any_in_server about rows body
-    ≡ (list_any (is_type_about target) about || (any_in_rows about fours || any_in_rows about sixes))
-server-parts about rows body priority weight port target fours sixes said four six =
-    let in_fours = λ (subject : Subject). list_any (is_in_data subject) (data_of_set rows target 1) in
-    let in_sixes = λ (subject : Subject). list_any (is_in_data subject) (data_of_set rows target 28) in
-    let named = list_any (is_type_about target) about in
-    ap (any_in_server about rows) said
-    ∙ any-or (is_type_about target) (λ subject. in_fours subject || in_sixes subject) about
+    ≡ (list_any (is_type_about service.target) about || (any_in_rows about fours || any_in_rows about sixes))
+server-parts about rows body service fours sixes said four six =
+    let in_fours = λ (subject : Subject). list_any (is_in_data subject) (data_of_set rows service.target 1) in
+    let in_sixes = λ (subject : Subject). list_any (is_in_data subject) (data_of_set rows service.target 28) in
+    let named = list_any (is_type_about service.target) about in
+    ap (λ o. list_any (is_heard_service_about rows o) about) (sym said)
+    ∙ any-or (is_type_about service.target) (λ subject. in_fours subject || in_sixes subject) about
     ∙ ap (λ b. named || b) (any-or in_fours in_sixes about)
-    ∙ ap (λ found. named || (any_in_rows about found || any_in_rows about (rows_of_set rows target 28))) (sym four)
+    ∙ ap (λ found. named || (any_in_rows about found || any_in_rows about (rows_of_set rows service.target 28))) (sym four)
     ∙ ap (λ found. named || (any_in_rows about fours || any_in_rows about found)) (sym six)
 
 -- INSTANCES
@@ -100,20 +97,23 @@ instance-parts about rows name =
 
 module _ (rows : List Latest) where
   -- a server by its target and its addresses
-  server-in : (subject : Subject) (priority weight port : ℕ) (target : List ℕ)
-      → is_heard_server_about rows (Srv priority weight port target) subject
-      ≡ (is_name (string_bytes subject.text) target || list_any (is_in_data subject) (addresses_in rows target))
-  server-in subject priority weight port target = grind (arith, string_bytes, list_any-append)
-
   servers-in : (subject : Subject) (bodies : List Body) → list_any (λ body. is_heard_server_about rows body subject) bodies
       ≡ list_any (λ server. is_server_about server subject) (filter_map (server_in rows) bodies)
   servers-in subject [] = refl
-  servers-in subject (Srv priority weight port target ∷ bodies) =
-      grind (arith, server-in subject priority weight port target, string_bytes subject.text, servers-in subject bodies)
-  servers-in subject (A octets ∷ bodies) = false_or _ ∙ servers-in subject bodies
-  servers-in subject (Aaaa octets ∷ bodies) = false_or _ ∙ servers-in subject bodies
-  servers-in subject (Ptr target ∷ bodies) = false_or _ ∙ servers-in subject bodies
-  servers-in subject (Txt text ∷ bodies) = false_or _ ∙ servers-in subject bodies
+  servers-in subject (body ∷ bodies) = by (service_of body)
+    where
+      by : (o : Option (Service (List ℕ)))
+          → (is_heard_service_about rows o subject || list_any (λ body. is_heard_server_about rows body subject) bodies)
+          ≡ list_any (λ server. is_server_about server subject)
+          (cons_option (option_map (server_at rows) o) (filter_map (server_in rows) bodies))
+      by None = false_or _ ∙ servers-in subject bodies
+      by (Some service) =
+          let named = is_name (string_bytes subject.text) service.target in
+          let fours = data_of_set rows service.target 1 in
+          let sixes = data_of_set rows service.target 28 in
+          ap (λ b. (named || b) || list_any (λ body. is_heard_server_about rows body subject) bodies)
+          (sym (list_any-append (is_in_data subject) fours sixes))
+          ∙ ap (λ b. (named || list_any (is_in_data subject) (fours ++ sixes)) || b) (servers-in subject bodies)
 
   -- an instance is about the subjects by rows where its servers among the rows are
   pub keeps-in : (about : List Subject) (name : List ℕ) → keeps_heard about rows name ≡ keeps_instance about (instance_in rows name)

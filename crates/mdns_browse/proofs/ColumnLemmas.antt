@@ -4,8 +4,8 @@ use Rattle.std.proofs.Common.{length, map, take, get_or, add-one, arith, codes}
 use Rattle.std.proofs.lemmas.List.{append-nil, append_assoc, length-append, length-map}
 use Rattle.std.proofs.lemmas.Simd.{map-map}
 use Rattle.std.specs.List.{flat_map}
-use Rattle.mdns_message.specs.declared.body.RecordData.{RecordData}
-use Rattle.mdns_message.specs.declared.body.RecordData.TheVariants.{A, Aaaa, Ptr, Txt, Srv}
+use Rattle.mdns_message.specs.declared.record_type.RecordType.{RecordType}
+use Rattle.mdns_message.specs.declared.record_type.RecordType.TheVariants as kind
 use Rattle.mdns_message.specs.Resource.{type_name, type_of}
 use Rattle.mdns_join.specs.declared.latest.Latest.{Latest}
 use Rattle.people_text.specs.Moments.{clock_text, date_text, date_written, day_text, hours_text, seconds_text, to_second}
@@ -78,18 +78,18 @@ heard-width [] some = absurd (omega (arith, some))
 heard-width (row ∷ rows) some =
     let rest = widest_heard-most rows in let own = seconds-len row.0.moment.nanos in omega (arith, rest, own)
 
-kind-len : {N T : Type 0} (b : RecordData N T) → length (type_name (type_of b)) ≤ 4
-kind-len (A octets) = omega arith
-kind-len (Aaaa octets) = omega arith
-kind-len (Ptr target) = omega arith
-kind-len (Txt text) = omega arith
-kind-len (Srv priority weight port target) = omega arith
+kind-len : (k : RecordType) → length (type_name k) ≤ 4
+kind-len kind.A = omega arith
+kind-len kind.Ptr = omega arith
+kind-len kind.Txt = omega arith
+kind-len kind.Aaaa = omega arith
+kind-len kind.Srv = omega arith
 
 widest_kind-most : (rows : List (Latest × ℕ)) → widest (map kind_text rows) ≤ 4
 unfolding widest
 widest_kind-most [] = omega arith
 widest_kind-most (row ∷ rows) =
-    let rest = widest_kind-most rows in let own = kind-len row.0.resource.body in omega (arith, rest, own)
+    let rest = widest_kind-most rows in let own = kind-len (type_of row.0.resource.body) in omega (arith, rest, own)
 
 -- the width of the third one
 kind-width : (rows : List (Latest × ℕ)) → widest (codes "TYPE" ∷ map kind_text rows) ≡ 4

@@ -7,8 +7,9 @@ use Rattle.std.proofs.lemmas.List.{map-append}
 use Rattle.std.proofs.lemmas.List.Elements.{filter-append, filter_map-append}
 use Rattle.std.proofs.lemmas.Option.{cond_some, none-some}
 use Rattle.std.specs.List.{cons_option, filter, filter_map}
+use Rattle.mdns_message.specs.Parts.{pointer_of, text_of}
 use Rattle.mdns_message.specs.Resource.{Body, number_of}
-use Rattle.mdns_message.specs.declared.body.RecordData.TheVariants.{A, Aaaa, Ptr, Txt, Srv}
+use Rattle.mdns_message.specs.declared.body.RecordData.TheVariants as body
 use Rattle.mdns_message.specs.laws.Resource.{set_key_cmp-exact}
 use Rattle.mdns_join.specs.declared.latest.Latest.{Latest}
 use Rattle.mdns_browse.specs.About.{keeps_instance}
@@ -17,8 +18,8 @@ use Rattle.mdns_browse.specs.declared.about.Subject.{Subject}
 use Rattle.mdns_browse.specs.declared.instance.Instance.{Instance}
 use Rattle.mdns_browse.specs.declared.instance.Server.{Server}
 use Rattle.mdns_browse.specs.Services.{GivenRow, InstanceRow, body_of, given_of, gives_instance, instance_given, instance_in}
-use Rattle.mdns_browse.specs.Services.{instance_row_in, instance_rows_in, lasts_in, name_if, pointer_of, rows_of_set}
-use Rattle.mdns_browse.specs.Services.{server_in, text_in}
+use Rattle.mdns_browse.specs.Services.{instance_row_in, instance_rows_in, lasts_in, name_if, rows_of_set}
+use Rattle.mdns_browse.specs.Services.{server_in}
 use Rattle.mdns_browse.proofs.KeptLemmas.{filter-all}
 use Rattle.mdns_browse.proofs.ListLemmas.{through-append}
 use Rattle.mdns_browse.proofs.SearchLemmas.{eq_is}
@@ -34,14 +35,6 @@ name_if-pointer test (Some target) name given = ap Some (cond_some (test target)
 pub instance-points : (last : Latest) (name : List ℕ) → instance_given last ≡ Some name → pointer_of (body_of last) ≡ Some name
 unfolding instance_given
 instance-points last name given = name_if-pointer _ (pointer_of (body_of last)) name given
-
--- data of another type points to nothing
-pub points-none : (held : Body) → ((name : List ℕ) → held ≡ Ptr name → ⊥) → pointer_of held ≡ None
-points-none (Ptr target) not = absurd (not target refl)
-points-none (A octets) not = refl
-points-none (Aaaa octets) not = refl
-points-none (Txt text) not = refl
-points-none (Srv priority weight port target) not = refl
 
 -- ---- instances with their records
 
@@ -64,11 +57,9 @@ module _ (rows : List Latest) where
   kept_in keep given = filter keep (shown_in given)
 
   -- what one record shows
-  pub shown-one : (given : GivenRow) (name : List ℕ) → body_of given.last ≡ Ptr name → shown_in (given ∷ []) ≡ row_named given name ∷ []
-  shown-one given name points = ap (λ held. cons_option (option_map (row_named given) (pointer_of held)) []) points
-
-  pub shown-none : (given : GivenRow) → ((name : List ℕ) → body_of given.last ≡ Ptr name → ⊥) → shown_in (given ∷ []) ≡ []
-  shown-none given not = ap (λ o. cons_option (option_map (row_named given) o) []) (points-none (body_of given.last) not)
+  pub shown-one : (given : GivenRow) (o : Option (List ℕ)) → o ≡ pointer_of (body_of given.last)
+      → shown_in (given ∷ []) ≡ cons_option (option_map (row_named given) o) []
+  shown-one given o points = ap (λ o. cons_option (option_map (row_named given) o) []) (sym points)
 
   -- what a record that gives an instance shows
   shows : (given : GivenRow) (name : List ℕ) → instance_given given.last ≡ Some name
@@ -112,14 +103,20 @@ module _ (rows : List Latest) where
   kept-append about = grind (arith, through-append, map-append, filter-append, filter_map-append)
 
   -- what is kept of one record
-  pub kept-one : (about : List Subject) (given : GivenRow) (name : List ℕ) (b : Bool) → body_of given.last ≡ Ptr name
+  pub kept-one : (about : List Subject) (given : GivenRow) (name : List ℕ) (b : Bool) → Some name ≡ pointer_of (body_of given.last)
       → keeps_instance about (instance_in rows name) ≡ b → kept_given about rows (given ∷ []) ≡ cond b (given ∷ []) []
-  kept-one about given name b points keeps = grind (arith, shown-one)
+  kept-one about given name b points keeps =
+      ap (λ shown. given_in (filter (λ (row : InstanceRow). keeps_instance about row.instance) shown)) (shown-one given (Some name) points)
+      ∙ by (keeps_instance about (instance_in rows name)) ∙ ap (λ b. cond b (given ∷ []) []) keeps
+    where
+      by : (b : Bool) → given_in (cond b (row_named given name ∷ []) []) ≡ cond b (given ∷ []) []
+      by true = refl
+      by false = refl
 
-  pub kept-no_pointer : (about : List Subject) (given : GivenRow) → ((name : List ℕ) → body_of given.last ≡ Ptr name → ⊥)
+  pub kept-no_pointer : (about : List Subject) (given : GivenRow) → None ≡ pointer_of (body_of given.last)
       → kept_given about rows (given ∷ []) ≡ []
-  kept-no_pointer about given not =
-      ap (λ shown. given_in (filter (λ (row : InstanceRow). keeps_instance about row.instance) shown)) (shown-none given not)
+  kept-no_pointer about given none =
+      ap (λ shown. given_in (filter (λ (row : InstanceRow). keeps_instance about row.instance) shown)) (shown-one given None none)
 
   -- the instances by the records that give them
   pub instances-shown : (live : List (Latest × ℕ))
@@ -130,42 +127,26 @@ module _ (rows : List Latest) where
 
 -- ---- servers and texts
 
--- data of another type is no server's, and no text
-pub server-none : (rows : List Latest) (held : Body)
-    → ((priority weight port : ℕ) (target : List ℕ) → held ≡ Srv priority weight port target → ⊥) → server_in rows held ≡ None
-server-none rows (Srv priority weight port target) not = absurd (not priority weight port target refl)
-server-none rows (A octets) not = refl
-server-none rows (Aaaa octets) not = refl
-server-none rows (Ptr target) not = refl
-server-none rows (Txt text) not = refl
-
-pub text-none : (held : Body) → ((text : List ℕ) → held ≡ Txt text → ⊥) → text_in held ≡ None
-text-none (Txt text) not = absurd (not text refl)
-text-none (A octets) not = refl
-text-none (Aaaa octets) not = refl
-text-none (Ptr target) not = refl
-text-none (Srv priority weight port target) not = refl
-
 -- the servers and the texts of these records
 abbrev pub servers_of : List Latest → List Latest → List Server
 servers_of rows found = filter_map (server_in rows) (map body_of found)
 
 abbrev pub texts_of : List Latest → List (List ℕ)
-texts_of found = filter_map text_in (map body_of found)
+texts_of found = filter_map text_of (map body_of found)
 
 pub servers-append : (rows xs ys : List Latest) → servers_of rows (xs ++ ys) ≡ servers_of rows xs ++ servers_of rows ys
 servers-append rows = through-append (filter_map (server_in rows)) (map body_of) (filter_map-append (server_in rows)) (map-append body_of)
 
 pub texts-append : (xs ys : List Latest) → texts_of (xs ++ ys) ≡ texts_of xs ++ texts_of ys
-texts-append = through-append (filter_map text_in) (map body_of) (filter_map-append text_in) (map-append body_of)
+texts-append = through-append (filter_map text_of) (map body_of) (filter_map-append text_of) (map-append body_of)
 
 -- SRV data has a server
 has_server : (all : List Latest) (held : Body) → number_of held ≡ 33 → (server : Server) × (server_in all held ≡ Some server)
-has_server all (Srv priority weight port target) is = (_, refl)
-has_server all (A octets) is = let other : 1 ≡ 33 = is in absurd (omega (arith, other))
-has_server all (Aaaa octets) is = let other : 28 ≡ 33 = is in absurd (omega (arith, other))
-has_server all (Ptr target) is = let other : 12 ≡ 33 = is in absurd (omega (arith, other))
-has_server all (Txt text) is = let other : 16 ≡ 33 = is in absurd (omega (arith, other))
+has_server all (body.Srv priority weight port target) is = (_, refl)
+has_server all (body.A octets) is = let other : 1 ≡ 33 = is in absurd (omega (arith, other))
+has_server all (body.Aaaa octets) is = let other : 28 ≡ 33 = is in absurd (omega (arith, other))
+has_server all (body.Ptr target) is = let other : 12 ≡ 33 = is in absurd (omega (arith, other))
+has_server all (body.Txt text) is = let other : 16 ≡ 33 = is in absurd (omega (arith, other))
 
 -- each SRV record of a name has one
 pub served-each : (all rows : List Latest) (name : List ℕ)

@@ -10,11 +10,11 @@ use Rattle.std.specs.Char.{to_ascii_lowercase}
 use Rattle.std.specs.Cmp.Lexicographic.{slice_cmp, bytes_decides, texts_ties}
 use Rattle.std.specs.Ordering.{is_eq, nat_cmp}
 use Rattle.dns_name.specs.Name.{IsLabel, folded, longest_label, wire_of}
-use Rattle.mdns_message.specs.Resource.{Body}
-use Rattle.mdns_message.specs.declared.body.RecordData.TheVariants.{A, Aaaa, Ptr, Txt, Srv}
 use Rattle.mdns_join.specs.declared.latest.Latest.{Latest}
-use Rattle.mdns_browse.specs.Services.{GivesInstance, GivesOther, GivesType, IsServiceName, IsInstanceOf, instance_given}
-use Rattle.mdns_browse.specs.Services.{is_instance_of, is_service_name, name_if, other_given, pointer_of, same_text, type_given}
+use Rattle.mdns_browse.specs.Services.{GivesInstance, GivesOther, GivesType, IsServiceName, IsInstanceOf, body_of, instance_given}
+use Rattle.mdns_message.specs.Parts.{pointer_of}
+use Rattle.mdns_browse.specs.Services.{is_instance_of, is_service_name, name_if, other_given, same_text, type_given}
+use Rattle.mdns_browse.specs.Services.{types_owner}
 
 -- ---- folding
 
@@ -176,22 +176,34 @@ name_if-decides test Holds decides None name =
     (λ given. absurd (none-some name given), λ holds. absurd (none-some name holds.0))
 name_if-decides test Holds decides (Some target) name = grind (arith, cond_some, same_Some)
 
--- data points to the name
-pub pointer-is : (held : Body) (name : List ℕ) → (pointer_of held ≡ Some name) ↔ (held ≡ Ptr name)
-pointer-is (Ptr target) name = (λ points. ap Ptr (same_Some target name points), λ is. let same : target ≡ name = cc in ap Some same)
-pointer-is (A octets) name = (λ points. absurd (none-some name points), λ is. absurd cc)
-pointer-is (Aaaa octets) name = (λ points. absurd (none-some name points), λ is. absurd cc)
-pointer-is (Txt text) name = (λ points. absurd (none-some name points), λ is. absurd cc)
-pointer-is (Srv priority weight port target) name = (λ points. absurd (none-some name points), λ is. absurd cc)
-
 pub type-gives : (row : Latest) (name : List ℕ) → (type_given row ≡ Some name) ↔ GivesType row name
 unfolding type_given
-type-gives row name = grind (arith, pointer-is, name_if-decides, Decides-and, same_text-decides, service-decides)
+type-gives row name =
+    let both =
+    name_if-decides _ (λ name. (folded row.resource.owner ≡ folded types_owner) × IsServiceName name)
+    (λ name. Decides-and _ _ (same_text-decides row.resource.owner types_owner) (service-decides name)) (pointer_of (body_of row)) name in (
+      λ given. let own = both.0 given in record { pointer = own.0; owner = own.1.0; service = own.1.1 },
+      λ gives. both.1 (gives.pointer, (gives.owner, gives.service)),
+    )
 
 pub instance-gives : (row : Latest) (name : List ℕ) → (instance_given row ≡ Some name) ↔ GivesInstance row name
 unfolding instance_given
-instance-gives row name = grind (arith, pointer-is, name_if-decides, Decides-and, service-decides, instance-decides)
+instance-gives row name =
+    let owner = row.resource.owner in
+    let both =
+    name_if-decides _ (λ name. IsServiceName owner × IsInstanceOf owner name)
+    (λ name. Decides-and _ _ (service-decides owner) (instance-decides owner name)) (pointer_of (body_of row)) name in (
+      λ given. let own = both.0 given in record { pointer = own.0; service = own.1.0; instance = own.1.1 },
+      λ gives. both.1 (gives.pointer, (gives.service, gives.instance)),
+    )
 
 pub other-gives : (row : Latest) (name : List ℕ) → (other_given row ≡ Some name) ↔ GivesOther row name
 unfolding other_given
-other-gives row name = grind (arith, pointer-is, name_if-decides, Decides-and, service-decides, Decides-not, instance-decides)
+other-gives row name =
+    let owner = row.resource.owner in
+    let both =
+    name_if-decides _ (λ name. IsServiceName owner × (IsInstanceOf owner name → ⊥))
+    (λ name. Decides-and _ _ (service-decides owner) (Decides-not _ (instance-decides owner name))) (pointer_of (body_of row)) name in (
+      λ given. let own = both.0 given in record { pointer = own.0; service = own.1.0; other = own.1.1 },
+      λ gives. both.1 (gives.pointer, (gives.service, gives.other)),
+    )

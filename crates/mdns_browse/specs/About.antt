@@ -9,7 +9,12 @@ use Rattle.std.specs.declared.net.ip_addr.IpAddr.{IpAddr}
 use Rattle.std.specs.declared.net.ip_addr.IpAddr.TheVariants.{V4, V6}
 use Rattle.dns_name.specs.Name.{labels_of, label_text, name_text, wire_of}
 use Rattle.mdns_message.specs.Resource.{Body, type_number}
-use Rattle.mdns_message.specs.declared.body.RecordData.TheVariants as body
+use Rattle.mdns_message.specs.Parts.{content_of, service_of}
+use Rattle.mdns_message.specs.declared.parts.Address.{Address}
+use Rattle.mdns_message.specs.declared.parts.Address.TheVariants as address
+use Rattle.mdns_message.specs.declared.parts.Content.{Content}
+use Rattle.mdns_message.specs.declared.parts.Content.TheVariants as content
+use Rattle.mdns_message.specs.declared.parts.Service.{Service}
 use Rattle.mdns_message.specs.declared.record_type.RecordType.TheVariants as kind
 use Rattle.mdns_message.specs.declared.resource.Resource.{Resource}
 use Rattle.mdns_join.specs.declared.latest.Latest.{Latest}
@@ -52,18 +57,27 @@ is_address None octets = false
 is_address (Some (V4 address)) octets = is_eq (slice_cmp nat_cmp (ipv4_octets address) octets)
 is_address (Some (V6 address)) octets = is_eq (slice_cmp nat_cmp (ipv6_octets address) octets)
 
--- the subject is a word of the data: an address in any of its forms; a name; a string of a TXT record, as lines write it or as
--- people read it; of SRV the priority, the weight, the port, or `TARGET:PORT`
-unfoldable pub is_in_data : Subject → Body → Bool
-is_in_data subject (body.A octets) = is_address subject.address octets
-is_in_data subject (body.Aaaa octets) = is_address subject.address octets
-is_in_data subject (body.Ptr target) = is_name (string_bytes subject.text) target
-is_in_data subject (body.Txt bytes) =
+-- the subject is the address of a host
+abbrev pub is_host_address : Subject → Address → Bool
+is_host_address subject (address.V4 octets) = is_address subject.address octets
+is_host_address subject (address.V6 octets) = is_address subject.address octets
+
+-- the subject is a word of what data says: an address in any of its forms; a name; a string, as lines write it or as people
+-- read it; of a service the priority, the weight, the port, or `TARGET:PORT`
+unfoldable pub is_in_content : Subject → Content (List ℕ) (List ℕ) → Bool
+is_in_content subject (content.Address one) = is_host_address subject one
+is_in_content subject (content.Name name) = is_name (string_bytes subject.text) name
+is_in_content subject (content.Strings bytes) =
     is_one_of (string_bytes subject.text) (text_words bytes) || is_one_of (string_bytes subject.text) (shown_strings bytes)
-is_in_data subject (body.Srv priority weight port target) =
-    is_name (string_bytes subject.text) target
+is_in_content subject (content.Service service) =
+    is_name (string_bytes subject.text) service.target
     || is_one_of (string_bytes subject.text)
-    (decimal priority ∷ decimal weight ∷ decimal port ∷ (name_shown target ++ 58 ∷ decimal port) ∷ [])
+    (decimal service.priority ∷ decimal service.weight ∷ decimal service.port
+    ∷ (name_shown service.target ++ 58 ∷ decimal service.port) ∷ [])
+
+-- the subject is a word of the data
+abbrev pub is_in_data : Subject → Body → Bool
+is_in_data subject b = is_in_content subject (content_of b)
 
 -- the subject is the text
 abbrev pub is_text_about : List ℕ → Subject → Bool
@@ -95,13 +109,18 @@ is_instance_about instance subject =
     || (is_rest (string_bytes subject.text) (labels_of instance.name)
     || list_any (λ server. is_server_about server subject) instance.servers)
 
--- SRV data is about the subject by rows that were heard: its target is the subject, or an address of the target in the rows
+-- a service, if there is one, is about the subject by rows that were heard: its target is the subject, or an address of the
+-- target in the rows
+abbrev pub is_heard_service_about : List Latest → Option (Service (List ℕ)) → Subject → Bool
+is_heard_service_about rows None subject = false
+is_heard_service_about rows (Some service) subject =
+    is_name (string_bytes subject.text) service.target
+    || (list_any (is_in_data subject) (data_of_set rows service.target (type_number kind.A))
+    || list_any (is_in_data subject) (data_of_set rows service.target (type_number kind.Aaaa)))
+
+-- SRV data is about the subject by rows that were heard
 abbrev pub is_heard_server_about : List Latest → Body → Subject → Bool
-is_heard_server_about rows (body.Srv priority weight port target) subject =
-    is_name (string_bytes subject.text) target
-    || (list_any (is_in_data subject) (data_of_set rows target (type_number kind.A))
-    || list_any (is_in_data subject) (data_of_set rows target (type_number kind.Aaaa)))
-is_heard_server_about rows _ subject = false
+is_heard_server_about rows b subject = is_heard_service_about rows (service_of b) subject
 
 -- The instance of that name is about the subject by rows that were heard, live or not: its name is the subject, its type, the
 -- target of an SRV record of its name in the rows, or an address of the target.

@@ -7,9 +7,10 @@ use Rattle.std.specs.List.{filter, filter_map}
 use Rattle.std.specs.List.Sorted.{IsStrictlySortedBy}
 use Rattle.std.specs.Ordering.{is_eq, nat_cmp}
 use Rattle.mdns_message.specs.declared.hearing.Hearing.{Hearing}
+use Rattle.mdns_message.specs.Parts.{pointer_of, service_of, text_of}
 use Rattle.mdns_message.specs.RecordSet.{RecordSet}
 use Rattle.mdns_message.specs.Resource.{Body, type_number, key_cmp, set_key_cmp}
-use Rattle.mdns_message.specs.declared.body.RecordData.TheVariants as body
+use Rattle.mdns_message.specs.declared.parts.Service.{Service}
 use Rattle.mdns_message.specs.declared.record_type.RecordType.TheVariants as kind
 use Rattle.dns_name.specs.Name.{IsLabel, folded, longest_label, wire_of}
 use Rattle.mdns_join.specs.declared.latest.Latest.{Latest}
@@ -63,27 +64,22 @@ body_of last = last.resource.body
 
 -- the record gives a service type of that name (section 9)
 pub record GivesType (last : Latest) (name : List ℕ) : Type 0 where
-  pub pointer : body_of last ≡ body.Ptr name
+  pub pointer : pointer_of (body_of last) ≡ Some name
   pub owner : folded last.resource.owner ≡ types_owner
   pub service : IsServiceName name
 
 -- the record gives a service instance of that name (section 4.1)
 pub record GivesInstance (last : Latest) (name : List ℕ) : Type 0 where
-  pub pointer : body_of last ≡ body.Ptr name
+  pub pointer : pointer_of (body_of last) ≡ Some name
   pub service : IsServiceName last.resource.owner
   pub instance : IsInstanceOf last.resource.owner name
 
 -- The record stands where those do that give instances, and points to another name: one that isn't one label and the service's
 -- name, as that of an instance is (section 4.1).
 pub record GivesOther (last : Latest) (name : List ℕ) : Type 0 where
-  pub pointer : body_of last ≡ body.Ptr name
+  pub pointer : pointer_of (body_of last) ≡ Some name
   pub service : IsServiceName last.resource.owner
   pub other : IsInstanceOf last.resource.owner name → ⊥
-
--- the name to which data points
-abbrev pub pointer_of : Body → Option (List ℕ)
-pointer_of (body.Ptr name) = Some name
-pointer_of _ = None
 
 -- the name, if the test holds of it
 abbrev pub name_if : (List ℕ → Bool) → Option (List ℕ) → Option (List ℕ)
@@ -125,23 +121,28 @@ data_of_set rows name number = map body_of (rows_of_set rows name number)
 abbrev pub addresses_in : List Latest → List ℕ → List Body
 addresses_in rows name = data_of_set rows name (type_number kind.A) ++ data_of_set rows name (type_number kind.Aaaa)
 
--- the server of SRV data, with the addresses of its target (RFC 2782)
+-- the server of a service, with the addresses of its target (RFC 2782)
+abbrev pub server_at : List Latest → Service (List ℕ) → Server
+server_at rows service =
+    record {
+      priority = service.priority;
+      weight = service.weight;
+      port = service.port;
+      target = service.target;
+      addresses = addresses_in rows service.target;
+    }
+
+-- the server of SRV data
 abbrev pub server_in : List Latest → Body → Option Server
-server_in rows (body.Srv priority weight port target) =
-    Some record { priority = priority; weight = weight; port = port; target = target; addresses = addresses_in rows target }
-server_in rows _ = None
+server_in rows b = option_map (server_at rows) (service_of b)
 
 -- the servers of a name, by its SRV records: where an instance is served (section 5)
 abbrev pub servers_in : List Latest → List ℕ → List Server
 servers_in rows name = filter_map (server_in rows) (data_of_set rows name (type_number kind.Srv))
 
-abbrev pub text_in : Body → Option (List ℕ)
-text_in (body.Txt text) = Some text
-text_in _ = None
-
 -- the data of the TXT records of a name: an instance's attributes (section 6)
 abbrev pub texts_in : List Latest → List ℕ → List (List ℕ)
-texts_in rows name = filter_map text_in (data_of_set rows name (type_number kind.Txt))
+texts_in rows name = filter_map text_of (data_of_set rows name (type_number kind.Txt))
 
 -- the instance of a name, with its servers and its texts
 abbrev pub instance_in : List Latest → List ℕ → Instance

@@ -6,7 +6,12 @@ use Rattle.dns_name.specs.Name.{labels_of}
 use Rattle.mdns_message.specs.Resource.{Body}
 use Rattle.mdns_message.specs.TextData.{strings_of}
 use Rattle.mdns_message.specs.declared.resource.Resource.{Resource}
-use Rattle.mdns_message.specs.declared.body.RecordData.TheVariants as body
+use Rattle.mdns_message.specs.Parts.{content_of}
+use Rattle.mdns_message.specs.declared.parts.Address.{Address}
+use Rattle.mdns_message.specs.declared.parts.Address.TheVariants.{V4, V6}
+use Rattle.mdns_message.specs.declared.parts.Content.{Content}
+use Rattle.mdns_message.specs.declared.parts.Content.TheVariants as content
+use Rattle.mdns_message.specs.declared.parts.Service.{Service}
 use Rattle.people_text.specs.Address.{ipv6_short}
 use Rattle.people_text.specs.Shown.{name_shown, shown}
 use Rattle.mdns_browse.specs.Text.{ipv4_text}
@@ -26,14 +31,22 @@ shown_order priority weight =
     if (priority == 0) && (weight == 0) then []
     else (codes "priority " ++ decimal priority ++ codes " weight " ++ decimal weight) ∷ []
 
+-- an address
+abbrev pub shown_address : Address → List ℕ
+shown_address (V4 octets) = ipv4_text octets
+shown_address (V6 octets) = ipv6_short octets
+
+-- the words of what data says
+abbrev pub shown_content : Content (List ℕ) (List ℕ) → List (List ℕ)
+shown_content (content.Address address) = shown_address address ∷ []
+shown_content (content.Name name) = name_shown name ∷ []
+shown_content (content.Strings bytes) = shown_strings bytes
+shown_content (content.Service service) =
+    (name_shown service.target ++ 58 ∷ decimal service.port) ∷ shown_order service.priority service.weight
+
 -- the words of a record's data
 abbrev pub shown_words : Body → List (List ℕ)
-shown_words (body.A octets) = ipv4_text octets ∷ []
-shown_words (body.Aaaa octets) = ipv6_short octets ∷ []
-shown_words (body.Ptr target) = name_shown target ∷ []
-shown_words (body.Txt bytes) = shown_strings bytes
-shown_words (body.Srv priority weight port target) =
-    (name_shown target ++ 58 ∷ decimal port) ∷ shown_order priority weight
+shown_words b = shown_content (content_of b)
 
 -- the words, each after two spaces: a word may have single ones
 abbrev pub spaced_wide : List (List ℕ) → List ℕ

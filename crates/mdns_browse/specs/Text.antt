@@ -9,7 +9,12 @@ use Rattle.mdns_message.specs.Resource.{type_name, type_of, Body}
 use Rattle.mdns_message.specs.TextData.{string_text, strings_of}
 use Rattle.mdns_join.specs.declared.latest.Latest.{Latest}
 use Rattle.mdns_message.specs.declared.resource.Resource.{Resource}
-use Rattle.mdns_message.specs.declared.body.RecordData.TheVariants as body
+use Rattle.mdns_message.specs.Parts.{content_of}
+use Rattle.mdns_message.specs.declared.parts.Address.{Address}
+use Rattle.mdns_message.specs.declared.parts.Address.TheVariants.{V4, V6}
+use Rattle.mdns_message.specs.declared.parts.Content.{Content}
+use Rattle.mdns_message.specs.declared.parts.Content.TheVariants as content
+use Rattle.mdns_message.specs.declared.parts.Service.{Service}
 use Rattle.mdns_browse.specs.declared.instance.Instance.{Instance}
 use Rattle.mdns_browse.specs.declared.instance.Server.{Server}
 use Rattle.mdns_browse.specs.declared.words.Word.{Word}
@@ -61,15 +66,23 @@ word_text (Moment nanos) = moment_text nanos
 abbrev pub spaced : List (List ℕ) → List ℕ
 spaced words = flat_map (λ word. 32 ∷ word) words
 
--- the words of a record's data: those of SRV are priority, weight, port and target (RFC 2782), those of
--- TXT its strings, and the others have one word
+-- an address
+abbrev pub address_text : Address → List ℕ
+address_text (V4 octets) = ipv4_text octets
+address_text (V6 octets) = ipv6_text octets
+
+-- the words of what data says: those of a service are priority, weight, port and target (RFC 2782), and an address or a name
+-- is one word
+abbrev pub content_words : Content (List ℕ) (List ℕ) → List (List ℕ)
+content_words (content.Address address) = address_text address ∷ []
+content_words (content.Name name) = name_text name ∷ []
+content_words (content.Strings bytes) = text_words bytes
+content_words (content.Service service) =
+    decimal service.priority ∷ decimal service.weight ∷ decimal service.port ∷ name_text service.target ∷ []
+
+-- the words of a record's data
 abbrev pub data_words : Body → List (List ℕ)
-data_words (body.A octets) = ipv4_text octets ∷ []
-data_words (body.Aaaa octets) = ipv6_text octets ∷ []
-data_words (body.Ptr target) = name_text target ∷ []
-data_words (body.Txt bytes) = text_words bytes
-data_words (body.Srv priority weight port target) =
-    decimal priority ∷ decimal weight ∷ decimal port ∷ name_text target ∷ []
+data_words b = content_words (content_of b)
 
 -- a record: its owner, its type, and the words of its data
 abbrev pub resource_text : Resource → List ℕ

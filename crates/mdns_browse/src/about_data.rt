@@ -4,16 +4,17 @@ ghost use Rattle.std.specs.Prelude.{◌≡◌, ◌||◌, ◌++◌, ◌∷◌, If
 ghost use Rattle.std.specs.Fmt.{decimal};
 ghost use Rattle.std.specs.List.{list_any};
 ghost use Rattle.mdns_message.specs.Borrowed.{body_lent};
-ghost use Rattle.mdns_message.specs.declared.body.RecordData.TheVariants.{Srv, Txt};
+ghost use Rattle.mdns_message.specs.Parts.{content_lent, service_lent};
 ghost use Rattle.people_text.specs.Shown.{name_shown};
-ghost use Rattle.mdns_browse.specs.About.{is_address, is_in_data, is_one_of, is_text_about};
+ghost use Rattle.mdns_browse.specs.About.{is_address, is_host_address, is_in_content, is_in_data, is_one_of};
+ghost use Rattle.mdns_browse.specs.About.{is_text_about};
 ghost use Rattle.mdns_browse.specs.Shown.{shown_string};
 ghost use Rattle.mdns_browse.specs.Text.{string_words};
 
 use crate::about::Subject;
 use crate::about_names::{is_bytes, is_name, is_number, is_text};
 use mdns_message::text_data::{first_string, is_word};
-use mdns_message::{BorrowedBody, BorrowedName, Want};
+use mdns_message::{Address, BorrowedBody, BorrowedName, Content, Service, Want};
 use people_text::name_text::push_shown_name;
 
 /// Checks that one of the subjects is a word of the data.
@@ -24,45 +25,57 @@ pub(crate) fn is_in_data(
 ) -> Result<bool, Want>
     ensures { IfOk result (λ is. is ≡ list_any (λ subject. is_in_data subject (body_lent body.now)) about.now) }
 {
-    match body {
-        BorrowedBody::A(octets) => Ok(is_address(about, octets.as_slice())),
-        BorrowedBody::Aaaa(octets) => Ok(is_address(about, octets.as_slice())),
-        BorrowedBody::Ptr(target) => is_name(about, target, scratch),
-        BorrowedBody::Txt(bytes) => is_in_text(about, bytes, scratch),
-        BorrowedBody::Srv {
-            priority,
-            weight,
-            port,
-            target,
-        } => is_in_service(about, *priority, *weight, *port, target, scratch),
+    is_in_content(about, body.content(), scratch)
+}
+
+// Checks that one of the subjects is a word of what data says.
+fn is_in_content(
+    about: &[Subject],
+    content: Content<&BorrowedName<'_>, &[u8]>,
+    scratch: &mut String,
+) -> Result<bool, Want>
+    ensures { IfOk result (λ is. is ≡ list_any (λ subject. is_in_content subject (content_lent content.entry)) about.now) }
+{
+    match content {
+        Content::Address(address) => Ok(is_host_address(about, address)),
+        Content::Name(name) => is_name(about, name, scratch),
+        Content::Strings(bytes) => is_in_text(about, bytes, scratch),
+        Content::Service(service) => is_in_service(about, service, scratch),
     }
 }
 
 // Checks that one of the subjects is the target of a server, a number, or target and port.
 fn is_in_service(
     about: &[Subject],
-    priority: u16,
-    weight: u16,
-    port: u16,
-    target: &BorrowedName<'_>,
+    service: Service<&BorrowedName<'_>>,
     scratch: &mut String,
 ) -> Result<bool, Want>
     ensures { IfOk result (λ is. is
-        ≡ list_any (λ subject. is_in_data subject (Srv priority weight port target.now)) about.now) }
+        ≡ list_any (λ subject. is_in_content subject (Content.Service (service_lent service.entry))) about.now) }
 {
-    if is_name(about, target, scratch)? {
+    if is_name(about, service.target, scratch)? {
         return Ok(true);
     }
-    if is_number(about, priority, scratch)? {
+    if is_number(about, service.priority, scratch)? {
         return Ok(true);
     }
-    if is_number(about, weight, scratch)? {
+    if is_number(about, service.weight, scratch)? {
         return Ok(true);
     }
-    if is_number(about, port, scratch)? {
+    if is_number(about, service.port, scratch)? {
         return Ok(true);
     }
-    is_place(about, target, port, scratch)
+    is_place(about, service.target, service.port, scratch)
+}
+
+// Checks that one of the subjects is the address of a host.
+fn is_host_address(about: &[Subject], address: Address) -> bool
+    ensures { result ≡ list_any (λ subject. is_host_address subject address) about.now }
+{
+    match address {
+        Address::V4(octets) => is_address(about, octets.as_slice()),
+        Address::V6(octets) => is_address(about, octets.as_slice()),
+    }
 }
 
 // Checks that one of the subjects is an address of these octets.
@@ -74,7 +87,7 @@ fn is_address(about: &[Subject], octets: &[u8]) -> bool
 
 // Checks that one of the subjects is a string of TXT data.
 fn is_in_text(about: &[Subject], bytes: &[u8], scratch: &mut String) -> Result<bool, Want>
-    ensures { IfOk result (λ is. is ≡ list_any (λ subject. is_in_data subject (Txt bytes.now)) about.now) }
+    ensures { IfOk result (λ is. is ≡ list_any (λ subject. is_in_content subject (Content.Strings bytes.now)) about.now) }
 {
     let mut rest = bytes;
     while let Some((string, after)) = first_string(rest) {

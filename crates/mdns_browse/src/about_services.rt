@@ -12,7 +12,7 @@ use crate::about_data::is_in_data;
 use crate::about_names::{is_name, is_rest};
 use crate::lookup::of_set;
 use mdns_cache::Last;
-use mdns_message::{Body, Name, RecordType, Want};
+use mdns_message::{Name, RecordType, Want};
 
 /// Checks that one of the subjects is the name of an instance, its type, a server or an address of one. The servers are
 /// looked up in the rows.
@@ -64,12 +64,12 @@ fn is_in_server(
     ensures { IfOk result (λ is. AreAscending (map last_lent rows.now)
         → is ≡ list_any (is_heard_server_about (map last_lent rows.now) (body_of (last_lent row.now))) about.now) }
 {
-    let Body::Srv { target, .. } = &row.resource.body else {
+    let Some(service) = row.resource.body.service() else {
         return Ok(false);
     };
-    let fours = of_set(rows, target, RecordType::A);
-    let sixes = of_set(rows, target, RecordType::Aaaa);
-    if is_name(about, &target.borrowed(), scratch)? {
+    let fours = of_set(rows, service.target, RecordType::A);
+    let sixes = of_set(rows, service.target, RecordType::Aaaa);
+    if is_name(about, &service.target.borrowed(), scratch)? {
         return Ok(true);
     }
     if is_in_rows(about, fours, scratch)? {

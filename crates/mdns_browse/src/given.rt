@@ -14,7 +14,7 @@ use crate::keeps::keeps_heard_instance;
 use crate::services::instance_of;
 use crate::sheet::Given;
 use mdns_cache::{Last, LiveWalk};
-use mdns_message::{Body, Want};
+use mdns_message::Want;
 use std::alloc::Global;
 
 /// The live records, and those that give an instance, both in key order.
@@ -105,7 +105,7 @@ fn push_kept<'a>(
         ++ kept_given about.now (map last_lent rows.now) (given_lent given.entry ∷ [])) }
 {
     // Each has the name of an instance: only PTR records give one.
-    let Body::Ptr(name) = &given.row.last.resource.body else {
+    let Some(name) = given.row.last.resource.body.pointer() else {
         return Ok(());
     };
     if keeps_heard_instance(about, rows, name, scratch)? {

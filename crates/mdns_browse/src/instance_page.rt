@@ -25,7 +25,7 @@ use crate::walk::walk_instance;
 use dns_name::fold::folded_cmp;
 use mdns_cache::{Cache, Last, LiveRecord};
 use mdns_capture::Moment;
-use mdns_message::{Body, Name, Want};
+use mdns_message::{Name, Want};
 use std::alloc::Global;
 
 /// Writes the service instances of a cache that are about the subjects, each below the name of its type, and after them the
@@ -90,7 +90,7 @@ fn push_instances(
     let mut before: &[u8] = b"";
     for row in given {
         // Each has the name of an instance: only PTR records give one.
-        let Body::Ptr(name) = &row.row.last.resource.body else {
+        let Some(name) = row.row.last.resource.body.pointer() else {
             continue;
         };
         push_instance(page, rows, row, name, before)?;

@@ -37,4 +37,4 @@ pub use instance::{Addresses, InOrder, Instance, Server, Servers, Texts};
 pub use objects::push_resource_members;
 pub use report::{Ask, Form, ReportFault};
 pub use services::{instances, types};
-pub use shown::{push_shown_instance, push_shown_order, push_shown_record};
+pub use shown::{push_shown_address, push_shown_instance, push_shown_order, push_shown_record};

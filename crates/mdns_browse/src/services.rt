@@ -62,7 +62,7 @@ fn is_instance_of(service: &[u8], name: &Name) -> bool
 pub(crate) fn type_of<'a>(row: &Last<'a>) -> Option<&'a Name>
     ensures { option_map (λ name. name.now) result ≡ type_given (last_lent row.now) }
 {
-    let Body::Ptr(name) = &row.resource.body else {
+    let Some(name) = row.resource.body.pointer() else {
         return None;
     };
     if is_types_owner(&row.resource.owner) && is_service_name(name) {
@@ -76,7 +76,7 @@ pub(crate) fn type_of<'a>(row: &Last<'a>) -> Option<&'a Name>
 pub fn instance_of<'a>(row: &Last<'a>) -> Option<&'a Name>
     ensures given { option_map (λ name. name.now) result ≡ instance_given (last_lent row.now) }
 {
-    let Body::Ptr(name) = &row.resource.body else {
+    let Some(name) = row.resource.body.pointer() else {
         return None;
     };
     let owner = &row.resource.owner;
@@ -91,7 +91,7 @@ pub fn instance_of<'a>(row: &Last<'a>) -> Option<&'a Name>
 pub fn other_of<'a>(row: &Last<'a>) -> Option<&'a Name>
     ensures given { option_map (λ name. name.now) result ≡ other_given (last_lent row.now) }
 {
-    let Body::Ptr(name) = &row.resource.body else {
+    let Some(name) = row.resource.body.pointer() else {
         return None;
     };
     let owner = &row.resource.owner;
@@ -129,21 +129,15 @@ fn servers(alloc: Global, rows: &[Last<'_>], name: &Name) -> Result<Servers, Wan
     let mut servers = Vec::new(alloc);
     for row in of_set(rows, name, RecordType::Srv) {
         // Every row is an SRV record: no other data has this type number.
-        let Body::Srv {
-            priority,
-            weight,
-            port,
-            target,
-        } = &row.resource.body
-        else {
+        let Some(service) = row.resource.body.service() else {
             continue;
         };
         servers.push(Server {
-            priority: *priority,
-            weight: *weight,
-            port: *port,
-            target: target.copy(alloc)?,
-            addresses: addresses(alloc, rows, target)?,
+            priority: service.priority,
+            weight: service.weight,
+            port: service.port,
+            target: service.target.copy(alloc)?,
+            addresses: addresses(alloc, rows, service.target)?,
         })?;
     }
     Ok(InOrder::from_vec(servers))
@@ -157,7 +151,7 @@ fn texts(alloc: Global, rows: &[Last<'_>], name: &Name) -> Result<Texts, Want>
     let mut texts = Vec::new(alloc);
     for row in of_set(rows, name, RecordType::Txt) {
         // Every row is a TXT record: no other data has this type number.
-        let Body::Txt(text) = &row.resource.body else {
+        let Some(text) = row.resource.body.text() else {
             continue;
         };
         texts.push(text.copy(alloc)?)?;
@@ -225,7 +219,7 @@ fn instances_of(
     let mut instances = Vec::new(alloc);
     for row in given {
         // Each has the name of an instance: only PTR records give one.
-        let Body::Ptr(name) = &row.row.last.resource.body else {
+        let Some(name) = row.row.last.resource.body.pointer() else {
             continue;
         };
         instances.push(instance(alloc, rows, name)?)?;

@@ -4,14 +4,15 @@ ghost use Rattle.std.specs.Prelude.{◌≡◌, ◌++◌, ◌∷◌, codes, OnOk}
 ghost use Rattle.std.specs.Fmt.{decimal};
 ghost use Rattle.std.specs.String.{string_bytes};
 ghost use Rattle.mdns_message.specs.Borrowed.{body_lent, resource_lent};
+ghost use Rattle.mdns_message.specs.Parts.{content_lent};
 ghost use Rattle.people_text.specs.Shown.{name_shown};
-ghost use Rattle.mdns_browse.specs.Shown.{shown_instance, shown_order, shown_record, shown_string, shown_strings};
-ghost use Rattle.mdns_browse.specs.Shown.{shown_words, spaced_wide};
+ghost use Rattle.mdns_browse.specs.Shown.{shown_address, shown_content, shown_instance, shown_order, shown_record};
+ghost use Rattle.mdns_browse.specs.Shown.{shown_string, shown_strings, shown_words, spaced_wide};
 
 use crate::format::push_ipv4;
 use dns_name::name::split_label;
 use mdns_message::text_data::first_string;
-use mdns_message::{BorrowedBody, BorrowedName, BorrowedResource, Want};
+use mdns_message::{Address, BorrowedBody, BorrowedName, BorrowedResource, Content, Want};
 use people_text::address::push_ipv6_short;
 use people_text::name_text::push_shown_name;
 use people_text::shown::push_shown;
@@ -40,29 +41,40 @@ pub fn push_shown_instance(to: &mut String, name: &BorrowedName<'_>) -> Result<(
 pub(crate) fn push_shown_words(to: &mut String, body: &BorrowedBody<'_>) -> Result<(), Want>
     ensures { OnOk result (string_bytes to.new ≡ string_bytes to.old ++ spaced_wide (shown_words (body_lent body.now))) }
 {
-    match body {
-        BorrowedBody::A(octets) => {
+    push_shown_content(to, body.content())
+}
+
+// Appends the words of what data says, each after two spaces.
+fn push_shown_content(
+    to: &mut String,
+    content: Content<&BorrowedName<'_>, &[u8]>,
+) -> Result<(), Want>
+    ensures { OnOk result (string_bytes to.new ≡ string_bytes to.old ++ spaced_wide (shown_content (content_lent content.entry))) }
+{
+    match content {
+        Content::Address(address) => {
             push_space(to)?;
-            push_ipv4(to, octets)
+            push_shown_address(to, address)
         }
-        BorrowedBody::Aaaa(octets) => {
+        Content::Name(name) => {
             push_space(to)?;
-            push_ipv6_short(to, octets)
+            push_shown_name(to, name)
         }
-        BorrowedBody::Ptr(target) => {
-            push_space(to)?;
-            push_shown_name(to, target)
+        Content::Strings(bytes) => push_shown_strings(to, bytes),
+        Content::Service(service) => {
+            push_shown_target(to, service.target, service.port)?;
+            push_shown_order(to, service.priority, service.weight)
         }
-        BorrowedBody::Txt(bytes) => push_shown_strings(to, bytes),
-        BorrowedBody::Srv {
-            priority,
-            weight,
-            port,
-            target,
-        } => {
-            push_shown_target(to, target, *port)?;
-            push_shown_order(to, *priority, *weight)
-        }
+    }
+}
+
+/// Appends an address.
+pub fn push_shown_address(to: &mut String, address: Address) -> Result<(), Want>
+    ensures { OnOk result (string_bytes to.new ≡ string_bytes to.old ++ shown_address address) }
+{
+    match address {
+        Address::V4(octets) => push_ipv4(to, &octets),
+        Address::V6(octets) => push_ipv6_short(to, &octets),
     }
 }
 

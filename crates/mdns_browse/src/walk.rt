@@ -22,7 +22,7 @@ use crate::services::type_of;
 use crate::sheet::{Given, Sheet};
 use mdns_cache::{Cache, Last, LiveRecord, LiveWalk};
 use mdns_capture::Moment;
-use mdns_message::{Body, Name, RecordType, Want};
+use mdns_message::{Name, RecordType, Want};
 use std::alloc::Global;
 
 /// Hands over what a report about the subjects lists.
@@ -136,7 +136,7 @@ pub fn walk_given<S: Sheet>(
 {
     for row in given {
         // Each has the name of an instance: only PTR records give one.
-        let Body::Ptr(name) = &row.row.last.resource.body else {
+        let Some(name) = row.row.last.resource.body.pointer() else {
             continue;
         };
         walk_instance(sheet, rows, row, name)?;
@@ -180,18 +180,17 @@ fn walk_server<S: Sheet>(sheet: &mut S, rows: &[Last<'_>], row: &Last<'_>) -> Re
         (flat_map server_pieces (filter_map (server_in (map last_lent rows.now)) (body_of (last_lent row.now) ∷ []))) sheet.new) }
 {
     // Each is an SRV record: no other data has its number.
-    let Body::Srv {
-        priority,
-        weight,
-        port,
-        target,
-    } = &row.resource.body
-    else {
+    let Some(service) = row.resource.body.service() else {
         return Ok(());
     };
-    sheet.server_begin(*priority, *weight, *port, target)?;
-    walk_addresses(sheet, of_set(rows, target, RecordType::A))?;
-    walk_addresses(sheet, of_set(rows, target, RecordType::Aaaa))?;
+    sheet.server_begin(
+        service.priority,
+        service.weight,
+        service.port,
+        service.target,
+    )?;
+    walk_addresses(sheet, of_set(rows, service.target, RecordType::A))?;
+    walk_addresses(sheet, of_set(rows, service.target, RecordType::Aaaa))?;
     sheet.server_end()
 }
 
@@ -212,7 +211,7 @@ fn walk_texts<S: Sheet>(sheet: &mut S, rows: &[Last<'_>], name: &Name) -> Result
 {
     for row in of_set(rows, name, RecordType::Txt) {
         // Every row is a TXT record: no other data has this type number.
-        let Body::Txt(text) = &row.resource.body else {
+        let Some(text) = row.resource.body.text() else {
             continue;
         };
         sheet.instance_text(text)?;

@@ -3,12 +3,13 @@
 ghost use Rattle.std.specs.Prelude.{◌≡◌, ◌++◌, List, ℕ, [], ◌∷◌, OnOk};
 ghost use Rattle.std.specs.String.{string_bytes};
 ghost use Rattle.mdns_message.specs.Borrowed.{body_lent};
-ghost use Rattle.mdns_browse.specs.Text.{word_text, string_words, text_words, data_words};
+ghost use Rattle.mdns_message.specs.Parts.{content_lent};
+ghost use Rattle.mdns_browse.specs.Text.{word_text, string_words, text_words, address_text, content_words, data_words};
 ghost use Rattle.mdns_browse.specs.Sheet.{TakeLaws};
 
 use crate::format::{push_ipv4, push_ipv6, push_nanos};
 use mdns_message::text_data::{first_string, is_word, push_string};
-use mdns_message::{BorrowedBody, BorrowedName, Want};
+use mdns_message::{Address, BorrowedBody, BorrowedName, Content, Want};
 
 /// A word of a report.
 #[derive(Clone, Copy)]
@@ -62,22 +63,35 @@ pub trait WordSink {
 pub fn push_words<W: WordSink>(to: &mut W, body: &BorrowedBody<'_>) -> Result<(), Want>
     ensures { OnOk result (W.takes_words to.old (data_words (body_lent body.now)) to.new) }
 {
-    match body {
-        BorrowedBody::A(octets) => to.word(Word::Ipv4(octets)),
-        BorrowedBody::Aaaa(octets) => to.word(Word::Ipv6(octets)),
-        BorrowedBody::Ptr(target) => to.word(Word::Name(target)),
-        BorrowedBody::Txt(bytes) => push_text_words(to, bytes),
-        BorrowedBody::Srv {
-            priority,
-            weight,
-            port,
-            target,
-        } => {
-            to.word(Word::Number(*priority))?;
-            to.word(Word::Number(*weight))?;
-            to.word(Word::Number(*port))?;
-            to.word(Word::Name(target))
+    push_content(to, body.content())
+}
+
+// Hands over the words of what data says.
+fn push_content<W: WordSink>(
+    to: &mut W,
+    content: Content<&BorrowedName<'_>, &[u8]>,
+) -> Result<(), Want>
+    ensures { OnOk result (W.takes_words to.old (content_words (content_lent content.entry)) to.new) }
+{
+    match content {
+        Content::Address(address) => push_address(to, address),
+        Content::Name(name) => to.word(Word::Name(name)),
+        Content::Strings(bytes) => push_text_words(to, bytes),
+        Content::Service(service) => {
+            to.word(Word::Number(service.priority))?;
+            to.word(Word::Number(service.weight))?;
+            to.word(Word::Number(service.port))?;
+            to.word(Word::Name(service.target))
         }
+    }
+}
+
+fn push_address<W: WordSink>(to: &mut W, address: Address) -> Result<(), Want>
+    ensures { OnOk result (W.takes_words to.old (address_text address ∷ []) to.new) }
+{
+    match address {
+        Address::V4(octets) => to.word(Word::Ipv4(&octets)),
+        Address::V6(octets) => to.word(Word::Ipv6(&octets)),
     }
 }
 

@@ -1,25 +1,40 @@
-use Rattle.std.proofs.Common.{arith}
 use Rattle.std.proofs.Common.{sym, ◌∙◌}
 use Rattle.std.proofs.lemmas.Result.{IfOk-weaker}
+use Rattle.mdns_message.specs.Parts.{service_lent}
 use Rattle.mdns_browse.proofs.AboutLemmas.{or-first, or-rest, service-parts}
 use Rattle.mdns_browse.proofs.about_data.is_in_service.Goals as goal
 
 pub returns-then-branch : goal.returns-then-branch
 returns-then-branch c =
-    or-first _ (service-parts c.args.about.now c.args.priority c.args.weight c.args.port c.args.target.now)
+    or-first _ (service-parts c.args.about.now (service_lent c.args.service))
     (sym c.in_ok-is_name.ensures ∙ c.if-branch.true)
 
 pub returns-then-branch-2 : goal.returns-then-branch-2
 returns-then-branch-2 c =
-    grind (arith, service-parts c.args.about.now c.args.priority c.args.weight c.args.port c.args.target.now, or-first, or-rest)
+    let parts = service-parts c.args.about.now (service_lent c.args.service) in
+    or-first _ (sym (or-rest parts (sym c.in_ok-is_name.ensures ∙ c.if-branch.false))) (sym c.in_ok-is_number.ensures ∙ c.if-branch-2.true)
 
 pub returns-then-branch-3 : goal.returns-then-branch-3
 returns-then-branch-3 c =
-    grind (arith, service-parts c.args.about.now c.args.priority c.args.weight c.args.port c.args.target.now, or-rest, or-first)
+    let parts = service-parts c.args.about.now (service_lent c.args.service) in
+    let less = sym (or-rest parts (sym c.in_ok-is_name.ensures ∙ c.if-branch.false)) in
+    or-first _ (sym (or-rest less (sym c.in_ok-is_number.ensures ∙ c.if-branch-2.false)))
+    (sym c.in_ok-is_number-2.ensures ∙ c.if-branch-3.true)
 
 pub returns-then-branch-4 : goal.returns-then-branch-4
 returns-then-branch-4 c =
-    grind (arith, service-parts c.args.about.now c.args.priority c.args.weight c.args.port c.args.target.now, or-rest, or-first)
+    let parts = service-parts c.args.about.now (service_lent c.args.service) in
+    let less = sym (or-rest parts (sym c.in_ok-is_name.ensures ∙ c.if-branch.false)) in
+    let least = sym (or-rest less (sym c.in_ok-is_number.ensures ∙ c.if-branch-2.false)) in
+    or-first _ (sym (or-rest least (sym c.in_ok-is_number-2.ensures ∙ c.if-branch-3.false)))
+    (sym c.in_ok-is_number-3.ensures ∙ c.if-branch-4.true)
 
 pub returns : goal.returns
-returns c = grind (arith, service-parts c.args.about.now c.args.priority c.args.weight c.args.port c.args.target.now, or-rest, IfOk-weaker)
+returns c =
+    let parts = service-parts c.args.about.now (service_lent c.args.service) in
+    let less = sym (or-rest parts (sym c.in_ok-is_name.ensures ∙ c.if-branch.false)) in
+    let least = sym (or-rest less (sym c.in_ok-is_number.ensures ∙ c.if-branch-2.false)) in
+    let last = sym (or-rest least (sym c.in_ok-is_number-2.ensures ∙ c.if-branch-3.false)) in
+    IfOk-weaker c.is_place.result _ _
+    (λ is same. same ∙ or-rest last (sym c.in_ok-is_number-3.ensures ∙ c.if-branch-4.false))
+    c.is_place.ensures

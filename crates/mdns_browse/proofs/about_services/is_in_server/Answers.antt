@@ -10,14 +10,14 @@ use Rattle.mdns_browse.proofs.about_services.is_in_server.Goals as goal
 
 pub returns-in_default : goal.returns-in_default
 returns-in_default c sorted =
-    no-server c.args.about.now (map last_lent c.args.rows.now) (body_of (last_lent c.args.row.now)) c.in_default.not-Srv
+    no-server c.args.about.now (map last_lent c.args.rows.now) (body_of (last_lent c.args.row.now)) c.in_default.ensures
 
 pub returns-then-branch : goal.returns-then-branch
 returns-then-branch c sorted =
     let about = c.args.about.now in
     let named = c.in_ok-is_name.ensures ∙ ap (λ name. list_any (is_type_about name) about) c.borrowed.ensures in
     let parts =
-    server-parts about (map last_lent c.args.rows.now) (body_of (last_lent c.args.row.now)) _ _ _ _ _ _ c.in-Srv.is
+    server-parts about (map last_lent c.args.rows.now) (body_of (last_lent c.args.row.now)) _ _ _ c.in-Some.ensures
     (c.of_set-fours.ensures sorted) (c.of_set-sixes.ensures sorted) in
     or-first _ parts (sym named ∙ c.if-branch.true)
 
@@ -26,7 +26,7 @@ returns-then-branch-2 c sorted =
     let about = c.args.about.now in
     let named = c.in_ok-is_name.ensures ∙ ap (λ name. list_any (is_type_about name) about) c.borrowed.ensures in
     let parts =
-    server-parts about (map last_lent c.args.rows.now) (body_of (last_lent c.args.row.now)) _ _ _ _ _ _ c.in-Srv.is
+    server-parts about (map last_lent c.args.rows.now) (body_of (last_lent c.args.row.now)) _ _ _ c.in-Some.ensures
     (c.of_set-fours.ensures sorted) (c.of_set-sixes.ensures sorted) in
     or-first _ (sym (or-rest parts (sym named ∙ c.if-branch.false))) (sym c.in_ok-is_in_rows.ensures ∙ c.if-branch-2.true)
 
@@ -37,7 +37,7 @@ returns c =
     let about = c.args.about.now in
     let named = c.in_ok-is_name.ensures ∙ ap (λ name. list_any (is_type_about name) about) c.borrowed.ensures in
     let parts =
-    server-parts about (map last_lent c.args.rows.now) (body_of (last_lent c.args.row.now)) _ _ _ _ _ _ c.in-Srv.is
+    server-parts about (map last_lent c.args.rows.now) (body_of (last_lent c.args.row.now)) _ _ _ c.in-Some.ensures
     (c.of_set-fours.ensures sorted) (c.of_set-sixes.ensures sorted) in
     same ∙ or-rest (sym (or-rest parts (sym named ∙ c.if-branch.false))) (sym c.in_ok-is_in_rows.ensures ∙ c.if-branch-2.false))
     c.is_in_rows-2.ensures

@@ -1,32 +1,28 @@
-use Rattle.std.proofs.Common.{arith}
-use Rattle.std.proofs.Common.{sym, ◌∙◌, ap, subst, ◌++◌, [], ◌∷◌, map}
+use Rattle.std.proofs.Common.{option_map, sym, ◌∙◌, ap, subst, ◌++◌, [], ◌∷◌, map}
 use Rattle.std.proofs.lemmas.List.{append-nil, map-append}
 use Rattle.std.proofs.lemmas.Result.{on_ok_weaker}
-use Rattle.std.specs.List.{filter_map, flat_map}
+use Rattle.std.specs.List.{cons_option, flat_map}
+use Rattle.mdns_message.specs.Parts.{service_lent}
 use Rattle.mdns_cache.specs.Rows.{last_lent}
-use Rattle.mdns_browse.specs.Services.{body_of, data_of_set, server_in}
+use Rattle.mdns_browse.specs.Services.{body_of, data_of_set, server_at}
 use Rattle.mdns_browse.specs.Sheet.{server_begin, server_address, server_end, server_pieces}
-use Rattle.mdns_browse.specs.declared.instance.Server.{Server}
-use Rattle.mdns_browse.proofs.InstanceLemmas.{server-none}
 use Rattle.mdns_browse.proofs.walk.walk_server.Goals as goal
 
 pub returns-in_default : goal.returns-in_default
-returns-in_default g c ascending = grind (arith, server-none)
+returns-in_default g c ascending =
+    let server = server_at (map last_lent c.args.rows.now) in
+    subst (λ o. g.S.Sheet.takes c.args.sheet.now (flat_map server_pieces (cons_option (option_map server o) [])) c.args.sheet.now)
+    c.in_default.ensures (g.met.S.Sheet.laws.nothing c.args.sheet.now)
 
 pub returns : goal.returns
 returns g c =
     let laws = g.met.S.Sheet.laws in
     let rows = map last_lent c.args.rows.now in
-    let fours = data_of_set rows c.in-Srv.target 1 in
-    let sixes = data_of_set rows c.in-Srv.target 28 in
-    let begin = server_begin c.in-Srv.priority c.in-Srv.weight c.in-Srv.port c.in-Srv.target in
-    let server : Server = record {
-      priority = c.in-Srv.priority;
-      weight = c.in-Srv.weight;
-      port = c.in-Srv.port;
-      target = c.in-Srv.target;
-      addresses = fours ++ sixes;
-    } in
+    let service = c.in-Some.service in
+    let fours = data_of_set rows service.target.now 1 in
+    let sixes = data_of_set rows service.target.now 28 in
+    let begin = server_begin service.priority service.weight service.port service.target.now in
+    let server = server_at rows (service_lent service) in
     on_ok_weaker c.server_end.result
     (λ end ascending.
     let four =
@@ -37,7 +33,7 @@ returns g c =
     (c.of_set-2.ensures ascending) c.in_ok-walk_addresses-2.ensures in
     subst (λ ps. g.S.Sheet.takes c.args.sheet.now ps c.server_end.new.self)
     (sym (append-nil (server_pieces server))
-    ∙ ap (λ held. flat_map server_pieces (filter_map (server_in rows) (held ∷ []))) (sym c.in-Srv.is))
+    ∙ ap (λ o. flat_map server_pieces (cons_option (option_map (server_at rows) o) [])) c.in-Some.ensures)
     (laws.more _ _ _ (begin ∷ []) (map server_address (fours ++ sixes) ++ server_end ∷ []) c.in_ok-server_begin.ensures
     (laws.more _ _ _ (map server_address (fours ++ sixes)) (server_end ∷ [])
     (subst (λ ps. g.S.Sheet.takes c.server_begin.new.self ps c.walk_addresses-2.new.sheet) (sym (map-append server_address fours sixes))

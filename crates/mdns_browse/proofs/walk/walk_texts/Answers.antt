@@ -1,9 +1,12 @@
+use Rattle.std.proofs.Common.{sym, ap, subst, []}
+use Rattle.std.specs.List.{cons_option}
 use Rattle.std.proofs.lemmas.Grind.{common_steps}
 use Rattle.std.proofs.Common.{◌≡◌, List, map, ◌++◌, arith}
 use Rattle.std.proofs.lemmas.List.{map-append}
 use Rattle.mdns_join.specs.declared.latest.Latest.{Latest}
+use Rattle.mdns_cache.specs.Rows.{last_lent}
 use Rattle.mdns_browse.specs.Sheet.{Piece, instance_text}
-use Rattle.mdns_browse.proofs.InstanceLemmas.{text-none, texts-append, texts_of}
+use Rattle.mdns_browse.proofs.InstanceLemmas.{texts-append, texts_of}
 use Rattle.mdns_browse.proofs.ListLemmas.{takes_all, takes_more, takes_same, through-append}
 use Rattle.mdns_browse.proofs.walk.walk_texts.Goals as goal
 
@@ -17,10 +20,16 @@ pub loop-row-init : goal.loop-row-init
 loop-row-init g c = g.met.S.Sheet.laws.nothing _
 
 pub loop-row-preserved-in_default : goal.loop-row-preserved-in_default
-loop-row-preserved-in_default g c = grind (arith, common_steps, takes_same, append, text-none)
+loop-row-preserved-in_default g c =
+    takes_same pieces append g.met.S.Sheet.laws last_lent c.of_set-row-items.result.now c.loop-row.row-index c.row-item.result (omega arith)
+    c.row-item.is c.loop-row.invariant (ap (λ o. map instance_text (cons_option o [])) (sym c.in_default.ensures))
 
 pub loop-row-preserved : goal.loop-row-preserved
-loop-row-preserved g c = grind (arith, common_steps, takes_more, append)
+loop-row-preserved g c =
+    takes_more pieces append g.met.S.Sheet.laws last_lent c.of_set-row-items.result.now c.loop-row.row-index c.row-item.result (omega arith)
+    c.row-item.is c.loop-row.invariant
+    (subst (λ o. g.S.Sheet.takes c.loop-row.sheet (map instance_text (cons_option o [])) c.instance_text.new.self)
+    c.in-Some.ensures c.in_ok-instance_text.ensures)
 
 pub returns : goal.returns
 returns g c ascending = grind (arith, common_steps, takes_all, append)
