@@ -100,20 +100,22 @@ module _ (rows : List Latest) where
   servers-in : (subject : Subject) (bodies : List Body) → list_any (λ body. is_heard_server_about rows body subject) bodies
       ≡ list_any (λ server. is_server_about server subject) (filter_map (server_in rows) bodies)
   servers-in subject [] = refl
-  servers-in subject (body ∷ bodies) = by (service_of body)
+  servers-in subject (body ∷ bodies) = by (service_of body) (servers-in subject bodies)
     where
       by : (o : Option (Service (List ℕ)))
+          → list_any (λ body. is_heard_server_about rows body subject) bodies
+          ≡ list_any (λ server. is_server_about server subject) (filter_map (server_in rows) bodies)
           → (is_heard_service_about rows o subject || list_any (λ body. is_heard_server_about rows body subject) bodies)
           ≡ list_any (λ server. is_server_about server subject)
           (cons_option (option_map (server_at rows) o) (filter_map (server_in rows) bodies))
-      by None = false_or _ ∙ servers-in subject bodies
-      by (Some service) =
+      by None rest = false_or _ ∙ rest
+      by (Some service) rest =
           let named = is_name (string_bytes subject.text) service.target in
           let fours = data_of_set rows service.target 1 in
           let sixes = data_of_set rows service.target 28 in
           ap (λ b. (named || b) || list_any (λ body. is_heard_server_about rows body subject) bodies)
           (sym (list_any-append (is_in_data subject) fours sixes))
-          ∙ ap (λ b. (named || list_any (is_in_data subject) (fours ++ sixes)) || b) (servers-in subject bodies)
+          ∙ ap (λ b. (named || list_any (is_in_data subject) (fours ++ sixes)) || b) rest
 
   -- an instance is about the subjects by rows where its servers among the rows are
   pub keeps-in : (about : List Subject) (name : List ℕ) → keeps_heard about rows name ≡ keeps_instance about (instance_in rows name)
