@@ -97,7 +97,7 @@ class Closure:
         if not (CRATES / crate).is_dir():
             self.library.add(name)
         elif path[:2] == ["specs", "declared"]:
-            path = [part for part in path[2:] if part != "TheVariants"]
+            path = [name if part == "TheConstants" else part for part in path[2:] if part != "TheVariants"]
             if "Ghosts" not in path + [name]:
                 self.add_type(crate, ".".join(path[:-1]), path[-1], user)
         else:
@@ -158,9 +158,9 @@ def rust(crate, module):
 
 
 def type_lines(crate, module, name):
-    """A type as it stands, with its doc comment and without attributes."""
-    head = rf"pub(?:\([a-z]+\))? (?:struct|enum|type) {name}\b"
-    found = re.search(rf"{DOC}{head}(?:[^\n]*;$|.*?^\}})", rust(crate, module), re.M | re.S)
+    """A type or a constant as it stands, with its doc comment and without attributes."""
+    head = rf"pub(?:\([a-z]+\))? (?:struct|enum|type|const) {name}\b"
+    found = re.search(rf"{DOC}{head}(?:[^\n]*;$|.*?^(?:\}}|\";))", rust(crate, module), re.M | re.S)
     if not found:
         raise Wrong(f"{crate}/src/{module}.rt has no type {name}")
     return [line for line in found.group().split("\n") if not line.strip().startswith("#[")]

@@ -1,6 +1,7 @@
 -- Pages on which names aren't written are equal where they agree but for names.
 use Rattle.std.proofs.Common.{◌≡◌, refl, sym, ◌∙◌, ap, ℕ, ◌+◌, ◌==◌, nat_le, Bool, true, false, if◌then◌else◌, Option, None, Some}
-use Rattle.std.proofs.Common.{List, [], ◌∷◌, ◌++◌, length, map, arith}
+use Rattle.std.proofs.Common.{List, [], ◌∷◌, ◌++◌, ◌-◌, codes, length, map, arith}
+use Rattle.std.specs.Prelude.{nat_lt, slice_get}
 use Rattle.std.specs.List.{filter_map, flat_map}
 use Rattle.mdns_message.specs.Resource.{Body}
 use Rattle.mdns_message.specs.TextData.{strings_of}
@@ -13,19 +14,20 @@ use Rattle.mdns_join.specs.declared.latest.Latest.{Latest}
 use Rattle.mdns_browse.specs.Services.{GivenRow, InstanceRow, instance_row_in}
 use Rattle.mdns_browse.specs.Shown.{shown_string, shown_strings}
 use Rattle.mdns_page.specs.declared.axis.Axis.{Axis}
-use Rattle.mdns_page.specs.Bare.{BareLive, BareRow, BareServer, bare_address, bare_capture, bare_end}
+use Rattle.mdns_page.specs.Bare.{BareLive, BareRow, bare_address, bare_capture, bare_end}
 use Rattle.mdns_page.specs.Bare.{bare_group, bare_groups, bare_instances, bare_live}
 use Rattle.mdns_page.specs.Bare.{bare_row, bare_server, bare_text, is_some_filled, unsaid}
-use Rattle.mdns_page.specs.Captures.{Facts, are_many, capture_text, captures_from, captures_group, captures_text}
+use Rattle.mdns_page.specs.Captures.{Facts, capture_text, captures_text, each_from}
 use Rattle.mdns_page.specs.Group.{grouped}
 use Rattle.mdns_page.specs.Hosts.{host_name, is_large}
 use Rattle.mdns_page.specs.Lanes.{lanes_for}
-use Rattle.mdns_page.specs.Lead.{about_line, cut_warning, ending_warning, has_ended, has_said, lead_text, live_line, other_subject, subjects_line}
+use Rattle.mdns_page.specs.Lead.{about_line, ending_warning, is_ended, is_leaving, lead_text, live_line, subject_text}
+use Rattle.mdns_page.specs.Picture.{goes_on}
 use Rattle.mdns_page.specs.Live.{address_text, addresses_html, left_words, live_group, live_row, live_text, paragraph, server_html}
 use Rattle.mdns_page.specs.Live.{servers_html, text_html}
 use Rattle.mdns_page.specs.Live.{type_of}
 use Rattle.mdns_page.specs.Page.{Shown, page}
-use Rattle.mdns_page.specs.Timeline.{Row, are_titled, group_text, is_live, is_open, lives_in, look_of, others_group}
+use Rattle.mdns_page.specs.Timeline.{Row, are_titled, count_last, group_text, is_open, is_some_such, lives_in, others_group}
 use Rattle.mdns_page.specs.Timeline.{owner_of, record_name, row_text, timeline}
 use Rattle.mdns_page.specs.declared.look.Look.{Look}
 use Rattle.mdns_page.proofs.GroupLemmas.{grouped-all}
@@ -45,52 +47,55 @@ unfolding capture_text
 capture-same axis many index capture file same =
     rw (summary-same capture file same, span-same capture file same) refl
 
-captures_from-same : (axis : Axis) (many : Bool) (index : ℕ) (captures files : List Facts)
-    → map bare_capture captures ≡ map bare_capture files
-    → captures_from unsaid axis many index captures ≡ captures_from unsaid axis many index files
-captures_from-same axis many index [] [] same = refl
-captures_from-same axis many index [] (file ∷ files) same = cc
-captures_from-same axis many index (capture ∷ captures) [] same = cc
-captures_from-same axis many index (capture ∷ captures) (file ∷ files) same =
+each-same : (axis : Axis) (many : Bool) (index : ℕ) (captures files : List Facts) → map bare_capture captures ≡ map bare_capture files
+    → each_from (capture_text unsaid axis many) index captures ≡ each_from (capture_text unsaid axis many) index files
+each-same axis many index [] [] same = refl
+each-same axis many index [] (file ∷ files) same = cc
+each-same axis many index (capture ∷ captures) [] same = cc
+each-same axis many index (capture ∷ captures) (file ∷ files) same =
     let first : bare_capture capture ≡ bare_capture file = cc in
     let rest : map bare_capture captures ≡ map bare_capture files = cc in
     let here = capture-same axis many index capture file first in
-    let others = captures_from-same axis many (index + 1) captures files rest in cc
+    let others = each-same axis many (index + 1) captures files rest in cc
 
 captures-same : (axis : Axis) (captures files : List Facts) → map bare_capture captures ≡ map bare_capture files
     → captures_text unsaid axis captures ≡ captures_text unsaid axis files
-unfolding captures_group
+unfolding captures_text
 captures-same axis captures files same =
-    rw (length-same bare_capture captures files same, captures_from-same axis (are_many files) 0 captures files same) refl
+    rw (length-same bare_capture captures files same, each-same axis (nat_lt 4 (length files)) 0 captures files same) refl
 
 -- ---- the lead
+
+count_last-same : (is : Life → Bool) (rows others : List Row) → map bare_row rows ≡ map bare_row others
+    → count_last is rows ≡ count_last is others
+count_last-same is =
+    count-same bare_row (λ row. is_some_such is (slice_get row.lives (length row.lives - 1)))
+    (λ row other bare. ap (λ (b : BareRow). is_some_such is (slice_get b.1 (length b.1 - 1))) bare)
 
 live_line-same : (axis : Axis) (rows others : List Row) → map bare_row rows ≡ map bare_row others
     → live_line axis rows ≡ live_line axis others
 unfolding live_line
 live_line-same axis rows others same =
-    let count = λ (is : List Life → Bool).
-    count-same bare_row (λ row. is row.lives) (λ row other bare. ap (λ (b : BareRow). is b.lives) bare) rows others same in
+    let count = λ (is : Life → Bool). count_last-same is rows others same in
     rw (
-      count (is_live axis),
-      count (has_said axis),
-      count (has_ended axis Goodbye),
-      count (has_ended axis Flushed),
-      count (has_ended axis RanOut),
+      count (goes_on axis),
+      count (is_leaving axis),
+      count (is_ended axis Goodbye),
+      count (is_ended axis Flushed),
+      count (is_ended axis RanOut),
     ) refl
 
 about-same : (about others : List Subject) → length about ≡ length others → about_line unsaid about ≡ about_line unsaid others
-unfolding subjects_line
 about-same [] [] same = refl
 about-same [] (other ∷ others) same = absurd (omega (arith, same))
 about-same (subject ∷ about) [] same = absurd (omega (arith, same))
 about-same (subject ∷ about) (other ∷ others) same =
     let rest : length about ≡ length others = omega (arith, same) in
-    rw (flat_map-alike (other_subject unsaid) (λ first second. refl) about others rest) refl
+    rw (flat_map-alike (λ subject. codes ", " ++ subject_text unsaid subject) (λ first second. refl) about others rest) refl
 
 warning-same : (capture file : Facts) → bare_capture capture ≡ bare_capture file
     → ending_warning unsaid capture ≡ ending_warning unsaid file
-unfolding ending_warning cut_warning
+unfolding ending_warning
 warning-same capture file same = rw (summary-same capture file same) refl
 
 lead-same : (axis : Axis) (about others : List Subject) (rows drawn : List Row) (captures files : List Facts) (lost : ℕ)
@@ -121,19 +126,16 @@ row-same : (whole : Bool) (look : Look) (row other : Row) → bare_row row ≡ b
     → row_text unsaid whole look row ≡ row_text unsaid whole look other
 unfolding row_text
 row-same whole look row other same =
-    let name = name-bare whole (owner_of row) row.last.resource.body ∙ ap (λ (bare : BareRow). bare_name bare.address) same
+    let name = name-bare whole (owner_of row) row.last.resource.body ∙ ap (λ (bare : BareRow). bare_name bare.0) same
     ∙ sym (name-bare whole (owner_of other) other.last.resource.body) in
-    let lives : row.lives ≡ other.lives = ap (λ (bare : BareRow). bare.lives) same in
-    let servers : row.servers ≡ other.servers = ap (λ (bare : BareRow). bare.servers) same in
-    let captures : row.captures ≡ other.captures = ap (λ (bare : BareRow). bare.captures) same in
-    let heard : row.heard ≡ other.heard = ap (λ (bare : BareRow). bare.heard) same in
+    let lives : row.lives ≡ other.lives = ap (λ (bare : BareRow). bare.1) same in
+    let servers : row.servers ≡ other.servers = ap (λ (bare : BareRow). bare.2) same in
+    let captures : row.captures ≡ other.captures = ap (λ (bare : BareRow). bare.3) same in
+    let heard : row.heard ≡ other.heard = ap (λ (bare : BareRow). bare.4) same in
     rw (name, lives, servers, captures, heard) refl
 
-is_live-same : (axis : Axis) (row other : Row) → bare_row row ≡ bare_row other → is_live axis row.lives ≡ is_live axis other.lives
-is_live-same axis row other same = ap (λ (bare : BareRow). is_live axis bare.lives) same
-
 lives-same : (row other : Row) → bare_row row ≡ bare_row other → lives_in row ≡ lives_in other
-lives-same row other same = ap (λ (bare : BareRow). bare.lives ++ flat_map (λ (lives : List Life). lives) bare.servers) same
+lives-same row other same = ap (λ (bare : BareRow). bare.1 ++ flat_map (λ (lives : List Life). lives) bare.2) same
 
 rows-same : (rows drawn : List Row) → bare_groups rows ≡ bare_groups drawn → map bare_row rows ≡ map bare_row drawn
 rows-same rows drawn same =
@@ -148,7 +150,7 @@ unfolding group_text
 group-same look opened rows others same =
     rw (
       length-same bare_row rows others same,
-      count-same bare_row (λ row. is_live look.axis row.lives) (is_live-same look.axis) rows others same,
+      count_last-same (goes_on look.axis) rows others same,
       flat_map-same bare_row (row_text unsaid false look) (row-same false look) rows others same,
     ) refl
 
@@ -158,7 +160,7 @@ unfolding others_group
 others_group-same look opened names rows others same =
     rw (
       length-same bare_row rows others same,
-      count-same bare_row (λ row. is_live look.axis row.lives) (is_live-same look.axis) rows others same,
+      count_last-same (goes_on look.axis) rows others same,
       flat_map-same bare_row (row_text unsaid true look) (row-same true look) rows others same,
     ) refl
 
@@ -172,7 +174,7 @@ timeline-same axis lanes rows drawn addresses hosts names apart same_groups same
     let are_titled-same : are_titled (rows ++ addresses ++ names) ≡ are_titled (drawn ++ hosts ++ apart) =
     ap (λ (lives : List Life). nat_le (length lives) 1000)
     (flat_map-same bare_row lives_in lives-same (rows ++ addresses ++ names) (drawn ++ hosts ++ apart) all_same) in
-    let look = look_of axis (are_titled (drawn ++ hosts ++ apart)) lanes in
+    let look : Look = record { axis = axis; titled = are_titled (drawn ++ hosts ++ apart); lanes = lanes } in
     let opened = is_open (length drawn + length hosts + length apart) in
     rw (
       are_titled-same,
@@ -228,10 +230,10 @@ addresses-same first (address ∷ addresses) (other ∷ others) same =
 
 server-same : (server other : Server) → bare_server server ≡ bare_server other → server_html unsaid server ≡ server_html unsaid other
 server-same server other same =
-    let priority : server.priority ≡ other.priority = ap (λ (bare : BareServer). bare.priority) same in
-    let weight : server.weight ≡ other.weight = ap (λ (bare : BareServer). bare.weight) same in
-    let port : server.port ≡ other.port = ap (λ (bare : BareServer). bare.port) same in
-    let addresses = addresses-same true server.addresses other.addresses (ap (λ (bare : BareServer). bare.addresses) same) in
+    let priority : server.priority ≡ other.priority = ap (λ (bare : ℕ × ℕ × ℕ × List (Option Body)). bare.0) same in
+    let weight : server.weight ≡ other.weight = ap (λ (bare : ℕ × ℕ × ℕ × List (Option Body)). bare.1) same in
+    let port : server.port ≡ other.port = ap (λ (bare : ℕ × ℕ × ℕ × List (Option Body)). bare.2) same in
+    let addresses = addresses-same true server.addresses other.addresses (ap (λ (bare : ℕ × ℕ × ℕ × List (Option Body)). bare.3) same) in
     rw (priority, weight, port, addresses) refl
 
 servers-same : (servers others : List Server) → map bare_server servers ≡ map bare_server others
@@ -262,11 +264,11 @@ live_row-same : (axis : Axis) (row other : InstanceRow) → bare_live row ≡ ba
     → live_row unsaid axis row ≡ live_row unsaid axis other
 unfolding live_row
 live_row-same axis row other same =
-    let since : row.given.since ≡ other.given.since = ap (λ (bare : BareLive). bare.since) same in
-    let end : bare_end row.given ≡ bare_end other.given = ap (λ (bare : BareLive). bare.end) same in
+    let since : row.given.since ≡ other.given.since = ap (λ (bare : BareLive). bare.0) same in
+    let end : bare_end row.given ≡ bare_end other.given = ap (λ (bare : BareLive). bare.1) same in
     let servers : map bare_server row.instance.servers ≡ map bare_server other.instance.servers =
-    ap (λ (bare : BareLive). bare.servers) same in
-    let texts : map bare_text row.instance.texts ≡ map bare_text other.instance.texts = ap (λ (bare : BareLive). bare.texts) same in
+    ap (λ (bare : BareLive). bare.2) same in
+    let texts : map bare_text row.instance.texts ≡ map bare_text other.instance.texts = ap (λ (bare : BareLive). bare.3) same in
     rw (
       left-same axis.end.nanos row.given other.given end,
       since,

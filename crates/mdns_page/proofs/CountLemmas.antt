@@ -1,5 +1,5 @@
 -- Numbers with commas.
-use Rattle.std.proofs.Common.{◌≡◌, refl, sym, ◌∙◌, ap, ℕ, ◌+◌, ◌/◌, ◌%◌, ◌^◌, ◌<◌, ◌≤◌, ◌==◌, not, Bool, true, false, if◌then◌else◌}
+use Rattle.std.proofs.Common.{◌≡◌, refl, sym, ◌∙◌, ap, ℕ, ◌+◌, ◌/◌, ◌%◌, ◌^◌, ◌<◌, ◌≤◌, ◌==◌, ◌&&◌, nat_lt, not, Bool, true, false, if◌then◌else◌}
 use Rattle.std.proofs.Common.{List, [], ◌∷◌, ◌++◌, length, arith, append_assoc, length-append}
 use Rattle.std.proofs.lemmas.Bool.Decides.{nat_tests}
 use Rattle.std.proofs.lemmas.Fmt.{decimal_is_IsNumeral_wide, decimal_step_wide, length-decimal-le_wide}
@@ -8,7 +8,7 @@ use Rattle.std.specs.Fmt.{decimal}
 use Rattle.std.specs.List.{filter}
 use Rattle.std.specs.Str.Parse.{AllDigits}
 use Rattle.dns_name.specs.Name.{three_digits}
-use Rattle.mdns_page.specs.Counts.{are_threes, commas, in_threes}
+use Rattle.mdns_page.specs.Counts.{commas, in_threes}
 
 -- ---- few digits
 
@@ -25,6 +25,10 @@ commas-few number small =
     few-same (decimal number) (length-decimal-le_wide 3 number (omega arith) (omega (arith, small)) (omega (arith, small)))
 
 -- ---- three digits more
+
+-- a comma stands before so many digits
+abbrev are_threes : ℕ → Bool
+are_threes following = nat_lt 0 following && (following % 3 == 0)
 
 threes-more : (following : ℕ) → 0 < following → are_threes (following + 3) ≡ are_threes following
 threes-more following some = grind (arith, nat_tests, some)

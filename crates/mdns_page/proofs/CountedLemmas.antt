@@ -12,7 +12,7 @@ use Rattle.mdns_lives.specs.Chronicle.{Accounts, Chronicles}
 use Rattle.mdns_lives.specs.Heard.{AreSecondsHeard}
 use Rattle.mdns_cache.specs.Live.{record_of}
 use Rattle.mdns_browse.specs.Services.{AreEach}
-use Rattle.mdns_page.specs.Counted.{AreHeardBy, AreShownBy, IsCounted, is_hearer, shown_seconds}
+use Rattle.mdns_page.specs.Counted.{AreShownBy, IsCounted, shown_seconds}
 use Rattle.mdns_page.specs.Timeline.{Row, counted_lent}
 use Rattle.mdns_page.specs.declared.counted.CountedRow.{CountedRow}
 use Rattle.mdns_page.proofs.LiveLemmas.{each-count}
@@ -48,7 +48,7 @@ module _ {X Y : Type 0} (Is : X → Y → Type 0) where
 
 shown-more : (many : Bool) (captures : List (List SecondHeard)) (seconds : List SecondHeard)
     → shown_seconds many (captures ++ seconds ∷ []) ≡ shown_seconds many captures ++ shown_seconds many (seconds ∷ [])
-shown-more true captures seconds = filter-append is_hearer captures (seconds ∷ [])
+shown-more true captures seconds = filter-append (λ seconds. nat_lt 0 (length seconds)) captures (seconds ∷ [])
 shown-more false captures seconds = refl
 
 -- those of one capture more
@@ -65,7 +65,7 @@ heard-more many key captures i capture shown seconds more within at so_far last 
     let before = so_far pairs.before pairs.are in
     record {
       all = before.all ++ seconds ∷ [];
-      are = subst (λ (es : List (List Hearing)). AreHeardBy es key (before.all ++ seconds ∷ [])) (sym pairs.parts)
+      are = subst (λ (es : List (List Hearing)). AreEach (λ hearings seconds. AreSecondsHeard hearings key seconds) es (before.all ++ seconds ∷ [])) (sym pairs.parts)
           (each-more (λ (heard : List Hearing) (found : List SecondHeard). AreSecondsHeard heard key found) pairs.before before.all
           pairs.last seconds before.are (last pairs.last pairs.is));
       shown = pushed ∙ ap (λ (all : List (List SecondHeard)). all ++ shown_seconds many (seconds ∷ [])) before.shown

@@ -1,5 +1,5 @@
 -- Live instances: their groups, and the text of a row by its pieces.
-use Rattle.std.proofs.Common.{◌≡◌, refl, sym, ◌∙◌, ap, subst, ℕ, suc, ◌+◌, ◌==◌, Bool, true, false, List, [], ◌∷◌, ◌++◌}
+use Rattle.std.proofs.Common.{◌≡◌, refl, sym, ◌∙◌, ap, subst, ℕ, suc, ◌+◌, ◌==◌, Bool, true, false, if◌then◌else◌, List, [], ◌∷◌, ◌++◌}
 use Rattle.std.proofs.Common.{length, map, take, arith, codes}
 use Rattle.std.proofs.lemmas.Bool.Decides.{nat_tests}
 use Rattle.std.proofs.lemmas.List.{append-nil, append_assoc}
@@ -7,18 +7,20 @@ use Rattle.std.specs.List.{filter_map, flat_map}
 use Rattle.std.specs.String.{string_bytes}
 use Rattle.mdns_message.specs.Resource.{Body}
 use Rattle.mdns_join.specs.declared.latest.Latest.{Latest}
+use Rattle.people_text.specs.Moments.{millis_text}
+use Rattle.mdns_browse.specs.Shown.{shown_instance}
 use Rattle.mdns_browse.specs.Services.{AreEach, GivenRow, InstanceRow, instance_row_in}
 use Rattle.mdns_browse.specs.Sheet.{Piece, server_address, server_end, servers_end, instance_text, instance_end}
 use Rattle.mdns_browse.specs.Sheet.{server_pieces, servers_pieces, instance_pieces}
 use Rattle.mdns_browse.specs.declared.instance.Server.{Server}
 use Rattle.mdns_page.specs.declared.axis.Axis.{Axis}
 use Rattle.mdns_page.specs.declared.live_sheet.LiveSheet.{LiveSheet}
-use Rattle.mdns_page.specs.Group.{group_end, grouped, item_begin, item_end, item_last, item_middle}
+use Rattle.mdns_page.specs.Group.{grouped}
 use Rattle.mdns_page.specs.Html.{isolated}
-use Rattle.mdns_page.specs.Live.{live_begin, live_text}
-use Rattle.mdns_page.specs.Live.{address_html, addresses_html, live_group, live_row, row_name, server_html}
-use Rattle.mdns_page.specs.Live.{server_name, servers_html, text_html, type_of}
-use Rattle.mdns_page.specs.LiveSheet.{Adds, Grows, pieces_html, pieces_next, type_begin, unresolved_if}
+use Rattle.mdns_page.specs.Live.{live_text}
+use Rattle.mdns_page.specs.Live.{address_html, addresses_html, given_words, live_group, live_row, server_html}
+use Rattle.mdns_page.specs.Live.{server_line, servers_html, text_html, type_of}
+use Rattle.mdns_page.specs.LiveSheet.{Adds, Grows, pieces_html, pieces_next, type_begin}
 use Rattle.mdns_page.specs.laws.LiveSheet.{pieces-append}
 
 pub each-count : {X Y : Type 0} (Is : X → Y → Type 0) (xs : List X) (ys : List Y) → AreEach Is xs ys → length xs ≡ length ys
@@ -47,12 +49,12 @@ module _ (say : List ℕ → List ℕ) (axis : Axis) where
 
   server_text : (first : Bool) (server : Server) → pieces_html say axis first (server_pieces server) ≡ server_html say server
   server_text first server =
-      ap (λ text. server_name say server.priority server.weight server.port server.target ++ text)
+      ap (λ text. server_line say server.priority server.weight server.port server.target ++ text)
       (pieces-append say axis true (map server_address server.addresses) (server_end ∷ []) ∙ append-nil _
       ∙ addresses_text true server.addresses)
 
   servers_text : (first : Bool) (servers : List Server) → pieces_html say axis first (servers_pieces servers)
-      ≡ servers_html say servers ++ (codes "</div>" ++ item_last)
+      ≡ servers_html say servers ++ (codes "</div>" ++ (codes "<div>"))
   servers_text first [] = simp (append_assoc, append-nil)
   servers_text first (server ∷ servers) =
       let some : (length (server ∷ servers) == 0) ≡ false = grind (arith, nat_tests) in
@@ -61,8 +63,8 @@ module _ (say : List ℕ → List ℕ) (axis : Axis) where
       (servers_end (length (server ∷ servers) == 0) ∷ []))
       (each_html server_pieces (server_html say) server_text first (server ∷ servers))
       ∙ ap (λ (none : Bool). servers_html say (server ∷ servers)
-      ++ ((unresolved_if none ++ codes "</div>" ++ item_last) ++ [])) some
-      ∙ ap (λ text. servers_html say (server ∷ servers) ++ text) (append-nil (codes "</div>" ++ item_last))
+      ++ (((if none then codes "<p>unresolved</p>" else []) ++ codes "</div>" ++ (codes "<div>")) ++ [])) some
+      ∙ ap (λ text. servers_html say (server ∷ servers) ++ text) (append-nil (codes "</div>" ++ codes "<div>"))
 
   texts_text : (first : Bool) (texts : List (List ℕ)) → pieces_html say axis first (map instance_text texts) ≡ flat_map (text_html say) texts
   texts_text first [] = refl
@@ -70,18 +72,18 @@ module _ (say : List ℕ → List ℕ) (axis : Axis) where
 
   rest_text : (first : Bool) (row : InstanceRow)
       → pieces_html say axis first (servers_pieces row.instance.servers ++ (map instance_text row.instance.texts ++ instance_end ∷ []))
-      ≡ (servers_html say row.instance.servers ++ (codes "</div>" ++ item_last))
-      ++ (flat_map (text_html say) row.instance.texts ++ item_end)
+      ≡ (servers_html say row.instance.servers ++ (codes "</div>" ++ (codes "<div>")))
+      ++ (flat_map (text_html say) row.instance.texts ++ (codes "</div></li>\n"))
   rest_text first row =
       let servers = servers_pieces row.instance.servers in
       let after : Bool = pieces_next first servers in
       let texts = map instance_text row.instance.texts in
       pieces-append say axis first servers (texts ++ instance_end ∷ [])
       ∙ ap (λ text. text ++ pieces_html say axis after (texts ++ instance_end ∷ [])) (servers_text first row.instance.servers)
-      ∙ ap (λ text. (servers_html say row.instance.servers ++ (codes "</div>" ++ item_last)) ++ text)
+      ∙ ap (λ text. (servers_html say row.instance.servers ++ (codes "</div>" ++ (codes "<div>"))) ++ text)
       (pieces-append say axis after texts (instance_end ∷ [])
-      ∙ ap (λ text. text ++ (item_end ++ [])) (texts_text after row.instance.texts)
-      ∙ ap (λ text. flat_map (text_html say) row.instance.texts ++ text) (append-nil item_end))
+      ∙ ap (λ text. text ++ ((codes "</div></li>\n") ++ [])) (texts_text after row.instance.texts)
+      ∙ ap (λ text. flat_map (text_html say) row.instance.texts ++ text) (append-nil (codes "</div></li>\n")))
 
   row_parts : (begin name middle div servers close last texts end : List ℕ)
       → (begin ++ name ++ middle ++ div) ++ ((servers ++ (close ++ last)) ++ (texts ++ end))
@@ -91,9 +93,9 @@ module _ (say : List ℕ → List ℕ) (axis : Axis) where
   row_text : (first : Bool) (row : InstanceRow) → pieces_html say axis first (instance_pieces row) ≡ live_row say axis row
   unfolding live_row
   row_text first row =
-      ap (λ text. (item_begin ++ row_name say axis row.given row.instance.name ++ item_middle ++ codes "<div>") ++ text) (rest_text first row)
-      ∙ row_parts item_begin (row_name say axis row.given row.instance.name) item_middle (codes "<div>")
-      (servers_html say row.instance.servers) (codes "</div>") item_last (flat_map (text_html say) row.instance.texts) item_end
+      ap (λ text. ((codes "<li><div>") ++ (say (shown_instance row.instance.name) ++ given_words axis row.given) ++ (codes "</div>") ++ codes "<div>") ++ text) (rest_text first row)
+      ∙ row_parts (codes "<li><div>") (say (shown_instance row.instance.name) ++ given_words axis row.given) (codes "</div>") (codes "<div>")
+      (servers_html say row.instance.servers) (codes "</div>") (codes "<div>") (flat_map (text_html say) row.instance.texts) (codes "</div></li>\n")
 
   pub rows_html : (first : Bool) (rows : List InstanceRow)
       → pieces_html say axis first (flat_map instance_pieces rows) ≡ flat_map (live_row say axis) rows
@@ -103,7 +105,7 @@ module _ (say : List ℕ → List ℕ) (axis : Axis) where
 
 -- a group by the record of its first row
 group-by_owner : (say : List ℕ → List ℕ) (axis : Axis) (opened : Bool) (lasts : List Latest) (given : GivenRow) (more : List GivenRow)
-    → type_begin say opened (type_of given) ++ flat_map (live_row say axis) (filter_map (instance_row_in lasts) (given ∷ more)) ++ group_end
+    → type_begin say opened (type_of given) ++ flat_map (live_row say axis) (filter_map (instance_row_in lasts) (given ∷ more)) ++ (codes "</ul></details>\n")
     ≡ live_group say axis opened lasts (given ∷ more)
 unfolding live_group type_begin
 group-by_owner say axis opened lasts given more = refl
@@ -111,13 +113,13 @@ group-by_owner say axis opened lasts given more = refl
 pub group-at : {R : Type 0} (value : R → GivenRow) (say : List ℕ → List ℕ) (axis : Axis) (opened : Bool) (lasts : List Latest) (rs : List R)
     (first : R) (others : List R) (n : ℕ) → rs ≡ first ∷ others
     → type_begin say opened (type_of (value first)) ++ flat_map (live_row say axis) (filter_map (instance_row_in lasts)
-    (map value (take (1 + n) rs))) ++ group_end ≡ live_group say axis opened lasts (map value (take (1 + n) rs))
+    (map value (take (1 + n) rs))) ++ (codes "</ul></details>\n") ≡ live_group say axis opened lasts (map value (take (1 + n) rs))
 group-at value say axis opened lasts rs first others n split =
     let one : 1 + n ≡ suc n = omega arith in
     let parts : map value (take (1 + n) rs) ≡ value first ∷ map value (take n others) =
     ap (λ rs. map value (take (1 + n) rs)) split ∙ ap (λ k. map value (take k (first ∷ others))) one in
     subst (λ given. type_begin say opened (type_of (value first)) ++ flat_map (live_row say axis) (filter_map (instance_row_in lasts) given)
-    ++ group_end ≡ live_group say axis opened lasts given) (sym parts)
+    ++ (codes "</ul></details>\n") ≡ live_group say axis opened lasts given) (sym parts)
     (group-by_owner say axis opened lasts (value first) (map value (take n others)))
 
 regroup : (old begin rows end : List ℕ) → ((old ++ begin) ++ rows) ++ end ≡ old ++ (begin ++ rows ++ end)
@@ -126,17 +128,17 @@ regroup old begin rows end = simp append_assoc
 -- a group by the parts that are written of it
 pub group_by_parts : (opened : Bool) (owner : List ℕ) (rows : List InstanceRow) (old begun walked : LiveSheet) (new : LiveSheet)
     → Adds old (type_begin isolated opened owner) begun → Grows begun (flat_map instance_pieces rows) walked → new.axis ≡ walked.axis
-    → string_bytes new.text ≡ string_bytes walked.text ++ group_end
-    → Adds old (type_begin isolated opened owner ++ flat_map (live_row isolated old.axis) rows ++ group_end) new
+    → string_bytes new.text ≡ string_bytes walked.text ++ (codes "</ul></details>\n")
+    → Adds old (type_begin isolated opened owner ++ flat_map (live_row isolated old.axis) rows ++ (codes "</ul></details>\n")) new
 group_by_parts opened owner rows old begun walked new begin walk axis end = record {
   axis = axis ∙ walk.axis ∙ begin.axis;
   written =
       end
-      ∙ ap (λ text. text ++ group_end)
+      ∙ ap (λ text. text ++ (codes "</ul></details>\n"))
       (walk.written ∙ ap (λ text. string_bytes begun.text ++ text) (rows_html isolated begun.axis begun.first rows)
       ∙ ap (λ text. text ++ flat_map (live_row isolated begun.axis) rows) begin.written
       ∙ ap (λ axis. (string_bytes old.text ++ type_begin isolated opened owner) ++ flat_map (live_row isolated axis) rows) begin.axis)
-      ∙ regroup (string_bytes old.text) (type_begin isolated opened owner) (flat_map (live_row isolated old.axis) rows) group_end;
+      ∙ regroup (string_bytes old.text) (type_begin isolated opened owner) (flat_map (live_row isolated old.axis) rows) (codes "</ul></details>\n");
 }
 
 -- ---- the section
@@ -151,9 +153,10 @@ pub servers_end_by_parts : (old none close last a b new : List ℕ) → a ≡ ol
     → new ≡ old ++ ((none ++ close ++ last) ++ [])
 servers_end_by_parts old none close last a b new one two three = rw (three, two, one) (simp (append_assoc, append-nil))
 
-pub begin_by_parts : (old first time last a b new : List ℕ) → a ≡ old ++ first → b ≡ a ++ time → new ≡ b ++ last
-    → new ≡ old ++ (first ++ time ++ last)
-begin_by_parts old first time last a b new one two three = rw (three, two, one) (simp append_assoc)
+-- what the section begins with
+abbrev live_begin : Axis → List ℕ
+live_begin axis =
+    codes "<h2 id=\"live\">What was live at <time>" ++ millis_text axis.end.nanos ++ codes "</time></h2>\n<div class=\"g l\">\n"
 
 -- the section by the parts that are written of it
 pub live_by_parts : (axis : Axis) (opened : Bool) (lasts : List Latest) (given : List GivenRow) (old begun new : List ℕ)

@@ -1,11 +1,11 @@
 -- Strings of a text, one a line.
-use Rattle.std.proofs.Common.{◌≡◌, refl, sym, ◌∙◌, ap, ℕ, Bool, false, List, [], ◌∷◌, ◌++◌}
+use Rattle.std.proofs.Common.{◌≡◌, refl, sym, ◌∙◌, ap, ℕ, Bool, false, if◌then◌else◌, List, [], ◌∷◌, ◌++◌}
 use Rattle.std.proofs.lemmas.List.{append-nil, append_assoc}
 use Rattle.mdns_message.specs.TextData.{strings_of}
 use Rattle.mdns_browse.specs.Json.{first_after}
 use Rattle.mdns_browse.specs.Shown.{shown_string, shown_strings}
 use Rattle.mdns_browse.specs.laws.Objects.{first_after-append}
-use Rattle.mdns_page.specs.Live.{line_feed_unless, lines}
+use Rattle.mdns_page.specs.Live.{lines}
 
 -- the words of one string, and those of the others
 strings-cons : (bytes string after : List ℕ) → strings_of bytes ≡ string ∷ strings_of after
@@ -20,9 +20,9 @@ first_after-false (x ∷ xs) = refl
 lines-append : (first : Bool) (xs ys : List (List ℕ)) → lines first (xs ++ ys) ≡ lines first xs ++ lines (first_after first xs) ys
 lines-append first [] ys = refl
 lines-append first (x ∷ xs) ys =
-    ap (λ text. line_feed_unless first ++ x ++ text)
+    ap (λ text. (if first then [] else 10 ∷ []) ++ x ++ text)
     (lines-append false xs ys ∙ ap (λ next. lines false xs ++ lines next ys) (first_after-false xs))
-    ∙ sym (append_assoc (line_feed_unless first ++ x) (lines false xs) (lines false ys))
+    ∙ sym (append_assoc ((if first then [] else 10 ∷ []) ++ x) (lines false xs) (lines false ys))
 
 -- a string written takes its word from what is left to write
 pub lines_left-step : (old new total bytes string after : List ℕ) (first next : Bool) → strings_of bytes ≡ string ∷ strings_of after

@@ -5,7 +5,7 @@ use Rattle.std.proofs.lemmas.Nat.{le-div}
 use Rattle.std.specs.List.{cons_option, filter_map}
 use Rattle.mdns_lives.specs.Lives.{AreApart, AreApartAfter}
 use Rattle.mdns_lives.specs.declared.life.Life.{Life}
-use Rattle.mdns_page.specs.Axis.{place, place_end, unit_of}
+use Rattle.mdns_page.specs.Axis.{place, place_end}
 use Rattle.mdns_page.specs.Picture.{AreInOrder, bar_mark, differing, goes_on, is_for, is_same, mark, mark_of}
 use Rattle.mdns_page.specs.declared.axis.Axis.{Axis}
 use Rattle.mdns_page.specs.declared.picture.Mark.{Mark}
@@ -19,7 +19,7 @@ pub place-mono : (axis : Axis) (a b : ℕ) → a ≤ b → place axis a ≤ plac
 unfolding place
 place-mono axis a b low =
     let start = axis.start.nanos in let end = axis.end.nanos in
-    quotient-mono (min a end - start) (min b end - start) (unit_of axis) (omega arith) (omega (arith, low))
+    quotient-mono (min a end - start) (min b end - start) ((end - start) / 1000 + 1) (omega arith) (omega (arith, low))
 
 -- where a mark of a life that ended by then begins: a pin is at its end
 abbrev BeginsBy : Axis → ℕ → Stroke → Mark → Type 0

@@ -40,7 +40,7 @@ use Rattle.mdns_page.specs.Axis.{dates_of}
 use Rattle.mdns_page.specs.declared.axis.Axis.{Axis}
 use Rattle.mdns_page.specs.declared.kept.Kind.{Kind}
 use Rattle.mdns_page.specs.declared.kept.Kind.TheVariants.{Addresses, Instances, Names}
-use Rattle.mdns_page.specs.Counted.{AreHeardBy, IsCounted, shown_seconds}
+use Rattle.mdns_page.specs.Counted.{IsCounted, shown_seconds}
 use Rattle.mdns_page.specs.Hosts.{is_large}
 use Rattle.mdns_page.specs.Html.{isolated}
 use Rattle.mdns_page.specs.Page.{page}
@@ -129,7 +129,7 @@ module _ (each : List (List Hearing)) (rows : List (Latest × List Life)) where
       let seconds : shown.all ≡ again.all =
       one-each (λ (hearings : List Hearing) (seconds : List SecondHeard). AreSecondsHeard hearings (record_of a.last) seconds)
       (λ hearings x y are again. one-seconds _ x y are again) each shown.all again.all shown.are
-      (subst (λ (l : Latest). AreHeardBy each (record_of l) again.all) (sym last) again.are) in
+      (subst (λ (l : Latest). AreEach (λ hearings seconds. AreSecondsHeard hearings (record_of l) seconds) each again.all) (sym last) again.are) in
       let heard : a.heard ≡ b.heard = shown.shown ∙ ap (shown_seconds (nat_lt 4 (length each))) seconds ∙ sym again.shown in
       let servers : a.servers ≡ b.servers =
       served ∙ ap (λ (l : Latest). servers_of rows (body_of l)) last ∙ sym other in

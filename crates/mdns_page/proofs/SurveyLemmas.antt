@@ -11,7 +11,7 @@ use Rattle.mdns_lives.specs.Chronicle.{Chronicles}
 use Rattle.mdns_lives.specs.Since.{AreLiveSince, all_since_rows, live_row}
 use Rattle.mdns_lives.specs.declared.life.Life.{Life}
 use Rattle.mdns_browse.specs.declared.about.Subject.{Subject}
-use Rattle.mdns_browse.specs.Services.{AreAscending, AreEach}
+use Rattle.mdns_browse.specs.Services.{AreAscending, AreEach, GivenRow}
 use Rattle.mdns_survey.specs.declared.each.EachChronicling.{EachChronicling}
 use Rattle.mdns_survey.specs.declared.reading.Reading.{Reading}
 use Rattle.mdns_survey.specs.declared.request.AsOf.{AsOf}
@@ -24,7 +24,7 @@ use Rattle.mdns_survey.specs.Surveys.{AllLeft}
 use Rattle.mdns_survey.proofs.ContainsLemmas.{contains-after, contains-cons, contains-first}
 use Rattle.mdns_page.specs.Axis.{IsAxis}
 use Rattle.mdns_page.specs.declared.axis.Axis.{Axis}
-use Rattle.mdns_page.specs.Survey.{AreLiveGiven, IsSinceKnown, WritesPage, asked_page, given_of_since, last_of, live_given}
+use Rattle.mdns_page.specs.Survey.{AreLiveGiven, IsSinceKnown, WritesPage, asked_page, given_of_since, live_given}
 use Rattle.mdns_page.specs.Survey.{record_given}
 
 -- what holds of the value of each element
@@ -41,12 +41,12 @@ mapped-all f P (x ∷ xs) each y among = elim (contains-cons (f x) (map f xs) y 
 module _ (heard : List Hearing) (axis : Axis) (rows : List (Latest × List Life))
     (are : AreLiveSince heard axis.end.nanos (all_since_rows axis.end.nanos rows)) where
   -- the last hearings of live records are in key order
-  pub live-ascending : AreAscending (map last_of (live_given axis rows))
+  pub live-ascending : AreAscending (map (λ (row : GivenRow). row.last) (live_given axis rows))
   live-ascending =
       let since = all_since_rows axis.end.nanos rows in
       subst (IsStrictlySortedBy key_cmp)
-      (map-map (λ (row : Latest × ℕ). record_of row.0) live_row since ∙ sym (map-map record_of (λ row. last_of (given_of_since row)) since)
-      ∙ ap (map record_of) (sym (map-map last_of given_of_since since))) are.records.ascending
+      (map-map (λ (row : Latest × ℕ). record_of row.0) live_row since ∙ sym (map-map record_of (λ row. (given_of_since row).last) since)
+      ∙ ap (map record_of) (sym (map-map (λ (row : GivenRow). row.last) given_of_since since))) are.records.ascending
 
   pub live-since : AreLiveGiven heard axis.end.nanos (live_given axis rows)
   live-since =

@@ -7,7 +7,7 @@ use Rattle.std.proofs.lemmas.List.{length-append}
 use Rattle.std.proofs.lemmas.List.Folds.{flat_map-map, length-flat_map-take}
 use Rattle.std.specs.List.{flat_map}
 use Rattle.mdns_lives.specs.declared.life.Life.{Life}
-use Rattle.mdns_page.specs.Timeline.{Row, lives_in, lives_of}
+use Rattle.mdns_page.specs.Timeline.{Row, lives_in}
 use Rattle.mdns_page.specs.Titles.{IsLess}
 
 module _ {X : Type 0} (lives : X → List Life) (xs : List X) (i left count : ℕ) (x : X) (within : i < length xs) (at : x ≡ get_or xs i x)
@@ -20,12 +20,12 @@ module _ {X : Type 0} (lives : X → List Life) (xs : List X) (i left count : �
       omega (arith, most, here, counted, more)
 
 module _ {R : Type 0} (lent : R → Row) (rows : List R) (i left count : ℕ) (row : R) (within : i < length rows) (at : row ≡ get_or rows i row)
-    (counted : left + length (lives_of (map lent (take i rows))) ≡ count) where
+    (counted : left + length (flat_map lives_in (map lent (take i rows))) ≡ count) where
   counted-lent : left + length (flat_map (λ r. lives_in (lent r)) (take i rows)) ≡ count
   counted-lent = ap (λ lives. left + length lives) (sym (flat_map-map lives_in lent (take i rows))) ∙ counted
 
   -- a row has more lives than are left of so many
-  pub too-many : left < length (lives_in (lent row)) → count < length (lives_of (map lent rows))
+  pub too-many : left < length (lives_in (lent row)) → count < length (flat_map lives_in (map lent rows))
   too-many more =
       subst (λ lives. count < length lives) (sym (flat_map-map lives_in lent rows))
       (lives-many (λ r. lives_in (lent r)) rows i left count row within at counted-lent more)
@@ -46,20 +46,20 @@ less-parts count own more all (Some rest) few parts is = omega (arith, few, part
 -- ---- the rows of several lists
 
 -- what is left after the rows of a list more
-pub less-more : (rows others : List Row) (count left : ℕ) (rest : Option ℕ) → IsLess count (length (lives_of rows)) (Some left)
-    → IsLess left (length (lives_of others)) rest → IsLess count (length (lives_of (rows ++ others))) rest
+pub less-more : (rows others : List Row) (count left : ℕ) (rest : Option ℕ) → IsLess count (length (flat_map lives_in rows)) (Some left)
+    → IsLess left (length (flat_map lives_in others)) rest → IsLess count (length (flat_map lives_in (rows ++ others))) rest
 less-more rows others count left rest first second =
-    let both = ap length (flat_map-append lives_in rows others) ∙ length-append (lives_of rows) (lives_of others) in
-    let counted : left + length (lives_of rows) ≡ count = first in
-    less-parts count (length (lives_of rows)) (length (lives_of others)) (length (lives_of (rows ++ others))) rest
+    let both = ap length (flat_map-append lives_in rows others) ∙ length-append (flat_map lives_in rows) (flat_map lives_in others) in
+    let counted : left + length (flat_map lives_in rows) ≡ count = first in
+    less-parts count (length (flat_map lives_in rows)) (length (flat_map lives_in others)) (length (flat_map lives_in (rows ++ others))) rest
     (omega (arith, counted)) both
-    (subst (λ n. IsLess n (length (lives_of others)) rest) (omega (arith, counted)) second)
+    (subst (λ n. IsLess n (length (flat_map lives_in others)) rest) (omega (arith, counted)) second)
 
 -- nothing is left after the rows of a list more, where nothing was left before
-pub less-none : (rows others : List Row) (count : ℕ) → IsLess count (length (lives_of rows)) None
-    → IsLess count (length (lives_of (rows ++ others))) None
+pub less-none : (rows others : List Row) (count : ℕ) → IsLess count (length (flat_map lives_in rows)) None
+    → IsLess count (length (flat_map lives_in (rows ++ others))) None
 less-none rows others count few =
-    omega (arith, few, ap length (flat_map-append lives_in rows others), length-append (lives_of rows) (lives_of others))
+    omega (arith, few, ap length (flat_map-append lives_in rows others), length-append (flat_map lives_in rows) (flat_map lives_in others))
 
 -- all have few lives, if some count is left
 pub few-by : (n : ℕ) (left : Option ℕ) (is : Bool) → is ≡ is_some left → IsLess 1000 n left → is ≡ nat_le n 1000

@@ -9,13 +9,9 @@ use Rattle.mdns_page.specs.declared.axis.Axis.{Axis}
 use Rattle.mdns_page.specs.declared.axis.Dates.{Dates}
 use Rattle.mdns_page.specs.declared.axis.Dates.TheVariants.{Omitted, WithoutYear, Whole}
 
--- the nanoseconds of a place: the axis has 1000 places
-abbrev pub unit_of : Axis → ℕ
-unit_of axis = (axis.end.nanos - axis.start.nanos) / 1000 + 1
-
--- the place of a moment; one after the end has the place of the end, one before the start that of the start
+-- the place of a moment, from 0 on, of fewer than 1000; one after the end has the place of the end, one before the start that of the start
 unfoldable pub place : Axis → ℕ → ℕ
-place axis nanos = (min nanos axis.end.nanos - axis.start.nanos) / unit_of axis
+place axis nanos = (min nanos axis.end.nanos - axis.start.nanos) / ((axis.end.nanos - axis.start.nanos) / 1000 + 1)
 
 -- where a bar ends: 3 places after its begin at least, so that a short life stays visible
 unfoldable pub place_end : Axis → ℕ → ℕ → ℕ
@@ -24,9 +20,6 @@ place_end axis from until = max (place axis until) (place axis from + 3)
 -- two moments are of one date
 abbrev pub is_same_date : ℕ → ℕ → Bool
 is_same_date a b = seconds_of a / 86400 == seconds_of b / 86400
-
-abbrev pub is_one_day : Axis → Bool
-is_one_day axis = is_same_date axis.start.nanos axis.end.nanos
 
 -- the capture began to record by the end of the axis; one of a moment that is asked for may have begun later
 abbrev pub has_begun : Axis → Span → Bool
@@ -49,26 +42,17 @@ pub record IsAxis (as_of : AsOf) (moments : List Moment) (axis : Axis) : Type 0 
 
 -- a date, with its year where the page needs it: `11-22`, `2026-11-22`
 abbrev pub day_text : Dates → ℕ → List ℕ
-day_text Omitted nanos = month_day_text nanos
-day_text WithoutYear nanos = month_day_text nanos
 day_text Whole nanos = date_text nanos
-
--- what stands before a time of day: a date where the page needs it, and a space
-abbrev pub date_before : Dates → ℕ → List ℕ
-date_before Omitted nanos = []
-date_before WithoutYear nanos = day_text WithoutYear nanos ++ 32 ∷ []
-date_before Whole nanos = day_text Whole nanos ++ 32 ∷ []
+day_text _ nanos = month_day_text nanos
 
 -- a moment in words, to the second: `07:28:19`, `11-22 07:28:19` or `2026-11-22 07:28:19`, as the page needs it
-unfoldable pub short_text : Axis → ℕ → List ℕ
-short_text axis nanos = date_before axis.dates nanos ++ clock_text nanos
-
--- the end of a time that began at a moment, without the date if both are of one
-unfoldable pub until_text : Axis → ℕ → ℕ → List ℕ
-until_text axis from until = if is_same_date from until then clock_text until else short_text axis until
+unfoldable pub short_text : Dates → ℕ → List ℕ
+short_text Omitted nanos = clock_text nanos
+short_text WithoutYear nanos = month_day_text nanos ++ 32 ∷ clock_text nanos
+short_text Whole nanos = date_text nanos ++ 32 ∷ clock_text nanos
 
 -- the date or the two dates of the axis: `2026-11-22`, `2026-11-22 to 2026-11-24`
 unfoldable pub days_text : Axis → List ℕ
 days_text axis =
-    if is_one_day axis then date_text axis.start.nanos
-    else date_text axis.start.nanos ++ codes " to " ++ date_text axis.end.nanos
+    date_text axis.start.nanos
+    ++ (if is_same_date axis.start.nanos axis.end.nanos then [] else codes " to " ++ date_text axis.end.nanos)

@@ -36,22 +36,12 @@ bare_address (Ptr target) = None
 bare_address (Txt bytes) = None
 bare_address (Srv priority weight port target) = None
 
-pub record BareRow : Type 0 where
-  pub address : Option Body
-  pub lives : List Life
-  pub servers : List (List Life)
-  pub captures : ℕ
-  pub heard : List (List SecondHeard)
+abbrev pub BareRow : Type 0
+BareRow = Option Body × List Life × List (List Life) × ℕ × List (List SecondHeard)
 
 -- all but the names in the record
 abbrev pub bare_row : Row → BareRow
-bare_row row = record {
-  address = bare_address row.last.resource.body;
-  lives = row.lives;
-  servers = row.servers;
-  captures = row.captures;
-  heard = row.heard;
-}
+bare_row row = (bare_address row.last.resource.body, row.lives, row.servers, row.captures, row.heard)
 
 -- the same of rows in groups by type
 abbrev pub bare_groups : List Row → List (List BareRow)
@@ -63,20 +53,9 @@ bare_groups rows = map (map bare_row) (grouped owner_of rows)
 abbrev pub bare_end : GivenRow → Option ℕ
 bare_end given = if given.last.ttl == 0 then None else Some given.end
 
-pub record BareServer : Type 0 where
-  pub priority : ℕ
-  pub weight : ℕ
-  pub port : ℕ
-  pub addresses : List (Option Body)
-
 -- all but the name of a server
-abbrev pub bare_server : Server → BareServer
-bare_server server = record {
-  priority = server.priority;
-  weight = server.weight;
-  port = server.port;
-  addresses = map bare_address server.addresses;
-}
+abbrev pub bare_server : Server → ℕ × ℕ × ℕ × List (Option Body)
+bare_server server = (server.priority, server.weight, server.port, map bare_address server.addresses)
 
 -- some string isn't empty
 abbrev pub is_some_filled : List (List ℕ) → Bool
@@ -88,20 +67,12 @@ is_some_filled ((byte ∷ bytes) ∷ strings) = true
 abbrev pub bare_text : List ℕ → Bool
 bare_text text = is_some_filled (strings_of text)
 
-pub record BareLive : Type 0 where
-  pub since : Option ℕ
-  pub end : Option ℕ
-  pub servers : List BareServer
-  pub texts : List Bool
+abbrev pub BareLive : Type 0
+BareLive = Option ℕ × Option ℕ × List (ℕ × ℕ × ℕ × List (Option Body)) × List Bool
 
 -- all but the names and texts of an instance
 abbrev pub bare_live : InstanceRow → BareLive
-bare_live row = record {
-  since = row.given.since;
-  end = bare_end row.given;
-  servers = map bare_server row.instance.servers;
-  texts = map bare_text row.instance.texts;
-}
+bare_live row = (row.given.since, bare_end row.given, map bare_server row.instance.servers, map bare_text row.instance.texts)
 
 -- the same of the instances that records give, in groups by type
 abbrev pub bare_group : List Latest → List GivenRow → List BareLive

@@ -13,6 +13,7 @@ use Rattle.mdns_page.specs.Axis.{has_begun, place, place_end, short_text}
 use Rattle.mdns_page.specs.Counts.{commas, count_text}
 use Rattle.mdns_page.specs.Group.{axis_picture, group, item}
 use Rattle.mdns_page.specs.declared.axis.Axis.{Axis}
+use Rattle.mdns_page.specs.declared.axis.Dates.{Dates}
 use Rattle.mdns_page.specs.declared.captures.CaptureFacts.{CaptureFacts}
 
 -- what is known of a capture: the name of its file, its summary, and the span of its packets, if there are any
@@ -28,11 +29,12 @@ facts_lent capture = record { name = capture.name.now; summary = capture.summary
 abbrev pub spans_of : List Facts → List (Option Span)
 spans_of captures = map (λ (capture : Facts). capture.span) captures
 
--- ---- the parts of a row
+-- a text for each capture, in order, by its index, from this one on
+abbrev pub each_from : {C : Type 0} → (ℕ → C → List ℕ) → (index : ℕ) → List C → List ℕ
+each_from text index [] = []
+each_from text index (capture ∷ captures) = text index capture ++ each_from text (index + 1) captures
 
--- so many captures that their numbers are plain ones
-abbrev pub are_many : List Facts → Bool
-are_many captures = nat_lt 4 (length captures)
+-- ---- the parts of a row
 
 -- the number of a capture, from 1 on: a circled digit where there are few captures
 unfoldable pub number_text : Bool → ℕ → List ℕ
@@ -50,14 +52,11 @@ recorded_stroke axis span =
     codes "<path class=\"r\" d=\"M" ++ decimal (place axis span.first.nanos) ++ codes " 19H"
     ++ decimal (place_end axis span.first.nanos span.last.nanos) ++ codes "\">"
 
--- what that stroke says: the time to the millisecond
-unfoldable pub recorded_title : (first last : ℕ) → List ℕ
-recorded_title first last =
-    codes "<title>recorded " ++ millis_text first ++ codes " to " ++ millis_text last ++ codes "</title>"
-
--- both
-abbrev pub recorded_bar : Axis → Span → List ℕ
-recorded_bar axis span = recorded_stroke axis span ++ recorded_title span.first.nanos span.last.nanos ++ codes "</path>"
+-- the same, and what it says: that time to the millisecond
+unfoldable pub recorded_bar : Axis → Span → List ℕ
+recorded_bar axis span =
+    recorded_stroke axis span ++ codes "<title>recorded " ++ millis_text span.first.nanos ++ codes " to "
+    ++ millis_text span.last.nanos ++ codes "</title></path>"
 
 -- the same; nothing where there are no packets, or only packets after the end of the axis
 abbrev pub recorded_path : Axis → Option Span → List ℕ
@@ -70,10 +69,9 @@ recorded_picture axis span =
     ++ recorded_path axis span ++ codes "</svg>"
 
 -- when a capture recorded, to the second, also where that is after the end of the axis
-abbrev pub recorded_words : Axis → Option Span → List ℕ
-recorded_words axis None = codes "no packets"
-recorded_words axis (Some span) =
-    short_text axis span.first.nanos ++ codes " &#8211; " ++ short_text axis span.last.nanos
+abbrev pub recorded_words : Dates → Option Span → List ℕ
+recorded_words dates None = codes "no packets"
+recorded_words dates (Some span) = short_text dates span.first.nanos ++ codes " &#8211; " ++ short_text dates span.last.nanos
 
 -- how a capture ends
 unfoldable pub ending_words : Ending → List ℕ
@@ -88,41 +86,21 @@ outcomes_text tally =
 
 -- ---- rows
 
--- a capture's number, the name of its file, and how much is in it; `say` is how text of the network is written
-abbrev pub name_words : (List ℕ → List ℕ) → Bool → ℕ → Facts → List ℕ
-name_words say many index capture =
-    number_text many index ++ codes "&#160;" ++ say (shown capture.name) ++ sizes_text capture.summary.tally
-
--- when it recorded, how it ends, and what its packets were
-abbrev pub capture_words : Axis → Facts → List ℕ
-capture_words axis capture =
-    codes "<p>" ++ recorded_words axis capture.span ++ 32 ∷ ending_words capture.summary.ending ++ codes "</p>"
-    ++ outcomes_text capture.summary.tally
-
-unfoldable pub capture_text : (List ℕ → List ℕ) → Axis → Bool → ℕ → Facts → List ℕ
+-- a capture's number, the name of its file, and how much is in it, when it recorded, how it ends, and what its packets were; `say` is
+-- how text of the network is written
+unfoldable pub capture_text : (List ℕ → List ℕ) → Axis → (many : Bool) → (index : ℕ) → Facts → List ℕ
 capture_text say axis many index capture =
-    item (name_words say many index capture) (recorded_picture axis capture.span) (capture_words axis capture)
-
--- captures from an index on
-abbrev pub captures_from : (List ℕ → List ℕ) → Axis → Bool → ℕ → List Facts → List ℕ
-captures_from say axis many index [] = []
-captures_from say axis many index (capture ∷ captures) =
-    capture_text say axis many index capture ++ captures_from say axis many (index + 1) captures
+    item (number_text many index ++ codes "&#160;" ++ say (shown capture.name) ++ sizes_text capture.summary.tally)
+    (recorded_picture axis capture.span)
+    (codes "<p>" ++ recorded_words axis.dates capture.span ++ 32 ∷ ending_words capture.summary.ending ++ codes "</p>"
+    ++ outcomes_text capture.summary.tally)
 
 -- ---- the whole
 
--- how many captures there are
-unfoldable pub captures_count : ℕ → List ℕ
-captures_count count = codes "<bdi>" ++ count_text count (codes "capture") (codes "captures") ++ codes "</bdi>"
-
-unfoldable pub captures_begin : List ℕ
-captures_begin = codes "<h2 id=\"captures\">Captures</h2>\n<div class=\"g\">\n"
-
--- the captures, each with when it recorded and how it ends
-unfoldable pub captures_group : (List ℕ → List ℕ) → Axis → List Facts → List ℕ
-captures_group say axis captures =
-    group true (captures_count (length captures)) axis_picture (codes "recorded, and how the file ends")
-    (captures_from say axis (are_many captures) 0 captures)
-
-abbrev pub captures_text : (List ℕ → List ℕ) → Axis → List Facts → List ℕ
-captures_text say axis captures = captures_begin ++ captures_group say axis captures ++ codes "</div>\n"
+-- the captures, and how many there are; where they are many, their numbers are plain ones
+unfoldable pub captures_text : (List ℕ → List ℕ) → Axis → List Facts → List ℕ
+captures_text say axis captures =
+    codes "<h2 id=\"captures\">Captures</h2>\n<div class=\"g\">\n"
+    ++ group true (codes "<bdi>" ++ count_text (length captures) (codes "capture") (codes "captures") ++ codes "</bdi>") axis_picture
+    (codes "recorded, and how the file ends") (each_from (capture_text say axis (nat_lt 4 (length captures))) 0 captures)
+    ++ codes "</div>\n"

@@ -9,23 +9,15 @@ use Rattle.mdns_lives.specs.Heard.{AreSecondsHeard}
 use Rattle.mdns_lives.specs.declared.seconds_heard.SecondHeard.{SecondHeard}
 use Rattle.mdns_page.specs.Timeline.{Row}
 
--- The seconds in which each capture heard the record, by its hearings. Hosts say a record at most once a second (RFC 6762,
--- section 6).
-abbrev pub AreHeardBy : List (List Hearing) → Key → List (List SecondHeard) → Type 0
-AreHeardBy each key captures = AreEach (λ heard seconds. AreSecondsHeard heard key seconds) each captures
-
--- the capture that has these seconds heard the record
-abbrev pub is_hearer : List SecondHeard → Bool
-is_hearer seconds = nat_lt 0 (length seconds)
-
 -- of the seconds of each capture those that are shown: where there are many captures, only those of captures that heard the record
 abbrev pub shown_seconds : (many : Bool) → List (List SecondHeard) → List (List SecondHeard)
-shown_seconds many captures = if many then filter is_hearer captures else captures
+shown_seconds many captures = if many then filter (λ seconds. nat_lt 0 (length seconds)) captures else captures
 
--- the seconds in which captures heard the record, of those that are shown
+-- Of the seconds in which each capture heard the record, by its hearings, those that are shown. Hosts say a record at most once a
+-- second (RFC 6762, section 6).
 pub record AreShownBy (many : Bool) (each : List (List Hearing)) (key : Key) (heard : List (List SecondHeard)) : Type 0 where
   pub all : List (List SecondHeard)
-  pub are : AreHeardBy each key all
+  pub are : AreEach (λ hearings seconds. AreSecondsHeard hearings key seconds) each all
   pub shown : heard ≡ shown_seconds many all
 
 -- the row counts the captures, and has the seconds of its record; of more than four captures only of those that heard it

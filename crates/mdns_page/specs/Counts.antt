@@ -2,14 +2,11 @@
 use Rattle.std.specs.Prelude.{ℕ, ◌%◌, ◌==◌, ◌&&◌, nat_lt, Bool, if◌then◌else◌, List, [], ◌∷◌, ◌++◌, codes, length}
 use Rattle.std.specs.Fmt.{decimal}
 
--- a comma stands between digits where whole groups of three follow
-abbrev pub are_threes : ℕ → Bool
-are_threes following = nat_lt 0 following && (following % 3 == 0)
-
 -- digits in groups of three, counted from the right, with commas between them
 abbrev pub in_threes : List ℕ → List ℕ
 in_threes [] = []
-in_threes (digit ∷ digits) = digit ∷ (if are_threes (length digits) then 44 ∷ in_threes digits else in_threes digits)
+in_threes (digit ∷ digits) =
+    digit ∷ (if nat_lt 0 (length digits) && (length digits % 3 == 0) then 44 ∷ in_threes digits else in_threes digits)
 
 -- a number with commas between thousands: `1,234`
 unfoldable pub commas : ℕ → List ℕ

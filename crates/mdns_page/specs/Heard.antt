@@ -2,7 +2,7 @@
 use Rattle.std.specs.Prelude.{ℕ, ◌+◌, ◌==◌, nat_lt, Bool, false, if◌then◌else◌, List, [], ◌∷◌, ◌++◌, codes, length, sum_by}
 use Rattle.std.specs.List.{count_by}
 use Rattle.mdns_lives.specs.declared.seconds_heard.SecondHeard.{SecondHeard}
-use Rattle.mdns_page.specs.Captures.{number_text}
+use Rattle.mdns_page.specs.Captures.{each_from, number_text}
 use Rattle.mdns_page.specs.Counts.{commas}
 use Rattle.mdns_page.specs.Lanes.{is_goodbye}
 
@@ -21,18 +21,10 @@ unfoldable pub times_text : (count ended : ℕ) → List ℕ
 times_text count ended =
     if count == 0 then codes "<b>never</b>" else commas count ++ codes "&#215;" ++ goodbyes_text ended
 
-abbrev pub comma_unless : Bool → List ℕ
-comma_unless first = if first then [] else codes ", "
-
--- the number of a capture, and how often it heard a record
-unfoldable pub capture_times : ℕ → List SecondHeard → List ℕ
+-- the number of a capture, and how often it heard a record; a comma before each but the first
+unfoldable pub capture_times : (index : ℕ) → List SecondHeard → List ℕ
 capture_times index seconds =
-    comma_unless (index == 0) ++ number_text false index ++ codes " " ++ times_text (length seconds) (goodbyes seconds)
-
--- the same of captures from an index on
-abbrev pub times_from : ℕ → List (List SecondHeard) → List ℕ
-times_from index [] = []
-times_from index (seconds ∷ captures) = capture_times index seconds ++ times_from (index + 1) captures
+    (if index == 0 then [] else codes ", ") ++ number_text false index ++ codes " " ++ times_text (length seconds) (goodbyes seconds)
 
 -- how often the captures that heard a record did so together, and how many they are of all
 unfoldable pub together_text : (count : ℕ) → List (List SecondHeard) → List ℕ
@@ -42,8 +34,6 @@ together_text count hearers =
     ++ codes " captures"
 
 -- how often each capture heard a record; where there are many, how often those that heard it did so together
-abbrev pub times_words : (count : ℕ) → List (List SecondHeard) → List ℕ
-times_words count heard = if nat_lt 4 count then together_text count heard else times_from 0 heard
-
 unfoldable pub heard_text : (count : ℕ) → List (List SecondHeard) → List ℕ
-heard_text count heard = codes "<small>heard " ++ times_words count heard ++ codes "</small>"
+heard_text count heard =
+    codes "<small>heard " ++ (if nat_lt 4 count then together_text count heard else each_from capture_times 0 heard) ++ codes "</small>"

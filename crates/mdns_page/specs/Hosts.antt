@@ -19,22 +19,16 @@ abbrev pub is_large : ℕ → Bool
 is_large instances = nat_lt 1000 instances
 
 -- what a page with so many instances leaves out
-unfoldable pub left_out : List ℕ
-left_out =
-    codes " With more than 1,000 instances, the ticks of hearings, the addresses of hosts "
+unfoldable pub large_note : Bool → List ℕ
+large_note large =
+    if large
+    then codes " With more than 1,000 instances, the ticks of hearings, the addresses of hosts "
     ++ codes "and names that are not one label and the type are left out."
-
--- a sentence on it, if it does
-abbrev pub large_note : Bool → List ℕ
-large_note large = if large then left_out else []
+    else []
 
 -- a host, and an address of it
 unfoldable pub host_name : (List ℕ → List ℕ) → (owner : List ℕ) → Body → List ℕ
 host_name say owner address = say (name_shown owner) ++ codes " <code>" ++ address_text address ++ codes "</code>"
-
--- the name of the group of such names, or of that of addresses
-abbrev pub others_heading : (names : Bool) → List ℕ
-others_heading names = if names then codes "Names that aren't one label and the type" else codes "Addresses of hosts"
 
 -- how many of them there are, and how many of these are live
 abbrev pub others_words : (names : Bool) → (count live : ℕ) → List ℕ

@@ -23,24 +23,17 @@ abbrev pub looked_up : List Subject → List (Latest × List Life) → List Late
 looked_up [] rows = []
 looked_up (subject ∷ about) rows = lasts_of rows
 
--- the record is of an address, or it stands where those do that give instances and points to a name that isn't one label and the type
-abbrev pub is_apart : Latest → Bool
-is_apart last = has_address (body_of last) || is_some (other_given last)
-
--- the name of the instance that the record gives, if that is about one of the subjects by these last hearings
-abbrev pub name_drawn : List Subject → List Latest → Latest → Option (List ℕ)
-name_drawn about lasts last = name_if (keeps_heard about lasts) (instance_given last)
-
--- the record gives such an instance
+-- the record gives an instance that is about one of the subjects by these last hearings
 abbrev pub is_drawn : List Subject → List Latest → Latest → Bool
-is_drawn about lasts last = is_some (name_drawn about lasts last)
+is_drawn about lasts last = is_some (name_if (keeps_heard about lasts) (instance_given last))
 
--- the page keeps the record: one that gives an instance about the subjects, one of an address or of another name that is about them
--- itself, and each SRV record, whose lives stand in the row of its instance
+-- the page keeps the record: one that gives an instance about the subjects, one that is about them itself and is of an address or
+-- points from a service type to a name that isn't one label and the type, and each SRV record, whose lives stand in the row of its
+-- instance
 abbrev pub is_kept : List Subject → List Latest → Latest → Bool
 is_kept about lasts last =
     if is_some (instance_given last) then is_drawn about lasts last
-    else (if is_apart last then keeps_record about last.resource else is_srv (body_of last))
+    else (if has_address (body_of last) || is_some (other_given last) then keeps_record about last.resource else is_srv (body_of last))
 
 -- of the records that were heard those that the page keeps
 abbrev pub kept_of : List Subject → List (Latest × List Life) → List (Latest × List Life)

@@ -26,12 +26,9 @@ key_ticks =
     (codes "<path class=\"n\" d=\"M0 11H26\"/><path class=\"t\" d=\"M4 6v5M9 6v5M20 6v5\"/>") (codes "heard, while recording")
     ++ 32 ∷ key_entry (codes "<path class=\"n\" d=\"M0 11H26\"/><path class=\"z\" d=\"M13 6v5\"/>") (codes "goodbye heard")
 
--- the same; nothing where there are no lanes
-abbrev pub key_lanes : (lanes : ℕ) → List ℕ
-key_lanes lanes = if lanes == 0 then [] else key_ticks
-
--- what all strokes mean
+-- what all strokes mean; none are those of lanes where there are no lanes
 unfoldable pub key : (lanes : ℕ) → List ℕ
 key lanes =
     codes "<p class=\"key\">" ++ key_lives
-    ++ 32 ∷ key_entry (codes "<path class=\"s\" d=\"M0 9H26\"/>") (codes "its server (SRV) live") ++ key_lanes lanes ++ codes "</p>\n"
+    ++ 32 ∷ key_entry (codes "<path class=\"s\" d=\"M0 9H26\"/>") (codes "its server (SRV) live")
+    ++ (if lanes == 0 then [] else key_ticks) ++ codes "</p>\n"

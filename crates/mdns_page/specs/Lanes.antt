@@ -6,6 +6,7 @@ use Rattle.mdns_lives.specs.declared.life.Heard.{Heard}
 use Rattle.mdns_lives.specs.declared.seconds_heard.SecondHeard.{SecondHeard}
 use Rattle.mdns_survey.specs.declared.reading.Span.{Span}
 use Rattle.mdns_page.specs.Axis.{has_begun, place, place_end}
+use Rattle.mdns_page.specs.Captures.{each_from}
 use Rattle.mdns_page.specs.Picture.{differing, mark, path_of}
 use Rattle.mdns_page.specs.declared.axis.Axis.{Axis}
 use Rattle.mdns_page.specs.declared.picture.Mark.{Mark}
@@ -48,19 +49,14 @@ second_mark axis _ second = None
 unfoldable pub ticks_path : Axis → Stroke → List SecondHeard → List ℕ
 ticks_path axis stroke seconds = path_of stroke (differing None (filter_map (second_mark axis stroke) seconds))
 
--- the ticks of a capture
-abbrev pub lane_text : Axis → (top : ℕ) → List SecondHeard → List ℕ
-lane_text axis top seconds = ticks_path axis (Tick top) seconds ++ ticks_path axis (GoodbyeTick top) seconds
-
--- those of captures from an index on
-abbrev pub lanes_from : Axis → (lanes index : ℕ) → List (List SecondHeard) → List ℕ
-lanes_from axis lanes index [] = []
-lanes_from axis lanes index (seconds ∷ captures) =
-    lane_text axis (lane_top lanes index) seconds ++ lanes_from axis lanes (index + 1) captures
+-- the ticks of a capture in its lane
+abbrev pub lane_text : Axis → (lanes index : ℕ) → List SecondHeard → List ℕ
+lane_text axis lanes index seconds =
+    let top = lane_top lanes index in ticks_path axis (Tick top) seconds ++ ticks_path axis (GoodbyeTick top) seconds
 
 -- all lanes of a row
 abbrev pub lanes_text : Axis → (lanes : ℕ) → List (List SecondHeard) → List ℕ
-lanes_text axis lanes captures = if lanes == 0 then [] else lanes_from axis lanes 0 captures
+lanes_text axis lanes captures = if lanes == 0 then [] else each_from (lane_text axis lanes) 0 captures
 
 -- ---- the lines on which ticks stand
 
@@ -70,26 +66,12 @@ base_line axis top span =
     77 ∷ decimal (place axis span.first.nanos) ++ 32 ∷ decimal (top + 5) ++ 72
     ∷ decimal (place_end axis span.first.nanos span.last.nanos)
 
--- none where there are no packets, or only packets after the end of the axis
-abbrev pub base_text : Axis → (top : ℕ) → Option Span → List ℕ
-base_text axis top None = []
-base_text axis top (Some span) = if has_begun axis span then base_line axis top span else []
+-- that of a capture; none where there are no packets, or only packets after the end of the axis
+abbrev pub base_text : Axis → (lanes index : ℕ) → Option Span → List ℕ
+base_text axis lanes index None = []
+base_text axis lanes index (Some span) = if has_begun axis span then base_line axis (lane_top lanes index) span else []
 
--- those of captures from an index on
-abbrev pub bases_from : Axis → (lanes index : ℕ) → List (Option Span) → List ℕ
-bases_from axis lanes index [] = []
-bases_from axis lanes index (span ∷ spans) = base_text axis (lane_top lanes index) span ++ bases_from axis lanes (index + 1) spans
-
--- the lines of all lanes as one path
-unfoldable pub bases_path : Axis → (lanes : ℕ) → List (Option Span) → List ℕ
-bases_path axis lanes spans = codes "<path class=\"n\" d=\"" ++ bases_from axis lanes 0 spans ++ codes "\"/>"
-
--- the same; nothing where there are no lanes
-abbrev pub bases_text : Axis → (lanes : ℕ) → List (Option Span) → List ℕ
-bases_text axis lanes spans = if lanes == 0 then [] else bases_path axis lanes spans
-
--- ---- words
-
--- which lane is whose, where there are several
-abbrev pub lanes_note : ℕ → List ℕ
-lanes_note lanes = if nat_lt 1 lanes then codes " The lanes of ticks are the captures, &#9312; on top." else []
+-- the lines of all lanes as one path; nothing where there are no lanes
+unfoldable pub bases_text : Axis → (lanes : ℕ) → List (Option Span) → List ℕ
+bases_text axis lanes spans =
+    if lanes == 0 then [] else codes "<path class=\"n\" d=\"" ++ each_from (base_text axis lanes) 0 spans ++ codes "\"/>"

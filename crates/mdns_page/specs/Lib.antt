@@ -18,7 +18,6 @@ pub mod Page
 pub mod Picture
 pub mod RowPicture
 pub mod Servers
-pub mod Style
 pub mod Survey
 pub mod Ticks
 pub mod Timeline

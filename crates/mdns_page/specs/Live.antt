@@ -14,25 +14,24 @@ use Rattle.mdns_browse.specs.Services.{GivenRow, InstanceRow, instance_row_in}
 use Rattle.mdns_browse.specs.Shown.{shown_instance, shown_order, shown_strings, spaced_wide}
 use Rattle.mdns_browse.specs.Text.{ipv4_text}
 use Rattle.mdns_page.specs.declared.axis.Axis.{Axis}
+use Rattle.mdns_page.specs.declared.axis.Dates.{Dates}
 use Rattle.mdns_page.specs.Axis.{short_text}
 use Rattle.mdns_page.specs.Group.{first_owner, group, grouped, item}
 
--- ---- the name of a row, and what is said of it
+-- ---- what is said of an instance
 
 -- since when an instance is live, where that is known
-abbrev pub since_text : Axis → Option ℕ → List ℕ
-since_text axis None = []
-since_text axis (Some from) = codes "since " ++ short_text axis from ++ codes ", "
+abbrev pub since_text : Dates → Option ℕ → List ℕ
+since_text dates None = []
+since_text dates (Some from) = codes "since " ++ short_text dates from ++ codes ", "
 
 -- how much longer it lives, or that it has said goodbye (RFC 6762, section 10.1)
 unfoldable pub left_words : ℕ → GivenRow → List ℕ
 left_words now given = if given.last.ttl == 0 then codes "said goodbye" else duration_text (given.end - now) ++ codes " left"
 
 abbrev pub given_words : Axis → GivenRow → List ℕ
-given_words axis given = codes "<small>" ++ since_text axis given.since ++ left_words axis.end.nanos given ++ codes "</small>"
-
-abbrev pub row_name : (List ℕ → List ℕ) → Axis → GivenRow → List ℕ → List ℕ
-row_name say axis given name = say (shown_instance name) ++ given_words axis given
+given_words axis given =
+    codes "<small>" ++ since_text axis.dates given.since ++ left_words axis.end.nanos given ++ codes "</small>"
 
 -- ---- servers
 
@@ -44,47 +43,35 @@ address_text (body.Ptr target) = []
 address_text (body.Txt bytes) = []
 address_text (body.Srv priority weight port target) = []
 
-abbrev pub space_unless : Bool → List ℕ
-space_unless first = if first then [] else 32 ∷ []
+-- an address, after a space unless it is the first
+abbrev pub address_html : (first : Bool) → Body → List ℕ
+address_html first address = (if first then [] else 32 ∷ []) ++ (codes "<code>" ++ address_text address ++ codes "</code>")
 
-abbrev pub address_html : Bool → Body → List ℕ
-address_html first address = space_unless first ++ (codes "<code>" ++ address_text address ++ codes "</code>")
-
--- addresses, a space between them
 abbrev pub addresses_html : Bool → List Body → List ℕ
 addresses_html first [] = []
 addresses_html first (address ∷ addresses) = address_html first address ++ addresses_html false addresses
 
--- the target of a server as it is written, its port, and its priority and weight unless both are 0 (RFC 2782)
-abbrev pub server_line : (priority weight port : ℕ) → List ℕ → List ℕ
-server_line priority weight port target =
-    codes "<p>" ++ target ++ 58 ∷ decimal port ++ spaced_wide (shown_order priority weight) ++ codes "</p>"
-
--- the same; the target alone is text of the network, so that the port is on its right even if the target goes to the left
-abbrev pub server_name : (List ℕ → List ℕ) → (priority weight port : ℕ) → List ℕ → List ℕ
-server_name say priority weight port target = server_line priority weight port (say (name_shown target))
+-- the target of a server, its port, and its priority and weight unless both are 0 (RFC 2782); the target alone is text of the network,
+-- so that the port is on its right even if the target goes to the left
+abbrev pub server_line : (List ℕ → List ℕ) → (priority weight port : ℕ) → (target : List ℕ) → List ℕ
+server_line say priority weight port target =
+    codes "<p>" ++ say (name_shown target) ++ 58 ∷ decimal port ++ spaced_wide (shown_order priority weight) ++ codes "</p>"
 
 abbrev pub server_html : (List ℕ → List ℕ) → Server → List ℕ
 server_html say server =
-    server_name say server.priority server.weight server.port server.target ++ addresses_html true server.addresses
-
-abbrev pub unresolved : List ℕ
-unresolved = codes "<p>unresolved</p>"
+    server_line say server.priority server.weight server.port server.target ++ addresses_html true server.addresses
 
 -- the servers of an instance; where it has none, that is said
 abbrev pub servers_html : (List ℕ → List ℕ) → List Server → List ℕ
-servers_html say [] = unresolved
+servers_html say [] = codes "<p>unresolved</p>"
 servers_html say (server ∷ servers) = flat_map (server_html say) (server ∷ servers)
 
 -- ---- texts
 
-abbrev pub line_feed_unless : Bool → List ℕ
-line_feed_unless first = if first then [] else 10 ∷ []
-
 -- words, one a line
-abbrev pub lines : Bool → List (List ℕ) → List ℕ
+abbrev pub lines : (first : Bool) → List (List ℕ) → List ℕ
 lines first [] = []
-lines first (word ∷ words) = line_feed_unless first ++ word ++ lines false words
+lines first (word ∷ words) = (if first then [] else 10 ∷ []) ++ word ++ lines false words
 
 -- the paragraph of some words; nothing where there are none
 abbrev pub paragraph : (List ℕ → List ℕ) → List (List ℕ) → List ℕ
@@ -100,8 +87,8 @@ text_html say text = paragraph say (shown_strings text)
 -- an instance: its name and since when it is live, its servers, its texts
 unfoldable pub live_row : (List ℕ → List ℕ) → Axis → InstanceRow → List ℕ
 live_row say axis row =
-    item (row_name say axis row.given row.instance.name) (codes "<div>" ++ servers_html say row.instance.servers ++ codes "</div>")
-    (flat_map (text_html say) row.instance.texts)
+    item (say (shown_instance row.instance.name) ++ given_words axis row.given)
+    (codes "<div>" ++ servers_html say row.instance.servers ++ codes "</div>") (flat_map (text_html say) row.instance.texts)
 
 -- the type of the instance that a record gives
 abbrev pub type_of : GivenRow → List ℕ
@@ -115,11 +102,8 @@ live_group say axis opened lasts given =
 
 -- ---- the section
 
-unfoldable pub live_begin : Axis → List ℕ
-live_begin axis =
-    codes "<h2 id=\"live\">What was live at <time>" ++ millis_text axis.end.nanos ++ codes "</time></h2>\n<div class=\"g l\">\n"
-
 -- what was live at the end of the axis, in key order; `say` is how text of the network is written
 abbrev pub live_text : (List ℕ → List ℕ) → Axis → Bool → List Latest → List GivenRow → List ℕ
 live_text say axis opened lasts given =
-    live_begin axis ++ flat_map (live_group say axis opened lasts) (grouped type_of given) ++ codes "</div>\n"
+    codes "<h2 id=\"live\">What was live at <time>" ++ millis_text axis.end.nanos ++ codes "</time></h2>\n<div class=\"g l\">\n"
+    ++ flat_map (live_group say axis opened lasts) (grouped type_of given) ++ codes "</div>\n"

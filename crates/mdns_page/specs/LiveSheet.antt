@@ -1,41 +1,33 @@
 -- The pieces of instances as rows of a page.
 use Rattle.std.specs.Prelude.{◌≡◌, ℕ, if◌then◌else◌, Bool, true, false, List, [], ◌∷◌, ◌++◌, codes, string_bytes}
 use Rattle.people_text.specs.Shown.{name_shown}
+use Rattle.mdns_browse.specs.Shown.{shown_instance}
 use Rattle.mdns_browse.specs.Sheet.{Piece, live_record, service_type, instance_begin, server_begin, server_address}
 use Rattle.mdns_browse.specs.Sheet.{server_end, servers_end, instance_text, instance_end}
 use Rattle.mdns_page.specs.declared.axis.Axis.{Axis}
 use Rattle.mdns_page.specs.declared.live_sheet.LiveSheet.{LiveSheet}
-use Rattle.mdns_page.specs.Group.{group_begin, group_words_begin, group_words_end, item_begin, item_end, item_last, item_middle}
 use Rattle.mdns_page.specs.Html.{isolated}
-use Rattle.mdns_page.specs.Live.{address_html, row_name, server_name, text_html, unresolved}
-
--- the paragraph of an instance without servers, if there are none
-abbrev pub unresolved_if : Bool → List ℕ
-unresolved_if none = if none then unresolved else []
+use Rattle.mdns_page.specs.Live.{address_html, given_words, server_line, text_html}
 
 -- the text of a piece; `first` tells whether an address is the first of its server
 abbrev pub piece_html : (List ℕ → List ℕ) → Axis → Bool → Piece → List ℕ
 piece_html say axis first (live_record row) = []
 piece_html say axis first (service_type name) = []
-piece_html say axis first (instance_begin given name) = item_begin ++ row_name say axis given name ++ item_middle ++ codes "<div>"
-piece_html say axis first (server_begin priority weight port target) = server_name say priority weight port target
+piece_html say axis first (instance_begin given name) =
+    codes "<li><div>" ++ (say (shown_instance name) ++ given_words axis given) ++ codes "</div>" ++ codes "<div>"
+piece_html say axis first (server_begin priority weight port target) = server_line say priority weight port target
 piece_html say axis first (server_address address) = address_html first address
 piece_html say axis first server_end = []
-piece_html say axis first (servers_end none) = unresolved_if none ++ codes "</div>" ++ item_last
+piece_html say axis first (servers_end none) =
+    (if none then codes "<p>unresolved</p>" else []) ++ codes "</div>" ++ codes "<div>"
 piece_html say axis first (instance_text text) = text_html say text
-piece_html say axis first instance_end = item_end
+piece_html say axis first instance_end = codes "</div></li>\n"
 
 -- whether an address that follows is the first of its server
 abbrev pub piece_next : Bool → Piece → Bool
-piece_next first (live_record row) = first
-piece_next first (service_type name) = first
-piece_next first (instance_begin given name) = first
 piece_next first (server_begin priority weight port target) = true
 piece_next first (server_address address) = false
-piece_next first server_end = first
-piece_next first (servers_end none) = first
-piece_next first (instance_text text) = first
-piece_next first instance_end = first
+piece_next first _ = first
 
 -- the same of pieces one after another
 abbrev pub pieces_html : (List ℕ → List ℕ) → Axis → Bool → List Piece → List ℕ
@@ -60,5 +52,5 @@ pub record Adds (old : LiveSheet) (text : List ℕ) (new : LiveSheet) : Type 0 w
 -- what a group begins with, up to its first row
 unfoldable pub type_begin : (List ℕ → List ℕ) → Bool → List ℕ → List ℕ
 type_begin say opened owner =
-    group_begin opened ++ say (name_shown owner) ++ codes "<small>server, addresses</small>" ++ group_words_begin ++ codes "text"
-    ++ group_words_end
+    (if opened then codes "<details open><summary>" else codes "<details><summary>") ++ say (name_shown owner)
+    ++ codes "<small>server, addresses</small>" ++ codes "<small>" ++ codes "text" ++ codes "</small></summary><ul>\n"

@@ -8,11 +8,11 @@ use Rattle.mdns_page.specs.Captures.{Facts, captures_text, facts_lent, spans_of}
 use Rattle.mdns_page.specs.Hosts.{is_large}
 use Rattle.mdns_page.specs.Lanes.{height, lanes_for}
 use Rattle.mdns_page.specs.Lead.{lead_text}
-use Rattle.mdns_page.specs.Style.{style_text}
 use Rattle.mdns_page.specs.Ticks.{symbols_text}
 use Rattle.mdns_page.specs.Timeline.{Row, counted_lent, timeline}
 use Rattle.mdns_page.specs.declared.axis.Axis.{Axis}
 use Rattle.mdns_page.specs.declared.page.Parts.{Parts}
+use Rattle.mdns_page.specs.declared.style.TheConstants.{STYLE}
 
 -- ---- the head of the file
 
@@ -30,7 +30,7 @@ title axis = codes "Multicast DNS, " ++ days_text axis
 -- with the height of the pictures of rows
 unfoldable pub head : Axis → (lanes : ℕ) → List ℕ
 head axis lanes =
-    policy ++ codes "<title>" ++ title axis ++ codes "</title>\n<style>\n" ++ style_text ++ codes "li>svg{height:"
+    policy ++ codes "<title>" ++ title axis ++ codes "</title>\n<style>\n" ++ STYLE.now ++ codes "li>svg{height:"
     ++ decimal (height lanes) ++ codes "px}\n</style></head>\n"
 
 -- ---- the body
@@ -45,9 +45,6 @@ unfoldable pub links : List ℕ
 links =
     codes "<nav><a href=\"#captures\">Captures</a><a href=\"#timeline\">Timeline</a>"
     ++ codes "<a href=\"#live\">What was live</a><a href=\"#nothing\">Skipped packets</a></nav>\n"
-
-unfoldable pub page_end : List ℕ
-page_end = codes "</main></body></html>\n"
 
 -- ---- the whole
 
@@ -84,4 +81,4 @@ page say shown =
     let lanes = lanes_for (is_large (length shown.rows)) (length shown.captures) in
     head axis lanes ++ body_begin axis lanes (spans_of shown.captures)
     ++ lead_text say axis shown.about shown.rows shown.captures shown.lost ++ links ++ captures_text say axis shown.captures
-    ++ timeline say axis lanes shown.rows shown.addresses shown.names ++ shown.live ++ shown.nothing ++ page_end
+    ++ timeline say axis lanes shown.rows shown.addresses shown.names ++ shown.live ++ shown.nothing ++ codes "</main></body></html>\n"

@@ -45,8 +45,7 @@ mark_of axis Bar life = Some (bar_mark axis life)
 mark_of axis Server life = Some (bar_mark axis life)
 mark_of axis (Pin reason) life = end_mark axis reason life
 mark_of axis (Head reason) life = end_mark axis reason life
-mark_of axis (Tick top) life = None
-mark_of axis (GoodbyeTick top) life = None
+mark_of axis _ life = None
 
 abbrev pub is_same : Mark → Mark → Bool
 is_same a b = (a.begin == b.begin) && (a.end == b.end)
@@ -124,12 +123,8 @@ path_last (Some before) = path_end
 
 -- what a title says before the life: whose it is, unless it is that of the row's record
 abbrev pub title_word : Stroke → List ℕ
-title_word Bar = []
 title_word Server = codes "server "
-title_word (Pin reason) = []
-title_word (Head reason) = []
-title_word (Tick top) = []
-title_word (GoodbyeTick top) = []
+title_word _ = []
 
 -- the bar of a life as a path of its own, with a title
 unfoldable pub titled_bar : Axis → Stroke → Life → List ℕ
@@ -140,7 +135,3 @@ titled_bar axis stroke life =
 -- the bars of lives: each with a title, or all as one path
 abbrev pub bars : Axis → Bool → Stroke → List Life → List ℕ
 bars axis titled stroke lives = if titled then flat_map (titled_bar axis stroke) lives else path axis stroke lives
-
--- the bars of servers, by the lives of each
-abbrev pub server_bars : Axis → Bool → List (List Life) → List ℕ
-server_bars axis titled servers = flat_map (bars axis titled Server) servers

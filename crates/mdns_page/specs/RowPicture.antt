@@ -1,27 +1,22 @@
 -- The picture of a row.
 use Rattle.std.specs.Prelude.{ℕ, List, ◌++◌, codes}
 use Rattle.std.specs.Fmt.{decimal}
+use Rattle.std.specs.List.{flat_map}
 use Rattle.mdns_lives.specs.declared.life.Life.{Life}
 use Rattle.mdns_lives.specs.declared.life.Reason.TheVariants.{RanOut, Goodbye, Flushed}
 use Rattle.mdns_lives.specs.declared.seconds_heard.SecondHeard.{SecondHeard}
 use Rattle.mdns_page.specs.Lanes.{height, lanes_text}
-use Rattle.mdns_page.specs.Picture.{bars, path, server_bars}
+use Rattle.mdns_page.specs.Picture.{bars, path}
 use Rattle.mdns_page.specs.declared.look.Look.{Look}
-use Rattle.mdns_page.specs.declared.picture.Stroke.TheVariants.{Bar, Pin, Head}
-
-unfoldable pub picture_begin : (lanes : ℕ) → List ℕ
-picture_begin lanes =
-    codes "<svg viewBox=\"0 0 1000 " ++ decimal (height lanes)
-    ++ codes "\" preserveAspectRatio=\"none\" aria-hidden=\"true\"><use href=\"#g\"/>"
-
-unfoldable pub picture_end : List ℕ
-picture_end = codes "</svg>"
+use Rattle.mdns_page.specs.declared.picture.Stroke.TheVariants.{Bar, Server, Pin, Head}
 
 -- the picture of some lives, in order of time: a bar for each, those of servers, for each that ended a pin that tells why, and in
 -- which seconds each capture heard the record
 abbrev pub picture : Look → List Life → (servers : List (List Life)) → List (List SecondHeard) → List ℕ
 picture look lives servers captures =
     let axis = look.axis in
-    picture_begin look.lanes ++ bars axis look.titled Bar lives ++ server_bars axis look.titled servers ++ path axis (Pin Goodbye) lives
-    ++ path axis (Head Goodbye) lives ++ path axis (Pin RanOut) lives ++ path axis (Pin Flushed) lives
-    ++ path axis (Head Flushed) lives ++ lanes_text axis look.lanes captures ++ picture_end
+    codes "<svg viewBox=\"0 0 1000 " ++ decimal (height look.lanes)
+    ++ codes "\" preserveAspectRatio=\"none\" aria-hidden=\"true\"><use href=\"#g\"/>" ++ bars axis look.titled Bar lives
+    ++ flat_map (bars axis look.titled Server) servers ++ path axis (Pin Goodbye) lives ++ path axis (Head Goodbye) lives
+    ++ path axis (Pin RanOut) lives ++ path axis (Pin Flushed) lives ++ path axis (Head Flushed) lives
+    ++ lanes_text axis look.lanes captures ++ codes "</svg>"

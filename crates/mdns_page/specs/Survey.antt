@@ -36,10 +36,7 @@ use Rattle.mdns_page.specs.Timeline.{Row, is_open}
 abbrev pub given_of_since : (Latest × ℕ) × ℕ → GivenRow
 given_of_since row = record { last = row.0.0; end = row.0.1; since = Some row.1 }
 
--- its last hearing, and that with its end
-abbrev pub last_of : GivenRow → Latest
-last_of given = given.last
-
+-- its last hearing with its end
 abbrev pub record_given : GivenRow → Latest × ℕ
 record_given given = (given.last, given.end)
 
@@ -56,13 +53,13 @@ pub record AreLiveGiven (heard : List Hearing) (now : ℕ) (rows : List GivenRow
 abbrev pub live_given : Axis → List (Latest × List Life) → List GivenRow
 live_given axis rows = map given_of_since (all_since_rows axis.end.nanos rows)
 
--- of these those that give an instance about the subjects by all last hearings
-abbrev pub live_drawn : List Subject → Axis → List (Latest × List Life) → List GivenRow
-live_drawn about axis rows = filter (λ given. is_drawn about (looked_up about rows) given.last) (live_given axis rows)
-
--- what was live at the end: these instances, with their servers and texts among all records that are live then
+-- what was live at the end: the instances of these that are about the subjects by all last hearings, with their servers and texts
+-- among all records that are live then
 abbrev pub live_at_end : List Subject → Axis → (opened : Bool) → List (Latest × List Life) → List ℕ
-live_at_end about axis opened rows = live_text isolated axis opened (map last_of (live_given axis rows)) (live_drawn about axis rows)
+live_at_end about axis opened rows =
+    let given = live_given axis rows in
+    live_text isolated axis opened (map (λ (row : GivenRow). row.last) given)
+    (filter (λ row. is_drawn about (looked_up about rows) row.last) given)
 
 -- what a page tells of captures with these names and readings
 abbrev pub facts_of : List (List ℕ) → List Reading → List Facts

@@ -48,8 +48,7 @@ tick_text dates step tick =
 -- a date with its year takes so much room that narrow windows show each second one alone
 abbrev pub is_long : Dates → ℕ → Bool
 is_long Whole tick = seconds_of tick % 86400 == 0
-is_long WithoutYear tick = false
-is_long Omitted tick = false
+is_long _ tick = false
 
 -- the label of a tick; near an end of the axis it would stick out
 unfoldable pub tick_label : Axis → ℕ → ℕ → List ℕ
@@ -61,13 +60,11 @@ tick_label axis step tick =
     else []
 
 -- what the pictures share: the labels, and the lines, `v` for captures and `g` for rows, with those of the lanes
-unfoldable pub symbols : Axis → (lanes : ℕ) → List (Option Span) → List ℕ → List ℕ
-symbols axis lanes spans ticks =
-    codes "<svg class=\"d\" width=\"0\" height=\"0\" aria-hidden=\"true\"><defs>" ++ codes "<symbol id=\"x\" overflow=\"visible\">"
-    ++ flat_map (tick_label axis (step_of axis)) ticks ++ codes "</symbol>\n<g id=\"v\"><path class=\"v\" d=\""
-    ++ flat_map (tick_line axis 24) ticks ++ codes "\"/></g>\n<g id=\"g\"><path class=\"v\" d=\""
-    ++ flat_map (tick_line axis (height lanes)) ticks ++ codes "\"/>" ++ bases_text axis lanes spans
-    ++ codes "</g>\n</defs></svg>\n"
-
 unfoldable pub symbols_text : Axis → (lanes : ℕ) → List (Option Span) → List ℕ
-symbols_text axis lanes spans = symbols axis lanes spans (ticks axis)
+symbols_text axis lanes spans =
+    let all = ticks axis in
+    codes "<svg class=\"d\" width=\"0\" height=\"0\" aria-hidden=\"true\"><defs>" ++ codes "<symbol id=\"x\" overflow=\"visible\">"
+    ++ flat_map (tick_label axis (step_of axis)) all ++ codes "</symbol>\n<g id=\"v\"><path class=\"v\" d=\""
+    ++ flat_map (tick_line axis 24) all ++ codes "\"/></g>\n<g id=\"g\"><path class=\"v\" d=\""
+    ++ flat_map (tick_line axis (height lanes)) all ++ codes "\"/>" ++ bases_text axis lanes spans
+    ++ codes "</g>\n</defs></svg>\n"

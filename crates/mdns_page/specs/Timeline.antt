@@ -1,5 +1,5 @@
 -- The timeline.
-use Rattle.std.specs.Prelude.{ℕ, ◌+◌, ◌-◌, ◌==◌, nat_le, Bool, true, false, if◌then◌else◌, Option, None, Some}
+use Rattle.std.specs.Prelude.{ℕ, ◌+◌, ◌-◌, ◌==◌, nat_le, nat_lt, Bool, true, false, if◌then◌else◌, Option, None, Some}
 use Rattle.std.specs.Prelude.{List, [], ◌++◌, codes, length, map, slice_get}
 use Rattle.std.specs.Global.{Vec}
 use Rattle.std.specs.List.{count_by, flat_map}
@@ -15,9 +15,8 @@ use Rattle.mdns_cache.specs.Rows.{last_lent}
 use Rattle.mdns_page.specs.Counts.{live_count_text}
 use Rattle.mdns_page.specs.Group.{axis_picture, first_owner, group, grouped, item}
 use Rattle.mdns_page.specs.Heard.{heard_text}
-use Rattle.mdns_page.specs.Hosts.{host_name, is_large, large_note, others_heading, others_words}
+use Rattle.mdns_page.specs.Hosts.{host_name, is_large, large_note, others_words}
 use Rattle.mdns_page.specs.Key.{key}
-use Rattle.mdns_page.specs.Lanes.{lanes_note}
 use Rattle.mdns_page.specs.Picture.{goes_on}
 use Rattle.mdns_page.specs.RowPicture.{picture}
 use Rattle.mdns_page.specs.Words.{lives_words}
@@ -67,14 +66,14 @@ owner_of row = row.last.resource.owner
 
 -- ---- rows
 
--- the life, if there is one, goes on after the end of the captures
-abbrev pub goes_on_if : Axis → Option Life → Bool
-goes_on_if axis None = false
-goes_on_if axis (Some life) = goes_on axis life
+-- there is a life, and it is such
+abbrev pub is_some_such : (Life → Bool) → Option Life → Bool
+is_some_such is None = false
+is_some_such is (Some life) = is life
 
--- the record is live at the end of the captures: the last of its lives goes on
-abbrev pub is_live : Axis → List Life → Bool
-is_live axis lives = goes_on_if axis (slice_get lives (length lives - 1))
+-- how many rows are of records whose last life is such; where that goes on after the end of the captures, the record is live then
+abbrev pub count_last : (Life → Bool) → List Row → ℕ
+count_last is rows = count_by (λ row. is_some_such is (slice_get row.lives (length row.lives - 1))) rows
 
 -- the name to which a record points, as people read it: whole, or that of an instance alone
 abbrev pub target_shown : (whole : Bool) → List ℕ → List ℕ
@@ -88,14 +87,12 @@ record_name say whole owner (Aaaa octets) = host_name say owner (Aaaa octets)
 record_name say whole owner (Txt bytes) = []
 record_name say whole owner (Srv priority weight port target) = []
 
--- what the record names, and how often each capture heard it
-abbrev pub row_name : (List ℕ → List ℕ) → (whole : Bool) → Row → List ℕ
-row_name say whole row = record_name say whole (owner_of row) row.last.resource.body ++ heard_text row.captures row.heard
-
--- a record: what it names, the picture of its lives and those of its servers, and its own lives in words
+-- a record: what it names, how often each capture heard it, the picture of its lives and those of its servers, and its own lives in
+-- words
 unfoldable pub row_text : (List ℕ → List ℕ) → (whole : Bool) → Look → Row → List ℕ
 row_text say whole look row =
-    item (row_name say whole row) (picture look row.lives row.servers row.heard) (lives_words look.axis row.lives)
+    item (record_name say whole (owner_of row) row.last.resource.body ++ heard_text row.captures row.heard)
+    (picture look row.lives row.servers row.heard) (lives_words look.axis row.lives)
 
 -- ---- the whole
 
@@ -103,14 +100,14 @@ row_text say whole look row =
 unfoldable pub group_text : (List ℕ → List ℕ) → Look → (opened : Bool) → List Row → List ℕ
 group_text say look opened rows =
     group opened (say (name_shown (first_owner owner_of rows))) axis_picture
-    (live_count_text (length rows) (count_by (λ row. is_live look.axis row.lives) rows) (codes "instance") (codes "instances"))
+    (live_count_text (length rows) (count_last (goes_on look.axis) rows) (codes "instance") (codes "instances"))
     (flat_map (row_text say false look) rows)
 
 -- the names that aren't one label and the type, or the addresses of all hosts
 unfoldable pub others_group : (List ℕ → List ℕ) → Look → (opened names : Bool) → List Row → List ℕ
 others_group say look opened names rows =
-    group opened (say (others_heading names)) axis_picture
-    (others_words names (length rows) (count_by (λ row. is_live look.axis row.lives) rows)) (flat_map (row_text say true look) rows)
+    group opened (say (if names then codes "Names that aren't one label and the type" else codes "Addresses of hosts")) axis_picture
+    (others_words names (length rows) (count_last (goes_on look.axis) rows)) (flat_map (row_text say true look) rows)
 
 -- the same; nothing where there are none
 abbrev pub others_text : (List ℕ → List ℕ) → Look → (opened names : Bool) → List Row → List ℕ
@@ -120,29 +117,19 @@ others_text say look opened names rows = if length rows == 0 then [] else others
 abbrev pub is_open : ℕ → Bool
 is_open count = nat_le count 200
 
--- the lives in the pictures of all rows
-abbrev pub lives_of : List Row → List Life
-lives_of rows = flat_map lives_in rows
-
 -- so few lives, in the pictures of all rows together, that each bar has a title
 abbrev pub are_titled : List Row → Bool
-are_titled rows = nat_le (length (lives_of rows)) 1000
+are_titled rows = nat_le (length (flat_map lives_in rows)) 1000
 
--- where bars have titles, how these are read
-abbrev pub titles_note : Bool → List ℕ
-titles_note titled = if titled then codes " Point at a bar for milliseconds." else []
-
--- how rows are drawn
-abbrev pub look_of : Axis → (titled : Bool) → (lanes : ℕ) → Look
-look_of axis titled lanes = record { axis = axis; titled = titled; lanes = lanes }
-
--- what stands before the groups
+-- what stands before the groups: how bars are read, which lane is whose where there are several, and what is left out
 unfoldable pub timeline_begin : (titled large : Bool) → (lanes : ℕ) → List ℕ
 timeline_begin titled large lanes =
     codes "<h2 id=\"timeline\">Timeline</h2>\n<p class=\"note\">Times are UTC, cut off at seconds. "
     ++ codes "A bar begins when the record was first heard; it may have stood before. "
     ++ codes "A goodbye ends it one second later, unless it is announced again before. "
-    ++ codes "Heard 3&#215;: in three different seconds." ++ titles_note titled ++ lanes_note lanes ++ large_note large
+    ++ codes "Heard 3&#215;: in three different seconds."
+    ++ (if titled then codes " Point at a bar for milliseconds." else [])
+    ++ (if nat_lt 1 lanes then codes " The lanes of ticks are the captures, &#9312; on top." else []) ++ large_note large
     ++ codes "</p>\n" ++ key lanes ++ codes "<div class=\"g\">\n"
 
 -- the timeline of some instances, and of some addresses and other names, all in key order, with so many lanes; `say` is how text of the
@@ -150,7 +137,7 @@ timeline_begin titled large lanes =
 abbrev pub timeline : (List ℕ → List ℕ) → Axis → (lanes : ℕ) → (rows addresses names : List Row) → List ℕ
 timeline say axis lanes rows addresses names =
     let titled = are_titled (rows ++ addresses ++ names) in
-    let look = look_of axis titled lanes in
+    let look : Look = record { axis = axis; titled = titled; lanes = lanes } in
     let opened = is_open (length rows + length addresses + length names) in
     timeline_begin titled (is_large (length rows)) lanes ++ flat_map (group_text say look opened) (grouped owner_of rows)
     ++ others_text say look opened false addresses ++ others_text say look opened true names ++ codes "</div>\n"

@@ -1,11 +1,11 @@
 //! The axis of the pictures: moments become places, and are written with as much of their dates as the page needs.
 
-ghost use Rattle.std.specs.Prelude.{◌≡◌, ◌<◌, [], ◌∷◌, ◌++◌, max, List, OnOk};
+ghost use Rattle.std.specs.Prelude.{◌≡◌, ◌<◌, ◌+◌, ◌-◌, ◌/◌, ◌++◌, max, List, OnOk};
 ghost use Rattle.std.specs.String.{string_bytes};
 ghost use Rattle.mdns_capture.specs.Savefile.{PacketAt};
 ghost use Rattle.mdns_survey.specs.Readings.{HaveSpans, all_moments};
-ghost use Rattle.mdns_page.specs.Axis.{IsAxis, date_before, dates_of, day_text, days_text, has_begun, is_one_day, is_same_date};
-ghost use Rattle.mdns_page.specs.Axis.{place, place_end, short_text, unit_of, until_text};
+ghost use Rattle.mdns_page.specs.Axis.{IsAxis, dates_of, day_text, days_text, has_begun, is_same_date};
+ghost use Rattle.mdns_page.specs.Axis.{place, place_end, short_text};
 
 use mdns_capture::Moment;
 use mdns_capture::moment::SECOND;
@@ -67,7 +67,7 @@ fn dates_between(start: Moment, end: Moment, latest: Moment) -> Dates
 impl Axis {
     // Returns the nanoseconds of a place.
     fn unit(self) -> u64
-        ensures value { result ≡ unit_of self }
+        ensures value { result ≡ (self.end.nanos - self.start.nanos) / 1000 + 1 }
         ensures some { 0 < result }
     {
         self.end.nanos().saturating_sub(self.start.nanos()) / PLACES + 1
@@ -93,13 +93,6 @@ impl Axis {
         self.place(until).max(self.place(from) + LEAST)
     }
 
-    /// Checks that the start and the end are of one date.
-    pub(crate) fn is_one_day(self) -> bool
-        ensures { result ≡ is_one_day self }
-    {
-        is_same_date(self.start.nanos(), self.end.nanos())
-    }
-
     /// Checks that a capture began to record by the end. One of a moment that is asked for may have begun later.
     pub(crate) fn has_begun(self, span: Span) -> bool
         ensures { result ≡ has_begun self span }
@@ -121,8 +114,8 @@ fn dates_of(first: u64, last: u64) -> Dates
     Dates::Whole
 }
 
-// Checks that two moments are of one date.
-fn is_same_date(nanos: u64, other: u64) -> bool
+/// Checks that two moments are of one date.
+pub(crate) fn is_same_date(nanos: u64, other: u64) -> bool
     ensures { result ≡ is_same_date nanos other }
 {
     nanos / SECOND / DAY == other / SECOND / DAY
@@ -130,30 +123,16 @@ fn is_same_date(nanos: u64, other: u64) -> bool
 
 /// Appends a moment to the second, with as much of its date as the page needs.
 #[tactic(auto, unfolding(crate::specs::Axis::short_text))]
-pub(crate) fn push_short(to: &mut String, axis: Axis, nanos: u64) -> Result<(), Want>
-    ensures { OnOk result (string_bytes to.new ≡ string_bytes to.old ++ short_text axis nanos) }
-{
-    push_date_before(to, axis.dates, nanos)?;
-    push_clock(to, nanos)
-}
-
-// Appends what stands before a time of day: as much of the date as the page needs, and a space after it.
-fn push_date_before(to: &mut String, dates: Dates, nanos: u64) -> Result<(), Want>
-    ensures { OnOk result (string_bytes to.new ≡ string_bytes to.old ++ date_before dates nanos) }
+pub(crate) fn push_short(to: &mut String, dates: Dates, nanos: u64) -> Result<(), Want>
+    ensures { OnOk result (string_bytes to.new ≡ string_bytes to.old ++ short_text dates nanos) }
 {
     match dates {
-        Dates::Omitted => Ok(()),
-        Dates::WithoutYear => push_day_and_space(to, dates, nanos),
-        Dates::Whole => push_day_and_space(to, dates, nanos),
+        Dates::Omitted => return push_clock(to, nanos),
+        Dates::WithoutYear => push_month_day(to, nanos)?,
+        Dates::Whole => push_date(to, nanos)?,
     }
-}
-
-fn push_day_and_space(to: &mut String, dates: Dates, nanos: u64) -> Result<(), Want>
-    ensures { OnOk result (string_bytes to.new ≡ string_bytes to.old ++ (day_text dates nanos ++ 32 ∷ [])) }
-{
-    push_day(to, dates, nanos)?;
     to.push(' ')?;
-    Ok(())
+    push_clock(to, nanos)
 }
 
 /// Appends a date, with its year if the page needs it. After `Want` a part of it may have been appended.
@@ -166,24 +145,13 @@ pub(crate) fn push_day(to: &mut String, dates: Dates, nanos: u64) -> Result<(), 
     }
 }
 
-/// Appends when a time ended that began at `from`, without the date if both are of one.
-#[tactic(auto, unfolding(crate::specs::Axis::until_text))]
-pub(crate) fn push_until(to: &mut String, axis: Axis, from: u64, until: u64) -> Result<(), Want>
-    ensures { OnOk result (string_bytes to.new ≡ string_bytes to.old ++ until_text axis from until) }
-{
-    if is_same_date(from, until) {
-        return push_clock(to, until);
-    }
-    push_short(to, axis, until)
-}
-
 /// Appends the date of the axis, or those of its start and its end, as `2026-11-22 to 2026-11-24`.
 #[tactic(auto, unfolding(crate::specs::Axis::days_text))]
 pub(crate) fn push_days(to: &mut String, axis: Axis) -> Result<(), Want>
     ensures { OnOk result (string_bytes to.new ≡ string_bytes to.old ++ days_text axis) }
 {
     push_date(to, axis.start.nanos())?;
-    if axis.is_one_day() {
+    if is_same_date(axis.start.nanos(), axis.end.nanos()) {
         return Ok(());
     }
     to.push_str(" to ")?;

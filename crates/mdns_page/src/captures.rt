@@ -1,21 +1,16 @@
 //! The captures of a page: what each is, when it recorded, and how it ends.
 
-ghost use Rattle.std.specs.Prelude.{◌≡◌, ◌<◌, ◌^◌, ◌∷◌, ◌++◌, codes, length, map, OnOk};
+ghost use Rattle.std.specs.Prelude.{◌≡◌, ◌<◌, ◌^◌, ◌++◌, length, map, nat_lt, OnOk};
 ghost use Rattle.std.specs.String.{string_bytes};
 ghost use Rattle.mdns_survey.specs.Lines.{is_whole};
 ghost use Rattle.people_text.specs.Shown.{shown};
-ghost use Rattle.mdns_page.specs.Captures.{are_many, capture_text, capture_words, captures_begin, captures_count};
-ghost use Rattle.mdns_page.specs.Captures.{captures_from, captures_group, captures_text, ending_words, facts_lent};
-ghost use Rattle.mdns_page.specs.Captures.{name_words, number_text, outcomes_text, recorded_bar, recorded_path, recorded_picture};
-ghost use Rattle.mdns_page.specs.Captures.{recorded_stroke, recorded_title, recorded_words, sizes_text};
+ghost use Rattle.mdns_page.specs.Captures.{capture_text, captures_text, each_from, ending_words, facts_lent, number_text};
+ghost use Rattle.mdns_page.specs.Captures.{outcomes_text, recorded_bar, recorded_path, recorded_picture, recorded_stroke, recorded_words, sizes_text};
 ghost use Rattle.mdns_page.specs.Html.{isolated};
 
-use crate::axis::{Axis, push_short};
+use crate::axis::{Axis, Dates, push_short};
 use crate::counts::{push_commas, push_count};
-use crate::group::{
-    push_axis_picture, push_group_begin, push_group_end, push_group_words_begin,
-    push_group_words_end, push_item_begin, push_item_end, push_item_last, push_item_middle,
-};
+use crate::group::{push_axis_picture, push_group_begin};
 use crate::html::push_isolated;
 use mdns_capture::Ending;
 use mdns_message::Want;
@@ -43,6 +38,7 @@ pub struct CaptureFacts<'a> {
 
 /// Appends the captures as a group, with a row for each: its number, the name of its file, when it recorded, in a picture
 /// and in words, how it ends, and how many packets and hearings it has. After `Want` a part of it may have been appended.
+#[tactic(auto, unfolding(crate::specs::Captures::captures_text))]
 pub(crate) fn push_captures(
     to: &mut String,
     axis: Axis,
@@ -51,8 +47,17 @@ pub(crate) fn push_captures(
     ensures { OnOk result (string_bytes to.new
         ≡ string_bytes to.old ++ captures_text isolated axis (map facts_lent captures.now)) }
 {
-    push_begin(to)?;
-    push_group(to, axis, captures)?;
+    to.push_str("<h2 id=\"captures\">Captures</h2>\n<div class=\"g\">\n")?;
+    push_group_begin(to, true)?;
+    to.push_str("<bdi>")?;
+    push_count(to, captures.len() as u128, "capture", "captures")?;
+    to.push_str("</bdi>")?;
+    push_axis_picture(to)?;
+    to.push_str("<small>")?;
+    to.push_str("recorded, and how the file ends")?;
+    to.push_str("</small></summary><ul>\n")?;
+    push_rows(to, axis, captures)?;
+    to.push_str("</ul></details>\n")?;
     to.push_str("</div>\n")?;
     Ok(())
 }
@@ -73,42 +78,9 @@ pub(crate) fn is_whole(ending: Ending) -> bool
     matches!(ending, Ending::Whole)
 }
 
-#[tactic(auto, unfolding(crate::specs::Captures::captures_begin))]
-fn push_begin(to: &mut String) -> Result<(), Want>
-    ensures { OnOk result (string_bytes to.new ≡ string_bytes to.old ++ captures_begin) }
-{
-    to.push_str("<h2 id=\"captures\">Captures</h2>\n<div class=\"g\">\n")?;
-    Ok(())
-}
-
-fn push_group(to: &mut String, axis: Axis, captures: &[CaptureFacts<'_>]) -> Result<(), Want>
-    ensures { OnOk result (string_bytes to.new
-        ≡ string_bytes to.old ++ captures_group isolated axis (map facts_lent captures.now)) }
-{
-    push_group_begin(to, true)?;
-    push_captures_count(to, captures.len())?;
-    push_axis_picture(to)?;
-    push_group_words_begin(to)?;
-    to.push_str("recorded, and how the file ends")?;
-    push_group_words_end(to)?;
-    push_rows(to, axis, captures)?;
-    push_group_end(to)?;
-    Ok(())
-}
-
-#[tactic(auto, unfolding(crate::specs::Captures::captures_count))]
-fn push_captures_count(to: &mut String, count: usize) -> Result<(), Want>
-    ensures { OnOk result (string_bytes to.new ≡ string_bytes to.old ++ captures_count count) }
-{
-    to.push_str("<bdi>")?;
-    push_count(to, count as u128, "capture", "captures")?;
-    to.push_str("</bdi>")?;
-    Ok(())
-}
-
 fn push_rows(to: &mut String, axis: Axis, captures: &[CaptureFacts<'_>]) -> Result<(), Want>
     ensures { OnOk result (string_bytes to.new ≡ string_bytes to.old
-        ++ captures_from isolated axis (are_many (map facts_lent captures.now)) 0 (map facts_lent captures.now)) }
+        ++ each_from (capture_text isolated axis (nat_lt 4 (length (map facts_lent captures.now)))) 0 (map facts_lent captures.now)) }
 {
     let many = captures.len() > FEW_CAPTURES;
     for (index, capture) in captures.iter().enumerate() {
@@ -129,29 +101,22 @@ fn push_row(
     ensures { OnOk result (string_bytes to.new
         ≡ string_bytes to.old ++ capture_text isolated axis many index (facts_lent capture.now)) }
 {
-    push_item_begin(to)?;
-    push_name(to, many, index, capture)?;
-    push_item_middle(to)?;
-    push_picture(to, axis, capture.span)?;
-    push_item_last(to)?;
-    push_words(to, axis, capture)?;
-    push_item_end(to)
-}
-
-fn push_name(
-    to: &mut String,
-    many: bool,
-    index: usize,
-    capture: &CaptureFacts<'_>,
-) -> Result<(), Want>
-    requires { index < 2 ^ 63 }
-    ensures { OnOk result (string_bytes to.new
-        ≡ string_bytes to.old ++ name_words isolated many index (facts_lent capture.now)) }
-{
+    to.push_str("<li><div>")?;
     push_number(to, many, index)?;
     to.push_str("&#160;")?;
     push_shown_word(to, capture.name)?;
-    push_sizes(to, &capture.summary.tally)
+    push_sizes(to, &capture.summary.tally)?;
+    to.push_str("</div>")?;
+    push_picture(to, axis, capture.span)?;
+    to.push_str("<div>")?;
+    to.push_str("<p>")?;
+    push_recorded_words(to, axis.dates, capture.span)?;
+    to.push_str(" ")?;
+    push_ending(to, capture.summary.ending)?;
+    to.push_str("</p>")?;
+    push_outcomes(to, &capture.summary.tally)?;
+    to.push_str("</div></li>\n")?;
+    Ok(())
 }
 
 /// Appends the number of a capture. After `Want` a part of it may have been appended.
@@ -210,8 +175,11 @@ fn push_recorded_bar(to: &mut String, axis: Axis, span: Span) -> Result<(), Want
     ensures { OnOk result (string_bytes to.new ≡ string_bytes to.old ++ recorded_bar axis span) }
 {
     push_stroke(to, axis, span)?;
-    push_stroke_title(to, span.first.nanos(), span.last.nanos())?;
-    to.push_str("</path>")?;
+    to.push_str("<title>recorded ")?;
+    push_millis(to, span.first.nanos())?;
+    to.push_str(" to ")?;
+    push_millis(to, span.last.nanos())?;
+    to.push_str("</title></path>")?;
     Ok(())
 }
 
@@ -225,38 +193,16 @@ fn push_stroke(to: &mut String, axis: Axis, span: Span) -> Result<(), Want>
     Ok(())
 }
 
-fn push_stroke_title(to: &mut String, first: u64, last: u64) -> Result<(), Want>
-    ensures { OnOk result (string_bytes to.new ≡ string_bytes to.old ++ recorded_title first last) }
-{
-    to.push_str("<title>recorded ")?;
-    push_millis(to, first)?;
-    to.push_str(" to ")?;
-    push_millis(to, last)?;
-    to.push_str("</title>")?;
-    Ok(())
-}
-
-fn push_words(to: &mut String, axis: Axis, capture: &CaptureFacts<'_>) -> Result<(), Want>
-    ensures { OnOk result (string_bytes to.new ≡ string_bytes to.old ++ capture_words axis (facts_lent capture.now)) }
-{
-    to.push_str("<p>")?;
-    push_recorded_words(to, axis, capture.span)?;
-    to.push(' ')?;
-    push_ending(to, capture.summary.ending)?;
-    to.push_str("</p>")?;
-    push_outcomes(to, &capture.summary.tally)
-}
-
-fn push_recorded_words(to: &mut String, axis: Axis, span: Option<Span>) -> Result<(), Want>
-    ensures { OnOk result (string_bytes to.new ≡ string_bytes to.old ++ recorded_words axis span) }
+fn push_recorded_words(to: &mut String, dates: Dates, span: Option<Span>) -> Result<(), Want>
+    ensures { OnOk result (string_bytes to.new ≡ string_bytes to.old ++ recorded_words dates span) }
 {
     let Some(span) = span else {
         to.push_str("no packets")?;
         return Ok(());
     };
-    push_short(to, axis, span.first.nanos())?;
+    push_short(to, dates, span.first.nanos())?;
     to.push_str(" &#8211; ")?;
-    push_short(to, axis, span.last.nanos())
+    push_short(to, dates, span.last.nanos())
 }
 
 #[tactic(auto, unfolding(crate::specs::Captures::ending_words))]

@@ -1,9 +1,9 @@
 //! How often captures heard a record, in words.
 
-ghost use Rattle.std.specs.Prelude.{◌≡◌, ◌<◌, ◌^◌, ◌++◌, length, map, sum_by, OnOk};
+ghost use Rattle.std.specs.Prelude.{◌≡◌, ◌<◌, ◌^◌, [], ◌++◌, codes, if◌then◌else◌, length, map, nat_lt, sum_by, OnOk};
 ghost use Rattle.std.specs.String.{string_bytes};
-ghost use Rattle.mdns_page.specs.Heard.{capture_times, comma_unless, goodbyes, goodbyes_text, heard_text};
-ghost use Rattle.mdns_page.specs.Heard.{times_from, times_text, times_words, together_text};
+ghost use Rattle.mdns_page.specs.Captures.{each_from};
+ghost use Rattle.mdns_page.specs.Heard.{capture_times, goodbyes, goodbyes_text, heard_text, times_text, together_text};
 ghost use Rattle.mdns_page.specs.Timeline.{seconds_lent};
 
 use crate::captures::{FEW_CAPTURES, push_number};
@@ -34,8 +34,9 @@ fn push_times_words(
     captures: usize,
     heard: &[Vec<SecondHeard>],
 ) -> Result<(), Want>
-    ensures { OnOk result (string_bytes to.new
-        ≡ string_bytes to.old ++ times_words captures (map seconds_lent heard.now)) }
+    ensures { OnOk result (string_bytes to.new ≡ string_bytes to.old
+        ++ (if nat_lt 4 captures then together_text captures (map seconds_lent heard.now)
+        else each_from capture_times 0 (map seconds_lent heard.now))) }
 {
     if captures > FEW_CAPTURES {
         return push_together(to, captures, heard);
@@ -95,7 +96,7 @@ fn goodbyes(seconds: &[SecondHeard]) -> usize
 }
 
 fn push_each(to: &mut String, captures: &[Vec<SecondHeard>]) -> Result<(), Want>
-    ensures { OnOk result (string_bytes to.new ≡ string_bytes to.old ++ times_from 0 (map seconds_lent captures.now)) }
+    ensures { OnOk result (string_bytes to.new ≡ string_bytes to.old ++ each_from capture_times 0 (map seconds_lent captures.now)) }
 {
     for (index, seconds) in captures.iter().enumerate() {
         push_capture_times(to, index, seconds.as_slice())?;
@@ -115,12 +116,11 @@ fn push_capture_times(to: &mut String, index: usize, seconds: &[SecondHeard]) ->
 }
 
 fn push_comma_unless(to: &mut String, first: bool) -> Result<(), Want>
-    ensures { OnOk result (string_bytes to.new ≡ string_bytes to.old ++ comma_unless first) }
+    ensures { OnOk result (string_bytes to.new ≡ string_bytes to.old ++ (if first then [] else codes ", ")) }
 {
-    if first {
-        return Ok(());
+    if !first {
+        to.push_str(", ")?;
     }
-    to.push_str(", ")?;
     Ok(())
 }
 

@@ -1,9 +1,9 @@
 //! Rows of records that give no instance, which are addresses of hosts, and names that aren't one label and the type: what
 //! they are called.
 
-ghost use Rattle.std.specs.Prelude.{◌≡◌, ◌++◌, OnOk};
+ghost use Rattle.std.specs.Prelude.{◌≡◌, ◌++◌, codes, if◌then◌else◌, OnOk};
 ghost use Rattle.std.specs.String.{string_bytes};
-ghost use Rattle.mdns_page.specs.Hosts.{has_address, host_name, is_large, large_note, others_heading, others_words};
+ghost use Rattle.mdns_page.specs.Hosts.{has_address, host_name, is_large, large_note, others_words};
 ghost use Rattle.mdns_page.specs.Html.{isolated};
 ghost use Rattle.people_text.specs.Shown.{name_shown};
 
@@ -35,7 +35,7 @@ pub(crate) fn is_large(instances: usize) -> bool
 
 /// Appends that the ticks of hearings and the rows of other records are left out, if they are. After `Want` a part of it may
 /// have been appended.
-#[tactic(auto, unfolding(crate::specs::Hosts::left_out))]
+#[tactic(auto, unfolding(crate::specs::Hosts::large_note))]
 pub(crate) fn push_large_note(to: &mut String, large: bool) -> Result<(), Want>
     ensures { OnOk result (string_bytes to.new ≡ string_bytes to.old ++ large_note large) }
 {
@@ -80,7 +80,7 @@ pub(crate) fn push_whole_name(
 
 /// Returns what the group of names is called, or that of addresses.
 pub(crate) fn others_heading(names: bool) -> &'static str
-    ensures { result.now ≡ others_heading names }
+    ensures { result.now ≡ (if names then codes "Names that aren't one label and the type" else codes "Addresses of hosts") }
 {
     if names {
         return "Names that aren't one label and the type";

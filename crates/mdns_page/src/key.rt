@@ -1,8 +1,8 @@
 //! The key of the timeline: what the strokes of its pictures mean.
 
-ghost use Rattle.std.specs.Prelude.{◌≡◌, ◌++◌, OnOk};
+ghost use Rattle.std.specs.Prelude.{◌≡◌, ◌==◌, [], ◌++◌, if◌then◌else◌, OnOk};
 ghost use Rattle.std.specs.String.{string_bytes};
-ghost use Rattle.mdns_page.specs.Key.{key, key_entry, key_lanes, key_lives, key_ticks};
+ghost use Rattle.mdns_page.specs.Key.{key, key_entry, key_lives, key_ticks};
 
 use mdns_message::Want;
 
@@ -22,6 +22,15 @@ pub(crate) fn push_key(to: &mut String, lanes: u32) -> Result<(), Want>
     push_key_lanes(to, lanes)?;
     to.push_str("</p>\n")?;
     Ok(())
+}
+
+fn push_key_lanes(to: &mut String, lanes: u32) -> Result<(), Want>
+    ensures { OnOk result (string_bytes to.new ≡ string_bytes to.old ++ (if lanes == 0 then [] else key_ticks)) }
+{
+    if lanes == 0 {
+        return Ok(());
+    }
+    push_key_ticks(to)
 }
 
 #[tactic(auto, unfolding(crate::specs::Key::key_lives))]
@@ -48,16 +57,6 @@ fn push_key_lives(to: &mut String) -> Result<(), Want>
         "flushed by other data",
     )?;
     Ok(())
-}
-
-// Appends what the strokes of lanes mean; nothing where there are none.
-fn push_key_lanes(to: &mut String, lanes: u32) -> Result<(), Want>
-    ensures { OnOk result (string_bytes to.new ≡ string_bytes to.old ++ key_lanes lanes) }
-{
-    if lanes == 0 {
-        return Ok(());
-    }
-    push_key_ticks(to)
 }
 
 #[tactic(auto, unfolding(crate::specs::Key::key_ticks))]

@@ -3,9 +3,9 @@
 ghost use Rattle.std.specs.Prelude.{◌≡◌, ◌<◌, ◌^◌, ◌++◌, if◌then◌else◌, None, Some, map, OnOk};
 ghost use Rattle.std.specs.Fmt.{decimal};
 ghost use Rattle.std.specs.String.{string_bytes};
-ghost use Rattle.mdns_page.specs.Captures.{facts_lent, spans_of};
-ghost use Rattle.mdns_page.specs.Lanes.{base_line, base_text, bases_from, bases_path, bases_text, goodbye_of, height, is_goodbye, lane_text};
-ghost use Rattle.mdns_page.specs.Lanes.{lane_top, lanes_for, lanes_from, lanes_note, lanes_text, point, second_mark, ticks_path};
+ghost use Rattle.mdns_page.specs.Captures.{each_from, facts_lent, spans_of};
+ghost use Rattle.mdns_page.specs.Lanes.{base_line, base_text, bases_text, goodbye_of, height, is_goodbye, lane_text, lane_top, lanes_for};
+ghost use Rattle.mdns_page.specs.Lanes.{lanes_text, point, second_mark, ticks_path};
 ghost use Rattle.mdns_page.specs.Timeline.{seconds_lent};
 
 use crate::axis::Axis;
@@ -105,18 +105,24 @@ fn push_each_lane(
     captures: &[Vec<SecondHeard>],
 ) -> Result<(), Want>
     ensures { OnOk result (string_bytes to.new
-        ≡ string_bytes to.old ++ lanes_from axis lanes 0 (map seconds_lent captures.now)) }
+        ≡ string_bytes to.old ++ each_from (lane_text axis lanes) 0 (map seconds_lent captures.now)) }
 {
     for (index, seconds) in captures.iter().enumerate() {
-        let top = lane_top(lanes, index);
-        push_lane(to, axis, top, seconds.as_slice())?;
+        push_lane(to, axis, lanes, index, seconds.as_slice())?;
     }
     Ok(())
 }
 
-fn push_lane(to: &mut String, axis: Axis, top: u64, seconds: &[SecondHeard]) -> Result<(), Want>
-    ensures { OnOk result (string_bytes to.new ≡ string_bytes to.old ++ lane_text axis top seconds.now) }
+fn push_lane(
+    to: &mut String,
+    axis: Axis,
+    lanes: u32,
+    index: usize,
+    seconds: &[SecondHeard],
+) -> Result<(), Want>
+    ensures { OnOk result (string_bytes to.new ≡ string_bytes to.old ++ lane_text axis lanes index seconds.now) }
 {
+    let top = lane_top(lanes, index);
     push_ticks_path(to, axis, Stroke::Tick(top), seconds)?;
     push_ticks_path(to, axis, Stroke::GoodbyeTick(top), seconds)
 }
@@ -184,6 +190,7 @@ fn point(axis: Axis, heard: Heard) -> Mark
 
 /// Appends the lines on which the ticks stand: below each capture's lane one for the time that it recorded. After `Want` a
 /// part of them may have been appended.
+#[tactic(auto, unfolding(crate::specs::Lanes::bases_text))]
 pub(crate) fn push_bases(
     to: &mut String,
     axis: Axis,
@@ -196,18 +203,6 @@ pub(crate) fn push_bases(
     if lanes == 0 {
         return Ok(());
     }
-    push_bases_path(to, axis, lanes, captures)
-}
-
-fn push_bases_path(
-    to: &mut String,
-    axis: Axis,
-    lanes: u32,
-    captures: &[CaptureFacts<'_>],
-) -> Result<(), Want>
-    ensures { OnOk result (string_bytes to.new
-        ≡ string_bytes to.old ++ bases_path axis lanes (spans_of (map facts_lent captures.now))) }
-{
     to.push_str("<path class=\"n\" d=\"")?;
     push_each_base(to, axis, lanes, captures)?;
     to.push_str("\"/>")?;
@@ -221,25 +216,29 @@ fn push_each_base(
     captures: &[CaptureFacts<'_>],
 ) -> Result<(), Want>
     ensures { OnOk result (string_bytes to.new
-        ≡ string_bytes to.old ++ bases_from axis lanes 0 (spans_of (map facts_lent captures.now))) }
+        ≡ string_bytes to.old ++ each_from (base_text axis lanes) 0 (spans_of (map facts_lent captures.now))) }
 {
     for (index, capture) in captures.iter().enumerate() {
-        let top = lane_top(lanes, index);
-        push_base(to, axis, top, capture.span)?;
+        push_base(to, axis, lanes, index, capture.span)?;
     }
     Ok(())
 }
 
 // Appends the line below a lane; nothing where there are no packets, or only packets after the end of the axis.
-fn push_base(to: &mut String, axis: Axis, top: u64, span: Option<Span>) -> Result<(), Want>
-    requires { top < 2 ^ 63 }
-    ensures { OnOk result (string_bytes to.new ≡ string_bytes to.old ++ base_text axis top span) }
+fn push_base(
+    to: &mut String,
+    axis: Axis,
+    lanes: u32,
+    index: usize,
+    span: Option<Span>,
+) -> Result<(), Want>
+    ensures { OnOk result (string_bytes to.new ≡ string_bytes to.old ++ base_text axis lanes index span) }
 {
     let Some(span) = span else {
         return Ok(());
     };
     if axis.has_begun(span) {
-        return push_base_line(to, axis, top, span);
+        return push_base_line(to, axis, lane_top(lanes, index), span);
     }
     Ok(())
 }
@@ -253,15 +252,5 @@ fn push_base_line(to: &mut String, axis: Axis, top: u64, span: Span) -> Result<(
     let end = axis.place_end(span.first.nanos(), span.last.nanos());
     let base = top + BASE;
     write!(to, "M{begin} {base}H{end}")?;
-    Ok(())
-}
-
-/// Appends which lane is whose, where there are several. After `Want` a part of it may have been appended.
-pub(crate) fn push_lanes_note(to: &mut String, lanes: u32) -> Result<(), Want>
-    ensures { OnOk result (string_bytes to.new ≡ string_bytes to.old ++ lanes_note lanes) }
-{
-    if lanes > 1 {
-        to.push_str(" The lanes of ticks are the captures, &#9312; on top.")?;
-    }
     Ok(())
 }

@@ -1,17 +1,15 @@
 //! What a page begins with: how many instances were live at the end of the captures, which instances it shows, and what the
 //! captures lack.
 
-ghost use Rattle.std.specs.Prelude.{◌≡◌, ◌++◌, map, OnOk};
+ghost use Rattle.std.specs.Prelude.{◌≡◌, ◌-◌, ◌∷◌, ◌++◌, codes, length, map, slice_get, OnOk};
 ghost use Rattle.std.specs.List.{flat_map};
 ghost use Rattle.std.specs.String.{string_bytes};
 ghost use Rattle.mdns_capture.specs.Text.{ending_text};
 ghost use Rattle.mdns_page.specs.Captures.{facts_lent};
 ghost use Rattle.mdns_page.specs.Html.{isolated};
-ghost use Rattle.mdns_page.specs.Lead.{about_line, cut_warning, ended_count, ended_text, ending_warning, has_ended};
-ghost use Rattle.mdns_page.specs.Lead.{has_said, is_ended, is_leaving, lead_text, live_line, live_words, lost_warning, other_subject};
-ghost use Rattle.mdns_page.specs.Lead.{others_text, packets_warning, said_count, said_text, said_words, subject_text};
-ghost use Rattle.mdns_page.specs.Lead.{subjects_line};
-ghost use Rattle.mdns_page.specs.Timeline.{counted_lent};
+ghost use Rattle.mdns_page.specs.Lead.{about_line, ended_text, ending_warning, is_ended, is_leaving, lead_text, live_line};
+ghost use Rattle.mdns_page.specs.Lead.{lost_warning, others_text, said_text, subject_text};
+ghost use Rattle.mdns_page.specs.Timeline.{count_last, counted_lent, is_some_such};
 
 use crate::axis::Axis;
 use crate::captures::{CaptureFacts, is_whole, push_shown_word};
@@ -55,17 +53,6 @@ fn push_live_line(to: &mut String, axis: Axis, rows: &[CountedRow<'_>]) -> Resul
     let goodbyes = ended_count(axis, Reason::Goodbye, rows);
     let flushed = ended_count(axis, Reason::Flushed, rows);
     let expired = ended_count(axis, Reason::RanOut, rows);
-    push_live_words(to, axis.end.nanos(), live)?;
-    push_said(to, said)?;
-    to.push('.')?;
-    push_others(to, goodbyes, flushed, expired)?;
-    to.push_str("</p>\n")?;
-    Ok(())
-}
-
-fn push_live_words(to: &mut String, end: u64, live: usize) -> Result<(), Want>
-    ensures { OnOk result (string_bytes to.new ≡ string_bytes to.old ++ live_words end live) }
-{
     to.push_str("<p class=\"lead\">")?;
     push_count(
         to,
@@ -74,8 +61,12 @@ fn push_live_words(to: &mut String, end: u64, live: usize) -> Result<(), Want>
         "service instances were",
     )?;
     to.push_str(" live at <time>")?;
-    push_millis(to, end)?;
+    push_millis(to, axis.end.nanos())?;
     to.push_str("</time>")?;
+    push_said(to, said)?;
+    to.push_str(".")?;
+    push_others(to, goodbyes, flushed, expired)?;
+    to.push_str("</p>\n")?;
     Ok(())
 }
 
@@ -87,12 +78,6 @@ fn push_said(to: &mut String, count: usize) -> Result<(), Want>
     if count == 0 {
         return Ok(());
     }
-    push_said_words(to, count)
-}
-
-fn push_said_words(to: &mut String, count: usize) -> Result<(), Want>
-    ensures { OnOk result (string_bytes to.new ≡ string_bytes to.old ++ said_words count) }
-{
     to.push_str(" (")?;
     push_commas(to, count as u128)?;
     to.push_str(" said goodbye)")?;
@@ -101,7 +86,7 @@ fn push_said_words(to: &mut String, count: usize) -> Result<(), Want>
 
 // Returns how many records are live at the end of the captures, but have said goodbye.
 fn said_count(axis: Axis, rows: &[CountedRow<'_>]) -> usize
-    ensures { result ≡ said_count axis (map counted_lent rows.now) }
+    ensures { result ≡ count_last (is_leaving axis) (map counted_lent rows.now) }
 {
     let mut count = 0;
     for row in rows {
@@ -112,7 +97,7 @@ fn said_count(axis: Axis, rows: &[CountedRow<'_>]) -> usize
 
 // Checks that the last of some lives goes on, after a goodbye.
 fn has_said(axis: Axis, lives: &[Life]) -> bool
-    ensures { result ≡ has_said axis lives.now }
+    ensures { result ≡ is_some_such (is_leaving axis) (slice_get lives.now (length lives.now - 1)) }
 {
     match lives.last() {
         Some(life) => is_leaving(axis, life),
@@ -132,7 +117,7 @@ fn is_leaving(axis: Axis, life: &Life) -> bool
 
 // Returns how many records' last lives ended for a reason.
 fn ended_count(axis: Axis, reason: Reason, rows: &[CountedRow<'_>]) -> usize
-    ensures { result ≡ ended_count axis reason (map counted_lent rows.now) }
+    ensures { result ≡ count_last (is_ended axis reason) (map counted_lent rows.now) }
 {
     let mut count = 0;
     for row in rows {
@@ -143,7 +128,7 @@ fn ended_count(axis: Axis, reason: Reason, rows: &[CountedRow<'_>]) -> usize
 
 // Checks that the last of some lives ended for a reason.
 fn has_ended(axis: Axis, reason: Reason, lives: &[Life]) -> bool
-    ensures { result ≡ has_ended axis reason lives.now }
+    ensures { result ≡ is_some_such (is_ended axis reason) (slice_get lives.now (length lives.now - 1)) }
 {
     match lives.last() {
         Some(life) => is_ended(axis, reason, life),
@@ -208,7 +193,7 @@ fn push_about_line(to: &mut String, about: &[Subject]) -> Result<(), Want>
 }
 
 fn push_subjects_line(to: &mut String, first: &Subject, others: &[Subject]) -> Result<(), Want>
-    ensures { OnOk result (string_bytes to.new ≡ string_bytes to.old ++ subjects_line isolated first.now others.now) }
+    ensures { OnOk result (string_bytes to.new ≡ string_bytes to.old ++ about_line isolated (first.now ∷ others.now)) }
 {
     to.push_str("<p class=\"note\">Only what is about ")?;
     push_subject(to, first)?;
@@ -218,19 +203,14 @@ fn push_subjects_line(to: &mut String, first: &Subject, others: &[Subject]) -> R
 }
 
 fn push_other_subjects(to: &mut String, others: &[Subject]) -> Result<(), Want>
-    ensures { OnOk result (string_bytes to.new ≡ string_bytes to.old ++ flat_map (other_subject isolated) others.now) }
+    ensures { OnOk result (string_bytes to.new
+        ≡ string_bytes to.old ++ flat_map (λ subject. codes ", " ++ subject_text isolated subject) others.now) }
 {
     for subject in others {
-        push_other_subject(to, subject)?;
+        to.push_str(", ")?;
+        push_subject(to, subject)?;
     }
     Ok(())
-}
-
-fn push_other_subject(to: &mut String, subject: &Subject) -> Result<(), Want>
-    ensures { OnOk result (string_bytes to.new ≡ string_bytes to.old ++ other_subject isolated subject.now) }
-{
-    to.push_str(", ")?;
-    push_subject(to, subject)
 }
 
 fn push_subject(to: &mut String, subject: &Subject) -> Result<(), Want>
@@ -258,12 +238,6 @@ fn push_ending_warning(to: &mut String, capture: &CaptureFacts<'_>) -> Result<()
     if is_whole(capture.summary.ending) {
         return Ok(());
     }
-    push_cut_warning(to, capture)
-}
-
-fn push_cut_warning(to: &mut String, capture: &CaptureFacts<'_>) -> Result<(), Want>
-    ensures { OnOk result (string_bytes to.new ≡ string_bytes to.old ++ cut_warning isolated (facts_lent capture.now)) }
-{
     to.push_str("<p class=\"warn\">")?;
     push_shown_word(to, capture.name)?;
     to.push_str(": ")?;
@@ -286,12 +260,6 @@ fn push_lost_warning(to: &mut String, lost: u128) -> Result<(), Want>
     if lost == 0 {
         return Ok(());
     }
-    push_packets_warning(to, lost)
-}
-
-fn push_packets_warning(to: &mut String, lost: u128) -> Result<(), Want>
-    ensures { OnOk result (string_bytes to.new ≡ string_bytes to.old ++ packets_warning lost) }
-{
     to.push_str("<p class=\"warn\">")?;
     push_count(to, lost, "packet", "packets")?;
     to.push_str(" could not be used: <a href=\"#nothing\">why</a>.</p>\n")?;

@@ -1,18 +1,17 @@
 //! What was live at the end: the instances with their servers, addresses and texts.
 
-ghost use Rattle.std.specs.Prelude.{◌≡◌, ◌++◌, map, OnOk};
+ghost use Rattle.std.specs.Prelude.{◌≡◌, ◌++◌, codes, map, OnOk};
 ghost use Rattle.std.specs.List.{filter_map, flat_map};
 ghost use Rattle.std.specs.String.{string_bytes};
 ghost use Rattle.mdns_cache.specs.Rows.{last_lent};
 ghost use Rattle.mdns_browse.specs.Given.{given_lent};
 ghost use Rattle.mdns_browse.specs.Services.{AreAscending, instance_row_in};
-ghost use Rattle.mdns_page.specs.Group.{group_end, grouped};
+ghost use Rattle.mdns_page.specs.Group.{grouped};
 ghost use Rattle.mdns_page.specs.Html.{isolated};
-ghost use Rattle.mdns_page.specs.Live.{live_begin, live_group, live_row, live_text, type_of};
+ghost use Rattle.mdns_page.specs.Live.{live_group, live_row, live_text, type_of};
 ghost use Rattle.mdns_page.specs.LiveSheet.{Adds, type_begin};
 
 use crate::axis::Axis;
-use crate::group::push_group_end;
 use crate::live_sheet::LiveSheet;
 use crate::owners::{Owned, following_len};
 use mdns_browse::sheet::{Given, walk_given};
@@ -43,21 +42,14 @@ pub(crate) fn push_live(
     ensures { OnOk result (AreAscending (map last_lent rows.now) → string_bytes to.new
         ≡ string_bytes to.old ++ live_text isolated axis opened (map last_lent rows.now) (map given_lent given.now)) }
 {
-    push_begin(to, axis)?;
+    to.push_str("<h2 id=\"live\">What was live at <time>")?;
+    push_millis(to, axis.end.nanos())?;
+    to.push_str("</time></h2>\n<div class=\"g l\">\n")?;
     let empty = String::new(*to.allocator());
     let mut sheet = LiveSheet::new(mem::replace(to, empty), axis);
     push_groups(&mut sheet, opened, rows, given)?;
     *to = sheet.text;
     to.push_str("</div>\n")?;
-    Ok(())
-}
-
-fn push_begin(to: &mut String, axis: Axis) -> Result<(), Want>
-    ensures { OnOk result (string_bytes to.new ≡ string_bytes to.old ++ live_begin axis) }
-{
-    to.push_str("<h2 id=\"live\">What was live at <time>")?;
-    push_millis(to, axis.end.nanos())?;
-    to.push_str("</time></h2>\n<div class=\"g l\">\n")?;
     Ok(())
 }
 
@@ -92,9 +84,10 @@ fn push_group(
 ) -> Result<(), Want>
     ensures { OnOk result (AreAscending (map last_lent rows.now) → Adds sheet.old (type_begin isolated opened owner.now
         ++ flat_map (live_row isolated sheet.old.axis) (filter_map (instance_row_in (map last_lent rows.now)) (map given_lent given.now))
-        ++ group_end) sheet.new) }
+        ++ codes "</ul></details>\n") sheet.new) }
 {
     sheet.begin_type(opened, owner)?;
     walk_given(sheet, rows, given)?;
-    push_group_end(&mut sheet.text)
+    sheet.text.push_str("</ul></details>\n")?;
+    Ok(())
 }

@@ -6,10 +6,7 @@ ghost use Rattle.mdns_page.specs.Html.{isolated};
 ghost use Rattle.mdns_page.specs.LiveSheet.{Adds, type_begin};
 
 use crate::axis::Axis;
-use crate::group::{
-    push_group_begin, push_group_words_begin, push_group_words_end, push_item_begin, push_item_end,
-    push_item_last, push_item_middle,
-};
+use crate::group::push_group_begin;
 use crate::html::push_isolated;
 use crate::live_words::{push_address, push_given, push_server, push_text, push_unresolved_if};
 use mdns_browse::push_shown_instance;
@@ -53,9 +50,9 @@ impl LiveSheet {
         push_group_begin(&mut self.text, opened)?;
         push_isolated(&mut self.text, self.scratch.as_str())?;
         self.text.push_str("<small>server, addresses</small>")?;
-        push_group_words_begin(&mut self.text)?;
+        self.text.push_str("<small>")?;
         self.text.push_str("text")?;
-        push_group_words_end(&mut self.text)
+        Ok(self.text.push_str("</small></summary><ul>\n")?)
     }
 }
 
@@ -76,12 +73,12 @@ impl Sheet for LiveSheet {
     }
 
     fn instance_begin(&mut self, given: &Given<'_>, name: &Name) -> Result<(), Want> {
-        push_item_begin(&mut self.text)?;
+        self.text.push_str("<li><div>")?;
         self.scratch.clear();
         push_shown_instance(&mut self.scratch, &name.borrowed())?;
         push_isolated(&mut self.text, self.scratch.as_str())?;
         push_given(&mut self.text, self.axis, given)?;
-        push_item_middle(&mut self.text)?;
+        self.text.push_str("</div>")?;
         Ok(self.text.push_str("<div>")?)
     }
 
@@ -117,7 +114,7 @@ impl Sheet for LiveSheet {
     fn servers_end(&mut self, none: bool) -> Result<(), Want> {
         push_unresolved_if(&mut self.text, none)?;
         self.text.push_str("</div>")?;
-        push_item_last(&mut self.text)
+        Ok(self.text.push_str("<div>")?)
     }
 
     fn instance_text(&mut self, text: &Bytes) -> Result<(), Want> {
@@ -125,7 +122,7 @@ impl Sheet for LiveSheet {
     }
 
     fn instance_end(&mut self) -> Result<(), Want> {
-        push_item_end(&mut self.text)
+        Ok(self.text.push_str("</div></li>\n")?)
     }
 
     ghost laws = { grows-laws };

@@ -1,17 +1,16 @@
 //! What a page says of a live instance: since when it is live, its servers, its texts.
 
-ghost use Rattle.std.specs.Prelude.{◌≡◌, ◌++◌, codes, true, IfOk, OnOk};
+ghost use Rattle.std.specs.Prelude.{◌≡◌, ◌∷◌, [], ◌++◌, codes, if◌then◌else◌, true, IfOk, OnOk};
+ghost use Rattle.std.specs.Fmt.{decimal};
 ghost use Rattle.std.specs.String.{string_bytes};
 ghost use Rattle.mdns_message.specs.Borrowed.{body_lent};
 ghost use Rattle.mdns_browse.specs.Given.{given_lent, nanos_in};
 ghost use Rattle.mdns_browse.specs.Json.{first_after};
-ghost use Rattle.mdns_browse.specs.Shown.{shown_string, shown_strings};
+ghost use Rattle.mdns_browse.specs.Shown.{shown_order, shown_string, shown_strings, spaced_wide};
 ghost use Rattle.mdns_page.specs.Html.{isolated};
-ghost use Rattle.mdns_page.specs.Live.{address_html, address_text, given_words, left_words, line_feed_unless, lines};
-ghost use Rattle.mdns_page.specs.Live.{server_line, since_text, space_unless, text_html};
-ghost use Rattle.mdns_page.specs.LiveSheet.{unresolved_if};
+ghost use Rattle.mdns_page.specs.Live.{address_html, address_text, given_words, left_words, lines, since_text, text_html};
 
-use crate::axis::{Axis, push_short};
+use crate::axis::{Axis, Dates, push_short};
 use crate::html::push_isolated;
 use mdns_browse::format::push_ipv4;
 use mdns_browse::push_shown_order;
@@ -29,19 +28,19 @@ pub(crate) fn push_given(to: &mut String, axis: Axis, given: &Given<'_>) -> Resu
     ensures { OnOk result (string_bytes to.new ≡ string_bytes to.old ++ given_words axis (given_lent given.now)) }
 {
     to.push_str("<small>")?;
-    push_since(to, axis, given.since)?;
+    push_since(to, axis.dates, given.since)?;
     push_left(to, axis.end, given)?;
     push_word(to, "</small>")
 }
 
-fn push_since(to: &mut String, axis: Axis, since: Option<Moment>) -> Result<(), Want>
-    ensures { OnOk result (string_bytes to.new ≡ string_bytes to.old ++ since_text axis (nanos_in since)) }
+fn push_since(to: &mut String, dates: Dates, since: Option<Moment>) -> Result<(), Want>
+    ensures { OnOk result (string_bytes to.new ≡ string_bytes to.old ++ since_text dates (nanos_in since)) }
 {
     let Some(from) = since else {
         return Ok(());
     };
     to.push_str("since ")?;
-    push_short(to, axis, from.nanos())?;
+    push_short(to, dates, from.nanos())?;
     push_word(to, ", ")
 }
 
@@ -73,7 +72,8 @@ pub(crate) fn push_server(
     port: u16,
     target: &str,
 ) -> Result<(), Want>
-    ensures { OnOk result (string_bytes to.new ≡ string_bytes to.old ++ server_line priority weight port (isolated target.now)) }
+    ensures { OnOk result (string_bytes to.new ≡ string_bytes to.old
+        ++ (codes "<p>" ++ isolated target.now ++ 58 ∷ decimal port ++ spaced_wide (shown_order priority weight) ++ codes "</p>")) }
 {
     to.push_str("<p>")?;
     push_isolated(to, target)?;
@@ -99,19 +99,12 @@ pub(crate) fn push_address(
 ) -> Result<(), Want>
     ensures { OnOk result (string_bytes to.new ≡ string_bytes to.old ++ address_html first (body_lent address.now)) }
 {
-    push_space_unless(to, first)?;
+    if !first {
+        to.push(' ')?;
+    }
     to.push_str("<code>")?;
     push_octets(to, address)?;
     push_word(to, "</code>")
-}
-
-fn push_space_unless(to: &mut String, first: bool) -> Result<(), Want>
-    ensures { OnOk result (string_bytes to.new ≡ string_bytes to.old ++ space_unless first) }
-{
-    if first {
-        return Ok(());
-    }
-    push_word(to, " ")
 }
 
 /// Appends an address as people read it. Only A and AAAA records have one. After `Want` a part of it may have been appended.
@@ -127,7 +120,7 @@ pub(crate) fn push_octets(to: &mut String, address: &BorrowedBody<'_>) -> Result
 
 /// Appends the paragraph of an instance without servers, if there are none. After `Want` a part of it may have been appended.
 pub(crate) fn push_unresolved_if(to: &mut String, none: bool) -> Result<(), Want>
-    ensures { OnOk result (string_bytes to.new ≡ string_bytes to.old ++ unresolved_if none) }
+    ensures { OnOk result (string_bytes to.new ≡ string_bytes to.old ++ (if none then codes "<p>unresolved</p>" else [])) }
 {
     if none {
         return push_word(to, "<p>unresolved</p>");
@@ -170,16 +163,9 @@ fn push_string(to: &mut String, first: bool, string: &[u8]) -> Result<bool, Want
     if string.is_empty() {
         return Ok(first);
     }
-    push_line_feed_unless(to, first)?;
+    if !first {
+        to.push('\n')?;
+    }
     push_shown(to, string)?;
     Ok(false)
-}
-
-fn push_line_feed_unless(to: &mut String, first: bool) -> Result<(), Want>
-    ensures { OnOk result (string_bytes to.new ≡ string_bytes to.old ++ line_feed_unless first) }
-{
-    if first {
-        return Ok(());
-    }
-    push_word(to, "\n")
 }

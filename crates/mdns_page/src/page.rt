@@ -4,7 +4,7 @@ ghost use Rattle.std.specs.Prelude.{◌≡◌, ◌++◌, map, OnOk};
 ghost use Rattle.std.specs.String.{string_bytes};
 ghost use Rattle.mdns_page.specs.Captures.{facts_lent, spans_of};
 ghost use Rattle.mdns_page.specs.Html.{isolated};
-ghost use Rattle.mdns_page.specs.Page.{body_begin, head, links, page, page_end, parts_lent, policy, title};
+ghost use Rattle.mdns_page.specs.Page.{body_begin, head, links, page, parts_lent, policy, title};
 
 use crate::axis::{Axis, push_days};
 use crate::captures::{CaptureFacts, push_captures};
@@ -12,7 +12,7 @@ use crate::counted::CountedRow;
 use crate::hosts::is_large;
 use crate::lanes::{lanes_for, push_height};
 use crate::lead::push_lead;
-use crate::style::push_style;
+use crate::style::STYLE;
 use crate::ticks::push_symbols;
 use crate::timeline::push_timeline;
 use mdns_browse::Subject;
@@ -61,7 +61,8 @@ pub(crate) fn push_page(to: &mut String, parts: &Parts<'_>) -> Result<(), Want>
     push_timeline(to, axis, lanes, parts.rows, parts.addresses, parts.names)?;
     to.push_str(parts.live)?;
     to.push_str(parts.nothing)?;
-    push_end(to)
+    to.push_str("</main></body></html>\n")?;
+    Ok(())
 }
 
 fn push_head(to: &mut String, axis: Axis, lanes: u32) -> Result<(), Want>
@@ -71,7 +72,7 @@ fn push_head(to: &mut String, axis: Axis, lanes: u32) -> Result<(), Want>
     to.push_str("<title>")?;
     push_title(to, axis)?;
     to.push_str("</title>\n<style>\n")?;
-    push_style(to)?;
+    to.push_str(STYLE)?;
     to.push_str("li>svg{height:")?;
     push_height(to, lanes)?;
     to.push_str("px}\n</style></head>\n")?;
@@ -127,13 +128,5 @@ fn push_links(to: &mut String) -> Result<(), Want>
         "<nav><a href=\"#captures\">Captures</a><a href=\"#timeline\">Timeline</a>\
          <a href=\"#live\">What was live</a><a href=\"#nothing\">Skipped packets</a></nav>\n",
     )?;
-    Ok(())
-}
-
-#[tactic(auto, unfolding(crate::specs::Page::page_end))]
-fn push_end(to: &mut String) -> Result<(), Want>
-    ensures { OnOk result (string_bytes to.new ≡ string_bytes to.old ++ page_end) }
-{
-    to.push_str("</main></body></html>\n")?;
     Ok(())
 }

@@ -4,8 +4,9 @@ ghost use Rattle.std.specs.Prelude.{◌≡◌, ◌++◌, [], List, IfOk, OnOk, m
 ghost use Rattle.std.specs.List.{cons_option, flat_map};
 ghost use Rattle.std.specs.String.{string_bytes};
 ghost use Rattle.mdns_page.specs.declared.picture.Mark.{Mark};
+ghost use Rattle.mdns_page.specs.declared.picture.Stroke.TheVariants.{Server};
 ghost use Rattle.mdns_page.specs.Picture.{bar_mark, bars, class_of, end_mark, goes_on, is_for, is_same, mark_of, mark_text};
-ghost use Rattle.mdns_page.specs.Picture.{path, path_begin, path_end, path_last, path_rest, server_bars, title_word, titled_bar};
+ghost use Rattle.mdns_page.specs.Picture.{path, path_begin, path_end, path_last, path_rest, title_word, titled_bar};
 ghost use Rattle.mdns_page.specs.Timeline.{lives_lent};
 
 use crate::axis::Axis;
@@ -45,7 +46,7 @@ pub(crate) fn push_servers(
     servers: &[RecordLives<'_>],
 ) -> Result<(), Want>
     ensures { OnOk result (string_bytes to.new
-        ≡ string_bytes to.old ++ server_bars axis titled (map lives_lent servers.now)) }
+        ≡ string_bytes to.old ++ flat_map (bars axis titled Server) (map lives_lent servers.now)) }
 {
     for server in servers {
         push_bars(to, axis, titled, Stroke::Server, server.lives.as_slice())?;
@@ -96,11 +97,7 @@ fn title_word(stroke: Stroke) -> &'static str
 {
     match stroke {
         Stroke::Server => "server ",
-        Stroke::Bar => "",
-        Stroke::Pin(_) => "",
-        Stroke::Head(_) => "",
-        Stroke::Tick(_) => "",
-        Stroke::GoodbyeTick(_) => "",
+        _ => "",
     }
 }
 
@@ -165,8 +162,7 @@ fn mark_of(axis: Axis, stroke: Stroke, life: &Life) -> Option<Mark>
         Stroke::Server => Some(bar_mark(axis, life)),
         Stroke::Pin(reason) => end_mark(axis, reason, life),
         Stroke::Head(reason) => end_mark(axis, reason, life),
-        Stroke::Tick(_) => None,
-        Stroke::GoodbyeTick(_) => None,
+        Stroke::Tick(_) | Stroke::GoodbyeTick(_) => None,
     }
 }
 

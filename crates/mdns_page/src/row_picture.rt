@@ -1,8 +1,10 @@
 //! The picture of a row.
 
-ghost use Rattle.std.specs.Prelude.{◌≡◌, ◌++◌, map, OnOk};
+ghost use Rattle.std.specs.Prelude.{◌≡◌, ◌++◌, codes, map, OnOk};
+ghost use Rattle.std.specs.Fmt.{decimal};
 ghost use Rattle.std.specs.String.{string_bytes};
-ghost use Rattle.mdns_page.specs.RowPicture.{picture, picture_begin};
+ghost use Rattle.mdns_page.specs.Lanes.{height};
+ghost use Rattle.mdns_page.specs.RowPicture.{picture};
 ghost use Rattle.mdns_page.specs.Timeline.{lives_lent, seconds_lent};
 
 use crate::lanes::{push_height, push_lanes};
@@ -15,7 +17,6 @@ use mdns_message::Want;
 /// that ended before the end of the axis a pin that tells why, and in lanes the seconds in which each capture heard the record.
 /// Where bars have titles each has one; other strokes of one kind at one place are drawn once, those of each server and
 /// of each capture by themselves. After `Want` a part of it may have been appended.
-#[tactic(auto, unfolding(crate::specs::RowPicture::picture_end))]
 pub(crate) fn push_picture(
     to: &mut String,
     look: Look,
@@ -40,9 +41,10 @@ pub(crate) fn push_picture(
     Ok(())
 }
 
-#[tactic(auto, unfolding(crate::specs::RowPicture::picture_begin))]
 fn push_picture_begin(to: &mut String, lanes: u32) -> Result<(), Want>
-    ensures { OnOk result (string_bytes to.new ≡ string_bytes to.old ++ picture_begin lanes) }
+    ensures { OnOk result (string_bytes to.new ≡ string_bytes to.old
+        ++ (codes "<svg viewBox=\"0 0 1000 " ++ decimal (height lanes)
+        ++ codes "\" preserveAspectRatio=\"none\" aria-hidden=\"true\"><use href=\"#g\"/>")) }
 {
     to.push_str("<svg viewBox=\"0 0 1000 ")?;
     push_height(to, lanes)?;

@@ -1,16 +1,16 @@
 //! The rows of the timeline: which of them are live, and their texts.
 
-ghost use Rattle.std.specs.Prelude.{◌≡◌, ◌++◌, map, OnOk};
-ghost use Rattle.std.specs.List.{count_by, flat_map};
+ghost use Rattle.std.specs.Prelude.{◌≡◌, ◌-◌, ◌++◌, length, map, slice_get, OnOk};
+ghost use Rattle.std.specs.List.{flat_map};
 ghost use Rattle.std.specs.String.{string_bytes};
 ghost use Rattle.mdns_browse.specs.Shown.{shown_instance};
 ghost use Rattle.mdns_page.specs.Html.{isolated};
-ghost use Rattle.mdns_page.specs.Timeline.{counted_lent, is_live, owner_of, record_name, row_name, row_text};
-ghost use Rattle.mdns_page.specs.Timeline.{target_shown};
+ghost use Rattle.mdns_page.specs.Heard.{heard_text};
+ghost use Rattle.mdns_page.specs.Picture.{goes_on};
+ghost use Rattle.mdns_page.specs.Timeline.{count_last, counted_lent, is_some_such, owner_of, record_name, row_text, seconds_lent, target_shown};
 
 use crate::axis::Axis;
 use crate::counted::CountedRow;
-use crate::group::{push_item_begin, push_item_end, push_item_last, push_item_middle};
 use crate::heard::push_heard;
 use crate::hosts::{push_host_name, push_whole_name};
 use crate::html::push_isolated;
@@ -34,7 +34,7 @@ impl Owned for CountedRow<'_> {
 
 /// Returns how many rows are of records that are live at the end of the captures.
 pub(crate) fn live_rows(axis: Axis, rows: &[CountedRow<'_>]) -> usize
-    ensures { result ≡ count_by (λ row. is_live axis row.lives) (map counted_lent rows.now) }
+    ensures { result ≡ count_last (goes_on axis) (map counted_lent rows.now) }
 {
     let mut count = 0;
     for row in rows {
@@ -45,7 +45,7 @@ pub(crate) fn live_rows(axis: Axis, rows: &[CountedRow<'_>]) -> usize
 
 /// Checks that the last of some lives goes on after the end of the captures.
 pub(crate) fn is_live(axis: Axis, lives: &[Life]) -> bool
-    ensures { result ≡ is_live axis lives.now }
+    ensures { result ≡ is_some_such (goes_on axis) (slice_get lives.now (length lives.now - 1)) }
 {
     match lives.last() {
         Some(life) => goes_on(axis, life),
@@ -85,13 +85,13 @@ fn push_row(
         ≡ string_bytes to.old ++ row_text isolated whole look (counted_lent row.now)) }
 {
     let lives = row.record.lives.as_slice();
-    push_item_begin(to)?;
+    to.push_str("<li><div>")?;
     push_name(to, scratch, whole, row)?;
-    push_item_middle(to)?;
+    to.push_str("</div>")?;
     push_picture(to, look, lives, row.servers, row.heard.as_slice())?;
-    push_item_last(to)?;
+    to.push_str("<div>")?;
     push_lives_words(to, look.axis, lives)?;
-    push_item_end(to)?;
+    to.push_str("</div></li>\n")?;
     Ok(())
 }
 
@@ -101,7 +101,9 @@ fn push_name(
     whole: bool,
     row: &CountedRow<'_>,
 ) -> Result<(), Want>
-    ensures { OnOk result (string_bytes to.new ≡ string_bytes to.old ++ row_name isolated whole (counted_lent row.now)) }
+    ensures { OnOk result (string_bytes to.new ≡ string_bytes to.old
+        ++ (record_name isolated whole (owner_of (counted_lent row.now)) (counted_lent row.now).last.resource.body
+        ++ heard_text row.now.captures (map seconds_lent row.now.heard.items))) }
 {
     let record = row.record;
     push_record_name(to, scratch, whole, record.last.resource)?;

@@ -1,13 +1,9 @@
 //! How a page looks: nothing of it depends on the captures.
 
-ghost use Rattle.std.specs.Prelude.{◌≡◌, ◌++◌, OnOk};
-ghost use Rattle.std.specs.String.{string_bytes};
-ghost use Rattle.mdns_page.specs.Style.{style_text};
-
-use mdns_message::Want;
-
-// The colours, in light and in dark.
-const COLOURS: &str = "\
+/// The style sheet of a page, without the element around it: the colours, in light and in dark; text, and what holds the page;
+/// groups, with their heads and the columns of their rows; rows and tables; axes and marks of pictures; narrow screens, and
+/// print. It has no reference to anything outside of the page.
+pub(crate) const STYLE: &str = "\
 :root{color-scheme:light dark;--bg:#fff;--fg:#171b20;--dim:#5a6571;--line:#e2e6ea;--base:#87929e;\
     --bar:#2b77b6;
 --server:#5496cc;--tick:#5a6571;--bye:#171b20;--flush:#7b3fc4;--out:#c2470c}
@@ -15,10 +11,6 @@ const COLOURS: &str = "\
     --line:#2a3037;
 --base:#6b7683;--bar:#4192d6;--server:#3d78a8;--tick:#aeb8c2;--bye:#fff;--flush:#bf95f7;\
     --out:#ff9457}}
-";
-
-// Text, and what holds the page.
-const TEXT: &str = "\
 *{box-sizing:border-box}
 body{margin:0;background:var(--bg);color:var(--fg);font:14px/1.45 system-ui,sans-serif;\
     font-variant-numeric:tabular-nums}
@@ -36,10 +28,6 @@ time{white-space:nowrap}
 small{display:block;font-size:12px;color:var(--dim);font-weight:400}
 bdi{white-space:pre-wrap;overflow-wrap:anywhere}
 code{font:12.5px/1.5 ui-monospace,monospace;margin-right:8px;overflow-wrap:anywhere}
-";
-
-// Groups: their heads, and the columns of their rows.
-const GROUPS: &str = "\
 .g>details{margin-top:14px}
 .g>details>summary{position:sticky;top:0;z-index:1;background:var(--bg);padding:5px 0 3px;\
     font-weight:600;cursor:pointer;list-style:none}
@@ -52,10 +40,6 @@ summary::-webkit-details-marker{display:none}
 .g>details>summary>small{align-self:center}
 .g>details:not([open])>summary>svg{visibility:hidden}
 .l>details>summary,.l li{grid-template-columns:26% 34% 1fr}
-";
-
-// Rows, their columns, and tables.
-const ROWS: &str = "\
 ul{margin:0;padding:0;list-style:none}
 li{border-top:1px solid var(--line);padding:5px 0;overflow:clip;break-inside:avoid}
 li>*{min-width:0}
@@ -65,10 +49,6 @@ li small{position:relative;background:var(--bg)}
 table{border-collapse:collapse}
 th,td{font-weight:400;text-align:left;padding:3px 24px 3px 0;border-top:1px solid var(--line)}
 td:first-child{text-align:right}
-";
-
-// Pictures: axes and marks.
-const MARKS: &str = "\
 svg{display:block;width:100%;overflow:visible}
 li>.c{height:24px}
 .d{position:absolute}
@@ -91,10 +71,6 @@ path{fill:none;vector-effect:non-scaling-stroke}
 .h3{stroke-linecap:square;stroke-width:6}
 .key{color:var(--dim);margin-top:6px}
 .key span{margin-right:22px;white-space:nowrap}
-";
-
-// Narrow screens, and print.
-const SCREENS: &str = "\
 @media (max-width:1000px){.y+.y:nth-child(even){display:none}}
 @media (max-width:680px){
 main{padding:20px 14px 48px}
@@ -114,18 +90,3 @@ nav{display:none}
 .g>details::details-content{content-visibility:visible;block-size:auto}
 }
 ";
-
-/// Appends the style sheet of a page, without the element around it. It has light and dark colours, and no reference to
-/// anything outside of the page. After `Want` a part of it may have been appended.
-#[tactic(auto, unfolding(crate::specs::Style::style_text))]
-pub(crate) fn push_style(to: &mut String) -> Result<(), Want>
-    ensures { OnOk result (string_bytes to.new ≡ string_bytes to.old ++ style_text) }
-{
-    to.push_str(COLOURS)?;
-    to.push_str(TEXT)?;
-    to.push_str(GROUPS)?;
-    to.push_str(ROWS)?;
-    to.push_str(MARKS)?;
-    to.push_str(SCREENS)?;
-    Ok(())
-}

@@ -4,7 +4,7 @@ ghost use Rattle.std.specs.Prelude.{◌≡◌, ◌<◌, ◌^◌, ◌++◌, map, 
 ghost use Rattle.std.specs.List.{flat_map};
 ghost use Rattle.std.specs.String.{string_bytes};
 ghost use Rattle.mdns_page.specs.Captures.{facts_lent, spans_of};
-ghost use Rattle.mdns_page.specs.Ticks.{first_step, is_long, multiples, step_of, symbols, symbols_text};
+ghost use Rattle.mdns_page.specs.Ticks.{first_step, is_long, multiples, step_of, symbols_text};
 ghost use Rattle.mdns_page.specs.Ticks.{tick_label, tick_line, tick_text, ticks};
 
 use crate::axis::{Axis, Dates, push_day};
@@ -32,7 +32,6 @@ const STEPS: [u32; 17] = [
 
 /// Appends what the pictures share: the labels of the axis, the lines at its ticks, and those of the lanes. After `Want` a part
 /// of it may have been appended.
-#[tactic(auto, unfolding(crate::specs::Ticks::symbols_text))]
 pub(crate) fn push_symbols(
     to: &mut String,
     axis: Axis,
@@ -53,18 +52,19 @@ fn push_labels_and_lines(
     axis: Axis,
     lanes: u32,
     captures: &[CaptureFacts<'_>],
-    ticks: &[u64],
+    moments: &[u64],
 ) -> Result<(), Want>
+    requires { moments.now ≡ ticks axis }
     ensures { OnOk result (string_bytes to.new
-        ≡ string_bytes to.old ++ symbols axis lanes (spans_of (map facts_lent captures.now)) ticks.now) }
+        ≡ string_bytes to.old ++ symbols_text axis lanes (spans_of (map facts_lent captures.now))) }
 {
     to.push_str("<svg class=\"d\" width=\"0\" height=\"0\" aria-hidden=\"true\"><defs>")?;
     to.push_str("<symbol id=\"x\" overflow=\"visible\">")?;
-    push_labels(to, axis, ticks)?;
+    push_labels(to, axis, moments)?;
     to.push_str("</symbol>\n<g id=\"v\"><path class=\"v\" d=\"")?;
-    push_grid(to, axis, CAPTURE_HEIGHT, ticks)?;
+    push_grid(to, axis, CAPTURE_HEIGHT, moments)?;
     to.push_str("\"/></g>\n<g id=\"g\"><path class=\"v\" d=\"")?;
-    push_grid(to, axis, height(lanes), ticks)?;
+    push_grid(to, axis, height(lanes), moments)?;
     to.push_str("\"/>")?;
     push_bases(to, axis, lanes, captures)?;
     to.push_str("</g>\n</defs></svg>\n")?;

@@ -1,25 +1,21 @@
 //! The timeline: a row for each instance that was heard, in groups by type, one for each address of a host, and one for each
 //! name that isn't one label and its type.
 
-ghost use Rattle.std.specs.Prelude.{◌≡◌, ◌+◌, ◌++◌, ◌<◌, length, map, OnOk};
+ghost use Rattle.std.specs.Prelude.{◌≡◌, ◌+◌, [], ◌++◌, ◌<◌, if◌then◌else◌, length, map, OnOk};
 ghost use Rattle.std.specs.List.{flat_map};
 ghost use Rattle.std.specs.String.{string_bytes};
-ghost use Rattle.mdns_page.specs.Group.{grouped};
+ghost use Rattle.mdns_page.specs.Group.{first_owner, grouped};
 ghost use Rattle.mdns_page.specs.Html.{isolated};
-ghost use Rattle.mdns_page.specs.Timeline.{counted_lent, group_text, is_open, others_group, others_text, owner_of};
-ghost use Rattle.mdns_page.specs.Timeline.{timeline, timeline_begin, titles_note};
+ghost use Rattle.people_text.specs.Shown.{name_shown};
+ghost use Rattle.mdns_page.specs.Timeline.{counted_lent, group_text, is_open, others_group, others_text, owner_of, timeline, timeline_begin};
 
 use crate::axis::Axis;
 use crate::counted::CountedRow;
 use crate::counts::push_live_count;
-use crate::group::{
-    push_axis_picture, push_group_begin, push_group_end, push_group_words_begin,
-    push_group_words_end,
-};
+use crate::group::{push_axis_picture, push_group_begin};
 use crate::hosts::{is_large, others_heading, push_large_note, push_others_words, push_whole_name};
 use crate::html::push_isolated;
 use crate::key::push_key;
-use crate::lanes::push_lanes_note;
 use crate::look::Look;
 use crate::owners::following_len;
 use crate::rows::{live_rows, push_rows};
@@ -77,8 +73,12 @@ fn push_begin(to: &mut String, titled: bool, large: bool, lanes: u32) -> Result<
          A goodbye ends it one second later, unless it is announced again before. ",
     )?;
     to.push_str("Heard 3&#215;: in three different seconds.")?;
-    push_titles_note(to, titled)?;
-    push_lanes_note(to, lanes)?;
+    push_if(to, titled, " Point at a bar for milliseconds.")?;
+    push_if(
+        to,
+        lanes > 1,
+        " The lanes of ticks are the captures, &#9312; on top.",
+    )?;
     push_large_note(to, large)?;
     to.push_str("</p>\n")?;
     push_key(to, lanes)?;
@@ -86,11 +86,11 @@ fn push_begin(to: &mut String, titled: bool, large: bool, lanes: u32) -> Result<
     Ok(())
 }
 
-fn push_titles_note(to: &mut String, titled: bool) -> Result<(), Want>
-    ensures { OnOk result (string_bytes to.new ≡ string_bytes to.old ++ titles_note titled) }
+fn push_if(to: &mut String, is: bool, note: &str) -> Result<(), Want>
+    ensures { OnOk result (string_bytes to.new ≡ string_bytes to.old ++ (if is then note.now else [])) }
 {
-    if titled {
-        to.push_str(" Point at a bar for milliseconds.")?;
+    if is {
+        to.push_str(note)?;
     }
     Ok(())
 }
@@ -114,7 +114,6 @@ fn push_groups(
     Ok(())
 }
 
-#[tactic(auto, unfolding(crate::specs::Timeline::group_text))]
 fn push_group(
     to: &mut String,
     scratch: &mut String,
@@ -126,11 +125,10 @@ fn push_group(
     ensures { OnOk result (string_bytes to.new
         ≡ string_bytes to.old ++ group_text isolated look opened (map counted_lent rows.now)) }
 {
-    let first = rows[0].record;
     push_group_begin(to, opened)?;
-    push_whole_name(to, scratch, &first.last.resource.owner)?;
+    push_type_name(to, scratch, rows)?;
     push_axis_picture(to)?;
-    push_group_words_begin(to)?;
+    to.push_str("<small>")?;
     push_live_count(
         to,
         rows.len(),
@@ -138,9 +136,24 @@ fn push_group(
         "instance",
         "instances",
     )?;
-    push_group_words_end(to)?;
+    to.push_str("</small></summary><ul>\n")?;
     push_rows(to, scratch, false, look, rows)?;
-    push_group_end(to)
+    to.push_str("</ul></details>\n")?;
+    Ok(())
+}
+
+// Appends the type of the instances, by way of `scratch`.
+fn push_type_name(
+    to: &mut String,
+    scratch: &mut String,
+    rows: &[CountedRow<'_>],
+) -> Result<(), Want>
+    requires { 0 < length rows.now }
+    ensures { OnOk result (string_bytes to.new
+        ≡ string_bytes to.old ++ isolated (name_shown (first_owner owner_of (map counted_lent rows.now)))) }
+{
+    let first = rows[0].record;
+    push_whole_name(to, scratch, &first.last.resource.owner)
 }
 
 // Appends the group of some names, or of some addresses; nothing where there are none.
@@ -160,7 +173,6 @@ fn push_others(
     push_others_group(to, look, opened, names, rows)
 }
 
-#[tactic(auto, unfolding(crate::specs::Timeline::others_group))]
 fn push_others_group(
     to: &mut String,
     look: Look,
@@ -175,9 +187,10 @@ fn push_others_group(
     push_group_begin(to, opened)?;
     push_isolated(to, others_heading(names))?;
     push_axis_picture(to)?;
-    push_group_words_begin(to)?;
+    to.push_str("<small>")?;
     push_others_words(to, names, rows.len(), live_rows(look.axis, rows))?;
-    push_group_words_end(to)?;
+    to.push_str("</small></summary><ul>\n")?;
     push_rows(to, &mut scratch, true, look, rows)?;
-    push_group_end(to)
+    to.push_str("</ul></details>\n")?;
+    Ok(())
 }

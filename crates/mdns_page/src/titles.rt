@@ -1,11 +1,11 @@
 //! What bars say of lives.
 
-ghost use Rattle.std.specs.Prelude.{◌≡◌, ◌≤◌, ◌++◌, length, map, OnOk};
+ghost use Rattle.std.specs.Prelude.{◌≡◌, ◌≤◌, ◌++◌, if◌then◌else◌, length, map, OnOk};
 ghost use Rattle.std.specs.List.{flat_map};
 ghost use Rattle.std.specs.String.{string_bytes};
 ghost use Rattle.mdns_browse.specs.Lives.{reason_text};
-ghost use Rattle.mdns_page.specs.Timeline.{are_titled, counted_lent, lives_in, lives_lent, lives_of};
-ghost use Rattle.mdns_page.specs.Titles.{IsLess, end_text, life_title, open_text};
+ghost use Rattle.mdns_page.specs.Timeline.{are_titled, counted_lent, lives_in, lives_lent};
+ghost use Rattle.mdns_page.specs.Titles.{IsLess, life_title, still_text};
 
 use crate::counted::CountedRow;
 use mdns_lives::{Life, Reason, RecordLives};
@@ -34,7 +34,7 @@ fn left_after_all(
     addresses: &[CountedRow<'_>],
     names: &[CountedRow<'_>],
 ) -> Option<usize>
-    ensures { IsLess 1000 (length (lives_of (map counted_lent rows.now ++ map counted_lent addresses.now ++ map counted_lent names.now)))
+    ensures { IsLess 1000 (length (flat_map lives_in (map counted_lent rows.now ++ map counted_lent addresses.now ++ map counted_lent names.now)))
         result }
 {
     let left = left_after(TITLED_LIVES, rows)?;
@@ -44,7 +44,7 @@ fn left_after_all(
 
 // Subtracts the number of lives of some rows, if there are so many.
 fn left_after(count: usize, rows: &[CountedRow<'_>]) -> Option<usize>
-    ensures { IsLess count (length (lives_of (map counted_lent rows.now))) result }
+    ensures { IsLess count (length (flat_map lives_in (map counted_lent rows.now))) result }
 {
     let mut left = count;
     for row in rows {
@@ -100,7 +100,7 @@ pub(crate) fn push_life_title(to: &mut String, goes_on: bool, life: &Life) -> Re
 
 // Returns why a life ended, or that it goes on.
 fn end_word(goes_on: bool, reason: Reason) -> &'static str
-    ensures { result.now ≡ end_text goes_on reason }
+    ensures { result.now ≡ (if goes_on then still_text reason else reason_text reason) }
 {
     if goes_on {
         return open_word(reason);
@@ -111,7 +111,7 @@ fn end_word(goes_on: bool, reason: Reason) -> &'static str
 /// Returns what is said of a life that goes on after the end of the captures: a flush or a goodbye ends it, unless the
 /// record is heard again.
 pub(crate) fn open_word(reason: Reason) -> &'static str
-    ensures { result.now ≡ open_text reason }
+    ensures { result.now ≡ still_text reason }
 {
     match reason {
         Reason::RanOut => "still live",

@@ -1,11 +1,12 @@
 //! Lives in words.
 
-ghost use Rattle.std.specs.Prelude.{◌≡◌, ◌++◌, OnOk};
+ghost use Rattle.std.specs.Prelude.{◌≡◌, ◌==◌, [], ◌++◌, codes, if◌then◌else◌, OnOk};
 ghost use Rattle.std.specs.List.{flat_map};
 ghost use Rattle.std.specs.String.{string_bytes};
-ghost use Rattle.mdns_page.specs.Words.{earlier_words, end_words, life_words, lives_words};
+ghost use Rattle.mdns_page.specs.Counts.{commas};
+ghost use Rattle.mdns_page.specs.Words.{end_words, life_words, lives_words};
 
-use crate::axis::{Axis, push_short, push_until};
+use crate::axis::{Axis, Dates, is_same_date, push_short};
 use crate::counts::push_commas;
 use crate::picture::goes_on;
 use crate::titles::{open_word, reason_word};
@@ -26,9 +27,9 @@ pub(crate) fn push_lives_words(to: &mut String, axis: Axis, lives: &[Life]) -> R
 }
 
 // Appends how many lives aren't told; nothing where there is none.
-#[tactic(auto, unfolding(crate::specs::Words::earlier_words))]
 fn push_earlier(to: &mut String, count: usize) -> Result<(), Want>
-    ensures { OnOk result (string_bytes to.new ≡ string_bytes to.old ++ earlier_words count) }
+    ensures { OnOk result (string_bytes to.new ≡ string_bytes to.old
+        ++ (if count == 0 then [] else codes "<small>" ++ commas count ++ codes " earlier</small>")) }
 {
     if count == 0 {
         return Ok(());
@@ -54,7 +55,7 @@ fn push_life(to: &mut String, axis: Axis, life: &Life) -> Result<(), Want>
     ensures { OnOk result (string_bytes to.new ≡ string_bytes to.old ++ life_words axis life.now) }
 {
     to.push_str("<p>")?;
-    push_short(to, axis, life.from.nanos())?;
+    push_short(to, axis.dates, life.from.nanos())?;
     to.push_str(" &#8211; ")?;
     push_end(to, axis, life)?;
     to.push_str("</p>")?;
@@ -71,7 +72,9 @@ fn push_end(to: &mut String, axis: Axis, life: &Life) -> Result<(), Want>
         to.push_str("</b>")?;
         return Ok(());
     }
-    push_until(to, axis, life.from.nanos(), life.until)?;
+    let same = is_same_date(life.from.nanos(), life.until);
+    let dates = if same { Dates::Omitted } else { axis.dates };
+    push_short(to, dates, life.until)?;
     to.push(' ')?;
     to.push_str(reason_word(life.reason))?;
     Ok(())

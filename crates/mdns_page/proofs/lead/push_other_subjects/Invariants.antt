@@ -1,11 +1,11 @@
-use Rattle.std.proofs.Common.{◌≡◌, ◌++◌, take}
+use Rattle.std.proofs.Common.{◌≡◌, ◌++◌, codes, take}
 use Rattle.std.specs.List.{flat_map}
 use Rattle.std.specs.String.{string_bytes}
 use Rattle.mdns_page.specs.Html.{isolated}
-use Rattle.mdns_page.specs.Lead.{other_subject}
+use Rattle.mdns_page.specs.Lead.{subject_text}
 use Rattle.mdns_page.proofs.lead.push_other_subjects.Given as goal
 
 -- the subjects so far were appended
 abbrev pub invariant-loop-subject : goal.invariant-loop-subject
 invariant-loop-subject l =
-    string_bytes l.to ≡ string_bytes l.initial.to ++ flat_map (other_subject isolated) (take l.subject-index l.others)
+    string_bytes l.to ≡ string_bytes l.initial.to ++ flat_map (λ subject. codes ", " ++ subject_text isolated subject) (take l.subject-index l.others)

@@ -1,9 +1,7 @@
-use Rattle.mdns_page.specs.Lead.{subjects_line}
 use Rattle.mdns_page.proofs.PartLemmas.{parts4}
 use Rattle.mdns_page.proofs.lead.push_subjects_line.Goals as goal
 
 pub returns : goal.returns
-unfolding subjects_line
 returns c =
     parts4 _ _ _ _ _ _ _ _ _ c.in_ok-push_str.ensures.bytes c.in_ok-push_subject.ensures c.in_ok-push_other_subjects.ensures
     c.in_ok-push_str-2.ensures.bytes

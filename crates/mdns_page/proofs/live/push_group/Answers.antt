@@ -1,5 +1,4 @@
 use Rattle.std.proofs.Common.{map, refl}
-use Rattle.std.proofs.lemmas.Result.{on_ok_weaker}
 use Rattle.std.specs.List.{filter_map}
 use Rattle.mdns_cache.specs.Rows.{last_lent}
 use Rattle.mdns_browse.specs.Given.{given_lent}
@@ -8,10 +7,7 @@ use Rattle.mdns_page.proofs.LiveLemmas.{group_by_parts}
 use Rattle.mdns_page.proofs.live.push_group.Goals as goal
 
 pub returns : goal.returns
-returns c =
-    on_ok_weaker c.push_group_end.result
-    (λ end sorted.
+returns c sorted =
     group_by_parts c.args.opened c.args.owner.now
     (filter_map (instance_row_in (map last_lent c.args.rows.now)) (map given_lent c.args.given.now)) _ _ _ _ c.in_ok-begin_type.ensures
-    (c.in_ok-walk_given.ensures sorted) refl end)
-    c.push_group_end.ensures
+    (c.in_ok-walk_given.ensures sorted) refl c.in_ok-push_str.ensures.bytes

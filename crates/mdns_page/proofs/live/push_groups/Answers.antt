@@ -1,4 +1,4 @@
-use Rattle.std.proofs.Common.{◌≡◌, ◌∙◌, ◌+◌, ◌++◌, ap, map, refl, take}
+use Rattle.std.proofs.Common.{◌≡◌, ◌∙◌, ◌+◌, ◌++◌, ap, map, refl, take, codes}
 use Rattle.std.proofs.lemmas.List.{take_rest}
 use Rattle.std.specs.List.{filter_map, flat_map}
 use Rattle.std.specs.String.{string_bytes}
@@ -6,7 +6,6 @@ use Rattle.mdns_cache.specs.Rows.{last_lent}
 use Rattle.mdns_browse.specs.Given.{given_lent}
 use Rattle.mdns_browse.specs.Services.{instance_row_in}
 use Rattle.mdns_page.specs.declared.axis.Axis.{Axis}
-use Rattle.mdns_page.specs.Group.{group_end}
 use Rattle.mdns_page.specs.Html.{isolated}
 use Rattle.mdns_page.specs.Live.{live_group, live_row, type_of}
 use Rattle.mdns_page.specs.LiveSheet.{type_begin}
@@ -36,7 +35,7 @@ loop-first-preserved c sorted =
     ≡ string_bytes c.loop-first.sheet.text ++ live_group isolated axis opened lasts (map given_lent (take len rest)) =
     more.written
     ∙ ap (λ (a : Axis). string_bytes c.loop-first.sheet.text ++ (type_begin isolated opened (type_of (given_lent first))
-    ++ flat_map (live_row isolated a) (filter_map (instance_row_in lasts) (map given_lent (take len rest))) ++ group_end)) so_far.0
+    ++ flat_map (live_row isolated a) (filter_map (instance_row_in lasts) (map given_lent (take len rest))) ++ codes "</ul></details>\n")) so_far.0
     ∙ ap (λ text. string_bytes c.loop-first.sheet.text ++ text)
     (group-at given_lent isolated axis opened lasts rest first others len_after split) in (
       more.axis ∙ so_far.0,

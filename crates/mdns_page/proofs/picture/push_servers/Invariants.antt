@@ -1,10 +1,12 @@
 use Rattle.std.proofs.Common.{◌≡◌, ◌++◌, map, take}
+use Rattle.std.specs.List.{flat_map}
 use Rattle.std.specs.String.{string_bytes}
-use Rattle.mdns_page.specs.Picture.{server_bars}
+use Rattle.mdns_page.specs.Picture.{bars}
+use Rattle.mdns_page.specs.declared.picture.Stroke.TheVariants.{Server}
 use Rattle.mdns_page.specs.Timeline.{lives_lent}
 use Rattle.mdns_page.proofs.picture.push_servers.Given as goal
 
 -- the bars of the servers so far were appended
 abbrev pub invariant-loop-server : goal.invariant-loop-server
 invariant-loop-server l =
-    string_bytes l.to ≡ string_bytes l.initial.to ++ server_bars l.axis l.titled (map lives_lent (take l.server-index l.servers))
+    string_bytes l.to ≡ string_bytes l.initial.to ++ flat_map (bars l.axis l.titled Server) (map lives_lent (take l.server-index l.servers))

@@ -10,9 +10,9 @@ use Rattle.mdns_lives.specs.Since.{AreLiveSince, all_since_rows, live_since_lent
 use Rattle.mdns_browse.specs.Given.{given_lent}
 use Rattle.mdns_browse.specs.Services.{AreAscending, GivenRow}
 use Rattle.mdns_page.specs.Html.{isolated}
-use Rattle.mdns_page.specs.Kept.{is_drawn}
+use Rattle.mdns_page.specs.Kept.{is_drawn, looked_up}
 use Rattle.mdns_page.specs.Live.{live_text}
-use Rattle.mdns_page.specs.Survey.{given_of_since, last_of, live_drawn, live_given}
+use Rattle.mdns_page.specs.Survey.{given_of_since, live_given}
 use Rattle.mdns_page.proofs.KeptLemmas.{kept-all, kept-more, map-more, map-whole}
 use Rattle.mdns_page.proofs.SurveyLemmas.{live-ascending}
 use Rattle.mdns_page.proofs.survey.live_of.Goals as goal
@@ -42,13 +42,14 @@ returns c = λ heard stands sorted looked.
     let since : map live_since_lent live ≡ all_since_rows axis.end.nanos (rows_of c.args.lives.now) = c.in_ok-live.ensures.rows in
     let given : map (λ (row : LiveSince). given_of_since (live_since_lent row)) live ≡ live_given axis (rows_of c.args.lives.now) =
     sym (map-map given_of_since live_since_lent live) ∙ ap (map given_of_since) since in
-    let lasts : map last_lent c.as_slice.result.now ≡ map last_of (live_given axis (rows_of c.args.lives.now)) =
+    let lasts : map last_lent c.as_slice.result.now ≡ map (λ (row : GivenRow). row.last) (live_given axis (rows_of c.args.lives.now)) =
     ap (map last_lent) c.as_slice.ensures.value
     ∙ map-whole (λ (row : LiveSince). last_lent row.last) c.deref-row-items.result.now live c.loop-row.row-index _ (omega arith)
     c.deref-row-items.ensures.value c.loop-row.invariant.0
-    ∙ sym (map-map last_of (λ (row : LiveSince). given_of_since (live_since_lent row)) live) ∙ ap (map last_of) given in
+    ∙ sym (map-map (λ (row : GivenRow). row.last) (λ (row : LiveSince). given_of_since (live_since_lent row)) live) ∙ ap (map (λ (row : GivenRow). row.last)) given in
     let keep = λ (row : GivenRow). is_drawn c.args.about.now (map last_lent c.args.heard.now) row.last in
-    let drawn : map given_lent c.as_slice-2.result.now ≡ live_drawn c.args.about.now axis (rows_of c.args.lives.now) =
+    let drawn : map given_lent c.as_slice-2.result.now ≡ filter (λ (row : GivenRow). is_drawn c.args.about.now (looked_up c.args.about.now (rows_of c.args.lives.now)) row.last)
+    (live_given axis (rows_of c.args.lives.now)) =
     ap (map given_lent) c.as_slice-2.ensures.value
     ∙ kept-all keep (λ (row : LiveSince). given_of_since (live_since_lent row)) c.deref-row-items.result.now live c.loop-row.row-index _
     (omega arith) c.deref-row-items.ensures.value (c.loop-row.invariant.1 sorted)
@@ -62,4 +63,4 @@ returns c = λ heard stands sorted looked.
     ∙ ap (λ (t : List ℕ). t ++ live_text isolated axis c.args.opened (map last_lent c.as_slice.result.now)
     (map given_lent c.as_slice-2.result.now)) c.new-text.ensures.bytes
     ∙ ap (λ (ls : List Latest). live_text isolated axis c.args.opened ls (map given_lent c.as_slice-2.result.now)) lasts
-    ∙ ap (live_text isolated axis c.args.opened (map last_of (live_given axis (rows_of c.args.lives.now)))) drawn
+    ∙ ap (live_text isolated axis c.args.opened (map (λ (row : GivenRow). row.last) (live_given axis (rows_of c.args.lives.now)))) drawn

@@ -1,0 +1,30 @@
+use Rattle.std.proofs.Common.{◌∙◌, ◌++◌, ap, codes, map, ℕ}
+use Rattle.std.specs.String.{string_bytes}
+use Rattle.people_text.specs.Moments.{millis_text}
+use Rattle.mdns_lives.specs.declared.life.Reason.{Reason}
+use Rattle.mdns_lives.specs.declared.life.Reason.TheVariants.{RanOut, Goodbye, Flushed}
+use Rattle.mdns_page.specs.Counts.{count_text}
+use Rattle.mdns_page.specs.Lead.{is_ended, live_line, others_text, said_text}
+use Rattle.mdns_page.specs.Timeline.{count_last, counted_lent}
+use Rattle.mdns_page.proofs.PartLemmas.{parts9}
+use Rattle.mdns_page.proofs.lead.push_live_line.Goals as goal
+
+pub returns : goal.returns
+unfolding live_line
+returns c =
+    let ended = λ (reason : Reason). count_last (is_ended c.args.axis reason) (map counted_lent c.args.rows.now) in
+    parts9 _ _ _ _ _ _ _ _ _ _ _ _ _ _ _ _ _ _ _ c.in_ok-push_str.ensures.bytes
+    (c.in_ok-push_count.ensures
+    ∙ ap (λ (n : ℕ). string_bytes c.push_str.new.self ++ count_text n (codes "service instance was") (codes "service instances were"))
+    c.live_rows-live.ensures)
+    c.in_ok-push_str-2.ensures.bytes
+    (c.in_ok-push_millis.ensures ∙ ap (λ (n : ℕ). string_bytes c.push_str-2.new.self ++ millis_text n) c.nanos.ensures)
+    c.in_ok-push_str-3.ensures.bytes
+    (c.in_ok-push_said.ensures ∙ ap (λ (n : ℕ). string_bytes c.push_str-3.new.self ++ said_text n) c.said_count-said.ensures)
+    c.in_ok-push_str-4.ensures.bytes
+    (c.in_ok-push_others.ensures
+    ∙ ap (λ (n : ℕ). string_bytes c.push_str-4.new.self ++ others_text n c.ended_count-flushed.result c.ended_count-expired.result)
+    c.ended_count-goodbyes.ensures
+    ∙ ap (λ (n : ℕ). string_bytes c.push_str-4.new.self ++ others_text (ended Goodbye) n c.ended_count-expired.result) c.ended_count-flushed.ensures
+    ∙ ap (λ (n : ℕ). string_bytes c.push_str-4.new.self ++ others_text (ended Goodbye) (ended Flushed) n) c.ended_count-expired.ensures)
+    c.in_ok-push_str-5.ensures.bytes
