@@ -5,7 +5,10 @@ use Rattle.std.specs.Prelude.{nat_lt, slice_get}
 use Rattle.std.specs.List.{filter_map, flat_map}
 use Rattle.mdns_message.specs.Resource.{Body}
 use Rattle.mdns_message.specs.TextData.{strings_of}
-use Rattle.mdns_message.specs.declared.body.RecordData.TheVariants.{A, Aaaa, Ptr, Txt, Srv}
+use Rattle.mdns_message.specs.Parts.{content_of}
+use Rattle.mdns_message.specs.declared.parts.Address.{Address}
+use Rattle.mdns_message.specs.declared.parts.Content.{Content}
+use Rattle.mdns_message.specs.declared.parts.Content.TheVariants as content
 use Rattle.mdns_lives.specs.declared.life.Life.{Life}
 use Rattle.mdns_lives.specs.declared.life.Reason.TheVariants.{RanOut, Goodbye, Flushed}
 use Rattle.mdns_browse.specs.declared.about.Subject.{Subject}
@@ -14,7 +17,7 @@ use Rattle.mdns_join.specs.declared.latest.Latest.{Latest}
 use Rattle.mdns_browse.specs.Services.{GivenRow, InstanceRow, instance_row_in}
 use Rattle.mdns_browse.specs.Shown.{shown_string, shown_strings}
 use Rattle.mdns_page.specs.declared.axis.Axis.{Axis}
-use Rattle.mdns_page.specs.Bare.{BareLive, BareRow, bare_address, bare_capture, bare_end}
+use Rattle.mdns_page.specs.Bare.{BareLive, BareRow, bare_capture, bare_end}
 use Rattle.mdns_page.specs.Bare.{bare_group, bare_groups, bare_instances, bare_live}
 use Rattle.mdns_page.specs.Bare.{bare_row, bare_server, bare_text, is_some_filled, unsaid}
 use Rattle.mdns_page.specs.Captures.{Facts, capture_text, captures_text, each_from}
@@ -23,12 +26,12 @@ use Rattle.mdns_page.specs.Hosts.{host_name, is_large}
 use Rattle.mdns_page.specs.Lanes.{lanes_for}
 use Rattle.mdns_page.specs.Lead.{about_line, ending_warning, is_ended, is_leaving, lead_text, live_line, subject_text}
 use Rattle.mdns_page.specs.Picture.{goes_on}
-use Rattle.mdns_page.specs.Live.{address_text, addresses_html, left_words, live_group, live_row, live_text, paragraph, server_html}
-use Rattle.mdns_page.specs.Live.{servers_html, text_html}
+use Rattle.mdns_page.specs.Live.{address_if, address_in, address_said, addresses_html, left_words, live_group, live_row, live_text, paragraph, server_html}
+use Rattle.mdns_page.specs.Live.{address_html, servers_html, text_html}
 use Rattle.mdns_page.specs.Live.{type_of}
 use Rattle.mdns_page.specs.Page.{Shown, page}
 use Rattle.mdns_page.specs.Timeline.{Row, are_titled, count_last, group_text, is_open, is_some_such, lives_in, others_group}
-use Rattle.mdns_page.specs.Timeline.{owner_of, record_name, row_text, timeline}
+use Rattle.mdns_page.specs.Timeline.{content_name, owner_of, row_text, timeline}
 use Rattle.mdns_page.specs.declared.look.Look.{Look}
 use Rattle.mdns_page.proofs.GroupLemmas.{grouped-all}
 use Rattle.mdns_page.proofs.SameLists.{append-same, count-same, flat_map-alike, flat_map-same, groups-same, length-same, map-same}
@@ -110,24 +113,24 @@ lead-same axis about others rows drawn captures files lost same_about same_rows 
 
 -- ---- rows
 
-bare_name : Option Body → List ℕ
+bare_name : Option Address → List ℕ
 bare_name None = []
 bare_name (Some address) = host_name unsaid [] address
 
-name-bare : (whole : Bool) (owner : List ℕ) (body : Body) → record_name unsaid whole owner body ≡ bare_name (bare_address body)
+name-bare : (whole : Bool) (owner : List ℕ) (said : Content (List ℕ) (List ℕ))
+    → content_name unsaid whole owner said ≡ bare_name (address_said said)
 unfolding bare_name host_name
-name-bare whole owner (A octets) = refl
-name-bare whole owner (Aaaa octets) = refl
-name-bare whole owner (Ptr target) = refl
-name-bare whole owner (Txt bytes) = refl
-name-bare whole owner (Srv priority weight port target) = refl
+name-bare whole owner (content.Address address) = refl
+name-bare whole owner (content.Name name) = refl
+name-bare whole owner (content.Strings strings) = refl
+name-bare whole owner (content.Service service) = refl
 
 row-same : (whole : Bool) (look : Look) (row other : Row) → bare_row row ≡ bare_row other
     → row_text unsaid whole look row ≡ row_text unsaid whole look other
 unfolding row_text
 row-same whole look row other same =
-    let name = name-bare whole (owner_of row) row.last.resource.body ∙ ap (λ (bare : BareRow). bare_name bare.0) same
-    ∙ sym (name-bare whole (owner_of other) other.last.resource.body) in
+    let name = name-bare whole (owner_of row) (content_of row.last.resource.body) ∙ ap (λ (bare : BareRow). bare_name bare.0) same
+    ∙ sym (name-bare whole (owner_of other) (content_of other.last.resource.body)) in
     let lives : row.lives ≡ other.lives = ap (λ (bare : BareRow). bare.1) same in
     let servers : row.servers ≡ other.servers = ap (λ (bare : BareRow). bare.2) same in
     let captures : row.captures ≡ other.captures = ap (λ (bare : BareRow). bare.3) same in
@@ -205,35 +208,24 @@ left-same_by now given other false false not not_either same =
 left-same : (now : ℕ) (given other : GivenRow) → bare_end given ≡ bare_end other → left_words now given ≡ left_words now other
 left-same now given other same = left-same_by now given other (given.last.ttl == 0) (other.last.ttl == 0) refl refl same
 
-bare_address_text : Option Body → List ℕ
-bare_address_text None = []
-bare_address_text (Some address) = address_text address
-
-address-bare : (body : Body) → address_text body ≡ bare_address_text (bare_address body)
-unfolding bare_address_text
-address-bare (A octets) = refl
-address-bare (Aaaa octets) = refl
-address-bare (Ptr target) = refl
-address-bare (Txt bytes) = refl
-address-bare (Srv priority weight port target) = refl
-
-addresses-same : (first : Bool) (addresses others : List Body) → map bare_address addresses ≡ map bare_address others
+addresses-same : (first : Bool) (addresses others : List Body) → map address_in addresses ≡ map address_in others
     → addresses_html first addresses ≡ addresses_html first others
 addresses-same first [] [] same = refl
 addresses-same first [] (other ∷ others) same = cc
 addresses-same first (address ∷ addresses) [] same = cc
 addresses-same first (address ∷ addresses) (other ∷ others) same =
-    let here : bare_address address ≡ bare_address other = cc in
-    let rest : map bare_address addresses ≡ map bare_address others = cc in
-    let text = address-bare address ∙ ap bare_address_text here ∙ sym (address-bare other) in
-    rw (text, addresses-same false addresses others rest) refl
+    let here : address_in address ≡ address_in other = cc in
+    let rest : map address_in addresses ≡ map address_in others = cc in
+    let text : address_html first address ≡ address_html first other =
+    λ i. (if first then [] else 32 ∷ []) ++ (codes "<code>" ++ address_if (here i) ++ codes "</code>") in
+    λ i. text i ++ addresses-same false addresses others rest i
 
 server-same : (server other : Server) → bare_server server ≡ bare_server other → server_html unsaid server ≡ server_html unsaid other
 server-same server other same =
-    let priority : server.priority ≡ other.priority = ap (λ (bare : ℕ × ℕ × ℕ × List (Option Body)). bare.0) same in
-    let weight : server.weight ≡ other.weight = ap (λ (bare : ℕ × ℕ × ℕ × List (Option Body)). bare.1) same in
-    let port : server.port ≡ other.port = ap (λ (bare : ℕ × ℕ × ℕ × List (Option Body)). bare.2) same in
-    let addresses = addresses-same true server.addresses other.addresses (ap (λ (bare : ℕ × ℕ × ℕ × List (Option Body)). bare.3) same) in
+    let priority : server.priority ≡ other.priority = ap (λ (bare : ℕ × ℕ × ℕ × List (Option Address)). bare.0) same in
+    let weight : server.weight ≡ other.weight = ap (λ (bare : ℕ × ℕ × ℕ × List (Option Address)). bare.1) same in
+    let port : server.port ≡ other.port = ap (λ (bare : ℕ × ℕ × ℕ × List (Option Address)). bare.2) same in
+    let addresses = addresses-same true server.addresses other.addresses (ap (λ (bare : ℕ × ℕ × ℕ × List (Option Address)). bare.3) same) in
     rw (priority, weight, port, addresses) refl
 
 servers-same : (servers others : List Server) → map bare_server servers ≡ map bare_server others

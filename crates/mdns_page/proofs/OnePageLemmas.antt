@@ -30,7 +30,7 @@ use Rattle.mdns_survey.specs.Lives.{begin_of, end_of, latest_nanos}
 use Rattle.mdns_survey.specs.Readings.{all_moments, summaries_of}
 use Rattle.mdns_survey.specs.Filter.{counted, counted_each, filter_of}
 use Rattle.mdns_survey.specs.Surveys.{AllLeft}
-use Rattle.mdns_survey.proofs.ContainsLemmas.{contains-after, contains-cons, contains-first}
+use Rattle.mdns_cache.proofs.StandsPartLemmas.{Contains-cases, Contains-head, Contains-later}
 use Rattle.mdns_survey.proofs.ListenedLemmas.{known-read}
 use Rattle.mdns_survey.proofs.LivesLawLemmas.{OneLives, same_itself}
 use Rattle.mdns_survey.proofs.LossLemmas.{NeverBoth, SkipsByCause}
@@ -55,8 +55,8 @@ use Rattle.mdns_page.proofs.OneCaptureLemmas.{IsAlike, are-alike, facts-alike, l
 later : (n : ℕ) (seconds : List SecondHeard) (s : SecondHeard)
     → AllByRecursion (λ m. nat_cmp n m ≡ Less) (map number_of seconds) → Contains seconds s → n < number_of s
 later n [] s all among = absurd (omega (arith, among.1))
-later n (first ∷ seconds) s all among = elim (contains-cons first seconds s among) [
-  | inl is ↦ subst (λ (t : SecondHeard). n < number_of t) (sym is) (ranked n (number_of first) Less (sym all.0))
+later n (first ∷ seconds) s all among = elim (Contains-cases first seconds s among) [
+  | inl is ↦ subst (λ (t : SecondHeard). n < number_of t) is (ranked n (number_of first) Less (sym all.0))
   | inr rest ↦ later n seconds s all.1 rest
 ]
 
@@ -66,29 +66,29 @@ same-members : (xs ys : List SecondHeard) → IsStrictlySortedBy nat_cmp (map nu
     → ((s : SecondHeard) → Contains ys s → Contains xs s) → xs ≡ ys
 unfolding IsStrictlySortedBy
 same-members [] [] p q into back = refl
-same-members [] (y ∷ ys) p q into back = absurd (omega (arith, (back y (contains-first y ys)).1))
-same-members (x ∷ xs) [] p q into back = absurd (omega (arith, (into x (contains-first x xs)).1))
+same-members [] (y ∷ ys) p q into back = absurd (omega (arith, (back y (Contains-head y ys)).1))
+same-members (x ∷ xs) [] p q into back = absurd (omega (arith, (into x (Contains-head x xs)).1))
 same-members (x ∷ xs) (y ∷ ys) p q into back =
-    let first : x ≡ y = elim (contains-cons y ys x (into x (contains-first x xs))) [
-      | inl is ↦ is
-      | inr after ↦ elim (contains-cons x xs y (back y (contains-first y ys))) [
-        | inl is ↦ sym is
+    let first : x ≡ y = elim (Contains-cases y ys x (into x (Contains-head x xs))) [
+      | inl is ↦ sym is
+      | inr after ↦ elim (Contains-cases x xs y (back y (Contains-head y ys))) [
+        | inl is ↦ is
         | inr before ↦ absurd (omega (arith, later (number_of x) xs y p.0 before, later (number_of y) ys x q.0 after))
       ]
     ] in
     let rest : xs ≡ ys = same-members xs ys p.1 q.1
-    (λ s among. elim (contains-cons y ys s (into s (contains-after x xs s among))) [
+    (λ s among. elim (Contains-cases y ys s (into s (Contains-later x xs s among))) [
       | inl is ↦ absurd (omega (
         arith,
-        subst (λ (t : SecondHeard). number_of x < number_of t) (is ∙ sym first)
+        subst (λ (t : SecondHeard). number_of x < number_of t) (sym is ∙ sym first)
             (later (number_of x) xs s p.0 among),
       ))
       | inr after ↦ after
     ])
-    (λ s among. elim (contains-cons x xs s (back s (contains-after y ys s among))) [
+    (λ s among. elim (Contains-cases x xs s (back s (Contains-later y ys s among))) [
       | inl is ↦ absurd (omega (
         arith,
-        subst (λ (t : SecondHeard). number_of y < number_of t) (is ∙ first)
+        subst (λ (t : SecondHeard). number_of y < number_of t) (sym is ∙ first)
             (later (number_of y) ys s q.0 among),
       ))
       | inr after ↦ after

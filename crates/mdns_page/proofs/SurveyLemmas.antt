@@ -21,7 +21,7 @@ use Rattle.mdns_survey.specs.Filter.{counted, counted_each, filter_of}
 use Rattle.mdns_survey.specs.Question.{HearsReaders, IsAnswer}
 use Rattle.mdns_survey.specs.Readings.{all_moments, summaries_of}
 use Rattle.mdns_survey.specs.Surveys.{AllLeft}
-use Rattle.mdns_survey.proofs.ContainsLemmas.{contains-after, contains-cons, contains-first}
+use Rattle.mdns_cache.proofs.StandsPartLemmas.{Contains-cases, Contains-head, Contains-later}
 use Rattle.mdns_page.specs.Axis.{IsAxis}
 use Rattle.mdns_page.specs.declared.axis.Axis.{Axis}
 use Rattle.mdns_page.specs.Survey.{AreLiveGiven, IsSinceKnown, WritesPage, asked_page, given_of_since, live_given}
@@ -31,9 +31,9 @@ use Rattle.mdns_page.specs.Survey.{record_given}
 mapped-all : {X Y : Type 0} (f : X → Y) (P : Y → Type 0) (xs : List X) → ((x : X) → Contains xs x → P (f x)) → (y : Y)
     → Contains (map f xs) y → P y
 mapped-all f P [] each y among = absurd (omega (arith, among.1))
-mapped-all f P (x ∷ xs) each y among = elim (contains-cons (f x) (map f xs) y among) [
-  | inl is ↦ subst P (sym is) (each x (contains-first x xs))
-  | inr after ↦ mapped-all f P xs (λ z within. each z (contains-after x xs z within)) y after
+mapped-all f P (x ∷ xs) each y among = elim (Contains-cases (f x) (map f xs) y among) [
+  | inl is ↦ subst P is (each x (Contains-head x xs))
+  | inr after ↦ mapped-all f P xs (λ z within. each z (Contains-later x xs z within)) y after
 ]
 
 -- ---- what was live

@@ -1,9 +1,8 @@
 -- What a page has apart from names.
 use Rattle.std.specs.Prelude.{ℕ, ◌==◌, if◌then◌else◌, Bool, true, false, Option, None, Some, List, [], ◌∷◌, map}
 use Rattle.std.specs.List.{filter_map}
-use Rattle.mdns_message.specs.Resource.{Body}
 use Rattle.mdns_message.specs.TextData.{strings_of}
-use Rattle.mdns_message.specs.declared.body.RecordData.TheVariants.{A, Aaaa, Ptr, Txt, Srv}
+use Rattle.mdns_message.specs.declared.parts.Address.{Address}
 use Rattle.mdns_join.specs.declared.latest.Latest.{Latest}
 use Rattle.mdns_lives.specs.declared.life.Life.{Life}
 use Rattle.mdns_lives.specs.declared.seconds_heard.SecondHeard.{SecondHeard}
@@ -13,7 +12,7 @@ use Rattle.mdns_survey.specs.declared.reading.Span.{Span}
 use Rattle.mdns_survey.specs.declared.summary.Summary.{Summary}
 use Rattle.mdns_page.specs.Captures.{Facts}
 use Rattle.mdns_page.specs.Group.{grouped}
-use Rattle.mdns_page.specs.Live.{type_of}
+use Rattle.mdns_page.specs.Live.{address_in, type_of}
 use Rattle.mdns_page.specs.Timeline.{Row, owner_of}
 
 -- text of the network isn't written at all
@@ -28,20 +27,14 @@ bare_capture capture = (capture.summary, capture.span)
 
 -- ---- rows of records
 
--- an address; nothing of other data, which names an instance, a host or texts
-abbrev pub bare_address : Body → Option Body
-bare_address (A octets) = Some (A octets)
-bare_address (Aaaa octets) = Some (Aaaa octets)
-bare_address (Ptr target) = None
-bare_address (Txt bytes) = None
-bare_address (Srv priority weight port target) = None
-
+-- of the record its address, if it has one
 abbrev pub BareRow : Type 0
-BareRow = Option Body × List Life × List (List Life) × ℕ × List (List SecondHeard)
+BareRow = Option Address × List Life × List (List Life) × ℕ × List (List SecondHeard)
 
 -- all but the names in the record
 abbrev pub bare_row : Row → BareRow
-bare_row row = (bare_address row.last.resource.body, row.lives, row.servers, row.captures, row.heard)
+bare_row row =
+    (address_in row.last.resource.body, row.lives, row.servers, row.captures, row.heard)
 
 -- the same of rows in groups by type
 abbrev pub bare_groups : List Row → List (List BareRow)
@@ -54,8 +47,9 @@ abbrev pub bare_end : GivenRow → Option ℕ
 bare_end given = if given.last.ttl == 0 then None else Some given.end
 
 -- all but the name of a server
-abbrev pub bare_server : Server → ℕ × ℕ × ℕ × List (Option Body)
-bare_server server = (server.priority, server.weight, server.port, map bare_address server.addresses)
+abbrev pub bare_server : Server → ℕ × ℕ × ℕ × List (Option Address)
+bare_server server =
+    (server.priority, server.weight, server.port, map address_in server.addresses)
 
 -- some string isn't empty
 abbrev pub is_some_filled : List (List ℕ) → Bool
@@ -68,7 +62,7 @@ abbrev pub bare_text : List ℕ → Bool
 bare_text text = is_some_filled (strings_of text)
 
 abbrev pub BareLive : Type 0
-BareLive = Option ℕ × Option ℕ × List (ℕ × ℕ × ℕ × List (Option Body)) × List Bool
+BareLive = Option ℕ × Option ℕ × List (ℕ × ℕ × ℕ × List (Option Address)) × List Bool
 
 -- all but the names and texts of an instance
 abbrev pub bare_live : InstanceRow → BareLive

@@ -1,18 +1,15 @@
 -- Rows of records that give no instance: the addresses of hosts, and names that aren't one label and the type.
-use Rattle.std.specs.Prelude.{ℕ, nat_lt, Bool, true, false, if◌then◌else◌, List, [], ◌++◌, codes}
+use Rattle.std.specs.Prelude.{ℕ, nat_lt, Bool, if◌then◌else◌, List, [], ◌++◌, codes, is_some}
 use Rattle.mdns_message.specs.Resource.{Body}
-use Rattle.mdns_message.specs.declared.body.RecordData.TheVariants.{A, Aaaa, Ptr, Txt, Srv}
+use Rattle.mdns_message.specs.Parts.{address_of}
+use Rattle.mdns_message.specs.declared.parts.Address.{Address}
 use Rattle.people_text.specs.Shown.{name_shown}
+use Rattle.mdns_browse.specs.Shown.{shown_address}
 use Rattle.mdns_page.specs.Counts.{live_count_text}
-use Rattle.mdns_page.specs.Live.{address_text}
 
 -- the data is an address: that of A and AAAA records is
 abbrev pub has_address : Body → Bool
-has_address (A octets) = true
-has_address (Aaaa octets) = true
-has_address (Ptr target) = false
-has_address (Txt bytes) = false
-has_address (Srv priority weight port target) = false
+has_address b = is_some (address_of b)
 
 -- so many instances that other records have no rows, and no row has lanes
 abbrev pub is_large : ℕ → Bool
@@ -27,8 +24,8 @@ large_note large =
     else []
 
 -- a host, and an address of it
-unfoldable pub host_name : (List ℕ → List ℕ) → (owner : List ℕ) → Body → List ℕ
-host_name say owner address = say (name_shown owner) ++ codes " <code>" ++ address_text address ++ codes "</code>"
+unfoldable pub host_name : (List ℕ → List ℕ) → (owner : List ℕ) → Address → List ℕ
+host_name say owner address = say (name_shown owner) ++ codes " <code>" ++ shown_address address ++ codes "</code>"
 
 -- how many of them there are, and how many of these are live
 abbrev pub others_words : (names : Bool) → (count live : ℕ) → List ℕ

@@ -4,15 +4,16 @@ use Rattle.std.specs.Prelude.{List, [], ◌∷◌, ◌++◌, codes}
 use Rattle.std.specs.Fmt.{decimal}
 use Rattle.std.specs.List.{filter_map, flat_map}
 use Rattle.mdns_message.specs.Resource.{Body}
-use Rattle.mdns_message.specs.declared.body.RecordData.TheVariants as body
-use Rattle.people_text.specs.Address.{ipv6_short}
+use Rattle.mdns_message.specs.Parts.{content_of}
+use Rattle.mdns_message.specs.declared.parts.Address.{Address}
+use Rattle.mdns_message.specs.declared.parts.Content.{Content}
+use Rattle.mdns_message.specs.declared.parts.Content.TheVariants as content
 use Rattle.people_text.specs.Moments.{duration_text, millis_text}
 use Rattle.people_text.specs.Shown.{name_shown}
 use Rattle.mdns_browse.specs.declared.instance.Server.{Server}
 use Rattle.mdns_join.specs.declared.latest.Latest.{Latest}
 use Rattle.mdns_browse.specs.Services.{GivenRow, InstanceRow, instance_row_in}
-use Rattle.mdns_browse.specs.Shown.{shown_instance, shown_order, shown_strings, spaced_wide}
-use Rattle.mdns_browse.specs.Text.{ipv4_text}
+use Rattle.mdns_browse.specs.Shown.{shown_address, shown_instance, shown_order, shown_strings, spaced_wide}
 use Rattle.mdns_page.specs.declared.axis.Axis.{Axis}
 use Rattle.mdns_page.specs.declared.axis.Dates.{Dates}
 use Rattle.mdns_page.specs.Axis.{short_text}
@@ -35,13 +36,22 @@ given_words axis given =
 
 -- ---- servers
 
--- an address: A and AAAA records have one
+-- an address, if there is one
+abbrev pub address_if : Option Address → List ℕ
+address_if None = []
+address_if (Some address) = shown_address address
+
+-- the address that data says
+abbrev pub address_said : Content (List ℕ) (List ℕ) → Option Address
+address_said (content.Address address) = Some address
+address_said _ = None
+
+abbrev pub address_in : Body → Option Address
+address_in b = address_said (content_of b)
+
+-- data that is an address
 abbrev pub address_text : Body → List ℕ
-address_text (body.A octets) = ipv4_text octets
-address_text (body.Aaaa octets) = ipv6_short octets
-address_text (body.Ptr target) = []
-address_text (body.Txt bytes) = []
-address_text (body.Srv priority weight port target) = []
+address_text b = address_if (address_in b)
 
 -- an address, after a space unless it is the first
 abbrev pub address_html : (first : Bool) → Body → List ℕ

@@ -1,9 +1,9 @@
 -- The servers of instances: their SRV records (RFC 6763, section 5).
-use Rattle.std.specs.Prelude.{◌≡◌, ℕ, Bool, true, false, List, [], map}
+use Rattle.std.specs.Prelude.{◌≡◌, ℕ, Bool, List, [], map, Option, None, Some, is_some}
 use Rattle.std.specs.List.{filter}
 use Rattle.std.specs.Ordering.{is_eq}
 use Rattle.mdns_message.specs.Resource.{Body, set_key_cmp, type_number}
-use Rattle.mdns_message.specs.declared.body.RecordData.TheVariants as body
+use Rattle.mdns_message.specs.Parts.{pointer_of, service_of}
 use Rattle.mdns_message.specs.declared.record_type.RecordType.TheVariants as kind
 use Rattle.mdns_join.specs.declared.latest.Latest.{Latest}
 use Rattle.mdns_cache.specs.Live.{record_of}
@@ -13,11 +13,7 @@ use Rattle.mdns_page.specs.Timeline.{Row}
 
 -- SRV data
 abbrev pub is_srv : Body → Bool
-is_srv (body.A octets) = false
-is_srv (body.Aaaa octets) = false
-is_srv (body.Ptr target) = false
-is_srv (body.Txt strings) = false
-is_srv (body.Srv priority weight port target) = true
+is_srv b = is_some (service_of b)
 
 -- the record is an SRV record of the name
 abbrev pub is_server_of : List ℕ → Latest × List Life → Bool
@@ -27,13 +23,14 @@ is_server_of name row = is_eq (set_key_cmp (record_of row.0).set (set_for name (
 abbrev pub servers_named : List (Latest × List Life) → List ℕ → List (Latest × List Life)
 servers_named rows name = filter (is_server_of name) rows
 
--- of each SRV record of the instance that PTR data gives all its lives; of other data none
+-- of each SRV record of the name all its lives; none without a name
+abbrev pub servers_if : List (Latest × List Life) → Option (List ℕ) → List (List Life)
+servers_if rows None = []
+servers_if rows (Some name) = map (λ (row : Latest × List Life). row.1) (servers_named rows name)
+
+-- those of the instance that PTR data gives
 abbrev pub servers_of : List (Latest × List Life) → Body → List (List Life)
-servers_of rows (body.Ptr name) = map (λ (row : Latest × List Life). row.1) (servers_named rows name)
-servers_of rows (body.A octets) = []
-servers_of rows (body.Aaaa octets) = []
-servers_of rows (body.Txt strings) = []
-servers_of rows (body.Srv priority weight port target) = []
+servers_of rows b = servers_if rows (pointer_of b)
 
 -- the row has the servers of its instance, of these records
 abbrev pub IsServed : List (Latest × List Life) → Row → Type 0

@@ -4,7 +4,9 @@ use Rattle.std.specs.Prelude.{List, [], ◌++◌, codes, length, map, slice_get}
 use Rattle.std.specs.Global.{Vec}
 use Rattle.std.specs.List.{count_by, flat_map}
 use Rattle.mdns_message.specs.Resource.{Body}
-use Rattle.mdns_message.specs.declared.body.RecordData.TheVariants.{A, Aaaa, Ptr, Txt, Srv}
+use Rattle.mdns_message.specs.Parts.{content_of}
+use Rattle.mdns_message.specs.declared.parts.Content.{Content}
+use Rattle.mdns_message.specs.declared.parts.Content.TheVariants as content
 use Rattle.mdns_join.specs.declared.latest.Latest.{Latest}
 use Rattle.mdns_lives.specs.declared.life.Life.{Life}
 use Rattle.mdns_lives.specs.declared.record_lives.RecordLives.{RecordLives}
@@ -79,13 +81,15 @@ count_last is rows = count_by (λ row. is_some_such is (slice_get row.lives (len
 abbrev pub target_shown : (whole : Bool) → List ℕ → List ℕ
 target_shown whole target = if whole then name_shown target else shown_instance target
 
--- what a record names: an instance or another whole name, or a host with its address; nothing for other records, which have no rows
+-- what data names: an instance or another whole name, or a host by its address; nothing for other data, whose record has no row
+abbrev pub content_name : (List ℕ → List ℕ) → (whole : Bool) → (owner : List ℕ) → Content (List ℕ) (List ℕ) → List ℕ
+content_name say whole owner (content.Address address) = host_name say owner address
+content_name say whole owner (content.Name name) = say (target_shown whole name)
+content_name say whole owner _ = []
+
+-- what a record names
 abbrev pub record_name : (List ℕ → List ℕ) → (whole : Bool) → (owner : List ℕ) → Body → List ℕ
-record_name say whole owner (Ptr target) = say (target_shown whole target)
-record_name say whole owner (A octets) = host_name say owner (A octets)
-record_name say whole owner (Aaaa octets) = host_name say owner (Aaaa octets)
-record_name say whole owner (Txt bytes) = []
-record_name say whole owner (Srv priority weight port target) = []
+record_name say whole owner b = content_name say whole owner (content_of b)
 
 -- a record: what it names, how often each capture heard it, the picture of its lives and those of its servers, and its own lives in
 -- words

@@ -9,8 +9,8 @@ ghost use Rattle.people_text.specs.Shown.{name_shown};
 
 use crate::counts::push_live_count;
 use crate::html::push_isolated;
-use crate::live_words::push_octets;
-use mdns_message::{Body, Name, Want};
+use mdns_browse::push_shown_address;
+use mdns_message::{Address, Body, BorrowedName, Name, Want};
 use people_text::name_text::push_shown_name;
 
 /// With more instances, other records have no rows, and rows have no lanes.
@@ -20,10 +20,7 @@ const LARGE_INSTANCES: usize = 1000;
 pub(crate) fn has_address(body: &Body) -> bool
     ensures { result ≡ has_address body.now }
 {
-    match body {
-        Body::A(_) | Body::Aaaa(_) => true,
-        Body::Ptr(_) | Body::Txt(_) | Body::Srv { .. } => false,
-    }
+    body.address().is_some()
 }
 
 /// Checks that there are so many instances that other records have no rows, and no row has lanes.
@@ -54,13 +51,13 @@ pub(crate) fn push_host_name(
     to: &mut String,
     scratch: &mut String,
     owner: &Name,
-    address: &Body,
+    address: Address,
 ) -> Result<(), Want>
-    ensures { OnOk result (string_bytes to.new ≡ string_bytes to.old ++ host_name isolated owner.now address.now) }
+    ensures { OnOk result (string_bytes to.new ≡ string_bytes to.old ++ host_name isolated owner.now address) }
 {
-    push_whole_name(to, scratch, owner)?;
+    push_whole_name(to, scratch, &owner.borrowed())?;
     to.push_str(" <code>")?;
-    push_octets(to, &address.borrowed())?;
+    push_shown_address(to, address)?;
     to.push_str("</code>")?;
     Ok(())
 }
@@ -69,12 +66,12 @@ pub(crate) fn push_host_name(
 pub(crate) fn push_whole_name(
     to: &mut String,
     scratch: &mut String,
-    name: &Name,
+    name: &BorrowedName<'_>,
 ) -> Result<(), Want>
     ensures { OnOk result (string_bytes to.new ≡ string_bytes to.old ++ isolated (name_shown name.now)) }
 {
     scratch.clear();
-    push_shown_name(scratch, &name.borrowed())?;
+    push_shown_name(scratch, name)?;
     push_isolated(to, scratch.as_str())
 }
 

@@ -4,21 +4,21 @@ ghost use Rattle.std.specs.Prelude.{◌≡◌, ◌∷◌, [], ◌++◌, codes, i
 ghost use Rattle.std.specs.Fmt.{decimal};
 ghost use Rattle.std.specs.String.{string_bytes};
 ghost use Rattle.mdns_message.specs.Borrowed.{body_lent};
+ghost use Rattle.mdns_message.specs.Parts.{content_lent};
 ghost use Rattle.mdns_browse.specs.Given.{given_lent, nanos_in};
 ghost use Rattle.mdns_browse.specs.Json.{first_after};
 ghost use Rattle.mdns_browse.specs.Shown.{shown_order, shown_string, shown_strings, spaced_wide};
 ghost use Rattle.mdns_page.specs.Html.{isolated};
-ghost use Rattle.mdns_page.specs.Live.{address_html, address_text, given_words, left_words, lines, since_text, text_html};
+ghost use Rattle.mdns_page.specs.Live.{address_html, address_if, address_said, address_text, given_words, left_words, lines, since_text};
+ghost use Rattle.mdns_page.specs.Live.{text_html};
 
 use crate::axis::{Axis, Dates, push_short};
 use crate::html::push_isolated;
-use mdns_browse::format::push_ipv4;
-use mdns_browse::push_shown_order;
 use mdns_browse::sheet::Given;
+use mdns_browse::{push_shown_address, push_shown_order};
 use mdns_capture::Moment;
 use mdns_message::text_data::first_string;
-use mdns_message::{BorrowedBody, Want};
-use people_text::address::push_ipv6_short;
+use mdns_message::{BorrowedBody, BorrowedName, Content, Want};
 use people_text::durations::push_duration;
 use people_text::shown::push_shown;
 
@@ -107,14 +107,23 @@ pub(crate) fn push_address(
     push_word(to, "</code>")
 }
 
-/// Appends an address as people read it. Only A and AAAA records have one. After `Want` a part of it may have been appended.
-pub(crate) fn push_octets(to: &mut String, address: &BorrowedBody<'_>) -> Result<(), Want>
+// Appends an address as people read it. Only A and AAAA records have one. After `Want` a part of it may have been appended.
+fn push_octets(to: &mut String, address: &BorrowedBody<'_>) -> Result<(), Want>
     ensures { OnOk result (string_bytes to.new ≡ string_bytes to.old ++ address_text (body_lent address.now)) }
 {
-    match address {
-        BorrowedBody::A(octets) => push_ipv4(to, octets),
-        BorrowedBody::Aaaa(octets) => push_ipv6_short(to, octets),
-        BorrowedBody::Ptr(_) | BorrowedBody::Txt(_) | BorrowedBody::Srv { .. } => Ok(()),
+    push_address_said(to, address.content())
+}
+
+// Appends an address as people read it; nothing where data says something else.
+fn push_address_said(
+    to: &mut String,
+    content: Content<&BorrowedName<'_>, &[u8]>,
+) -> Result<(), Want>
+    ensures { OnOk result (string_bytes to.new ≡ string_bytes to.old ++ address_if (address_said (content_lent content.entry))) }
+{
+    match content {
+        Content::Address(address) => push_shown_address(to, address),
+        _ => Ok(()),
     }
 }
 

@@ -3,11 +3,13 @@
 ghost use Rattle.std.specs.Prelude.{◌≡◌, ◌-◌, ◌++◌, length, map, slice_get, OnOk};
 ghost use Rattle.std.specs.List.{flat_map};
 ghost use Rattle.std.specs.String.{string_bytes};
+ghost use Rattle.mdns_message.specs.Parts.{content_lent};
 ghost use Rattle.mdns_browse.specs.Shown.{shown_instance};
 ghost use Rattle.mdns_page.specs.Html.{isolated};
 ghost use Rattle.mdns_page.specs.Heard.{heard_text};
 ghost use Rattle.mdns_page.specs.Picture.{goes_on};
-ghost use Rattle.mdns_page.specs.Timeline.{count_last, counted_lent, is_some_such, owner_of, record_name, row_text, seconds_lent, target_shown};
+ghost use Rattle.mdns_page.specs.Timeline.{content_name, count_last, counted_lent, is_some_such, owner_of, record_name, row_text, seconds_lent};
+ghost use Rattle.mdns_page.specs.Timeline.{target_shown};
 
 use crate::axis::Axis;
 use crate::counted::CountedRow;
@@ -21,7 +23,7 @@ use crate::row_picture::push_picture;
 use crate::words::push_lives_words;
 use mdns_browse::push_shown_instance;
 use mdns_lives::Life;
-use mdns_message::{Body, Name, Resource, Want};
+use mdns_message::{BorrowedName, Content, Name, Resource, Want};
 
 impl Owned for CountedRow<'_> {
     ghost owner = { λ row. owner_of (counted_lent row) };
@@ -121,10 +123,24 @@ fn push_record_name(
     ensures { OnOk result (string_bytes to.new
         ≡ string_bytes to.old ++ record_name isolated whole resource.now.owner resource.now.body) }
 {
-    match &resource.body {
-        Body::Ptr(target) => push_target(to, scratch, whole, target),
-        Body::A(_) | Body::Aaaa(_) => push_host_name(to, scratch, &resource.owner, &resource.body),
-        Body::Txt(_) | Body::Srv { .. } => Ok(()),
+    let body = resource.body.borrowed();
+    push_content_name(to, scratch, whole, &resource.owner, body.content())
+}
+
+fn push_content_name(
+    to: &mut String,
+    scratch: &mut String,
+    whole: bool,
+    owner: &Name,
+    content: Content<&BorrowedName<'_>, &[u8]>,
+) -> Result<(), Want>
+    ensures { OnOk result (string_bytes to.new
+        ≡ string_bytes to.old ++ content_name isolated whole owner.now (content_lent content.entry)) }
+{
+    match content {
+        Content::Address(address) => push_host_name(to, scratch, owner, address),
+        Content::Name(name) => push_target(to, scratch, whole, name),
+        _ => Ok(()),
     }
 }
 
@@ -133,7 +149,7 @@ fn push_target(
     to: &mut String,
     scratch: &mut String,
     whole: bool,
-    target: &Name,
+    target: &BorrowedName<'_>,
 ) -> Result<(), Want>
     ensures { OnOk result (string_bytes to.new ≡ string_bytes to.old ++ isolated (target_shown whole target.now)) }
 {
@@ -143,10 +159,14 @@ fn push_target(
     push_instance_name(to, scratch, target)
 }
 
-fn push_instance_name(to: &mut String, scratch: &mut String, target: &Name) -> Result<(), Want>
+fn push_instance_name(
+    to: &mut String,
+    scratch: &mut String,
+    target: &BorrowedName<'_>,
+) -> Result<(), Want>
     ensures { OnOk result (string_bytes to.new ≡ string_bytes to.old ++ isolated (shown_instance target.now)) }
 {
     scratch.clear();
-    push_shown_instance(scratch, &target.borrowed())?;
+    push_shown_instance(scratch, target)?;
     push_isolated(to, scratch.as_str())
 }

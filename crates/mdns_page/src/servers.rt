@@ -22,10 +22,7 @@ use std::cmp::Ordering;
 pub(crate) fn is_server(last: &Last<'_>) -> bool
     ensures { result ≡ is_srv (body_of (last_lent last.now)) }
 {
-    match &last.resource.body {
-        Body::Srv { .. } => true,
-        _ => false,
-    }
+    last.resource.body.service().is_some()
 }
 
 /// Finds the SRV records of the instance that PTR data gives, by binary search; none for other data.
@@ -33,9 +30,9 @@ pub(crate) fn servers_of<'a, 'b>(rows: &'a [RecordLives<'b>], body: &Body) -> &'
     ensures { IsStrictlySortedBy key_cmp (map record_of (lasts_of (map row_lent rows.now)))
         → map lives_lent result.now ≡ servers_of (map row_lent rows.now) body.now }
 {
-    match body {
-        Body::Ptr(name) => servers_named(rows, name),
-        _ => &rows[..0],
+    match body.pointer() {
+        Some(name) => servers_named(rows, name),
+        None => &rows[..0],
     }
 }
 

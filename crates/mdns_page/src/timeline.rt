@@ -153,7 +153,7 @@ fn push_type_name(
         ≡ string_bytes to.old ++ isolated (name_shown (first_owner owner_of (map counted_lent rows.now)))) }
 {
     let first = rows[0].record;
-    push_whole_name(to, scratch, &first.last.resource.owner)
+    push_whole_name(to, scratch, &first.last.resource.owner.borrowed())
 }
 
 // Appends the group of some names, or of some addresses; nothing where there are none.

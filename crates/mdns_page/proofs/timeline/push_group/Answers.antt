@@ -1,4 +1,4 @@
-use Rattle.std.proofs.Common.{◌∙◌, ◌++◌, List, ℕ, ap, codes, length, map, sym}
+use Rattle.std.proofs.Common.{◌∙◌, ◌++◌, ℕ, ap, codes, length, map, sym}
 use Rattle.std.proofs.lemmas.List.{length-map}
 use Rattle.std.specs.String.{string_bytes}
 use Rattle.mdns_page.specs.Counts.{live_count_text}
