@@ -9,7 +9,7 @@ ghost use Rattle.mdns_page.specs.Lanes.{lanes_text, point, second_mark, ticks_pa
 ghost use Rattle.mdns_page.specs.Timeline.{seconds_lent};
 
 use crate::axis::Axis;
-use crate::captures::{FEW_CAPTURES, CaptureFacts};
+use crate::captures::{CaptureFacts, FEW_CAPTURES};
 use crate::picture::{Mark, Stroke, push_next, push_path_last};
 use mdns_lives::{Heard, SecondHeard};
 use mdns_message::Want;
