@@ -1,5 +1,5 @@
 -- Times, offsets and date-times are read as their grammar says.
-use Rattle.std.proofs.Common.{◌≡◌, ◌∙◌, ◌⊎◌, ◌<◌, ◌+◌, ◌*◌, ◌++◌, ◌∷◌, ◌||◌, ◌==◌, ℕ, Bool, true, false, cond}
+use Rattle.std.proofs.Common.{◌≡◌, ◌∙◌, ◌<◌, ◌+◌, ◌*◌, ◌++◌, ◌∷◌, ◌==◌, ℕ, Bool, true, false, cond}
 use Rattle.std.proofs.Common.{List, [], get_or, drop, Option, Some, None, option_and_then, option_map, refl, sym, ap, arith, inl, inr}
 use Rattle.std.proofs.Common.{IfSome, eqb-true, nat_lt, subst}
 use Rattle.std.proofs.Common.{Result, Ok, Err}
@@ -24,13 +24,8 @@ use Rattle.command_line.proofs.GrammarLemmas.{dotted-complete, dotted-sound, map
 second-complete : (more rest : List ℕ) (seconds nanos : ℕ) → IsOptionalSecond more seconds nanos → Stops rest
     → reading.read_second (more ++ rest) ≡ Some ((seconds, nanos), rest)
 unfolding reading.read_second
-second-complete more rest seconds nanos (inl none) stops =
-    let no : (get_or rest 0 0 == 58) ≡ false = grind (arith, nat_tests, stops.0) in
-    rw (none.0, none.1, none.2, no) refl
-second-complete more rest seconds nanos (inr is) stops =
-    let small : nat_lt seconds 60 ≡ true = grind (arith, nat_tests, is.second_is) in
-    let fraction = dotted-complete is.fraction rest nanos is.fraction_is stops in
-    rw (is.written, two-complete seconds (is.fraction ++ rest) (omega (arith, is.second_is)), small, fraction) refl
+second-complete more rest seconds nanos (inl none) stops = grind (arith, nat_tests)
+second-complete more rest seconds nanos (inr is) stops = grind (arith, nat_lt, nat_tests, dotted-complete, two-complete)
 
 colon-first : (text : List ℕ) → get_or text 0 0 ≡ 58 → text ≡ 58 ∷ drop 1 text
 colon-first [] is = absurd (omega arith)
@@ -127,10 +122,7 @@ offset-stops (sign ∷ text) (Ahead minutes) (inr is) = rw is.0 (λ e. absurd (o
 offset-stops (sign ∷ text) (Behind minutes) is = rw is.0 (λ e. absurd (omega arith), λ e. absurd (omega arith), refl)
 
 clock-whole : (text : List ℕ) (minutes : ℕ) → IsClock text minutes → reading.whole (reading.read_minutes text) ≡ Some minutes
-clock-whole text minutes is =
-    let read : reading.read_minutes text ≡ Some (minutes, []) =
-    ap reading.read_minutes (sym (append-nil text)) ∙ clock-complete text [] minutes is in
-    rw read refl
+clock-whole text minutes is = grind (arith, append-nil text, clock-complete text [] minutes is)
 
 pub offset-complete : (zone : List ℕ) (offset : Offset) → IsOffset zone offset → reading.read_offset zone ≡ Some offset
 unfolding reading.read_offset
@@ -146,39 +138,13 @@ whole-some (Some (x, [])) a e = ap (λ y. Some (y, [])) (same_Some _ _ e)
 whole-some (Some (x, c ∷ rest)) a e = absurd (none-some _ e)
 
 whole-clock : (text : List ℕ) (minutes : ℕ) → reading.whole (reading.read_minutes text) ≡ Some minutes → IsClock text minutes
-whole-clock text minutes e =
-    let (clock, is, written) = clock-sound text [] minutes (whole-some (reading.read_minutes text) minutes e) in
-    subst (λ t. IsClock t minutes) (sym (written ∙ append-nil clock)) is
+whole-clock text minutes e = grind (arith, clock-sound, whole-some, append-nil)
 
 pub offset-sound : (zone : List ℕ) (offset : Offset) → reading.read_offset zone ≡ Some offset → IsOffset zone offset
 unfolding reading.read_offset
 offset-sound [] offset e = absurd (none-some _ e)
-offset-sound (sign ∷ text) offset e = utc ((sign == 90) || (sign == 122)) refl e
-  where
-    behind : (b : Bool) → (sign == 45) ≡ b
-        → cond b (option_map Behind (reading.whole (reading.read_minutes text))) None ≡ Some offset → IsOffset (sign ∷ text) offset
-    behind false is e₁ = absurd (none-some _ e₁)
-    behind true is e₁ =
-        let (minutes, clock, same) = map-some Behind (reading.whole (reading.read_minutes text)) offset e₁ in
-        subst (IsOffset (sign ∷ text)) same (eqb-true _ _ is, whole-clock text minutes clock)
-
-    ahead : (b : Bool) → (sign == 43) ≡ b
-        → cond b (option_map Ahead (reading.whole (reading.read_minutes text)))
-        (cond (sign == 45) (option_map Behind (reading.whole (reading.read_minutes text))) None) ≡ Some offset → IsOffset (sign ∷ text) offset
-    ahead false is e₁ = behind (sign == 45) refl e₁
-    ahead true is e₁ =
-        let (minutes, clock, same) = map-some Ahead (reading.whole (reading.read_minutes text)) offset e₁ in
-        subst (IsOffset (sign ∷ text)) same (inr (eqb-true _ _ is, whole-clock text minutes clock))
-
-    utc : (b : Bool) → ((sign == 90) || (sign == 122)) ≡ b
-        → cond b (reading.whole (Some (Ahead 0, text))) (cond (sign == 43) (option_map Ahead (reading.whole (reading.read_minutes text)))
-        (cond (sign == 45) (option_map Behind (reading.whole (reading.read_minutes text))) None)) ≡ Some offset → IsOffset (sign ∷ text) offset
-    utc false is e₁ = ahead (sign == 43) refl e₁
-    utc true is e₁ =
-        let is_utc : (sign ≡ 90) ⊎ (sign ≡ 122) = grind (arith, nat_tests) in
-        let all = whole-some (Some (Ahead 0, text)) offset e₁ in
-        let parts = same-parts (Ahead 0) offset text [] all in
-        subst (IsOffset (sign ∷ text)) parts.0 (inl (is_utc, parts.1, refl))
+offset-sound (sign ∷ text) offset e =
+    grind (arith, option_map, none-some, map-some, eqb-true, whole-clock, nat_tests, whole-some, same-parts)
 
 -- ---- date-times
 

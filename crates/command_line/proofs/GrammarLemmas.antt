@@ -1,5 +1,5 @@
 -- Each reader reads its rule of the grammar, and nothing else.
-use Rattle.std.proofs.Common.{◌≡◌, ◌≢◌, ◌∙◌, ◌<◌, ◌≤◌, ◌+◌, ◌-◌, ◌*◌, ◌/◌, ◌%◌, ◌++◌, ◌∷◌, ◌&&◌, ◌==◌, ℕ, suc, Bool, true, false, cond}
+use Rattle.std.proofs.Common.{◌≡◌, ◌≢◌, ◌∙◌, ◌<◌, ◌+◌, ◌*◌, ◌/◌, ◌%◌, ◌++◌, ◌∷◌, ◌&&◌, ◌==◌, ℕ, suc, Bool, true, false, cond}
 use Rattle.std.proofs.Common.{List, [], length, get_or, take, drop, Option, Some, None, option_and_then, option_map, refl, sym, ap, arith}
 use Rattle.std.proofs.Common.{eqb-true, take_at, drop_at, take-append-drop, nat_lt, nat_le, subst}
 use Rattle.std.specs.List.{prefix_len}
@@ -7,7 +7,6 @@ use Rattle.std.proofs.lemmas.Bool.{and_parts}
 use Rattle.std.proofs.lemmas.Bool.Decides.{nat_tests}
 use Rattle.std.proofs.lemmas.Option.{none-some, same_Some}
 use Rattle.std.specs.Char.{is_ascii_digit}
-use Rattle.std.specs.Int.{IsInRange, is_in_range}
 use Rattle.std.specs.Str.{all_ascii_digits}
 use Rattle.command_line.specs.MomentReading as reading
 use Rattle.command_line.specs.Moments.{IsClock, IsDate, IsFraction, IsOptionalFraction}
@@ -37,53 +36,32 @@ same-parts a x b y e = let same = same_Some _ _ e in (ap (λ p. p.0) same, ap (�
 
 pub two-complete : (n : ℕ) (rest : List ℕ) → n < 100 → reading.read_two_digits (two_digits n ++ rest) ≡ Some (n, rest)
 unfolding reading.read_two_digits
-two-complete n rest h =
-    let digits : (is_in_range 48 57 (48 + n / 10) && is_in_range 48 57 (48 + n % 10)) ≡ true = grind (arith, nat_tests) in
-    let value : 10 * (48 + n / 10 - 48) + (48 + n % 10 - 48) ≡ n = omega arith in
-    rw (digits, value) refl
+two-complete n rest h = grind (arith, nat_tests)
 
 pub two-sound : (text rest : List ℕ) (n : ℕ) → reading.read_two_digits text ≡ Some (n, rest) → (n < 100) × (text ≡ two_digits n ++ rest)
 unfolding reading.read_two_digits
 two-sound [] rest n e = absurd (none-some _ e)
 two-sound (high ∷ []) rest n e = absurd (none-some _ e)
-two-sound (high ∷ low ∷ text) rest n e =
-    let (test, same) = cond-some _ _ _ e in
-    let value : 10 * (high - 48) + (low - 48) ≡ n = ap (λ p. p.0) same in
-    let left : text ≡ rest = ap (λ p. p.1) same in
-    let digits : IsInRange 48 57 high × IsInRange 48 57 low = grind (arith, nat_tests) in
-    let first : 48 + n / 10 ≡ high = omega arith in
-    let second : 48 + n % 10 ≡ low = omega arith in
-    (omega arith, rw (first, second, left) refl)
+two-sound (high ∷ low ∷ text) rest n e = grind (arith, cond-some, nat_tests)
 
 after-sound : (byte : ℕ) (text rest : List ℕ) → reading.after_byte byte text ≡ Some rest → text ≡ byte ∷ rest
 after-sound byte [] rest e = absurd (none-some _ e)
-after-sound byte (c ∷ text) rest e =
-    let (test, same) = cond-some _ _ _ e in
-    let is : c ≡ byte = eqb-true _ _ test in
-    rw (is, same) refl
+after-sound byte (c ∷ text) rest e = grind (arith, cond-some, eqb-true)
 
 -- a byte and then two digits
 marked-sound : {P : Type 0} (byte : ℕ) (text : List ℕ) (x : ℕ × List ℕ) → option_and_then reading.read_two_digits (reading.after_byte byte text) ≡ Some x
     → (x.0 < 100 → text ≡ byte ∷ (two_digits x.0 ++ x.1) → P) → P
-marked-sound byte text x e k = then-some _ (reading.after_byte byte text) x e λ rest after read.
-    let is = two-sound rest x.1 x.0 read in
-    k is.0 (after-sound byte text rest after ∙ ap (λ t. byte ∷ t) is.1)
+marked-sound byte text x e k = grind (arith, then-some, two-sound, after-sound)
 
 -- ---- dates
 
 day-complete : (days year month day : ℕ) → calendar.IsDate days year month day → calendar.day_number year month day ≡ Some days
 unfolding calendar.day_number
-day-complete days year month day is =
-    let of_year = is.month_is in
-    let of_month = is.day_is in
-    let test : calendar.is_day year month day ≡ true = grind (arith, nat_tests) in
-    rw (test, is.days_are) refl
+day-complete days year month day is = grind (arith, nat_tests)
 
 day-sound : (days year month day : ℕ) → calendar.day_number year month day ≡ Some days → calendar.IsDate days year month day
 unfolding calendar.day_number
-day-sound days year month day e =
-    let (test, same) = cond-some _ _ _ e in
-    record { month_is = grind (arith, nat_tests); day_is = grind (arith, nat_tests); days_are = sym same }
+day-sound days year month day e = grind (arith, cond-some, nat_tests)
 
 abbrev dated : ℕ → ℕ → ℕ → List ℕ → List ℕ
 dated year month day rest =
@@ -91,23 +69,7 @@ dated year month day rest =
 
 pub date-complete : (date rest : List ℕ) (days : ℕ) → IsDate date days → reading.read_date (date ++ rest) ≡ Some (days, rest)
 unfolding reading.read_date date_written
-date-complete date rest days is = rw is.written (go is.year is.month is.day is.year_is is.date_is)
-  where
-    go : (year month day : ℕ) → year < 10000 → calendar.IsDate days year month day
-        → reading.read_date (dated year month day rest) ≡ Some (days, rest)
-    go year month day small is_date =
-        let of_year = is_date.month_is in
-        let of_month = is_date.day_is in
-        let length = month_length-few year month in
-        let value : 100 * (year / 100) + year % 100 ≡ year = omega arith in
-        rw (
-          two-complete (year / 100) (two_digits (year % 100) ++ 45 ∷ (two_digits month ++ 45 ∷ (two_digits day ++ rest))) (omega arith),
-          two-complete (year % 100) (45 ∷ (two_digits month ++ 45 ∷ (two_digits day ++ rest))) (omega arith),
-          two-complete month (45 ∷ (two_digits day ++ rest)) (omega arith),
-          two-complete day rest (omega arith),
-          value,
-          day-complete days year month day is_date,
-        ) refl
+date-complete date rest days is = grind (arith, month_length-few, two-complete, day-complete)
 
 pub date-sound : (text rest : List ℕ) (days : ℕ) → reading.read_date text ≡ Some (days, rest) → (date : List ℕ) × IsDate date days × (text ≡ date ++ rest)
 unfolding reading.read_date date_written
@@ -145,14 +107,7 @@ date-sound text rest days e =
 
 pub clock-complete : (clock rest : List ℕ) (minutes : ℕ) → IsClock clock minutes → reading.read_minutes (clock ++ rest) ≡ Some (minutes, rest)
 unfolding reading.read_minutes
-clock-complete clock rest minutes is = rw (is.written, is.minutes_are) (go is.hour is.minute is.hour_is is.minute_is)
-  where
-    go : (hour minute : ℕ) → hour < 24 → minute < 60
-        → reading.read_minutes (two_digits hour ++ 58 ∷ (two_digits minute ++ rest)) ≡ Some (hour * 60 + minute, rest)
-    go hour minute h m =
-        let value : 60 * hour + minute ≡ hour * 60 + minute = omega arith in
-        let small : (nat_lt hour 24 && nat_lt minute 60) ≡ true = grind (arith, nat_tests) in
-        rw (two-complete hour (58 ∷ (two_digits minute ++ rest)) (omega arith), two-complete minute rest (omega arith), small, value) refl
+clock-complete clock rest minutes is = grind (arith, nat_lt, nat_tests, two-complete)
 
 pub clock-sound : (text rest : List ℕ) (minutes : ℕ) → reading.read_minutes text ≡ Some (minutes, rest)
     → (clock : List ℕ) × IsClock clock minutes × (text ≡ clock ++ rest)
@@ -182,32 +137,15 @@ clock-sound text rest minutes e =
 
 pub fraction-complete : (digits : List ℕ) (nanos : ℕ) → IsFraction digits nanos → reading.fraction_of digits ≡ Some nanos
 unfolding reading.fraction_of
-fraction-complete digits nanos is =
-    let all : all_ascii_digits digits ≡ true = own.from digits is.0.1 in
-    let short : (nat_lt 0 (length digits) && nat_le (length digits) 9) ≡ true = grind (arith, nat_tests, is.0.0, is.1) in
-    rw (all, short, ← is.2) refl
+fraction-complete digits nanos is = grind (arith, own, nat_lt, nat_le, nat_tests)
 
 pub fraction-sound : (digits : List ℕ) (nanos : ℕ) → reading.fraction_of digits ≡ Some nanos → IsFraction digits nanos
 unfolding reading.fraction_of
-fraction-sound digits nanos e =
-    let (test, same) = cond-some _ _ _ e in
-    let parts = and_parts (all_ascii_digits digits) (nat_lt 0 (length digits) && nat_le (length digits) 9) test in
-    let some : 0 < length digits = grind (arith, nat_tests) in
-    let short : length digits ≤ 9 = grind (arith, nat_tests) in
-    ((some, own.to digits parts.0), short, sym same)
+fraction-sound digits nanos e = grind (arith, cond-some, and_parts, nat_lt, nat_le, nat_tests, own)
 
 -- what follows a time: neither a colon nor a dot nor a digit
 abbrev pub Stops : List ℕ → Type 0
 Stops rest = (get_or rest 0 0 ≢ 58) × (get_or rest 0 0 ≢ 46) × (is_ascii_digit (get_or rest 0 0) ≡ false)
-
-prefix-all : (digits : List ℕ) → all_ascii_digits digits ≡ true → prefix_len is_ascii_digit digits ≡ length digits
-prefix-all [] all = refl
-prefix-all (d ∷ ds) all = go (is_ascii_digit d) all (prefix-all ds)
-  where
-    go : (b : Bool) → (b && all_ascii_digits ds) ≡ true → (all_ascii_digits ds ≡ true → prefix_len is_ascii_digit ds ≡ length ds)
-        → cond b (1 + prefix_len is_ascii_digit ds) 0 ≡ suc (length ds)
-    go true e rest = omega (arith, rest e)
-    go false e rest = absurd cc
 
 prefix-none : (rest : List ℕ) → is_ascii_digit (get_or rest 0 0) ≡ false → prefix_len is_ascii_digit rest ≡ 0
 prefix-none [] stops = refl
@@ -226,13 +164,9 @@ prefix-digits (d ∷ ds) rest all stops = go (is_ascii_digit d) all (λ e. prefi
 pub dotted-complete : (fraction rest : List ℕ) (nanos : ℕ) → IsOptionalFraction fraction nanos → Stops rest
     → reading.read_fraction (fraction ++ rest) ≡ Some (nanos, rest)
 unfolding reading.read_fraction
-dotted-complete [] rest nanos is stops =
-    let no : (get_or rest 0 0 == 46) ≡ false = grind (arith, nat_tests, stops.1) in
-    rw (no, is) refl
+dotted-complete [] rest nanos is stops = grind (arith, nat_tests)
 dotted-complete (dot ∷ digits) rest nanos is stops =
-    let all : all_ascii_digits digits ≡ true = own.from digits is.1.0.1 in
-    let len : prefix_len is_ascii_digit (digits ++ rest) ≡ length digits = prefix-digits digits rest all stops.2 in
-    rw (is.0, len, take_at digits rest _ refl, drop_at digits rest _ refl, fraction-complete digits nanos is.1) refl
+    grind (arith, own, prefix-digits, take_at digits rest _ refl, drop_at digits rest _ refl, fraction-complete digits nanos is.1)
 
 dot-first : (text : List ℕ) → get_or text 0 0 ≡ 46 → text ≡ 46 ∷ drop 1 text
 dot-first [] is = absurd (omega arith)

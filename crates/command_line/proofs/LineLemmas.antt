@@ -1,13 +1,14 @@
 -- Lemmas on command lines as tables.
-use Rattle.std.proofs.Common.{◌≡◌, ◌&&◌, not, ap₂, inl, inr, sym, subst, refl, true, false, Bool, List, [], ◌∷◌, ◌++◌}
+use Rattle.std.proofs.lemmas.Grind.{common_steps}
+use Rattle.std.proofs.Common.{arith}
+use Rattle.std.proofs.Common.{◌≡◌, ◌&&◌, not, inl, inr, subst, refl, true, false, Bool, List, [], ◌∷◌, ◌++◌}
 use Rattle.std.proofs.lemmas.List.{map-append}
 use Rattle.clap.specs.Kinds.{HasKind, IsAmong, Kinds}
-use Rattle.clap.specs.Simple.{new_shape}
 use Rattle.clap.specs.Values.{kind_of}
-use Rattle.clap.specs.Words.{App, Shape, Text, with_subcommand}
+use Rattle.clap.specs.Words.{Text, with_subcommand}
 use Rattle.clap.specs.declared.error.Error.{Error}
 use Rattle.command_line.specs.Faults.{IsFaultOf, IsUnasked}
-use Rattle.command_line.specs.Line.{Flags, has_none, line_of, shape_of}
+use Rattle.command_line.specs.Line.{Flags, line_of, shape_of}
 use Rattle.command_line.specs.declared.words.WordsFault.TheVariants.{Memory, Help, Refused}
 use Rattle.command_line.specs.declared.words.AskFault.{AskFault}
 use Rattle.command_line.specs.declared.words.AskFault.TheVariants.{Version, Words}
@@ -22,24 +23,7 @@ plain-is-local true true true rest plain = absurd cc
 -- one more subcommand
 pub line-more : (name : Text) (has_version : Bool) (table : List (Text × Flags)) (more : Text × Flags)
     → with_subcommand (line_of name has_version table) (shape_of more.0 more.1) ≡ line_of name has_version (table ++ more ∷ [])
-line-more name has_version table more =
-    let shapes = λ (entry : Text × Flags). shape_of entry.0 entry.1 in
-    ap₂ (λ (leaf : Bool) (subs : List Shape). line_with leaf subs) (is-full table) (sym (map-append shapes table (more ∷ [])))
-  where
-    line_with : Bool → List Shape → App
-    line_with leaf subs = record {
-      top = record (new_shape name) {
-        is_leaf = leaf;
-        subcommand_required = true;
-        disable_help_subcommand = true;
-        has_version = has_version;
-      };
-      subs = subs;
-    }
-
-    is-full : (xs : List (Text × Flags)) → false ≡ has_none (xs ++ more ∷ [])
-    is-full [] = refl
-    is-full (x ∷ xs) = refl
+line-more name has_version table more = grind (arith, common_steps, map-append)
 
 -- ---- the faults
 

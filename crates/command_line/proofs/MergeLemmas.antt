@@ -1,4 +1,5 @@
 -- Lemmas on what the subcommands of `mdnsmerge` ask for.
+use Rattle.std.proofs.Common.{arith}
 use Rattle.std.proofs.Common.{◌≡◌, ◌∙◌, ◌⊎◌, ap, ap₂, sym, subst, inl, inr, codes, string_bytes, List, [], ◌∷◌, Option, Some, None, Ok}
 use Rattle.std.specs.Prelude.{IsSomeAnd}
 use Rattle.clap.specs.Words.{App, Row, Text, fault_of, first_of, subcommand_of}
@@ -22,7 +23,7 @@ use Rattle.command_line.specs.declared.words.WordsFault.TheVariants.{Memory, Hel
 use Rattle.command_line.specs.declared.words.AskFault.TheVariants.{Words}
 use Rattle.command_line.specs.declared.words.Task.{Task}
 use Rattle.command_line.specs.declared.words.Task.TheVariants.{Survey, Page}
-use Rattle.command_line.specs.Line.{AsksAbout, Flags, GivesForms, HasForm, HasOneForm, HasOptions, Matches, texts_of}
+use Rattle.command_line.specs.Line.{AsksAbout, Flags, GivesForms, HasForm, HasOneForm, HasOptions, Matches}
 use Rattle.command_line.specs.Faults.{IsRefusal, IsUnasked}
 use Rattle.command_line.specs.CommandLine.{AsksRequest, AsksTask, AsksWhat, GivesAsOf, GivesBoth, GivesNoMoment, IsRefusedFor, no_moment}
 use Rattle.command_line.specs.CommandLine.{at_flag, before_flag, both_given, form_flags, json_flag, page_flags, pretty_flag, report_flags}
@@ -89,17 +90,13 @@ what-asks rows name (Some ask, options) own has = (own, has.0)
 
 pub what-asked : (asked : (Option Ask × Options) × List Subject) (what : What) → what ≡ what_of asked.0.0 asked.0.1.seconds
     → (name : Text) (rows : List Row) → AsksTold name rows asked → AsksWhat name rows what
-what-asked asked what is name rows is_told =
-    let own = named subcommand_for told_flags_for all_told name rows asked.0 is_told.0 in
-    subst (AsksWhat name rows) (sym is) (what-asks rows name asked.0 own.0 own.1)
+what-asked asked what is name rows is_told = grind (arith, named, what-asks)
 
 -- the options give as of when
 as-of-asked : (rows : List Row) (asked : Asks × Options) (as_of : AsOf) → HasOptions (asked_flags asked.0) rows asked.1
     → GivesAsOf (text_of asked.1.at) (text_of asked.1.before) as_of
     → GivesAsOf (first_of (codes "at") rows) (first_of (codes "before") rows) as_of
-as-of-asked rows asked as_of has gives =
-    let at = subst (λ (at : Option Text). GivesAsOf at (text_of asked.1.before) as_of) has.1 gives in
-    subst (λ (before : Option Text). GivesAsOf (first_of (codes "at") rows) before as_of) has.2 at
+as-of-asked rows asked as_of has gives = grind arith
 
 -- the options of a report, or of lives, give the form
 form-asked : (rows : List Row) (asked : Asks × Options) (form : Form) → asked_flags asked.0 ≡ report_flags
@@ -109,24 +106,14 @@ form-asked rows asked form are has same =
 
 request-asked : (asked : (Asks × Options) × List Subject) (request : Request) → MakesRequest asked.0.0 asked.0.1 asked.1 request
     → (name : Text) (rows : List Row) → AsksAsked name rows asked → AsksRequest name rows request
-request-asked asked (Report query) makes name rows is_asked =
-    let own = named asked_name asked_flags all_asked name rows asked.0 is_asked.0 in
-    let form = form-asked rows asked.0 query.form (ap asked_flags makes.0) own.1 makes.1 in
-    (own.0 ∙ ap asked_name makes.0, form, as-of-asked rows asked.0 query.as_of own.1 makes.2, ap texts_of makes.3 ∙ is_asked.1)
-request-asked asked (Lives query) makes name rows is_asked =
-    let own = named asked_name asked_flags all_asked name rows asked.0 is_asked.0 in
-    let form = form-asked rows asked.0 query.form (ap asked_flags makes.0) own.1 makes.1 in
-    (own.0 ∙ ap asked_name makes.0, form, as-of-asked rows asked.0 query.as_of own.1 makes.2, ap texts_of makes.3 ∙ is_asked.1)
-request-asked asked Check makes name rows is_asked =
-    let own = named asked_name asked_flags all_asked name rows asked.0 is_asked.0 in
-    own.0 ∙ ap asked_name makes
+request-asked asked (Report query) makes name rows is_asked = grind (arith, named, form-asked, as-of-asked)
+request-asked asked (Lives query) makes name rows is_asked = grind (arith, named, form-asked, as-of-asked)
+request-asked asked Check makes name rows is_asked = grind (arith, named)
 
 pub task-asked : (asked : (Asks × Options) × List Subject) (task : Task) → Makes asked.0.0 asked.0.1 asked.1 task
     → (name : Text) (rows : List Row) → AsksAsked name rows asked → AsksTask name rows task
 task-asked asked (Survey request) makes name rows is_asked = request-asked asked request makes name rows is_asked
-task-asked asked (Page as_of about) makes name rows is_asked =
-    let own = named asked_name asked_flags all_asked name rows asked.0 is_asked.0 in
-    (own.0 ∙ ap asked_name makes.0, as-of-asked rows asked.0 as_of own.1 makes.1, ap texts_of makes.2 ∙ is_asked.1)
+task-asked asked (Page as_of about) makes name rows is_asked = grind (arith, named, as-of-asked)
 
 -- two given flags that ask for forms are `--json` and `--pretty`
 pub both-forms : (program : Text) (rows : List Row) (both : Both) → GivesForms form_flags rows both → (line : Text)
@@ -169,14 +156,10 @@ why-refused : (asked : Asks × Options) (unmade : Unmade) → MakesNone asked.1 
     → HasOptions (asked_flags asked.0) rows asked.1 → (line : Text) → line ≡ unmade_text merge unmade → Refuses rows line
 why-refused asked (unmade.Both both) (inl none) rows has line is =
     inl ((λ absent. none.2 (has.1 ∙ absent)), (λ absent. none.3 (has.2 ∙ absent)), is ∙ ap₂ (both_given merge) none.0 none.1)
-why-refused asked (unmade.Both both) (inr same) rows has line is =
-    let gives = subst (HasOneForm (asked_flags asked.0) rows) same has.3 in
-    inr (inl (both-forms merge rows both (asked-forms asked.0 rows both gives) line is))
+why-refused asked (unmade.Both both) (inr same) rows has line is = grind (arith, both-forms, asked-forms)
 why-refused asked (unmade.NoMoment name text) (inl at, never) rows has line is =
     inr (inr (inl (text.now, (sym has.1 ∙ at.1, sym has.2 ∙ at.2, never, is ∙ ap (λ (n : Text). no_moment merge n text.now) at.0))))
-why-refused asked (unmade.NoMoment name text) (inr before, never) rows has line is =
-    let reads = is ∙ ap (λ (n : Text). no_moment merge n text.now) before.0 in
-    inr (inr (inr (text.now, (sym has.2 ∙ before.2, sym has.1 ∙ before.1, never, reads))))
+why-refused asked (unmade.NoMoment name text) (inr before, never) rows has line is = grind arith
 
 some-refused : (asked : (Asks × Options) × List Subject) (names : List Text) (unmade : Unmade) → MakesNone asked.0.1 unmade
     → (matched : Option (Text × List Row)) → Matches AsksAsked matched asked names → (line : Text) → line ≡ unmade_text merge unmade

@@ -17,10 +17,7 @@ use Rattle.command_line.specs.declared.options.Both.{Both}
 -- what a flag is read as
 pub flag-told : (flag : Bool) (text rows : Option Text) → text ≡ rows → (text ≡ None → flag ≡ false)
     → (text ≡ Some (codes "true") → flag ≡ true) → (text ≡ Some (codes "false") → flag ≡ false) → IsFlag rows flag
-flag-told true text rows same none value other = (
-  λ absent. let no = none (same ∙ absent) in absurd cc,
-  λ absent. let no = other (same ∙ absent) in absurd cc,
-)
+flag-told true text rows same none value other = grind arith
 flag-told false text rows same none value other = λ given. let yes = value (same ∙ given) in absurd cc
 
 -- the moment of a number that was read is that number of seconds

@@ -1,5 +1,6 @@
 -- Lemmas on lines that are printed.
-use Rattle.std.proofs.Common.{◌≡◌, ◌≢◌, ◌∙◌, ◌++◌, ◌==◌, ap, arith, refl, cond, true, false, Bool, ℕ, List, [], ◌∷◌}
+use Rattle.std.proofs.lemmas.Grind.{common_steps}
+use Rattle.std.proofs.Common.{◌≡◌, ◌≢◌, ◌++◌, ap, arith, refl, ℕ, List, [], ◌∷◌}
 use Rattle.command_line.specs.Program.{before_feeds, trimmed}
 
 -- one line feed more at the end
@@ -9,16 +10,5 @@ trimmed-feed (x ∷ text) = ap (before_feeds x) (trimmed-feed text)
 
 -- another byte at the end
 pub trimmed-other : (text : List ℕ) (last : ℕ) → last ≢ 10 → trimmed (text ++ last ∷ []) ≡ text ++ last ∷ []
-trimmed-other [] last other = go (last == 10) (other_test)
-  where
-    other_test : (last == 10) ≡ false
-    other_test = grind arith
-
-    go : (b : Bool) → b ≡ false → cond b [] (last ∷ []) ≡ last ∷ []
-    go true is = absurd cc
-    go false is = refl
-trimmed-other (x ∷ text) last other = ap (before_feeds x) (trimmed-other text last other) ∙ full text
-  where
-    full : (xs : List ℕ) → before_feeds x (xs ++ last ∷ []) ≡ x ∷ xs ++ last ∷ []
-    full [] = refl
-    full (y ∷ ys) = refl
+trimmed-other [] last other = grind arith
+trimmed-other (x ∷ text) last other = grind (arith, common_steps, trimmed-other text last other)

@@ -1,5 +1,6 @@
 -- Where clap finds no fault in the words of a command line, its matches ask for something, of one file or more.
-use Rattle.std.proofs.Common.{◌≡◌, ◌≢◌, ◌∙◌, ◌++◌, ◌*◌, ◌&&◌, ◌||◌, ap, refl, subst, sym, inl, inr, not, cond, arith, true, false}
+use Rattle.std.proofs.Common.{rules}
+use Rattle.std.proofs.Common.{◌≡◌, ◌≢◌, ◌++◌, ◌*◌, ◌&&◌, refl, subst, sym, inl, inr, not, cond, arith, true, false}
 use Rattle.std.proofs.Common.{codes, is_some, Bool, ℕ, List, [], ◌∷◌, Option, Some, None, Result, Err, IfSome, map, option_map}
 use Rattle.std.specs.Prelude.{find, slice_get, option_and_then, ⊤, IsSomeAnd}
 use Rattle.std.specs.Borrow.{Bor}
@@ -15,11 +16,11 @@ use Rattle.clap.specs.Facts.{explicit_source}
 use Rattle.clap.specs.Faults.{check_fault, defaults_fault, entered_fault, fault_of, level_fault, settle_fault, walk_fault}
 use Rattle.clap.specs.Lexer.{without_minus}
 use Rattle.clap.specs.Simple.{App, Shape, argument_words, built, built_leaf, entered, filled_from, help_rule, inherited}
-use Rattle.clap.specs.Simple.{label_of, marked_built, names_of, on_top, rows_at, subcommand_of, with_leaf_noted}
+use Rattle.clap.specs.Simple.{marked_built, names_of, on_top, rows_at, subcommand_of, with_leaf_noted}
 use Rattle.clap.specs.Takes.{is_given}
 use Rattle.clap.specs.Values.{read_as}
 use Rattle.clap.specs.ValueTests.{accepts}
-use Rattle.clap.specs.Walk.{Row, Text, first_of, all_of, answers_to, finished}
+use Rattle.clap.specs.Walk.{Row, Text, first_of, all_of, finished}
 use Rattle.clap.specs.Walk.{nothing_held, one_of, row_text, rows_after, settled, stop_after}
 use Rattle.clap.specs.Walk.{walk, walk_from}
 use Rattle.clap.specs.declared.builder.value_parser.Reading.{Reading}
@@ -27,7 +28,7 @@ use Rattle.clap.specs.declared.builder.value_parser.Reading.TheVariants as readi
 use Rattle.clap.specs.declared.error.kind.ErrorKind.TheVariants as kind
 use Rattle.mdns_capture.specs.declared.moment.Moment.{Moment}
 use Rattle.command_line.specs.Line.{AsksIn, Flags, HasOptions, HasSeconds, IsMomentOf, Matches, SecondsBy}
-use Rattle.command_line.specs.Line.{app_of_line, are_sound, file_rule, flag_rule, flags_of, is_counted, is_readable}
+use Rattle.command_line.specs.Line.{app_of_line, are_sound, file_rule, flags_of, is_counted, is_readable}
 use Rattle.command_line.specs.Line.{line_of, rules_of, shape_of, table_of, takes_seconds}
 use Rattle.command_line.specs.declared.line.Line.{Line}
 use Rattle.command_line.specs.declared.line.Subcommand.{Subcommand}
@@ -78,14 +79,7 @@ rows-told counted id is_counted (r ∷ rows) sound nothing = go (bytes_eq r.id i
 
 files-some : (counted : Text → Bool) (rows : List Row) (names : List Text) → AreSound counted rows → all_of (codes "FILE") rows ≡ Some names → names ≢ []
 files-some counted [] names files is = absurd cc
-files-some counted (r ∷ rows) names files is = go (bytes_eq r.id (codes "FILE")) refl (files-some counted rows names files.1) is
-  where
-    go : (b : Bool) → bytes_eq r.id (codes "FILE") ≡ b → (all_of (codes "FILE") rows ≡ Some names → names ≢ [])
-        → option_map (λ (x : Row). x.values) (cond b (Some r) (find (λ x. bytes_eq x.id (codes "FILE")) rows)) ≡ Some names → names ≢ []
-    go true same rest found none =
-        let values : r.values ≡ names = ap (λ o. option_map_or (λ (xs : List Text). xs) o []) found in
-        files.0.1 same (values ∙ none)
-    go false other rest found none = rest found none
+files-some counted (r ∷ rows) names files is = grind (arith, option_map, files-some counted rows names files.1)
 
 files-given : (rows : List Row) → is_given (codes "FILE") rows ≡ true → (names : List Text) × (all_of (codes "FILE") rows ≡ Some names)
 files-given rows is = go (find (λ r. bytes_eq r.id (codes "FILE")) rows) is
@@ -103,32 +97,13 @@ unwanted false none = refl
 file-wanted : (rows : List Row) (flags : Flags)
     → list_any (λ a. a.required && not (is_given a.id rows)) (filled_from 1 ((rules_of flags ++ file_rule ∷ []) ++ help_rule ∷ [])) ≡ false
     → is_given (codes "FILE") rows ≡ true
-file-wanted rows [] unwanting = go (is_given (codes "FILE") rows) unwanting
-  where
-    go : (given : Bool) → (not given || false) ≡ false → given ≡ true
-    go true e = refl
-    go false e = absurd cc
-file-wanted rows (flag ∷ flags) unwanting = go flag.0 flag.1 (file-wanted rows flags) unwanting
-  where
-    go : (name : Text) (takes : Takes) → (list_any (λ a. a.required && not (is_given a.id rows))
-        (filled_from 1 ((rules_of flags ++ file_rule ∷ []) ++ help_rule ∷ [])) ≡ false → is_given (codes "FILE") rows ≡ true)
-        → list_any (λ a. a.required && not (is_given a.id rows))
-        (filled_from 1 (flag_rule name takes ∷ ((rules_of flags ++ file_rule ∷ []) ++ help_rule ∷ []))) ≡ false
-        → is_given (codes "FILE") rows ≡ true
-    go name (takes.Nothing form) rest e = rest e
-    go name takes.Seconds rest e = rest e
-    go name takes.Moment rest e = rest e
-    go name takes.Words rest e = rest e
+file-wanted rows [] unwanting = grind arith
+file-wanted rows (flag ∷ flags) unwanting = grind (arith, file-wanted rows flags)
 
 -- a level without a fault has all arguments that it requires
 no-check-fault : (s : Shape) (words : List Text) → level_fault s [] nothing_held words false [] ≡ []
     → check_fault s (rows_after s.rules [] words) false ≡ []
-no-check-fault s words none =
-    let end = (walk s.rules [] nothing_held words).held in
-    let walks = split (walk_fault s [] (walk_from nothing_held) words) _ none in
-    let settles = split (settle_fault s.rules s.args_override_self end) _ walks.1 in
-    let defaults = split (defaults_fault (settled s.rules end).rows s.rules) _ settles.1 in
-    defaults.1
+no-check-fault s words none = grind (arith, split)
 
 seconds-told : (counted : Text → Bool) (flags : Flags) (rows : List Row) → AreCounted counted flags → AreSound counted rows
     → ((at : Option Moment) → HasSeconds flags rows at → ⊥) → ⊥
@@ -181,9 +156,7 @@ module _ (P : Text × List Row → Type 0) where
   after : (line : App) → Each Reaches (built line).subs → (stop : Option (Text × List Text)) → entered_fault (built line) stop ≡ []
       → is_some (entered (built line) stop) ≡ true → IsSomeAnd (entered (built line) stop) P
   after line reach None none is = absurd cc
-  after line reach (Some q) none is =
-      below (find (λ s. answers_to q.0 (label_of s)) (built line).subs) q.1
-      (each-find Reaches (λ s. answers_to q.0 (label_of s)) (built line).subs reach) none is
+  after line reach (Some q) none is = search (rules, below, each-find)
 
   reached : (line : App) → ((has : Bool) (rows : List Row) → check_fault (built line).top rows has ≡ [] → has ≡ true)
       → Each Reaches (built line).subs → (words : List Text) → fault_of line words ≡ [] → IsSomeAnd (subcommand_of line words) P

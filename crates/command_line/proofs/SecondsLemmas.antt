@@ -1,5 +1,5 @@
 -- Seconds since 1970 are read as their grammar says: the first dot parts them from the fraction.
-use Rattle.std.proofs.Common.{◌≡◌, ◌∙◌, ◌<◌, ◌+◌, ◌++◌, ◌∷◌, ◌==◌, ℕ, suc, Bool, true, false, cond}
+use Rattle.std.proofs.Common.{◌≡◌, ◌∙◌, ◌<◌, ◌+◌, ◌++◌, ◌∷◌, ◌==◌, ℕ, Bool}
 use Rattle.std.proofs.Common.{List, [], length, get_or, take, drop, Option, Some, None, IfSome, refl, sym, ap, arith, eqb-true, take_at, drop_at, subst}
 use Rattle.std.specs.List.{after_first, before_first, position_or_len}
 use Rattle.std.proofs.lemmas.Bool.Decides.{nat_tests}
@@ -16,23 +16,13 @@ is_dot byte = byte == 46
 
 digits-pass : (digits rest : List ℕ) → AllDigits 10 digits → position_or_len is_dot (digits ++ rest) ≡ length digits + position_or_len is_dot rest
 digits-pass [] rest all = omega arith
-digits-pass (c ∷ digits) rest all =
-    let digit = digit_from_value c all.0 in
-    let other : (c == 46) ≡ false = grind (arith, nat_tests, digit) in
-    rw other (omega (arith, digits-pass digits rest all.1))
+digits-pass (c ∷ digits) rest all = grind (arith, digit_from_value, nat_tests, digits-pass digits rest all.1)
 
 -- a number has no dot
 whole-pass : (whole rest : List ℕ) → IsNumeral 10 (without_leading_plus whole)
     → position_or_len is_dot (whole ++ rest) ≡ length whole + position_or_len is_dot rest
 whole-pass [] rest is = omega arith
-whole-pass (c ∷ digits) rest is = go (c == 43) refl is
-  where
-    go : (b : Bool) → (c == 43) ≡ b → IsNumeral 10 (drop (cond b 1 0) (c ∷ digits))
-        → position_or_len is_dot (c ∷ (digits ++ rest)) ≡ suc (length digits) + position_or_len is_dot rest
-    go false is_not number = digits-pass (c ∷ digits) rest number.1
-    go true is_plus number =
-        let plus : c ≡ 43 = eqb-true _ _ is_plus in
-        rw plus (omega (arith, digits-pass digits rest number.1))
+whole-pass (c ∷ digits) rest is = grind (arith, digits-pass, eqb-true)
 
 -- the first dot is at this place
 pub record SplitsAt (text whole digits : List ℕ) : Type 0 where
@@ -106,16 +96,4 @@ whole-told text (Some moment) is = record {
 }
 
 pub whole-parts : (text : List ℕ) → position_or_len is_dot text ≡ length text → (moment : Moment) → IsSeconds text moment → IsAtSecond text 0 moment
-whole-parts text dotless moment is = go is.fraction is.fraction_is is.written
-  where
-    go : (fraction : List ℕ) → IsOptionalFraction fraction is.nanos → text ≡ is.whole ++ fraction → IsAtSecond text 0 moment
-    go [] none written =
-        let all : text ≡ is.whole = written ∙ append-nil is.whole in
-        let value = is.moment_is in
-        subst (λ t. IsAtSecond t 0 moment) (sym all) (is.whole_is, omega (arith, value, none))
-    go (dot ∷ fraction) has written =
-        let place = whole-pass is.whole (46 ∷ fraction) is.whole_is in
-        let is_written : text ≡ is.whole ++ 46 ∷ fraction = written ∙ ap (λ d. is.whole ++ d ∷ fraction) has.0 in
-        let long : length text ≡ length is.whole + suc (length fraction) = ap length is_written ∙ length-append is.whole (46 ∷ fraction) in
-        let same = ap (position_or_len is_dot) is_written in
-        absurd (omega (arith, dotless, place, long, same))
+whole-parts text dotless moment is = grind (arith, append-nil, whole-pass, length-append)

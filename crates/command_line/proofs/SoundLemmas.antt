@@ -1,5 +1,6 @@
 -- Words in which clap finds no fault leave sound rows: seconds that are numbers, and a file at least.
-use Rattle.std.proofs.Common.{◌≡◌, ◌≢◌, ◌∙◌, ◌++◌, ◌&&◌, ◌||◌, refl, subst, sym, not, cond, true, false}
+use Rattle.std.proofs.Common.{arith}
+use Rattle.std.proofs.Common.{◌≡◌, ◌≢◌, ◌++◌, ◌&&◌, ◌||◌, refl, subst, sym, not, cond, true, false}
 use Rattle.std.proofs.Common.{codes, Bool, List, [], ◌∷◌}
 use Rattle.std.specs.Prelude.{pos}
 use Rattle.std.specs.List.{list_all}
@@ -10,16 +11,15 @@ use Rattle.clap.specs.Kinds.{values_kinds}
 use Rattle.clap.specs.Simple.{filled, filled_from, help_rule}
 use Rattle.clap.specs.Simple.{with_index}
 use Rattle.clap.specs.ValueTests.{accepts}
-use Rattle.clap.specs.Walk.{Row, Rule, Text, default_rows, has_row, reading_by, at_row}
+use Rattle.clap.specs.Walk.{Row, Rule, Text, at_row}
 use Rattle.clap.specs.Walk.{more_values}
-use Rattle.clap.specs.Walk.{values_or_missing, with_values, without}
+use Rattle.clap.specs.Walk.{with_values, without}
 use Rattle.clap.specs.declared.builder.value_parser.Reading.{Reading}
 use Rattle.clap.specs.declared.builder.value_parser.Reading.TheVariants as reading
 use Rattle.clap.specs.declared.builder.value_parser.ValueParser.{ValueParser}
 use Rattle.clap.specs.declared.builder.value_parser.ValueParser.TheVariants as parser
 use Rattle.clap.specs.declared.error.kind.ErrorKind.TheVariants as kind
 use Rattle.clap.specs.declared.parser.matches.ValueSource.{ValueSource}
-use Rattle.clap.specs.declared.parser.matches.ValueSource.TheVariants.{CommandLine, DefaultValue}
 use Rattle.command_line.specs.Line.{Flags}
 use Rattle.command_line.specs.Line.{file_rule, flag_rule, is_counted}
 use Rattle.command_line.specs.Line.{is_sound, rules_of, takes_seconds}
@@ -50,12 +50,7 @@ in-row : (P : Row → Type 0) (id : Text) (change : Row → List Row) (missing r
     → ((r : Row) → bytes_eq r.id id ≡ true → P r → Each P (change r)) → Each P missing → Each P rows
     → Each P (at_row id change missing rows)
 in-row P id change missing [] changes gives h = gives
-in-row P id change missing (r ∷ rows) changes gives h = go (bytes_eq r.id id) refl (in-row P id change missing rows changes gives h.1)
-  where
-    go : (b : Bool) → bytes_eq r.id id ≡ b → Each P (at_row id change missing rows)
-        → Each P (cond b (change r ++ rows) (r ∷ at_row id change missing rows))
-    go true same rest = each-append P (change r) rows (changes r same h.0) h.1
-    go false other rest = (h.0, rest)
+in-row P id change missing (r ∷ rows) changes gives h = grind (arith, each-append, in-row P id change missing rows changes gives h.1)
 
 accepted : (values : List Text) → values_kinds false number values ≡ [] → Each (λ v. accepts false number v ≡ true) values
 accepted [] none = tt
@@ -107,11 +102,7 @@ help_built = with_index 2 (filled help_rule)
 -- any values may be added to a row that is neither of seconds nor of files
 others-add : (counted : Text → Bool) (name : Text) → (not (bytes_eq name (codes "FILE")) && not (counted name)) ≡ true
     → (how : Reading) (values : List Text) → Adds counted name how values
-others-add counted name sound how values =
-    let parts = both _ _ sound in (
-      (λ seconds. absurd (no _ parts.1 seconds), λ file. absurd (no _ parts.0 file)),
-      λ r old is. (λ seconds. absurd (no _ parts.1 seconds), λ file. absurd (no _ parts.0 file)),
-    )
+others-add counted name sound how values = grind (arith, both, no)
 
 -- a use of the argument without a fault keeps the rows sound, and so does its default
 abbrev pub KeepsSound : (Text → Bool) → Rule → Type 0
@@ -119,46 +110,13 @@ KeepsSound counted a = Keeps (AreSound counted) false a × KeepsDefault (AreSoun
 
 flag-keeps : (counted : Text → Bool) (name : Text) (takes : Takes) → is_sound counted name takes ≡ true
     → KeepsSound counted (flag_built name takes)
-flag-keeps counted name (takes.Nothing form) sound = (
-  λ values rows none rows_are. values-keep counted name _ CommandLine _ _ (others-add counted name sound _ _)
-      (without-keeps counted name rows rows_are),
-  λ rows rows_are. go rows rows_are (has_row name rows),
-)
-  where
-    go : (rows : List Row) → AreSound counted rows → (b : Bool) → AreSound counted (cond b rows
-        (default_rows name (reading_by (flag_built name (takes.Nothing form))) (flag_built name (takes.Nothing form)).defaults rows))
-    go rows rows_are true = rows_are
-    go rows rows_are false = values-keep counted name _ DefaultValue _ rows (others-add counted name sound _ _) rows_are
-flag-keeps counted name takes.Moment sound = (
-  λ values rows none rows_are. values-keep counted name _ CommandLine _ _ (others-add counted name sound _ _)
-      (without-keeps counted name rows rows_are),
-  undefaulted (AreSound counted) (flag_built name takes.Moment) refl,
-)
-flag-keeps counted name takes.Words sound = (
-  λ values rows none rows_are. values-keep counted name _ CommandLine _ _ (others-add counted name sound _ _) rows_are,
-  undefaulted (AreSound counted) (flag_built name takes.Words) refl,
-)
-flag-keeps counted name takes.Seconds sound = (
-  λ values rows none rows_are.
-      let given = values_or_missing (flag_built name takes.Seconds) values in
-      let faults = split _ _ none in
-      let numbers = accepted given (split _ _ faults.1).1 in
-      values-keep counted name reading.WithoutMinus CommandLine given (without name rows) (
-        (λ seconds. (refl, numbers), λ file. absurd (no _ sound file)),
-        λ r old is. (λ seconds. ((is.0 seconds).0, each-append _ old given (is.0 seconds).1 numbers), λ file. absurd (no _ sound file)),
-      ) (without-keeps counted name rows rows_are),
-  undefaulted (AreSound counted) (flag_built name takes.Seconds) refl,
-)
+flag-keeps counted name (takes.Nothing form) sound = grind (arith, values-keep, others-add, without-keeps)
+flag-keeps counted name takes.Moment sound = grind (arith, values-keep, others-add, without-keeps, undefaulted)
+flag-keeps counted name takes.Words sound = grind (arith, values-keep, others-add, undefaulted)
+flag-keeps counted name takes.Seconds sound = grind (arith, split, accepted, values-keep, no, each-append, without-keeps, undefaulted)
 
 file-keeps : (counted : Text → Bool) → counted (codes "FILE") ≡ false → KeepsSound counted file_built
-file-keeps counted other = (keeps, undefaulted (AreSound counted) file_built refl)
-  where
-    keeps : Keeps (AreSound counted) false file_built
-    keeps [] rows none rows_are = let clash : kind.InvalidValue ∷ [] ≡ [] = none in absurd cc
-    keeps (v ∷ vs) rows none rows_are = values-keep counted (codes "FILE") _ CommandLine (v ∷ vs) rows (
-      (λ seconds. let clash : false ≡ true = sym other ∙ seconds in absurd cc, λ file. not-none [] v vs),
-      λ r old is. (λ seconds. let clash : false ≡ true = sym other ∙ seconds in absurd cc, λ file. not-none old v vs),
-    ) rows_are
+file-keeps counted other = grind (arith, undefaulted, values-keep, not-none)
 
 help-keeps : (counted : Text → Bool) → KeepsSound counted help_built
 help-keeps counted = (λ values rows none rows_are. rows_are, undefaulted (AreSound counted) help_built refl)
@@ -206,19 +164,8 @@ AreCounted counted = Each (λ flag. takes_seconds flag.1 ≡ true → counted fl
 
 counted-more : (flag : Text × Takes) (own flags : Flags) → AreCounted (is_counted own) flags → AreCounted (is_counted (flag ∷ own)) flags
 counted-more flag own [] are = tt
-counted-more flag own (x ∷ flags) are = (λ seconds. or-right _ _ (are.0 seconds), counted-more flag own flags are.1)
-  where
-    or-right : (a b : Bool) → b ≡ true → (a || b) ≡ true
-    or-right true b is = refl
-    or-right false b is = is
+counted-more flag own (x ∷ flags) are = grind (arith, counted-more flag own flags are.1)
 
 pub all-counted : (flags : Flags) → AreCounted (is_counted flags) flags
 all-counted [] = tt
-all-counted (flag ∷ flags) = (here flag.0 flag.1, counted-more flag flags flags (all-counted flags))
-  where
-    here : (name : Text) (takes : Takes) → takes_seconds takes ≡ true
-        → ((takes_seconds takes && bytes_eq name name) || is_counted flags name) ≡ true
-    here name takes.Seconds is = own-counted name flags
-    here name (takes.Nothing form) is = absurd cc
-    here name takes.Moment is = absurd cc
-    here name takes.Words is = absurd cc
+all-counted (flag ∷ flags) = grind (arith, counted-more, own-counted, all-counted flags)

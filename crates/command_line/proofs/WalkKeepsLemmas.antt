@@ -1,22 +1,22 @@
 -- A property of the rows that each use of an argument keeps is kept by clap's parse without a fault.
-use Rattle.std.proofs.Common.{◌≡◌, ◌++◌, ◌&&◌, refl, subst, cond, fold, true, false, is_some, Bool, ℕ, zero, suc, List}
+use Rattle.std.proofs.Common.{arith}
+use Rattle.std.proofs.Common.{◌≡◌, ◌++◌, refl, subst, cond, fold, true, false, is_some, Bool, ℕ, zero, suc, List}
 use Rattle.std.proofs.Common.{[], ◌∷◌, Option, Some, None, IfSome}
-use Rattle.std.specs.Prelude.{find, slice_get, drop, length, encode_utf8, ⊤}
+use Rattle.std.specs.Prelude.{find, length, ⊤}
 use Rattle.std.specs.Option.{option_map_or}
-use Rattle.std.specs.Str.{bytes_eq, chars}
 use Rattle.clap.specs.Faults.{bundle_step_fault, flag_word_fault, flags_fault, level_fault, long_fault, option_fault}
 use Rattle.clap.specs.Faults.{other_fault, positional_fault, react_fault, settle_fault, short_fault, step_fault}
 use Rattle.clap.specs.Faults.{stray_fault, turn_fault, use_fault, walk_fault, word_fault}
 use Rattle.clap.specs.Kinds.{Kinds, or_else}
-use Rattle.clap.specs.Lexer.{long_of, short_of}
+use Rattle.clap.specs.Lexer.{short_of}
 use Rattle.clap.specs.Simple.{Shape}
 use Rattle.clap.specs.Walk.{Held, Names, Outcome, Row, Rule, Step, Text, Waiting, Walk, after_flag, after_step}
-use Rattle.clap.specs.Walk.{arg_by_id, arg_by_index, arg_by_long, arg_by_short, attached_value, bundle_met, bundle_step}
-use Rattle.clap.specs.Walk.{done, flag_met, has_row, default_rows, reading_by, idle, is_pending, long_met}
-use Rattle.clap.specs.Walk.{long_or_other, next, nothing_held, option, option_met, option_word, plain, plain_word}
-use Rattle.clap.specs.Walk.{positional, reacted, refused, rows_after, settled, settled_rows, short_met, short_or_plain}
-use Rattle.clap.specs.Walk.{subcommand, subcommand_met, subcommand_or_other, takes_several, takes_values, to_positional}
-use Rattle.clap.specs.Walk.{trailing, used, used_by_id, value, waits, walk, walk_from, walked, walked_from}
+use Rattle.clap.specs.Walk.{arg_by_index, arg_by_long, attached_value, bundle_met, bundle_step}
+use Rattle.clap.specs.Walk.{done, flag_met, idle, long_met}
+use Rattle.clap.specs.Walk.{long_or_other, next, nothing_held, option, option_met, plain, plain_word}
+use Rattle.clap.specs.Walk.{positional, reacted, refused, rows_after, settled, short_met, short_or_plain}
+use Rattle.clap.specs.Walk.{subcommand, subcommand_met, subcommand_or_other, takes_values, to_positional}
+use Rattle.clap.specs.Walk.{trailing, used, used_by_id, value, waits, walk, walk_from, walked}
 use Rattle.clap.specs.Walk.{with_default, word_met}
 use Rattle.clap.specs.declared.error.kind.ErrorKind.TheVariants as kind
 
@@ -31,11 +31,7 @@ each-append P (x ∷ xs) ys h k = (h.0, each-append P xs ys h.1 k)
 
 pub each-find : {X : Type 0} (P : X → Type 0) (test : X → Bool) (xs : List X) → Each P xs → IfSome (find test xs) P
 each-find P test [] h = tt
-each-find P test (x ∷ xs) h = go (test x) (each-find P test xs h.1)
-  where
-    go : (b : Bool) → IfSome (find test xs) P → IfSome (cond b (Some x) (find test xs)) P
-    go true rest = h.0
-    go false rest = rest
+each-find P test (x ∷ xs) h = grind (arith, each-find P test xs h.1)
 
 each-weaker : {X : Type 0} (P Q : X → Type 0) (xs : List X) → ((x : X) → P x → Q x) → Each P xs → Each Q xs
 each-weaker P Q [] weaker h = tt
@@ -58,19 +54,11 @@ module _ (s : Shape) (P : List Row → Type 0) (all : Each (Keeps P s.args_overr
   by-id (Some a) values rows keeps none p = keeps values rows none p
 
   in-settled : (h : Held) → settle_fault s.rules s.args_override_self h ≡ [] → P h.rows → P (settled s.rules h).rows
-  in-settled h none p = go h.pending none
-    where
-      go : (o : Option (Text × List Text))
-          → option_map_or (λ q. option_map_or (λ a. use_fault s.args_override_self a q.1 h.rows) (arg_by_id s.rules q.0) []) o [] ≡ []
-          → P (settled_rows s.rules o h.rows)
-      go None e = p
-      go (Some q) e = by-id (arg_by_id s.rules q.0) q.1 h.rows (each-find _ _ s.rules all) e p
+  in-settled h none p = grind (arith, by-id, each-find)
 
   in-reacted : (a : Rule) (values : List Text) (h : Held) → Keeps P s.args_override_self a
       → react_fault s.rules s.args_override_self a values h ≡ [] → P h.rows → P (reacted s.rules a values h).rows
-  in-reacted a values h keeps none p =
-      let parts = split _ _ none in
-      keeps values (settled s.rules h).rows parts.1 (in-settled h parts.0 p)
+  in-reacted a values h keeps none p = grind (arith, split, in-settled)
 
   in-option : (a : Rule) (v : Option Text) (h : Held) → Keeps P s.args_override_self a
       → option_fault s.rules s.args_override_self a v h ≡ [] → P h.rows → P (option_met s.rules a v h).0.rows
@@ -86,13 +74,7 @@ module _ (s : Shape) (P : List Row → Type 0) (all : Each (Keeps P s.args_overr
   in-long : (o : Option Rule) (v : Option Text) (h : Held) → IfSome o (Keeps P s.args_override_self)
       → long_fault s.rules s.args_override_self o v h ≡ [] → P h.rows → P (long_met s.rules o v h).0.rows
   in-long None v h keeps none p = p
-  in-long (Some a) v h keeps none p = go (takes_values a) none
-    where
-      go : (b : Bool) → cond b (option_fault s.rules s.args_override_self a v h)
-          (cond (is_some v) (kind.TooManyValues ∷ []) (react_fault s.rules s.args_override_self a [] h)) ≡ []
-          → P (cond b (option_met s.rules a v h) (flag_met s.rules a v h)).0.rows
-      go true e = in-option a v h keeps e p
-      go false e = in-flag a v h keeps e p
+  in-long (Some a) v h keeps none p = grind (arith, is_some, in-option, in-flag)
 
   in-short : (o : Option Rule) (rest : Text) (h : Held) (then : Held → Held × Outcome) (faults : Held → Kinds)
       → ((k : Held) → faults k ≡ [] → P k.rows → P (then k).0.rows) → IfSome o (Keeps P s.args_override_self)
@@ -112,28 +94,19 @@ module _ (s : Shape) (P : List Row → Type 0) (all : Each (Keeps P s.args_overr
       → bundle_step_fault s.rules s.args_override_self o flags skip h faults ≡ []
       → P h.rows → P (bundle_step s.rules o flags skip so_far h then).0.rows
   in-bundle-step then faults more None flags skip so_far h none p = p
-  in-bundle-step then faults more (Some x) flags zero so_far h none p =
-      let rest = drop (length (encode_utf8 x)) flags in
-      in-short (arg_by_short s.rules x) rest h (then rest 0 done) (faults rest 0)
-      (λ k. more rest 0 done k) (each-find _ _ s.rules all) none p
+  in-bundle-step then faults more (Some x) flags zero so_far h none p = grind (arith, in-short, each-find)
   in-bundle-step then faults more (Some x) flags (suc skip) so_far h none p = more _ skip so_far h none p
 
   in-bundle : (k : ℕ) (flags : Text) (skip : ℕ) (so_far : Outcome) (h : Held) → flags_fault s.rules s.args_override_self k flags skip h ≡ []
       → P h.rows → P (bundle_met s.rules k flags skip so_far h).0.rows
   unfolding flags_fault bundle_met
   in-bundle zero flags skip so_far h none p = p
-  in-bundle (suc k) flags skip so_far h none p =
-      in-bundle-step (bundle_met s.rules k) (flags_fault s.rules s.args_override_self k) (in-bundle k)
-      (slice_get (chars flags) 0) flags skip so_far h none p
+  in-bundle (suc k) flags skip so_far h none p = grind (arith, in-bundle-step, in-bundle k)
 
   plain-rows : (waiting : Waiting) (word : Text) (h : Held) → h.rows ≡ (plain_word s.rules waiting word h).0.rows
   plain-rows idle word h = refl
   plain-rows positional word h = refl
-  plain-rows (option id) word h = go (arg_by_id s.rules id)
-    where
-      go : (o : Option Rule) → h.rows ≡ (option_word o id word h).0.rows
-      go None = refl
-      go (Some a) = refl
+  plain-rows (option id) word h = grind arith
 
   flag-rows : (waiting : Waiting) (word : Text) (h : Held) (o : Outcome) → h.rows ≡ (after_flag s.rules waiting word h o).0.rows
   flag-rows waiting word h done = refl
@@ -157,12 +130,7 @@ module _ (s : Shape) (P : List Row → Type 0) (all : Each (Keeps P s.args_overr
   in-other : (o : Option Text) (waiting : Waiting) (position : ℕ) (word : Text) (h : Held)
       → other_fault s o word h ≡ [] → P h.rows → P (subcommand_or_other s.rules o waiting position word h).0.rows
   in-other (Some name) waiting position word h none p = p
-  in-other None waiting position word h none p = go (bytes_eq word (45 ∷ 45 ∷ [])) none
-    where
-      go : (b : Bool) → cond b [] (flag_word_fault s.rules s.args_override_self (long_of word) word h) ≡ []
-          → P (cond b (h, trailing position) (long_or_other s.rules waiting word (long_of word) h)).0.rows
-      go true e = p
-      go false e = in-flag-word waiting word (long_of word) h e p
+  in-other None waiting position word h none p = grind (arith, in-flag-word)
 
   in-word : (names : Names) (is_trailing : Bool) (waiting : Waiting) (position : ℕ) (word : Text) (h : Held)
       → word_fault s names is_trailing waiting word h ≡ []
@@ -174,11 +142,7 @@ module _ (s : Shape) (P : List Row → Type 0) (all : Each (Keeps P s.args_overr
       → option_map_or (λ a. positional_fault s.rules s.args_override_self a h) o (stray_fault s) ≡ []
       → P h.rows → P (to_positional s.rules o word w h).held.rows
   in-positional None word w h none p = p
-  in-positional (Some a) word w h none p = go (is_pending a h.pending && takes_several a) none
-    where
-      go : (b : Bool) → cond b [] (settle_fault s.rules s.args_override_self h) ≡ [] → P (cond b h (settled s.rules h)).rows
-      go true e = p
-      go false e = in-settled h e p
+  in-positional (Some a) word w h none p = grind (arith, in-settled)
 
   in-step : (word : Text) (w : Walk) (h : Held) (step : Step) → step_fault s w.position h step ≡ [] → P h.rows
       → P (after_step s.rules word w h step).held.rows
@@ -190,19 +154,7 @@ module _ (s : Shape) (P : List Row → Type 0) (all : Each (Keeps P s.args_overr
   in-turn : (names : Names) (w : Walk) (word : Text) → turn_fault s names w word ≡ []
       → P w.held.rows → P (walked s.rules names w word).held.rows
   unfolding walked
-  in-turn names w word none p = go w.stopped none
-    where
-      met : Held × Step
-      met = word_met s.rules names w.is_trailing w.waiting w.position word w.held
-
-      go : (o : Option (Text × List Text))
-          → cond (is_some o) []
-          (or_else (word_fault s names w.is_trailing w.waiting word w.held) (step_fault s w.position met.0 met.1)) ≡ []
-          → P (walked_from s.rules names o w word).held.rows
-      go (Some q) e = p
-      go None e =
-          let parts = split _ _ e in
-          in-step word w met.0 met.1 parts.1 (in-word names w.is_trailing w.waiting w.position word w.held parts.0 p)
+  in-turn names w word none p = grind (arith, is_some, split, in-step, in-word)
 
   in-walk : (names : Names) (words : List Text) (w : Walk) → walk_fault s names w words ≡ [] → P w.held.rows
       → P (fold (walked s.rules names) w words).held.rows
@@ -213,12 +165,7 @@ module _ (s : Shape) (P : List Row → Type 0) (all : Each (Keeps P s.args_overr
       in-walk names rest (walked s.rules names w word) parts.1 (in-turn names w word parts.0 p)
 
 no-default : (a : Rule) (rows : List Row) → a.defaults ≡ [] → rows ≡ with_default rows a
-no-default a rows none = go (has_row a.id rows) a.defaults none
-  where
-    go : (b : Bool) (values : List Text) → values ≡ [] → rows ≡ cond b rows (default_rows a.id (reading_by a) values rows)
-    go true values e = refl
-    go false [] e = refl
-    go false (v ∷ vs) e = absurd cc
+no-default a rows none = grind arith
 
 -- the default of the argument, where it wasn't used, keeps it
 abbrev pub KeepsDefault : (List Row → Type 0) → Rule → Type 0

@@ -1,4 +1,5 @@
 -- What the subcommands of `mdnswhy` ask for.
+use Rattle.std.proofs.Common.{arith}
 use Rattle.std.proofs.Common.{◌≡◌, ◌⊎◌, subst, inl, inr, List, [], ◌∷◌, Option, Some, None, Ok, Err, codes, string_bytes}
 use Rattle.std.specs.Prelude.{IsSomeAnd}
 use Rattle.clap.specs.Words.{App, Row, Text, fault_of, subcommand_of}
@@ -48,10 +49,7 @@ asks-inquiry rows name asks.Files form is has = (is, has)
 
 pub inquiry-asked : (what : (Asks × Options) × List Subject) (form : Form) → what.0.1.form ≡ Ok form → (name : Text) (rows : List Row)
     → AsksWhy name rows what → AsksAbout AsksInquiry name rows (inquiry_of what.0.0 form, what.1)
-inquiry-asked what form is name rows told =
-    let own = named why_name why_flags all_asks name rows what.0 told.0 in
-    let has = subst (HasOneForm (why_flags what.0.0) rows) is own.1.3 in
-    (asks-inquiry rows name what.0.0 form own.0 has, told.1)
+inquiry-asked what form is name rows told = grind (arith, named, asks-inquiry)
 
 -- two flags that ask for forms are refused
 why-forms : (own : Asks) (rows : List Row) (both : Both) → GivesForms (why_flags own) rows both → GivesForms form_flags rows both

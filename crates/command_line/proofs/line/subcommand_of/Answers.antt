@@ -1,9 +1,10 @@
+use Rattle.std.proofs.Common.{arith}
 use Rattle.std.proofs.Common.{rules, ◌∙◌, ap, ap₂, sym, take, List}
 use Rattle.std.proofs.lemmas.List.{map-append, map_more, take_all}
 use Rattle.std.proofs.lemmas.Result.{IfOk-weaker}
 use Rattle.clap.specs.Simple.{new_shape}
 use Rattle.clap.specs.Words.{Rule, Text, with_rule}
-use Rattle.command_line.specs.Line.{app_of_shape, flag_rule, flags_of, rules_of, shape_of}
+use Rattle.command_line.specs.Line.{app_of_shape, flag_rule, flags_of, rules_of}
 use Rattle.command_line.specs.declared.line.Flag.{Flag}
 use Rattle.command_line.specs.declared.line.Takes.{Takes}
 use Rattle.command_line.proofs.line.subcommand_of.Goals as goal
@@ -18,9 +19,4 @@ loop-flag-preserved g c =
     ∙ ap (λ (rules : List Rule). app_of_shape (record (new_shape c.args.subcommand.now.name.now) { rules = rules })) (sym rules_are)
 
 pub returns : goal.returns
-returns g c =
-    let flags = c.args.subcommand.now.flags.now in
-    let all = take_all c.loop-flag.flag-index flags (search rules) in
-    IfOk-weaker c.arg-2.result _ _
-    (λ r h. h.shape c.files.ensures.local ∙ ap₂ with_rule c.loop-flag.invariant c.files.ensures.rule
-    ∙ ap (λ (xs : List Flag). app_of_shape (shape_of c.args.subcommand.now.name.now (flags_of xs))) all) c.arg-2.ensures
+returns g c = grind (arith, take_all, IfOk-weaker)

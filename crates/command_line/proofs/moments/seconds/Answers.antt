@@ -15,13 +15,7 @@ returns-in_err-nanos-in-Some-clause-none c = λ _ moment is.
     none-some _ (sym none ∙ fraction-complete c.in-Some.digits.now is.nanos has.0)
 
 pub returns-in_ok-nanos-in-Some-clause-some : goal.returns-in_ok-nanos-in-Some-clause-some
-returns-in_ok-nanos-in-Some-clause-some c =
-    let parts = c.in-Some.ensures.byte (omega arith) (λ w o h. h) in
-    let at : SplitsAt c.args.text.now c.in-Some.whole.now c.in-Some.digits.now =
-    record { whole_is = parts.0; digits_are = parts.1; within = parts.2 } in
-    let some : fraction_of c.in-Some.digits.now ≡ Some c.in_ok-nanos-in-Some.nanos = search rules in
-    dotted-told _ _ _ c.in_ok-nanos-in-Some.nanos at (fraction-sound c.in-Some.digits.now c.in_ok-nanos-in-Some.nanos some)
-    c.at_second.result c.at_second.ensures.some
+returns-in_ok-nanos-in-Some-clause-some c = search (rules, dotted-told, fraction-sound)
 
 pub returns-in_ok-nanos-in-Some-clause-none : goal.returns-in_ok-nanos-in-Some-clause-none
 returns-in_ok-nanos-in-Some-clause-none c = λ none moment is.

@@ -1,14 +1,11 @@
-use Rattle.std.proofs.Common.{rules, ◌≡◌, ◌∷◌, []}
-use Rattle.command_line.specs.Program.{trimmed}
+use Rattle.std.proofs.Common.{arith}
+use Rattle.std.proofs.Common.{◌∷◌, []}
 use Rattle.mdns_survey.proofs.SaidLemmas.{prefix-after, prefix-of-more}
 use Rattle.command_line.proofs.program.print_line.Goals as goal
 
 pub returns-in-Err-write_whole-clause-prefix : goal.returns-in-Err-write_whole-clause-prefix
 returns-in-Err-write_whole-clause-prefix g c =
-    let line : c.trimmed.result.now ≡ trimmed c.args.text.now = search rules in
-    rw (← line) (prefix-after _ _ _ c.trimmed.result.now (10 ∷ []) c.in-Ok.ensures.whole c.in-Err-write_whole.ensures.prefix)
+    grind (arith, prefix-after _ _ _ c.trimmed.result.now (10 ∷ []) c.in-Ok.ensures.whole c.in-Err-write_whole.ensures.prefix)
 
 pub returns-in-Err-clause-prefix : goal.returns-in-Err-clause-prefix
-returns-in-Err-clause-prefix g c =
-    let line : c.trimmed.result.now ≡ trimmed c.args.text.now = search rules in
-    rw (← line) (prefix-of-more _ _ c.trimmed.result.now (10 ∷ []) c.in-Err.ensures.prefix)
+returns-in-Err-clause-prefix g c = grind (arith, prefix-of-more _ _ c.trimmed.result.now (10 ∷ []) c.in-Err.ensures.prefix)
