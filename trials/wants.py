@@ -22,7 +22,7 @@ ALLOCATES = {"vec!", "with_capacity", "push", "from_str"}
 OTHERS = {
     ("fault.rt", "ErrorKind::OutOfMemory => AskFault::Words(WordsFault::Memory),"): "`clap` says that memory is wanted",
     ("history.rt", "if key.is_of(&hearing.heard) {"): "it is asked only where `push` failed",
-    ("lives.rt", "let Some(count) = self.count.checked_add(lives.len()) else {"): "as many lives as a `usize` counts lie in memory",
+    ("life_text.rt", "let Some(count) = self.count.checked_add(lives.len()) else {"): "as many lives as a `usize` counts lie in memory",
     ("listening.rt", "let Some(newest) = moments.newest() else {"): "a message that is remembered came at some moment",
     ("listening.rt", "let Ok(()) = reader.read(newest, message.bytes()) else {"): "the message was read before",
     ("program.rt", "if readers.push(reader).is_err() {"): "only `push` may fail",

@@ -15,7 +15,7 @@ use Rattle.mdns_capture.specs.Limits.{second}
 use Rattle.command_line.specs.Moments.{IsClock, IsDateTime, IsLocal, IsOffset, IsOptionalFraction, IsOptionalSecond, IsSeparator, IsTime}
 use Rattle.command_line.specs.Moments.{day_length}
 use Rattle.people_text.specs.Calendar.{days_of_years}
-use Rattle.people_text.specs.Moments.{two_digits}
+use Rattle.people_text.specs.MomentText.{two_digits}
 use Rattle.command_line.proofs.GrammarLemmas.{Stops, clock-complete, clock-sound, cond-some, date-complete, date-sound}
 use Rattle.command_line.proofs.GrammarLemmas.{dotted-complete, dotted-sound, map-some, same-parts, then-some, two-complete, two-sound}
 

@@ -11,7 +11,7 @@ use Rattle.std.specs.Str.{all_ascii_digits}
 use Rattle.command_line.specs.MomentReading as reading
 use Rattle.command_line.specs.Moments.{IsClock, IsDate, IsFraction, IsOptionalFraction}
 use Rattle.people_text.specs.Calendar as calendar
-use Rattle.people_text.specs.Moments.{date_written, four_digits, two_digits}
+use Rattle.people_text.specs.MomentText.{date_written, four_digits, two_digits}
 use Rattle.people_text.proofs.CalendarLemmas.{month_length-few}
 use Rattle.command_line.proofs.FractionLemmas.{own}
 

@@ -16,10 +16,10 @@ use Rattle.mdns_survey.specs.declared.request.AsOf.{AsOf}
 use Rattle.mdns_survey.specs.declared.request.AsOf.TheVariants.{Newest, At, Before}
 use Rattle.mdns_survey.specs.declared.request.Request.{Request}
 use Rattle.mdns_survey.specs.declared.request.Request.TheVariants.{Report, Lives, Check}
-use Rattle.mdns_trace.specs.declared.kind.Inquiry.{Inquiry}
-use Rattle.mdns_trace.specs.declared.kind.Inquiry.TheVariants as inquiry
-use Rattle.mdns_trace.specs.declared.kind.Trace.{Trace}
-use Rattle.mdns_trace.specs.declared.kind.Trace.TheVariants.{Hearings, Packets, Spans}
+use Rattle.mdns_trace.specs.declared.inquiry.Inquiry.{Inquiry}
+use Rattle.mdns_trace.specs.declared.inquiry.Inquiry.TheVariants as inquiry
+use Rattle.mdns_trace.specs.declared.inquiry.Trace.{Trace}
+use Rattle.mdns_trace.specs.declared.inquiry.Trace.TheVariants.{Hearings, Packets, Spans}
 use Rattle.command_line.specs.declared.line.Takes.{Takes}
 use Rattle.command_line.specs.declared.line.Takes.TheVariants as takes
 use Rattle.command_line.specs.declared.words.WordsFault.TheVariants.{Refused}

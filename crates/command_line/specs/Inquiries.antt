@@ -1,8 +1,8 @@
 -- What the subcommands of `mdnswhy` ask for.
 use Rattle.mdns_browse.specs.declared.report.Form.{Form}
-use Rattle.mdns_trace.specs.declared.kind.Inquiry.{Inquiry}
-use Rattle.mdns_trace.specs.declared.kind.Inquiry.TheVariants as inquiry
-use Rattle.mdns_trace.specs.declared.kind.Trace.TheVariants.{Hearings, Packets, Spans}
+use Rattle.mdns_trace.specs.declared.inquiry.Inquiry.{Inquiry}
+use Rattle.mdns_trace.specs.declared.inquiry.Inquiry.TheVariants as inquiry
+use Rattle.mdns_trace.specs.declared.inquiry.Trace.TheVariants.{Hearings, Packets, Spans}
 use Rattle.command_line.specs.declared.mdnswhy.Asks.{Asks}
 use Rattle.command_line.specs.declared.mdnswhy.Asks.TheVariants as asks
 

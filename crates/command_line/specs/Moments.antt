@@ -6,7 +6,7 @@ use Rattle.mdns_capture.specs.Limits.{second}
 use Rattle.mdns_capture.specs.declared.moment.Moment.{Moment}
 use Rattle.people_text.specs.Calendar.{days_of_years}
 use Rattle.people_text.specs.Calendar as calendar
-use Rattle.people_text.specs.Moments.{date_written, two_digits}
+use Rattle.people_text.specs.MomentText.{date_written, two_digits}
 use Rattle.command_line.specs.declared.moments.Offset.{Offset}
 use Rattle.command_line.specs.declared.moments.Offset.TheVariants.{Ahead, Behind}
 

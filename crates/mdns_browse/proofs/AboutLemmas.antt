@@ -16,9 +16,9 @@ use Rattle.mdns_message.specs.declared.resource.Resource.{Resource}
 use Rattle.people_text.specs.Shown.{name_shown, shown}
 use Rattle.mdns_browse.specs.About.{is_first_label, is_in_content, is_in_data, is_name, is_one_of, is_record_about, is_rest, is_said}
 use Rattle.mdns_browse.specs.About.{is_text_about, is_text_in_local, is_type_about, keeps}
-use Rattle.mdns_browse.specs.Said.{front, labels_said}
-use Rattle.mdns_browse.specs.Shown.{shown_string, shown_strings}
-use Rattle.mdns_browse.specs.Text.{string_words, text_words}
+use Rattle.mdns_browse.specs.NameSaid.{front, labels_said}
+use Rattle.mdns_browse.specs.RecordShown.{shown_string, shown_strings}
+use Rattle.mdns_browse.specs.RecordText.{string_words, text_words}
 use Rattle.mdns_browse.specs.declared.about.Subject.{Subject}
 use Rattle.mdns_browse.specs.Services.{same_text}
 use Rattle.mdns_browse.proofs.NameLemmas.{folded-append, length-folded, same_text-decides}

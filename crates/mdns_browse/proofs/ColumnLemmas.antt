@@ -8,10 +8,10 @@ use Rattle.mdns_message.specs.declared.record_type.RecordType.{RecordType}
 use Rattle.mdns_message.specs.declared.record_type.RecordType.TheVariants as kind
 use Rattle.mdns_message.specs.Resource.{type_name, type_of}
 use Rattle.mdns_join.specs.declared.latest.Latest.{Latest}
-use Rattle.people_text.specs.Moments.{clock_text, date_text, date_written, day_text, hours_text, seconds_text, to_second}
-use Rattle.mdns_browse.specs.Pretty.{heading, heard_text, kind_text, left_text, padded, record_heads, record_row, record_table}
-use Rattle.mdns_browse.specs.Pretty.{spaces, unless_none, widest}
-use Rattle.mdns_browse.specs.Shown.{shown_record}
+use Rattle.people_text.specs.MomentText.{clock_text, date_text, date_written, day_text, hours_text, seconds_text, to_second}
+use Rattle.mdns_browse.specs.Columns.{heading, heard_text, kind_text, left_text, padded, record_heads, record_row, record_table}
+use Rattle.mdns_browse.specs.Columns.{spaces, unless_none, widest}
+use Rattle.mdns_browse.specs.RecordShown.{shown_record}
 use Rattle.mdns_browse.proofs.ListLemmas.{map_more}
 
 -- one space more

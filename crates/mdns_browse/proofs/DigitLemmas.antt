@@ -5,7 +5,7 @@ use Rattle.std.proofs.Common.{eq-zero-or-pos, eqb→eq, append_assoc, length-app
 use Rattle.std.proofs.Math.Nat.{sub-zero}
 use Rattle.std.specs.Fmt.{decimal, digit_glyph}
 use Rattle.std.specs.Str.{IsAscii}
-use Rattle.mdns_browse.specs.Text.{hex_octet}
+use Rattle.mdns_browse.specs.RecordText.{hex_octet}
 use Rattle.std.specs.List.{slice_range}
 use Rattle.std.proofs.lemmas.Fmt.{decimal_digit, decimal_step}
 use Rattle.std.proofs.lemmas.List.{drop-set, set_comm, take-replicate}

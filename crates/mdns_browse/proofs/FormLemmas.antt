@@ -3,13 +3,13 @@ use Rattle.std.proofs.Common.{◌≡◌, ◌∙◌, ap, List, [], ◌++◌, stri
 use Rattle.std.specs.declared.string.String.{String}
 use Rattle.mdns_join.specs.declared.latest.Latest.{Latest}
 use Rattle.mdns_browse.specs.declared.about.Subject.{Subject}
-use Rattle.mdns_browse.specs.declared.objects.Objects.{Objects}
+use Rattle.mdns_browse.specs.declared.report_json.Objects.{Objects}
 use Rattle.mdns_browse.specs.declared.report.Ask.{Ask}
 use Rattle.mdns_browse.specs.declared.report.Ask.TheVariants.{Records, Types, Instances}
 use Rattle.mdns_browse.specs.Report.{instances_about, json_about, lines_about, records_about, types_about}
 use Rattle.mdns_browse.specs.Sheet.{live_record, report_pieces, service_type, writes}
-use Rattle.mdns_browse.specs.Lines.{piece_lines}
-use Rattle.mdns_browse.specs.Objects.{Grows, pieces_json, pieces_next}
+use Rattle.mdns_browse.specs.LinePieces.{piece_lines}
+use Rattle.mdns_browse.specs.JsonPieces.{Grows, pieces_json, pieces_next}
 use Rattle.mdns_browse.proofs.LineLemmas.{flat_map-map, instances_text}
 use Rattle.mdns_browse.proofs.ObjectLemmas.{records_json, types_json, instances_json}
 

@@ -7,10 +7,10 @@ use Rattle.std.specs.Fmt.{decimal}
 use Rattle.std.specs.List.{flat_map}
 use Rattle.dns_name.specs.Name.{name_text}
 use Rattle.mdns_browse.specs.declared.instance.Server.{Server}
-use Rattle.mdns_browse.specs.Text.{address_line, server_lines, servers_lines, instance_lines}
+use Rattle.mdns_browse.specs.RecordText.{address_line, server_lines, servers_lines, instance_lines}
 use Rattle.mdns_browse.specs.Sheet.{server_address, server_end, servers_end}
 use Rattle.mdns_browse.specs.Sheet.{server_pieces, servers_pieces, instance_pieces}
-use Rattle.mdns_browse.specs.Lines.{piece_lines}
+use Rattle.mdns_browse.specs.LinePieces.{piece_lines}
 use Rattle.mdns_browse.specs.Services.{InstanceRow}
 
 pub flat_map-map : {X P : Type 0} (text_of : P → List ℕ) (piece : X → P) (xs : List X)

@@ -12,17 +12,17 @@ use Rattle.mdns_message.specs.declared.resource.Resource.{Resource}
 use Rattle.mdns_join.specs.declared.latest.Latest.{Latest}
 use Rattle.mdns_lives.specs.declared.life.Life.{Life}
 use Rattle.mdns_browse.specs.declared.instance.Server.{Server}
-use Rattle.mdns_browse.specs.declared.objects.Objects.{Objects}
-use Rattle.mdns_browse.specs.Shown.{shown_record}
-use Rattle.mdns_browse.specs.Text.{data_words}
+use Rattle.mdns_browse.specs.declared.report_json.Objects.{Objects}
+use Rattle.mdns_browse.specs.RecordShown.{shown_record}
+use Rattle.mdns_browse.specs.RecordText.{data_words}
 use Rattle.mdns_browse.specs.Json.{escaped, parted, comma_unless, first_after, json_string, json_words, json_member, json_object}
 use Rattle.mdns_browse.specs.Json.{record_json, type_json, server_json, text_json, instance_json}
 use Rattle.mdns_browse.specs.Services.{InstanceRow}
 use Rattle.mdns_browse.specs.Sheet.{Piece, live_record, service_type, server_address}
 use Rattle.mdns_browse.specs.Sheet.{instance_text, server_pieces, instance_pieces}
-use Rattle.mdns_browse.specs.Lives.{end_text, life_json, life_rest, resource_json}
-use Rattle.mdns_browse.specs.Objects.{piece_json, piece_next, pieces_json, pieces_next, strings_json, Grows}
-use Rattle.mdns_browse.specs.laws.Objects.{strings-append, pieces-append, next-append}
+use Rattle.mdns_browse.specs.LifeText.{end_text, life_json, life_rest, resource_json}
+use Rattle.mdns_browse.specs.JsonPieces.{piece_json, piece_next, pieces_json, pieces_next, strings_json, Grows}
+use Rattle.mdns_browse.specs.laws.JsonPieces.{strings-append, pieces-append, next-append}
 
 -- a sheet that has the text of one piece more
 pub grows_piece : (piece : Piece) (old new : Objects) → string_bytes new.text ≡ string_bytes old.text ++ piece_json old.first piece

@@ -8,16 +8,16 @@ use Rattle.std.proofs.lemmas.Grind.{flat_map-append}
 use Rattle.std.specs.List.{flat_map}
 use Rattle.mdns_join.specs.declared.latest.Latest.{Latest}
 use Rattle.mdns_browse.specs.declared.instance.Server.{Server}
-use Rattle.mdns_browse.specs.declared.page.InstancePage.{InstancePage}
-use Rattle.mdns_browse.specs.Page.{Writes, piece_page, row_pieces, rows_pieces, type_pieces}
-use Rattle.mdns_browse.specs.Pretty.{given_left, heading, instance_rows, instances_pretty, left_text, line_of_some}
-use Rattle.mdns_browse.specs.Pretty.{other_row, others_pretty, rows_by_type}
-use Rattle.mdns_browse.specs.Pretty.{server_line, servers_rows, spaces, type_begin, widest, words_line}
+use Rattle.mdns_browse.specs.declared.instance_sheet.InstanceSheet.{InstanceSheet}
+use Rattle.mdns_browse.specs.ColumnPieces.{Writes, piece_columns, row_pieces, rows_pieces, type_pieces}
+use Rattle.mdns_browse.specs.Columns.{given_left, heading, instance_rows, instances_pretty, left_text, line_of_some}
+use Rattle.mdns_browse.specs.Columns.{other_row, others_pretty, rows_by_type}
+use Rattle.mdns_browse.specs.Columns.{server_line, servers_rows, spaces, type_begin, widest, words_line}
 use Rattle.mdns_browse.specs.Services.{GivenRow, InstanceRow}
 use Rattle.mdns_browse.specs.Sheet.{server_pieces, servers_end, servers_pieces}
 use Rattle.mdns_browse.specs.Sheet.{instance_pieces}
-use Rattle.mdns_browse.specs.Shown.{spaced_wide}
-use Rattle.mdns_browse.specs.laws.Page.{writes_page-laws}
+use Rattle.mdns_browse.specs.RecordShown.{spaced_wide}
+use Rattle.mdns_browse.specs.laws.ColumnPieces.{writes_page-laws}
 use Rattle.mdns_browse.proofs.LineLemmas.{flat_map-map, flat_map-pieces}
 use Rattle.mdns_browse.proofs.InstanceLemmas.{given_in}
 
@@ -27,7 +27,7 @@ abbrev pub last_owner : List ℕ → List InstanceRow → List ℕ
 last_owner before [] = before
 last_owner before (row ∷ rows) = last_owner row.given.last.resource.owner rows
 
-pub record Shows (rows : List InstanceRow) (before : List ℕ) (old new : InstancePage) : Type 0 where
+pub record Shows (rows : List InstanceRow) (before : List ℕ) (old new : InstanceSheet) : Type 0 where
   pub last : before ≡ last_owner [] rows
   pub taken : Writes old (rows_pieces [] rows) new
 
@@ -41,10 +41,10 @@ last_owner-more : (before : List ℕ) (rows : List InstanceRow) (row : InstanceR
 last_owner-more before [] row = refl
 last_owner-more before (first ∷ rows) row = last_owner-more first.given.last.resource.owner rows row
 
-pub shows-start : (page : InstancePage) → Shows [] [] page page
+pub shows-start : (page : InstanceSheet) → Shows [] [] page page
 shows-start page = record { last = refl; taken = writes_page-laws.nothing page }
 
-pub shows-more : {rows more : List InstanceRow} {before after : List ℕ} {old mid new : InstancePage} (row : InstanceRow) → Shows rows before old mid
+pub shows-more : {rows more : List InstanceRow} {before after : List ℕ} {old mid new : InstanceSheet} (row : InstanceRow) → Shows rows before old mid
     → more ≡ rows ++ row ∷ [] → after ≡ row.given.last.resource.owner → Writes mid (row_pieces before row) new → Shows more after old new
 shows-more {rows} {more} {before} {after} {old} {mid} {new} row so_far whole owner taken =
     subst (λ rows. Shows rows after old new) (sym whole) record {
@@ -68,37 +68,37 @@ unfolding words_line
 text_line-some width old words new ws is some written = grind (arith, line-some, append-nil)
 
 module _ (width now : ℕ) where
-  server_text : (server : Server) → flat_map (piece_page width now) (server_pieces server) ≡ server_line width server
+  server_text : (server : Server) → flat_map (piece_columns width now) (server_pieces server) ≡ server_line width server
   unfolding words_line
   server_text server = grind (arith, flat_map-append, flat_map-map, append_assoc, flat_map-pieces)
 
-  servers_text : (servers : List Server) → flat_map (piece_page width now) (servers_pieces servers) ≡ servers_rows width servers
+  servers_text : (servers : List Server) → flat_map (piece_columns width now) (servers_pieces servers) ≡ servers_rows width servers
   servers_text [] = append-nil (words_line width (codes "unresolved" ∷ []))
   servers_text (server ∷ servers) =
       let some : (length (server ∷ servers) == 0) ≡ false = grind (arith, nat_tests) in
-      flat_map-append (piece_page width now) (flat_map server_pieces (server ∷ servers)) (servers_end (length (server ∷ servers) == 0) ∷ [])
-      ∙ ap (λ none. flat_map (piece_page width now) (flat_map server_pieces (server ∷ servers))
-      ++ flat_map (piece_page width now) (servers_end none ∷ [])) some
+      flat_map-append (piece_columns width now) (flat_map server_pieces (server ∷ servers)) (servers_end (length (server ∷ servers) == 0) ∷ [])
+      ∙ ap (λ none. flat_map (piece_columns width now) (flat_map server_pieces (server ∷ servers))
+      ++ flat_map (piece_columns width now) (servers_end none ∷ [])) some
       ∙ append-nil _
-      ∙ flat_map-pieces (piece_page width now) server_pieces (server_line width) server_text (server ∷ servers)
+      ∙ flat_map-pieces (piece_columns width now) server_pieces (server_line width) server_text (server ∷ servers)
 
-  row_text : (row : InstanceRow) → flat_map (piece_page width now) (instance_pieces row) ≡ instance_rows width now row
+  row_text : (row : InstanceRow) → flat_map (piece_columns width now) (instance_pieces row) ≡ instance_rows width now row
   unfolding instance_rows
   row_text row = grind (arith, flat_map-append, servers_text, append-nil, flat_map-map)
 
-  type_text : (before owner : List ℕ) → flat_map (piece_page width now) (type_pieces before owner) ≡ type_begin before owner
+  type_text : (before owner : List ℕ) → flat_map (piece_columns width now) (type_pieces before owner) ≡ type_begin before owner
   type_text before owner = grind (arith, append-nil)
 
-  pub rows_text : (before : List ℕ) (rows : List InstanceRow) → flat_map (piece_page width now) (rows_pieces before rows)
+  pub rows_text : (before : List ℕ) (rows : List InstanceRow) → flat_map (piece_columns width now) (rows_pieces before rows)
       ≡ rows_by_type width now before rows
   rows_text before [] = refl
   rows_text before (row ∷ rows) =
       let owner = row.given.last.resource.owner in
       let own = instance_pieces row in
-      flat_map-append (piece_page width now) (row_pieces before row) (rows_pieces owner rows)
-      ∙ ap (λ text. text ++ flat_map (piece_page width now) (rows_pieces owner rows))
-      (flat_map-append (piece_page width now) (type_pieces before owner) own
-      ∙ ap (λ text. text ++ flat_map (piece_page width now) own) (type_text before owner)
+      flat_map-append (piece_columns width now) (row_pieces before row) (rows_pieces owner rows)
+      ∙ ap (λ text. text ++ flat_map (piece_columns width now) (rows_pieces owner rows))
+      (flat_map-append (piece_columns width now) (type_pieces before owner) own
+      ∙ ap (λ text. text ++ flat_map (piece_columns width now) own) (type_text before owner)
       ∙ ap (λ text. type_begin before owner ++ text) (row_text row))
       ∙ ap (λ text. type_begin before owner ++ instance_rows width now row ++ text) (rows_text owner rows)
 
@@ -107,7 +107,7 @@ pub page_by_parts : (now width count : ℕ) (given : List GivenRow) (rows : List
     (others : List (Latest × ℕ)) (old a b new : List ℕ) → given ≡ given_in rows → old ≡ [] → count ≡ length given
     → width ≡ max (widest (map (given_left now) given)) (widest (map (left_text now) others))
     → a ≡ old ++ heading count (codes "instance") (codes "instances") now
-    → b ≡ a ++ flat_map (piece_page width now) (rows_pieces [] rows) → new ≡ b ++ others_pretty width now others
+    → b ≡ a ++ flat_map (piece_columns width now) (rows_pieces [] rows) → new ≡ b ++ others_pretty width now others
     → new ≡ instances_pretty now rows others
 page_by_parts now width count given rows others old a b new shown none counts wide head written after =
     grind (arith, length-map, map-map, rows_text)

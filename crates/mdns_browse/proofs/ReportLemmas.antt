@@ -7,7 +7,7 @@ use Rattle.mdns_join.specs.declared.latest.Latest.{Latest}
 use Rattle.mdns_browse.specs.About.{keeps_instance, keeps_record, keeps_type}
 use Rattle.mdns_browse.specs.Report.{IsReport, IsReportIn, lines_about, lines_in}
 use Rattle.mdns_browse.specs.Services.{lasts_in, types_in}
-use Rattle.mdns_browse.specs.Text.{record_line, type_line}
+use Rattle.mdns_browse.specs.RecordText.{record_line, type_line}
 use Rattle.mdns_browse.specs.declared.report.Ask.{Ask}
 use Rattle.mdns_browse.specs.declared.report.Ask.TheVariants.{Records, Types, Instances}
 use Rattle.mdns_browse.specs.declared.report.Form.TheVariants.{Lines}

@@ -3,7 +3,7 @@ use Rattle.std.proofs.lemmas.Grind.{common_steps}
 use Rattle.std.proofs.Common.{arith}
 use Rattle.std.proofs.Common.{◌≡◌, refl, sym, ◌∙◌, ap, ℕ, Bool, true, false, if◌then◌else◌, List, [], ◌∷◌, ◌++◌, append_assoc}
 use Rattle.people_text.specs.Shown.{shown}
-use Rattle.mdns_browse.specs.Said.{after_front, before_type, from_type, front, further_said, is_of_type, labels_said}
+use Rattle.mdns_browse.specs.NameSaid.{after_front, before_type, from_type, front, further_said, is_of_type, labels_said}
 
 -- one label more was written, and the others are left
 pub label-written : (old new label whole : List ℕ) (labels : List (List ℕ)) → old ++ further_said labels ≡ whole

@@ -4,7 +4,7 @@ use Rattle.std.proofs.Common.{◌≡◌, refl, sym, ◌∙◌, ap, ℕ, List, []
 use Rattle.std.proofs.lemmas.List.{append-nil, append_assoc}
 use Rattle.std.proofs.lemmas.Grind.{flat_map-append}
 use Rattle.mdns_message.specs.TextData.{strings_of}
-use Rattle.mdns_browse.specs.Shown.{shown_string, shown_strings, spaced_wide}
+use Rattle.mdns_browse.specs.RecordShown.{shown_string, shown_strings, spaced_wide}
 
 -- the words of one string, and those of the others
 pub strings-cons : (bytes string after : List ℕ) → strings_of bytes ≡ string ∷ strings_of after

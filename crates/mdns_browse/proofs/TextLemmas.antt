@@ -3,7 +3,7 @@ use Rattle.std.proofs.Common.{arith}
 use Rattle.std.proofs.Common.{◌≡◌, refl, sym, ◌∙◌, ap, ℕ, ◌+◌, List, [], ◌∷◌, ◌++◌, add-one}
 use Rattle.std.proofs.lemmas.List.{append_assoc}
 use Rattle.mdns_message.specs.TextData.{strings_of}
-use Rattle.mdns_browse.specs.Text.{string_words, text_words, groups_text, placed_group}
+use Rattle.mdns_browse.specs.RecordText.{string_words, text_words, groups_text, placed_group}
 
 -- a group written before the groups after it
 pub groups_before-step : (octets text new all : List ℕ) (count k : ℕ) → count ≡ k + 1 → groups_text octets count ++ text ≡ all

@@ -22,10 +22,10 @@ use Rattle.people_text.specs.Shown.{name_shown, shown}
 use Rattle.mdns_browse.specs.declared.about.Subject.{Subject}
 use Rattle.mdns_browse.specs.declared.instance.Instance.{Instance}
 use Rattle.mdns_browse.specs.declared.instance.Server.{Server}
-use Rattle.mdns_browse.specs.Said.{front, labels_said}
+use Rattle.mdns_browse.specs.NameSaid.{front, labels_said}
 use Rattle.mdns_browse.specs.Services.{data_of_set, same_text}
-use Rattle.mdns_browse.specs.Shown.{shown_strings}
-use Rattle.mdns_browse.specs.Text.{text_words}
+use Rattle.mdns_browse.specs.RecordShown.{shown_strings}
+use Rattle.mdns_browse.specs.RecordText.{text_words}
 
 -- the word is one of the texts
 abbrev pub is_one_of : List ℕ → List (List ℕ) → Bool

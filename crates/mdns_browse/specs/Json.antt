@@ -9,8 +9,8 @@ use Rattle.mdns_join.specs.declared.latest.Latest.{Latest}
 use Rattle.mdns_browse.specs.declared.instance.Server.{Server}
 use Rattle.people_text.specs.Shown.{name_shown}
 use Rattle.mdns_browse.specs.Services.{InstanceRow}
-use Rattle.mdns_browse.specs.Shown.{shown_instance, shown_record}
-use Rattle.mdns_browse.specs.Text.{data_words, text_words}
+use Rattle.mdns_browse.specs.RecordShown.{shown_instance, shown_record}
+use Rattle.mdns_browse.specs.RecordText.{data_words, text_words}
 use Rattle.mdns_capture.specs.Text.{moment_text}
 
 -- a byte of a text within a string: `"` and `\` stand after a `\`. No text here has a control character, so nothing else

@@ -6,9 +6,9 @@ use Rattle.mdns_message.specs.declared.hearing.Hearing.{Hearing}
 use Rattle.mdns_join.specs.declared.latest.Latest.{Latest}
 use Rattle.mdns_browse.specs.About.{keeps_instance, keeps_record, keeps_type}
 use Rattle.mdns_browse.specs.declared.about.Subject.{Subject}
-use Rattle.mdns_browse.specs.Text.{record_line, type_line, instance_lines}
+use Rattle.mdns_browse.specs.RecordText.{record_line, type_line, instance_lines}
 use Rattle.mdns_browse.specs.Json.{record_json, type_json, instance_json}
-use Rattle.mdns_browse.specs.Pretty.{instances_pretty, records_pretty, types_pretty}
+use Rattle.mdns_browse.specs.Columns.{instances_pretty, records_pretty, types_pretty}
 use Rattle.mdns_browse.specs.Services.{InstanceRow, IsOfLive, given_of, instance_rows_in, instances_in, lasts_in, others_in, types_in}
 use Rattle.mdns_browse.specs.declared.report.Ask.{Ask}
 use Rattle.mdns_browse.specs.declared.report.Ask.TheVariants.{Records, Types, Instances}

@@ -8,14 +8,14 @@ ghost use Rattle.mdns_message.specs.Parts.{content_lent, service_lent};
 ghost use Rattle.people_text.specs.Shown.{name_shown};
 ghost use Rattle.mdns_browse.specs.About.{is_address, is_host_address, is_in_content, is_in_data, is_one_of};
 ghost use Rattle.mdns_browse.specs.About.{is_text_about};
-ghost use Rattle.mdns_browse.specs.Shown.{shown_string};
-ghost use Rattle.mdns_browse.specs.Text.{string_words};
+ghost use Rattle.mdns_browse.specs.RecordShown.{shown_string};
+ghost use Rattle.mdns_browse.specs.RecordText.{string_words};
 
 use crate::about::Subject;
 use crate::about_names::{is_bytes, is_name, is_number, is_text};
 use mdns_message::text_data::{first_string, is_word};
 use mdns_message::{Address, BorrowedBody, BorrowedName, Content, Service, Want};
-use people_text::name_text::push_shown_name;
+use people_text::shown_names::push_shown_name;
 
 /// Checks that one of the subjects is a word of the data.
 pub(crate) fn is_in_data(

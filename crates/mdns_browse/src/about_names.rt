@@ -9,13 +9,13 @@ ghost use Rattle.mdns_browse.specs.About.{is_rest, is_said, is_text_about, is_te
 ghost use Rattle.mdns_browse.specs.Services.{same_text};
 
 use crate::about::Subject;
-use crate::said::{push_front, push_further};
+use crate::name_said::{push_front, push_further};
 use dns_name::fold::folded_eq;
 use dns_name::name::split_label;
 use dns_name::name_text::push_escaped;
 use mdns_message::{BorrowedName, Want};
-use people_text::name_text::push_shown_name;
 use people_text::shown::push_shown;
+use people_text::shown_names::push_shown_name;
 
 // What a name's text ends with where the name ends in `local`.
 const LOCAL: &[u8] = b".local";

@@ -3,7 +3,7 @@
 ghost use Rattle.std.specs.Prelude.{◌≡◌, IfOk, map};
 ghost use Rattle.std.specs.List.{list_any};
 ghost use Rattle.mdns_message.specs.Resource.{type_number};
-ghost use Rattle.mdns_cache.specs.Rows.{last_lent};
+ghost use Rattle.mdns_cache.specs.LentRecords.{last_lent};
 ghost use Rattle.mdns_browse.specs.About.{is_heard_about, is_heard_server_about, is_in_data};
 ghost use Rattle.mdns_browse.specs.Services.{AreAscending, body_of, data_of_set};
 

@@ -2,20 +2,20 @@
 
 ghost use Rattle.std.specs.Prelude.{◌≡◌, ◌==◌, ◌++◌, ◌∷◌, [], if◌then◌else◌, length, map, max, IfOk, OnOk};
 ghost use Rattle.std.specs.String.{string_bytes};
-ghost use Rattle.mdns_cache.specs.Rows.{live_record_lent};
-ghost use Rattle.mdns_browse.specs.Pretty.{heading, left_text, padded, spaces, widest};
+ghost use Rattle.mdns_cache.specs.LentRecords.{live_record_lent};
+ghost use Rattle.mdns_browse.specs.Columns.{heading, left_text, padded, spaces, widest};
 
 use mdns_cache::LiveRecord;
 use mdns_cache::lifetime::life;
 use mdns_capture::Moment;
 use mdns_message::Want;
 use people_text::durations::push_duration;
-use people_text::moments::push_millis;
+use people_text::moment_text::push_millis;
 use std::alloc::Global;
 
 /// Appends how much longer a live record lives: `goodbye` where it has said so (RFC 6762, section 10.1), and `flushed`
 /// where a flush ends it before its life has run out (section 10.2).
-#[tactic(auto, unfolding(crate::specs::Pretty::left_text))]
+#[tactic(auto, unfolding(crate::specs::Columns::left_text))]
 pub(crate) fn push_left(to: &mut String, now: Moment, row: &LiveRecord<'_>) -> Result<(), Want>
     ensures { OnOk result (string_bytes to.new ≡ string_bytes to.old ++ left_text now.nanos (live_record_lent row.now)) }
 {
@@ -46,7 +46,7 @@ pub(crate) fn push_spaces(to: &mut String, count: usize) -> Result<(), Want>
 }
 
 /// Appends a text, and spaces up to a width.
-#[tactic(auto, unfolding(crate::specs::Pretty::padded))]
+#[tactic(auto, unfolding(crate::specs::Columns::padded))]
 pub fn push_padded(to: &mut String, width: usize, text: &str) -> Result<(), Want>
     ensures { OnOk result (string_bytes to.new ≡ string_bytes to.old ++ padded width text.now) }
 {
@@ -100,7 +100,7 @@ pub(crate) fn left_len(text: &mut String, now: Moment, row: &LiveRecord<'_>) -> 
 }
 
 /// Appends the first line of a report: how many there are, in a word for one and a word for more, and the moment.
-#[tactic(auto, unfolding(crate::specs::Pretty::heading))]
+#[tactic(auto, unfolding(crate::specs::Columns::heading))]
 pub(crate) fn push_heading(
     to: &mut String,
     count: usize,

@@ -2,7 +2,7 @@
 
 ghost use Rattle.std.specs.Prelude.{◌≡◌, ◌+◌, ◌/◌, ◌%◌, ◌<◌, ◌≤◌, ◌∷◌, ◌++◌, false, length, take, drop};
 ghost use Rattle.std.specs.Fmt.{decimal, digit_glyph};
-ghost use Rattle.mdns_browse.specs.Text.{hex_octet};
+ghost use Rattle.mdns_browse.specs.RecordText.{hex_octet};
 
 // The two digits of each number below a hundred: a look-up costs less than dividing by ten again.
 static PAIRS: [u8; 200] =

@@ -4,11 +4,11 @@
 ghost use Rattle.std.specs.Prelude.{◌≡◌, ◌++◌, ◌+◌, ◌<◌, ◌≤◌, length, OnOk, OnErr};
 ghost use Rattle.std.specs.String.{string_bytes};
 ghost use Rattle.mdns_message.specs.Borrowed.{resource_lent};
-ghost use Rattle.mdns_browse.specs.Text.{ipv4_text, ipv6_text, placed_group, hex_octet, resource_text};
+ghost use Rattle.mdns_browse.specs.RecordText.{ipv4_text, ipv6_text, placed_group, hex_octet, resource_text};
 ghost use Rattle.mdns_capture.specs.Text.{moment_text};
 
+use crate::data_words::push_words;
 use crate::short_text::ShortText;
-use crate::words::push_words;
 use mdns_message::{BorrowedResource, Want};
 
 /// Appends an IPv4 address: four decimal numbers with dots. After `Want` the contents of `to` are unchanged.

@@ -2,7 +2,7 @@
 
 ghost use Rattle.std.specs.Prelude.{◌≡◌, map};
 ghost use Rattle.mdns_message.specs.Resource.{type_number, set_key_of, set_key_cmp};
-ghost use Rattle.mdns_cache.specs.Rows.{last_lent};
+ghost use Rattle.mdns_cache.specs.LentRecords.{last_lent};
 ghost use Rattle.mdns_browse.specs.Services.{AreAscending, rows_of_set, set_for};
 
 use dns_name::fold::folded_cmp;

@@ -3,16 +3,16 @@
 ghost use Rattle.std.specs.Prelude.{◌≡◌, ◌++◌, map, IfOk, OnOk};
 ghost use Rattle.std.specs.List.{flat_map};
 ghost use Rattle.std.specs.String.{string_bytes};
-ghost use Rattle.mdns_cache.specs.Rows.{live_record_lent};
-ghost use Rattle.mdns_browse.specs.Pretty.{other_row, others_pretty};
+ghost use Rattle.mdns_cache.specs.LentRecords.{live_record_lent};
+ghost use Rattle.mdns_browse.specs.Columns.{other_row, others_pretty};
 ghost use Rattle.mdns_browse.specs.Report.{records_about};
 ghost use Rattle.mdns_browse.specs.Services.{others_in};
 
 use crate::about::Subject;
 use crate::columns::push_padded_left;
-use crate::pretty::push_kept_record;
+use crate::record_columns::push_kept_record;
+use crate::record_shown::push_shown_words;
 use crate::services::other_of;
-use crate::shown::push_shown_words;
 use mdns_cache::{LiveRecord, LiveWalk};
 use mdns_capture::Moment;
 use mdns_message::Want;
@@ -69,7 +69,7 @@ fn push_rows(
     Ok(())
 }
 
-#[tactic(auto, unfolding(crate::specs::Pretty::other_row))]
+#[tactic(auto, unfolding(crate::specs::Columns::other_row))]
 fn push_row(to: &mut String, width: usize, now: Moment, row: &LiveRecord<'_>) -> Result<(), Want>
     ensures { OnOk result (string_bytes to.new
         ≡ string_bytes to.old ++ other_row width now.nanos (live_record_lent row.now)) }

@@ -9,10 +9,10 @@ ghost use Rattle.mdns_browse.specs.Report.{IsReport, IsReportIn, IfEarly};
 ghost use Rattle.mdns_browse.specs.declared.report.Form.TheVariants.{Json, Lines, Pretty};
 
 use crate::about::Subject;
-use crate::instance_page::instances_page;
-use crate::objects::Objects;
-use crate::pretty::{records_page, types_page};
-use crate::walk::walk;
+use crate::instance_columns::instances_columns;
+use crate::record_columns::{records_columns, types_columns};
+use crate::report_json::Objects;
+use crate::report_walk::walk;
 use mdns_cache::Cache;
 use mdns_capture::Moment;
 use mdns_message::Want;
@@ -166,9 +166,9 @@ fn page_of(
         → IsReportIn about.now Pretty ask heard now.nanos (string_bytes text)) }
 {
     match ask {
-        Ask::Records => records_page(alloc, cache, about, now),
-        Ask::Types => types_page(alloc, cache, about, now),
-        Ask::Instances => instances_page(alloc, cache, about, now),
+        Ask::Records => records_columns(alloc, cache, about, now),
+        Ask::Types => types_columns(alloc, cache, about, now),
+        Ask::Instances => instances_columns(alloc, cache, about, now),
     }
 }
 

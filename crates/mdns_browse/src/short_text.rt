@@ -5,7 +5,7 @@ ghost use Rattle.std.specs.Fmt.{decimal};
 ghost use Rattle.std.specs.Str.{IsUtf8};
 ghost use Rattle.std.specs.String.{string_bytes};
 ghost use Rattle.mdns_capture.specs.Text.{nine_digits, moment_text};
-ghost use Rattle.mdns_browse.specs.Text.{hex_octet};
+ghost use Rattle.mdns_browse.specs.RecordText.{hex_octet};
 
 use crate::digits::{write_decimal, write_octet};
 use mdns_capture::moment::SECOND;

@@ -10,7 +10,7 @@ use Rattle.mdns_capture.specs.Limits.{second}
 use Rattle.mdns_join.specs.Kept.{has, newest, kept, IsStruckBy}
 use Rattle.mdns_join.specs.laws.Kept.{has-from_IsKept, heard_from_kept}
 use Rattle.mdns_cache.specs.Live.{IsLast, SameHearings, life_of, Strikes, IsLive, flush_moments, IsEnd}
-use Rattle.mdns_cache.specs.Rows.{end_of}
+use Rattle.mdns_cache.specs.LentRecords.{end_of}
 use Rattle.mdns_cache.proofs.StandsPartLemmas.{IsFlushedAt-from_has, has-from_flush, same-itself, same-back, IsLast-same, IsLast-among}
 
 -- ---- the end by flush moments is the least of what they and the life give

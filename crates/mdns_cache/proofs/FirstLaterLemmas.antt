@@ -9,7 +9,7 @@ use Rattle.mdns_join.specs.Nanos.{nanos_of}
 use Rattle.mdns_capture.specs.Limits.{second}
 use Rattle.mdns_join.specs.Kept.{IsAscending, IsAscendingAbove}
 use Rattle.mdns_join.specs.laws.Kept.{IsAscending-from_above}
-use Rattle.mdns_cache.specs.Rows.{end_of}
+use Rattle.mdns_cache.specs.LentRecords.{end_of}
 use Rattle.mdns_cache.proofs.EndLemmas.{end-by_life}
 
 -- each moment of a list that ascends above `low` is above `low`

@@ -21,7 +21,7 @@ use Rattle.mdns_message.specs.Resource.{key_cmp}
 use Rattle.mdns_message.specs.laws.Resource.{key_cmp-total}
 use Rattle.mdns_join.specs.declared.latest.Latest.{Latest}
 use Rattle.mdns_cache.specs.Live.{IsUnheard, IsLast, IsLive, record_of, AreLiveRows, IsEnd, AreLiveRecords}
-use Rattle.mdns_cache.specs.Rows.{end_held, live_of}
+use Rattle.mdns_cache.specs.LentRecords.{end_held, live_of}
 use Rattle.mdns_cache.specs.Contents.{Contents, last_at, StandsFor}
 use Rattle.mdns_cache.proofs.StandsPartLemmas.{Contains-nil, Contains-head, Contains-later, Contains-cases, same-itself, IsLast-same}
 use Rattle.mdns_cache.proofs.EndLemmas.{some_end, same_end}

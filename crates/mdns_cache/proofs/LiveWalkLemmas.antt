@@ -15,7 +15,7 @@ use Rattle.mdns_join.specs.declared.latest.Latest.{Latest}
 use Rattle.join_map.specs.laws.Entries.{sorted_above, sorted_rest}
 use Rattle.mdns_cache.specs.Live.{life_of}
 use Rattle.mdns_join.proofs.FlushWalkLemmas.{HasLater}
-use Rattle.mdns_cache.specs.Rows.{end_of, end_held, live_of}
+use Rattle.mdns_cache.specs.LentRecords.{end_of, end_held, live_of}
 
 -- ---- records in key order
 

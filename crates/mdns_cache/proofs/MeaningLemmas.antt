@@ -25,7 +25,7 @@ use Rattle.mdns_join.specs.laws.Kept.{struck-kept, struck-kept_iff, has-kept_iff
 use Rattle.mdns_cache.specs.Live.{IsUnheard, IsHeard, IsLast, IsNewest, CountsRecords}
 use Rattle.mdns_cache.specs.Live.{life_of, IsStruck, IsLive, is_flush_of, flush_moments}
 use Rattle.mdns_cache.specs.Live.{IsEnd}
-use Rattle.mdns_cache.specs.Rows.{end_of, end_held}
+use Rattle.mdns_cache.specs.LentRecords.{end_of, end_held}
 use Rattle.mdns_cache.specs.Contents.{Contents, last_at, flushes_at, kept_of, StandsFor, contents_of}
 use Rattle.mdns_cache.specs.Repeats.{record_heard, at_each, contents_at_each}
 use Rattle.mdns_cache.proofs.StandsPartLemmas.{Contains-nil, IsFlushedAt-from_has}

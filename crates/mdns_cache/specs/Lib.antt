@@ -1,7 +1,7 @@
 pub mod Contents
 pub mod Live
 pub mod Plan
-pub mod Rows
+pub mod LentRecords
 pub mod Equal
 pub mod Gathering
 pub mod Repeats

@@ -12,7 +12,7 @@ ghost use Rattle.join_map.specs.Entries.{joined_at};
 ghost use Rattle.mdns_join.specs.Kept.{IsAscending, IsKept, has};
 ghost use Rattle.mdns_join.specs.Nanos.{nanos_of};
 ghost use Rattle.mdns_cache.specs.Live.{IsUnheard, IsLast, IsNewest, CountsRecords, flush_moments};
-ghost use Rattle.mdns_cache.specs.Rows.{last_lent};
+ghost use Rattle.mdns_cache.specs.LentRecords.{last_lent};
 ghost use Rattle.mdns_cache.specs.Contents.{IsContents, MapLaws, StandsFor, no_contents, contents_of};
 ghost use Rattle.mdns_cache.specs.Contents.{join_of, later_moment, last_at, flushes_at};
 

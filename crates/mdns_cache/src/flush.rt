@@ -3,7 +3,7 @@
 ghost use Rattle.std.specs.Prelude.{◌≤◌, length};
 ghost use Rattle.mdns_join.specs.Kept.{IsAscending};
 ghost use Rattle.mdns_join.specs.Nanos.{nanos_of};
-ghost use Rattle.mdns_cache.specs.Rows.{AreEarlyUpTo};
+ghost use Rattle.mdns_cache.specs.LentRecords.{AreEarlyUpTo};
 
 use mdns_capture::Moment;
 use mdns_capture::moment::SECOND;

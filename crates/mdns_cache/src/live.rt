@@ -9,7 +9,7 @@ ghost use Rattle.mdns_message.specs.declared.hearing.Hearing.{Hearing};
 ghost use Rattle.mdns_message.specs.Resource.{key_cmp};
 ghost use Rattle.mdns_join.specs.declared.latest.Latest.{Latest};
 ghost use Rattle.mdns_cache.specs.Live.{NoneLater, IsLive, AreLiveRows, IsEnd, AreLiveRecords};
-ghost use Rattle.mdns_cache.specs.Rows.{last_lent, live_record_lent, live_of};
+ghost use Rattle.mdns_cache.specs.LentRecords.{last_lent, live_record_lent, live_of};
 ghost use Rattle.mdns_cache.specs.Contents.{StandsFor};
 
 use crate::cache::{Cache, Last, all_of, shown};
@@ -111,7 +111,7 @@ impl<'a> Model for LiveWalk<'a> {
     ghost use Rattle.std.specs.Map.{keys_of};
     ghost use Rattle.mdns_message.specs.Resource.{key_cmp};
     ghost use Rattle.mdns_join.specs.declared.latest.Latest.{Latest};
-    ghost use Rattle.mdns_cache.specs.Rows.{live_of};
+    ghost use Rattle.mdns_cache.specs.LentRecords.{live_of};
 
     ghost Value = { List (Latest × ℕ) };
 

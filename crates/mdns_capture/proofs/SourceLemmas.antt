@@ -11,8 +11,8 @@ use Rattle.std.proofs.lemmas.List.{
   take-append-le,
   drop-append-le,
 }
-use Rattle.mdns_capture.specs.declared.source.SourceAddress.{SourceAddress}
-use Rattle.mdns_capture.specs.declared.source.SourceAddress.TheVariants.{V4, V6}
+use Rattle.mdns_capture.specs.declared.source_address.SourceAddress.{SourceAddress}
+use Rattle.mdns_capture.specs.declared.source_address.SourceAddress.TheVariants.{V4, V6}
 use Rattle.mdns_capture.specs.Frame.{
   word_at,
   ipv4_type,

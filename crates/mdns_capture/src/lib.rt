@@ -8,7 +8,7 @@ pub mod laws;
 pub mod moment;
 pub mod read_ahead;
 pub mod savefile;
-pub mod source;
+pub mod source_address;
 pub mod stream;
 pub mod whole;
 
@@ -18,6 +18,6 @@ pub use frame::{Skip, payload_of};
 pub use moment::Moment;
 pub use read_ahead::ReadAhead;
 pub use savefile::{BeginFault, Ending};
-pub use source::{SourceAddress, payload_and_source};
+pub use source_address::{SourceAddress, payload_and_source};
 pub use stream::{Broken, Sink, Source, Through};
 pub use whole::write_whole;

@@ -3,15 +3,15 @@
 
 mod deque;
 pub mod flush_walk;
-pub mod late;
+pub mod kept_moments;
+pub mod late_moments;
 pub mod latest;
 pub mod laws;
 mod moment_list;
-pub mod moments;
 mod prune;
 
 pub use flush_walk::FlushWalk;
 pub use join_map::{Copied, Join, JoinHeld, JoinInto, JoinMap, JoinOwn, Unsorted, Walk};
-pub use late::{LateMoments, Repeated};
+pub use kept_moments::Moments;
+pub use late_moments::{LateMoments, Repeated};
 pub use latest::Latest;
-pub use moments::Moments;

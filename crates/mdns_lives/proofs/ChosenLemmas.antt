@@ -19,15 +19,15 @@ use Rattle.join_map.specs.laws.Entries.{is_Equal}
 use Rattle.mdns_join.specs.declared.latest.Latest.{Latest}
 use Rattle.mdns_join.specs.Kept.{ascending, has, put, IsAscending}
 use Rattle.mdns_join.specs.laws.Kept.{has-append, has-ascending, IsAscending-ascending}
-use Rattle.mdns_cache.specs.Rows.{last_lent}
+use Rattle.mdns_cache.specs.LentRecords.{last_lent}
 use Rattle.mdns_lives.specs.declared.life.Life.{Life}
 use Rattle.mdns_lives.specs.declared.life.Which.{Which}
 use Rattle.mdns_lives.specs.declared.life.Which.TheVariants.{All, Changes}
-use Rattle.mdns_lives.specs.declared.record_lives.RecordLives.{RecordLives}
+use Rattle.mdns_lives.specs.declared.lives.RecordLives.{RecordLives}
 use Rattle.mdns_lives.specs.Changes.{AreOf, AreOfOne, begins_in, begins_of, by_sets, changes_in, chosen, comes_back, goes_on, has_change}
 use Rattle.mdns_lives.specs.Changes.{has_changed, is_between, is_of_set, is_shared, kept_if, left_of, strays}
 use Rattle.mdns_lives.specs.Lives.{AreApart}
-use Rattle.mdns_lives.specs.Rows.{row_lent}
+use Rattle.mdns_lives.specs.LentLives.{row_lent}
 use Rattle.mdns_lives.proofs.ChangesLemmas.{BeganAt, changes-stray}
 use Rattle.mdns_lives.proofs.LiveLifeLemmas.{Row, row_record}
 use Rattle.mdns_cache.proofs.LiveWalkLemmas.{key_after}

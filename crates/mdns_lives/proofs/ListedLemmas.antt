@@ -17,7 +17,7 @@ use Rattle.mdns_lives.specs.declared.life.Heard.{Heard}
 use Rattle.mdns_lives.specs.History.{IsUpTo, AreInOrder}
 use Rattle.mdns_lives.specs.Seconds.{second_of, IsBetween, AreEndsOf, Ends, AreEnds, AreEndsIn, Seconds, IsSeconds, seconds_of}
 use Rattle.mdns_lives.specs.Seconds.{listed_ends}
-use Rattle.mdns_lives.specs.Walk.{walked}
+use Rattle.mdns_lives.specs.LifeWalk.{walked}
 use Rattle.mdns_lives.proofs.EndsLemmas.{AreLivesBy-from_ends}
 use Rattle.mdns_lives.proofs.OneListLemmas.{one_list}
 use Rattle.mdns_lives.proofs.SecondsLemmas.{IsSeconds-of, at-seconds_of}

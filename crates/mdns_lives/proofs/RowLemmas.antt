@@ -32,8 +32,8 @@ use Rattle.mdns_lives.specs.Lives.{AreLives}
 use Rattle.mdns_lives.specs.History.{IsHeardAs, IsHistory, AreFlushes, AreLivesBy}
 use Rattle.mdns_lives.specs.Seconds.{AreEndsOf, AreEndsIn, ends_at, listed_ends}
 use Rattle.mdns_lives.specs.laws.Account.{account-laws}
-use Rattle.mdns_lives.specs.Rows.{flushes_held, row_held, rows_by}
-use Rattle.mdns_lives.specs.Walk.{walked}
+use Rattle.mdns_lives.specs.LentLives.{flushes_held, row_held, rows_by}
+use Rattle.mdns_lives.specs.LifeWalk.{walked}
 use Rattle.mdns_lives.specs.Chronicle.{Accounts, Chronicles, AreAllLives, latest_in, history_in, IsFlushIn, rows_of}
 use Rattle.mdns_lives.proofs.EndsLemmas.{AreLivesBy-from_ends}
 use Rattle.mdns_lives.proofs.ListedLemmas.{listed-in_order, listed-among, listed-between}

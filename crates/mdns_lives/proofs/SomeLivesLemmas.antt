@@ -14,7 +14,7 @@ use Rattle.mdns_lives.specs.declared.life.Heard.{Heard}
 use Rattle.mdns_lives.specs.declared.life.Life.{Life}
 use Rattle.mdns_lives.specs.Lives.{AreLives}
 use Rattle.mdns_lives.specs.History.{heard_of, IsHeardAs, IsHistory, AreFlushes, IsUpTo, AreInOrder}
-use Rattle.mdns_lives.specs.Walk.{walked}
+use Rattle.mdns_lives.specs.LifeWalk.{walked}
 use Rattle.mdns_cache.proofs.StandsPartLemmas.{Contains-nil, Contains-head, Contains-later, Contains-cases}
 use Rattle.mdns_lives.proofs.OrderLemmas.{IsUpTo-onward, either_order, first_least, in_order-rest}
 use Rattle.mdns_lives.proofs.WalkLemmas.{AreLivesBy-walked}

@@ -10,9 +10,9 @@ use Rattle.mdns_join.specs.declared.latest.Latest.{Latest}
 use Rattle.mdns_lives.specs.declared.life.Life.{Life}
 use Rattle.mdns_lives.specs.declared.life.Which.{Which}
 use Rattle.mdns_lives.specs.declared.life.Which.TheVariants.{All, Changes}
-use Rattle.mdns_lives.specs.declared.record_lives.RecordLives.{RecordLives}
+use Rattle.mdns_lives.specs.declared.lives.RecordLives.{RecordLives}
 use Rattle.mdns_lives.specs.Lives.{AreApart}
-use Rattle.mdns_lives.specs.Rows.{row_lent}
+use Rattle.mdns_lives.specs.LentLives.{row_lent}
 
 -- when these lives began
 abbrev pub begins_of : List Life → List ℕ

@@ -17,7 +17,7 @@ use Rattle.mdns_lives.specs.declared.life.Life.{Life}
 use Rattle.mdns_lives.specs.Account.{IsAccount, IsOwnAccount, account_of, join_account}
 use Rattle.mdns_lives.specs.History.{IsHeardAs}
 use Rattle.mdns_lives.specs.Lives.{AreLives}
-use Rattle.mdns_lives.specs.Rows.{rows_by}
+use Rattle.mdns_lives.specs.LentLives.{rows_by}
 use Rattle.mdns_lives.specs.Seconds.{Seconds, Ends, AreEndsIn, ends_at}
 
 -- ---- the lives of all records

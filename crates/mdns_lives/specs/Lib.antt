@@ -7,8 +7,8 @@ pub mod History
 pub mod Lives
 pub mod Packed
 pub mod Recording
-pub mod Rows
+pub mod LentLives
 pub mod Seconds
 pub mod Since
-pub mod Walk
+pub mod LifeWalk
 pub mod laws

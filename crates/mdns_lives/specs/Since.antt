@@ -5,7 +5,7 @@ use Rattle.mdns_message.specs.declared.hearing.Hearing.{Hearing}
 use Rattle.mdns_message.specs.declared.key.Key.{Key}
 use Rattle.mdns_join.specs.declared.latest.Latest.{Latest}
 use Rattle.mdns_cache.specs.Live.{AreLiveRecords, record_of}
-use Rattle.mdns_cache.specs.Rows.{last_lent}
+use Rattle.mdns_cache.specs.LentRecords.{last_lent}
 use Rattle.mdns_lives.specs.declared.life.Life.{Life}
 use Rattle.mdns_lives.specs.declared.live_since.LiveSince.{LiveSince}
 use Rattle.mdns_lives.specs.Lives.{AreLives, IsDuring}

@@ -6,15 +6,15 @@ ghost use Rattle.std.specs.Map.Iter.{TakesFirst};
 ghost use Rattle.mdns_message.specs.Resource.{set_key_of};
 ghost use Rattle.mdns_message.specs.declared.hearing.Hearing.{Hearing};
 ghost use Rattle.mdns_join.specs.Nanos.{nanos_of};
-ghost use Rattle.mdns_cache.specs.Rows.{last_lent};
+ghost use Rattle.mdns_cache.specs.LentRecords.{last_lent};
 ghost use Rattle.mdns_lives.specs.Changes.{AreOfOne, begins_in, begins_of, by_sets, changes_in, chosen, goes_on};
 ghost use Rattle.mdns_lives.specs.Changes.{is_shared, kept_if, maybe_row, strays};
 ghost use Rattle.mdns_lives.specs.Chronicle.{AreAllLives, Chronicles, rows_of};
-ghost use Rattle.mdns_lives.specs.Rows.{row_lent};
+ghost use Rattle.mdns_lives.specs.LentLives.{row_lent};
 
 use crate::flush_moments::sort;
 use crate::life::{Life, Which};
-use crate::record_lives::{Lives, LivesWalk, RecordLives};
+use crate::lives::{Lives, LivesWalk, RecordLives};
 use dns_name::fold::folded_eq;
 use mdns_cache::Last;
 use mdns_capture::Moment;
@@ -65,7 +65,7 @@ impl<'a> Model for ChosenWalk<'a> {
     ghost use Rattle.mdns_join.specs.declared.latest.Latest.{Latest};
     ghost use Rattle.mdns_lives.specs.declared.life.Life.{Life};
     ghost use Rattle.mdns_lives.specs.Changes.{AreOfOne, left_of, maybe_row};
-    ghost use Rattle.mdns_lives.specs.Rows.{row_lent};
+    ghost use Rattle.mdns_lives.specs.LentLives.{row_lent};
 
     ghost Value = { List (Latest × List Life) };
 

@@ -17,9 +17,9 @@ ghost use Rattle.mdns_lives.specs.Chronicle.{AreAccounts, Chronicles, accounts, 
 use crate::account::Account;
 use crate::flush_moments::FlushMoments;
 use crate::flushes::Flushes;
-use crate::record_lives::Lives;
+use crate::lives::Lives;
 use crate::repeats::Repeats;
-use crate::waiting::{Few, Waiting};
+use crate::waiting::{MomentsAtOnce, Waiting};
 use join_map::{Join, JoinMap, Unsorted};
 use mdns_cache::guesses::Guesses;
 use mdns_capture::Moment;
@@ -86,7 +86,7 @@ impl Chronicle {
         ensures stands { OnOk result ((heard : List Hearing) → Chronicles self.old heard
             → Chronicles self.new (heard ++ hearing_lent hearing.now ∷ [])) }
     {
-        self.join_at_each(hearing, Few::new(&[hearing.moment]))?;
+        self.join_at_each(hearing, MomentsAtOnce::new(&[hearing.moment]))?;
         Ok(())
     }
 
@@ -132,7 +132,11 @@ impl Chronicle {
     }
 
     // Joins the contents of a hearing at each of some moments, of which its own is the latest.
-    fn join_at_each(&mut self, hearing: &BorrowedHearing, moments: Few<'_>) -> Result<(), Want>
+    fn join_at_each(
+        &mut self,
+        hearing: &BorrowedHearing,
+        moments: MomentsAtOnce<'_>,
+    ) -> Result<(), Want>
         ensures ok { OnOk result (self.new ≡ join_accounts self.old (accounts_each (hearing_lent hearing.now) moments.entry)) }
         ensures err { OnErr result (IsPartOfJoin join_accounts self.old (accounts_each (hearing_lent hearing.now) moments.entry) self.new) }
         ensures was { AreAccounts self.old }

@@ -1,99 +1,140 @@
-//! The lives of one record, by its hearings and the flushes of its record set.
+//! The lives of all records, in key order.
 
-ghost use Rattle.std.specs.Prelude.{◌≡◌, ◌++◌, ◌∷◌, List, IfOk, OnOk};
-ghost use Rattle.mdns_lives.specs.declared.life.Heard.{Heard};
+ghost use Rattle.std.specs.Prelude.{◌≡◌, List, IfOk, IfSome, OnErr};
+ghost use Rattle.std.specs.Map.Iter.{TakesFirst};
+ghost use Rattle.mdns_message.specs.declared.hearing.Hearing.{Hearing};
+ghost use Rattle.mdns_cache.specs.LentRecords.{last_lent};
+ghost use Rattle.mdns_lives.specs.Chronicle.{AreAllLives, Chronicles, rows_of};
 ghost use Rattle.mdns_join.specs.Kept.{IsAscending};
 ghost use Rattle.mdns_join.specs.Nanos.{nanos_of};
-ghost use Rattle.mdns_lives.specs.History.{AreInOrder, AreLivesBy};
-ghost use Rattle.mdns_lives.specs.Walk.{life_after, lives_from, walked};
+ghost use Rattle.mdns_lives.specs.Lives.{AreApart};
+ghost use Rattle.mdns_lives.specs.LentLives.{LosesFirst, row_lent};
+ghost use Rattle.mdns_lives.specs.Seconds.{listed_ends};
+ghost use Rattle.mdns_lives.specs.LifeWalk.{walked};
 
-use crate::life::{Heard, Life, Reason};
-use crate::packed::Packed;
-use mdns_cache::lifetime::{end_of, life};
+use crate::account::Account;
+use crate::flush_moments::FlushMoments;
+use crate::history::History;
+use crate::laws::lives_by_history;
+use crate::life::Life;
+use crate::life_walk::lives_of;
+use join_map::{JoinMap, Walk};
+use mdns_cache::Last;
 use mdns_capture::Moment;
+use mdns_join::{FlushWalk, Latest};
+use mdns_message::{Key, SetKey};
 use memory::Want;
 use std::alloc::Global;
+use std::marker::Model;
 
-/// Returns the lives of a record, in order, by its hearings in the order of their moments, then TTLs, and the flush
-/// moments of its record set, ascending.
-pub(crate) fn lives_of(
+/// A record that was heard, with its lives.
+#[derive(Drop)]
+pub struct RecordLives<'a> {
+    /// Its last hearing.
+    pub last: Last<'a>,
+    /// Its lives, in order.
+    pub lives: Vec<Life>,
+}
+
+/// The hearings of a chronicle, sorted by record. `walk` tells each record's lives.
+#[derive(Drop)]
+pub struct Lives {
+    pub(crate) records: JoinMap<Key, Account>,
+    pub(crate) flushes: JoinMap<SetKey, FlushMoments>,
+    pub(crate) newest: Option<Moment>,
+    pub(crate) alloc: Global,
+}
+
+impl Model for Lives {
+    ghost use Rattle.mdns_lives.specs.Chronicle.{Accounts, accounts};
+
+    ghost Value = { Accounts };
+
+    ghost view = { λ a. accounts a.records a.flushes a.newest };
+}
+
+impl Lives {
+    /// Returns the records that were heard, in key order, to be taken one by one.
+    pub fn walk(&self) -> LivesWalk<'_>
+        ensures left { result ≡ rows_of self.now }
+        ensures all { (heard : List Hearing) → Chronicles self.now heard → AreAllLives heard result }
+    {
+        lives_by_history();
+        LivesWalk {
+            entries: self.records.walk(),
+            flushes: FlushWalk::new(&self.flushes),
+            alloc: self.alloc,
+        }
+    }
+}
+
+/// The records that are left of a walk, in key order. Its value is their last hearings and lives.
+#[derive(Drop)]
+pub struct LivesWalk<'a> {
+    entries: Walk<'a, Key, Account>,
+
+    // The flush moments of the record sets of these entries.
+    flushes: FlushWalk<'a, FlushMoments>,
     alloc: Global,
-    heard: &[Packed],
-    flushes: &[Moment],
-) -> Result<Vec<Life>, Want>
-    requires heard { AreInOrder heard.now }
-    requires flushes { IsAscending (nanos_of flushes.now) }
-    ensures lives { IfOk result (λ lives. AreLivesBy heard.now (nanos_of flushes.now) lives.items) }
-    ensures walked { IfOk result (λ lives. lives.items ≡ walked (nanos_of flushes.now) heard.now) }
+}
+
+impl<'a> Model for LivesWalk<'a> {
+    ghost use Rattle.std.specs.Prelude.{List};
+    ghost use Rattle.std.specs.List.Sorted.{IsStrictlySortedBy};
+    ghost use Rattle.std.specs.Map.{keys_of};
+    ghost use Rattle.mdns_message.specs.Resource.{key_cmp};
+    ghost use Rattle.mdns_join.specs.declared.latest.Latest.{Latest};
+    ghost use Rattle.mdns_lives.specs.declared.life.Life.{Life};
+    ghost use Rattle.mdns_lives.specs.LentLives.{rows_by};
+
+    ghost Value = { List (Latest × List Life) };
+
+    ghost view = { λ a. rows_by a.flushes a.entries };
+
+    ghost invariant = { λ a. IsStrictlySortedBy key_cmp (keys_of a.entries) };
+}
+
+impl<'a> LivesWalk<'a> {
+    /// Takes the next record, with its lives; `None` after the last one. After `Want` that record is lost, and those after
+    /// it are left.
+    pub fn next(&mut self) -> Result<Option<RecordLives<'a>>, Want>
+        ensures ok { IfOk result (λ next. TakesFirst row_lent self.old next self.new) }
+        ensures apart { IfOk result (λ next. IfSome next (λ row. AreApart row.lives.items)) }
+        ensures err { OnErr result (LosesFirst self.old self.new) }
+    {
+        let Some((key, account)) = self.entries.next() else {
+            return Ok(None);
+        };
+        let flushes = FlushMoments::all_of(self.flushes.moments(key.set()));
+        let lives = lives_by(self.alloc, &account.history, flushes)?;
+        let last = shown(&account.latest);
+        Ok(Some(RecordLives { last, lives }))
+    }
+}
+
+// Returns the lives of a record. `finish` has sorted its hearings, unless it joined entries of one record; `join_with` sorts
+// none.
+fn lives_by(alloc: Global, history: &History, flushes: &[Moment]) -> Result<Vec<Life>, Want>
+    requires { IsAscending (nanos_of flushes.now) }
+    ensures walked { IfOk result (λ lives. lives.items ≡ walked (nanos_of flushes.now) (listed_ends history.now)) }
+    ensures apart { IfOk result (λ lives. AreApart lives.items) }
 {
-    let mut lives = Vec::new(alloc);
-    let Some((first, rest)) = heard.split_first() else {
+    if let Some(heard) = history.in_order() {
+        let lives = lives_of(alloc, heard, flushes)?;
         return Ok(lives);
-    };
-    let life = life_after(flushes, first.heard());
-    push_lives(&mut lives, life, rest, flushes)?;
+    }
+    let heard = history.sorted(alloc)?;
+    let lives = lives_of(alloc, heard.as_slice(), flushes)?;
     Ok(lives)
 }
 
-fn push_lives(
-    lives: &mut Vec<Life>,
-    life: Life,
-    heard: &[Packed],
-    flushes: &[Moment],
-) -> Result<(), Want>
-    requires { IsAscending (nanos_of flushes.now) }
-    ensures { OnOk result (lives.new.items ≡ lives.old.items ++ lives_from (nanos_of flushes.now) life heard.now) }
+// Borrows a last hearing.
+fn shown(latest: &Latest) -> Last<'_>
+    ensures { last_lent result ≡ latest.now }
 {
-    let mut life = life;
-    for next in heard {
-        life = take_next(lives, life, next.heard(), flushes)?;
-    }
-    lives.push(life)?;
-    Ok(())
-}
-
-// Takes the next hearing: it carries the life on, or comes after its end and begins the next one.
-fn take_next(
-    lives: &mut Vec<Life>,
-    life: Life,
-    next: Heard,
-    flushes: &[Moment],
-) -> Result<Life, Want>
-    requires { IsAscending (nanos_of flushes.now) }
-    ensures { IfOk result (λ taken. (hs : List Heard) → lives.new.items ++ lives_from (nanos_of flushes.now) taken hs
-        ≡ lives.old.items ++ lives_from (nanos_of flushes.now) life (next ∷ hs)) }
-{
-    let after = life_after(flushes, next);
-    if next.moment.nanos() <= life.until {
-        return Ok(Life {
-            from: life.from,
-            last: after.last,
-            until: after.until,
-            reason: after.reason,
-        });
-    }
-    lives.push(life)?;
-    Ok(after)
-}
-
-// Returns the life of a record whose one hearing is this one.
-fn life_after(flushes: &[Moment], heard: Heard) -> Life
-    requires { IsAscending (nanos_of flushes.now) }
-    ensures { result ≡ life_after (nanos_of flushes.now) heard }
-{
-    let out = heard.moment.nanos() + life(heard.ttl);
-    let until = end_of(flushes, heard.moment, heard.ttl);
-    let reason = if until < out {
-        Reason::Flushed
-    } else if heard.ttl == 0 {
-        Reason::Goodbye
-    } else {
-        Reason::RanOut
-    };
-    Life {
-        from: heard.moment,
-        last: heard,
-        until,
-        reason,
+    Last {
+        moment: latest.moment,
+        ttl: latest.ttl,
+        resource: &latest.resource,
     }
 }

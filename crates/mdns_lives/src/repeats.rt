@@ -3,7 +3,7 @@
 use crate::account::{Account, latest_of};
 use crate::flushes::Flushes;
 use crate::history::History;
-use crate::waiting::Few;
+use crate::waiting::MomentsAtOnce;
 use join_map::{JoinInto, JoinOwn};
 use mdns_message::{BorrowedHearing, Key, SetKey};
 use memory::Want;
@@ -13,7 +13,7 @@ use std::alloc::Global;
 #[derive(Drop)]
 pub(crate) struct Repeats<'a> {
     pub(crate) hearing: &'a BorrowedHearing<'a>,
-    pub(crate) moments: Few<'a>,
+    pub(crate) moments: MomentsAtOnce<'a>,
 }
 
 /// Its hearings are joined as the account of them.

@@ -57,10 +57,10 @@ impl Waiting {
     }
 
     /// Returns the moments, in the order in which they were added.
-    pub(crate) fn few(&self) -> Few<'_>
+    pub(crate) fn few(&self) -> MomentsAtOnce<'_>
         ensures { result ≡ self.now }
     {
-        Few::new(self.moments.as_slice())
+        MomentsAtOnce::new(self.moments.as_slice())
     }
 
     /// Returns the latest moment; `None` of none.
@@ -81,11 +81,11 @@ impl Waiting {
 
 /// At most 64 moments.
 #[derive(Drop)]
-pub(crate) struct Few<'a> {
+pub(crate) struct MomentsAtOnce<'a> {
     moments: &'a [Moment],
 }
 
-impl<'a> Model for Few<'a> {
+impl<'a> Model for MomentsAtOnce<'a> {
     ghost use Rattle.std.specs.Prelude.{◌≤◌, List, length};
     ghost use Rattle.mdns_capture.specs.declared.moment.Moment.{Moment as moment};
 
@@ -96,12 +96,12 @@ impl<'a> Model for Few<'a> {
     ghost invariant = { λ a. length a.moments.now ≤ 64 };
 }
 
-impl<'a> Few<'a> {
-    pub(crate) fn new(moments: &'a [Moment]) -> Few<'a>
+impl<'a> MomentsAtOnce<'a> {
+    pub(crate) fn new(moments: &'a [Moment]) -> MomentsAtOnce<'a>
         requires { length moments.now ≤ 64 }
         ensures { result ≡ moments.now }
     {
-        Few { moments }
+        MomentsAtOnce { moments }
     }
 
     pub(crate) fn all(&self) -> &[Moment]

@@ -9,23 +9,23 @@ use Rattle.dns_name.specs.NameAt.{ReadsOnto}
 use Rattle.dns_name.proofs.ReadNameLemmas.{name_wire}
 use Rattle.mdns_message.specs.declared.body.RecordData.TheVariants as body
 use Rattle.mdns_message.specs.declared.hearing.Hearing.{Hearing}
-use Rattle.mdns_message.specs.declared.flat.Span.{Span}
+use Rattle.mdns_message.specs.declared.flat.ByteRange.{ByteRange}
 use Rattle.mdns_message.specs.Flat.{FlatBody}
 use Rattle.mdns_message.specs.declared.flat.FlatHearing.{FlatHearing}
 use Rattle.mdns_message.specs.FlatRecord.{HoldsName}
 use Rattle.mdns_message.specs.Flat.{AddsFlat, BodyFits, Fits, IsNameIn, IsWithin, body_in, bytes_in, hearing_in}
 
 -- a part stays what it is
-part_kept : (bytes more : List ℕ) (s : Span) → IsWithin bytes s → bytes_in (bytes ++ more) s ≡ bytes_in bytes s
+part_kept : (bytes more : List ℕ) (s : ByteRange) → IsWithin bytes s → bytes_in (bytes ++ more) s ≡ bytes_in bytes s
 part_kept bytes more s h = grind (arith, length-drop, drop-append-le, take-append-le)
 
-pub bytes_kept : (before bytes : List ℕ) (s : Span) → Extends before bytes → IsWithin before s → bytes_in bytes s ≡ bytes_in before s
+pub bytes_kept : (before bytes : List ℕ) (s : ByteRange) → Extends before bytes → IsWithin before s → bytes_in bytes s ≡ bytes_in before s
 bytes_kept before bytes s b h = ap (λ xs. bytes_in xs s) b.whole ∙ part_kept before b.more s h
 
-within_kept : (before bytes : List ℕ) (s : Span) → Extends before bytes → IsWithin before s → IsWithin bytes s
+within_kept : (before bytes : List ℕ) (s : ByteRange) → Extends before bytes → IsWithin before s → IsWithin bytes s
 within_kept before bytes s b h = grind (arith, length-append)
 
-pub name_kept : (before bytes : List ℕ) (s : Span) → Extends before bytes → IsNameIn before s → IsNameIn bytes s
+pub name_kept : (before bytes : List ℕ) (s : ByteRange) → Extends before bytes → IsNameIn before s → IsNameIn bytes s
 name_kept before bytes s b h = grind (arith, within_kept before bytes s b h.part, bytes_kept before bytes s b h.part)
 
 body_kept : (before bytes : List ℕ) (flat : FlatBody) → Extends before bytes → BodyFits before flat
@@ -95,6 +95,6 @@ pub one_longer : (bytes : List ℕ) (old new : List FlatHearing) (this : Hearing
 one_longer bytes old new this adds = ap length adds.added ∙ length_push old adds.flat
 
 -- a name that was appended is where the bytes were longer
-pub name_held : (m : List ℕ) (at after : ℕ) (before bytes : List ℕ) (s : Span) → ReadsOnto m at before bytes after
+pub name_held : (m : List ℕ) (at after : ℕ) (before bytes : List ℕ) (s : ByteRange) → ReadsOnto m at before bytes after
     → s.begin ≡ length before → s.end ≡ length bytes → HoldsName bytes m at s after
 name_held m at after before bytes s r begins ends = grind (arith, length-append, drop_at, take_all, name_wire)

@@ -4,7 +4,7 @@ use Rattle.std.specs.List.{All}
 use Rattle.dns_name.specs.Name.{IsWire}
 use Rattle.mdns_message.specs.Resource.{Body, data_by}
 use Rattle.mdns_message.specs.declared.hearing.Hearing.{Hearing}
-use Rattle.mdns_message.specs.declared.flat.Span.{Span}
+use Rattle.mdns_message.specs.declared.flat.ByteRange.{ByteRange}
 use Rattle.mdns_message.specs.declared.body.RecordData.{RecordData}
 use Rattle.mdns_message.specs.declared.body.RecordData.TheVariants as body
 use Rattle.mdns_message.specs.declared.flat.FlatHearing.{FlatHearing}
@@ -12,10 +12,10 @@ use Rattle.mdns_message.specs.declared.flat.KnownName.{KnownName}
 
 -- the data of a record, its name and text as ranges of bytes
 abbrev pub FlatBody : Type 0
-FlatBody = RecordData Span Span
+FlatBody = RecordData ByteRange ByteRange
 
 -- the bytes of a span
-abbrev pub bytes_in : List ℕ → Span → List ℕ
+abbrev pub bytes_in : List ℕ → ByteRange → List ℕ
 bytes_in bytes span = slice_range bytes span.begin span.end
 
 -- the value of flat data, whose name or text is in the bytes
@@ -33,12 +33,12 @@ hearing_in bytes h =
     }
 
 -- the span is a part of the bytes
-pub record IsWithin (bytes : List ℕ) (span : Span) : Type 0 where
+pub record IsWithin (bytes : List ℕ) (span : ByteRange) : Type 0 where
   pub ordered : span.begin ≤ span.end
   pub within : span.end ≤ length bytes
 
 -- the span is a part of the bytes, which is the wire form of a name
-pub record IsNameIn (bytes : List ℕ) (span : Span) : Type 0 where
+pub record IsNameIn (bytes : List ℕ) (span : ByteRange) : Type 0 where
   pub part : IsWithin bytes span
   pub wire : IsWire (bytes_in bytes span)
 
@@ -68,6 +68,6 @@ pub record AddsFlat (bytes : List ℕ) (old new : List FlatHearing) (this : Hear
   pub added : new ≡ old ++ flat ∷ []
 
 -- the bytes of the span are `these`
-pub record HoldsBytes (bytes : List ℕ) (span : Span) (these : List ℕ) : Type 0 where
+pub record HoldsBytes (bytes : List ℕ) (span : ByteRange) (these : List ℕ) : Type 0 where
   pub part : IsWithin bytes span
   pub same : bytes_in bytes span ≡ these

@@ -1,7 +1,7 @@
 -- What a record of a message adds to hearings in flat buffers.
 use Rattle.std.specs.Prelude.{◌≡◌, ◌⊎◌, ℕ, List, [], ◌∷◌}
 use Rattle.mdns_capture.specs.declared.moment.Moment.{Moment}
-use Rattle.mdns_message.specs.declared.flat.Span.{Span}
+use Rattle.mdns_message.specs.declared.flat.ByteRange.{ByteRange}
 use Rattle.mdns_message.specs.Flat.{FlatBody, AddsFlat, BodyFits, IsNameIn, body_in, bytes_in}
 use Rattle.mdns_message.specs.declared.flat.FlatHearing.{FlatHearing}
 use Rattle.mdns_message.specs.declared.record_at.RecordHeader.{RecordHeader}
@@ -12,12 +12,12 @@ use Rattle.mdns_message.specs.Message.{hearing_of}
 use Rattle.mdns_message.specs.RecordAt.{DataNameReads, DataReads, HeardRecord, RecordStands}
 
 -- the bytes of the span are the name that is read at `offset` of m; `after` is the offset after it
-pub record HoldsName (bytes m : List ℕ) (offset : ℕ) (span : Span) (after : ℕ) : Type 0 where
+pub record HoldsName (bytes m : List ℕ) (offset : ℕ) (span : ByteRange) (after : ℕ) : Type 0 where
   pub fits : IsNameIn bytes span
   pub reads : NameReads m offset (bytes_in bytes span) after
 
 -- the bytes of the span are the name that ends the data of a record, after `skipped` bytes of it
-pub record HoldsLastName (bytes m : List ℕ) (header : RecordHeader) (skipped : ℕ) (span : Span) : Type 0 where
+pub record HoldsLastName (bytes m : List ℕ) (header : RecordHeader) (skipped : ℕ) (span : ByteRange) : Type 0 where
   pub fits : IsNameIn bytes span
   pub reads : DataNameReads m header skipped (bytes_in bytes span)
 

@@ -17,7 +17,7 @@ use std::marker::Model;
 
 /// A range of the bytes: from `begin` up to but not including `end`.
 #[derive(Clone, Copy)]
-pub(crate) struct Span {
+pub(crate) struct ByteRange {
     pub(crate) begin: usize,
     pub(crate) end: usize,
     /// The hash of a name in the range; 0 where there is a text.
@@ -25,13 +25,13 @@ pub(crate) struct Span {
 }
 
 /// The data of a record, its names and text as ranges of the bytes.
-pub(crate) type FlatBody = RecordData<Span, Span>;
+pub(crate) type FlatBody = RecordData<ByteRange, ByteRange>;
 
 /// A hearing, its names and text as ranges of the bytes.
 #[derive(Clone, Copy)]
 pub(crate) struct FlatHearing {
     pub(crate) moment: Moment,
-    pub(crate) owner: Span,
+    pub(crate) owner: ByteRange,
     pub(crate) body: FlatBody,
     pub(crate) ttl: u32,
     pub(crate) flush: bool,
@@ -42,7 +42,7 @@ pub(crate) struct FlatHearing {
 #[derive(Clone, Copy)]
 pub(crate) struct KnownName {
     pub(crate) offset: usize,
-    pub(crate) name: Span,
+    pub(crate) name: ByteRange,
 }
 
 /// The bytes of names and texts, and which names of the message are among them.
@@ -123,13 +123,13 @@ impl FlatHearings {
 }
 
 /// Appends `part`, and returns its range.
-pub(crate) fn push_bytes(bytes: &mut Vec<u8>, part: &[u8]) -> Result<Span, Want>
+pub(crate) fn push_bytes(bytes: &mut Vec<u8>, part: &[u8]) -> Result<ByteRange, Want>
     ensures holds { IfOk result (λ span. HoldsBytes bytes.new.items span part.now) }
     ensures begins { Extends bytes.old.items bytes.new.items }
 {
     let begin = bytes.len();
     bytes.extend_from_slice(part)?;
-    Ok(Span {
+    Ok(ByteRange {
         begin,
         end: bytes.len(),
         hash: 0,
@@ -137,7 +137,7 @@ pub(crate) fn push_bytes(bytes: &mut Vec<u8>, part: &[u8]) -> Result<Span, Want>
 }
 
 // Returns the name in a range of the bytes.
-fn name_in(bytes: &[u8], span: Span) -> BorrowedName<'_>
+fn name_in(bytes: &[u8], span: ByteRange) -> BorrowedName<'_>
     requires { IsNameIn bytes.now span }
     ensures { result ≡ bytes_in bytes.now span }
 {

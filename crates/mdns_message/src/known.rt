@@ -11,7 +11,7 @@ ghost use Rattle.mdns_message.specs.Known.{AddsKnown, BeginsAt, IsBufferOf};
 ghost use Rattle.mdns_message.specs.RecordAt.{MemoryOr};
 
 use crate::fault::MessageFault;
-use crate::flat::{Buffer, KnownName, Span};
+use crate::flat::{Buffer, ByteRange, KnownName};
 use crate::search_hash::name_hash;
 use dns_name::{NameReader, target_before};
 
@@ -27,7 +27,7 @@ pub(crate) fn name_onto(
     message: &[u8],
     at: usize,
     buffer: &mut Buffer,
-) -> Result<(Span, usize), MessageFault>
+) -> Result<(ByteRange, usize), MessageFault>
     requires knows { IsReaderOf message.now names.old }
     requires known { IsBufferOf message.now buffer.old }
     ensures knows { IsReaderOf message.now names.new }
@@ -49,7 +49,7 @@ pub(crate) fn name_onto(
 }
 
 // Returns the range of the known name that begins at `offset`.
-fn known_at(known: &[KnownName], offset: usize) -> Option<Span>
+fn known_at(known: &[KnownName], offset: usize) -> Option<ByteRange>
     ensures { IfSome result (λ name. Contains known.now (record { offset = offset; name = name })) }
 {
     for index in 0..known.len() {
@@ -70,7 +70,7 @@ fn new_name(
     at: usize,
     offset: usize,
     buffer: &mut Buffer,
-) -> Result<(Span, usize), MessageFault>
+) -> Result<(ByteRange, usize), MessageFault>
     requires begins { BeginsAt message.now at offset }
     requires knows { IsReaderOf message.now names.old }
     requires known { IsBufferOf message.now buffer.old }
@@ -87,7 +87,7 @@ fn new_name(
     let after = names.read_onto(message, at, &mut buffer.bytes)?;
     let end = buffer.bytes.len();
     let hash = name_hash(&buffer.bytes[begin..end]);
-    let name = Span { begin, end, hash };
+    let name = ByteRange { begin, end, hash };
     if buffer.known.len() < MOST_KNOWN {
         buffer.known.push(KnownName { offset, name })?;
     }

@@ -24,7 +24,7 @@ ghost use Rattle.mdns_message.specs.RecordAt.{
 
 use crate::borrowed::service_bytes;
 use crate::fault::MessageFault;
-use crate::flat::{Buffer, FlatBody, FlatHearing, FlatHearings, Span, push_bytes};
+use crate::flat::{Buffer, ByteRange, FlatBody, FlatHearing, FlatHearings, push_bytes};
 use crate::known::name_onto;
 use crate::record_type::RecordType;
 use crate::search_hash::{SearchHashes, hashes_of};
@@ -170,7 +170,7 @@ fn last_name(
     header: RecordHeader,
     skipped: usize,
     buffer: &mut Buffer,
-) -> Result<Span, MessageFault>
+) -> Result<ByteRange, MessageFault>
     requires knows { IsReaderOf message.now names.old }
     requires known { IsBufferOf message.now buffer.old }
     requires whole { header.offset + header.len ≤ length message.now }
@@ -273,7 +273,7 @@ fn flat_body(
 }
 
 // Hashes a wanted record and its set from the hashes of its names.
-fn hashes_in(message: &[u8], header: RecordHeader, owner: Span, body: FlatBody) -> SearchHashes
+fn hashes_in(message: &[u8], header: RecordHeader, owner: ByteRange, body: FlatBody) -> SearchHashes
     requires { header.offset + header.len ≤ length message.now }
 {
     let number = header.number;

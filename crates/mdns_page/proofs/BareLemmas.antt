@@ -15,21 +15,21 @@ use Rattle.mdns_browse.specs.declared.about.Subject.{Subject}
 use Rattle.mdns_browse.specs.declared.instance.Server.{Server}
 use Rattle.mdns_join.specs.declared.latest.Latest.{Latest}
 use Rattle.mdns_browse.specs.Services.{GivenRow, InstanceRow, instance_row_in}
-use Rattle.mdns_browse.specs.Shown.{shown_string, shown_strings}
+use Rattle.mdns_browse.specs.RecordShown.{shown_string, shown_strings}
 use Rattle.mdns_page.specs.declared.axis.Axis.{Axis}
 use Rattle.mdns_page.specs.Bare.{BareLive, BareRow, bare_capture, bare_end}
 use Rattle.mdns_page.specs.Bare.{bare_group, bare_groups, bare_instances, bare_live}
 use Rattle.mdns_page.specs.Bare.{bare_row, bare_server, bare_text, is_some_filled, unsaid}
 use Rattle.mdns_page.specs.Captures.{Facts, capture_text, captures_text, each_from}
 use Rattle.mdns_page.specs.Group.{grouped}
-use Rattle.mdns_page.specs.Hosts.{host_name, is_large}
+use Rattle.mdns_page.specs.OtherRows.{host_name, is_large}
 use Rattle.mdns_page.specs.Lanes.{lanes_for}
 use Rattle.mdns_page.specs.Lead.{about_line, ending_warning, is_ended, is_leaving, lead_text, live_line, subject_text}
 use Rattle.mdns_page.specs.Picture.{goes_on}
-use Rattle.mdns_page.specs.Live.{address_if, address_in, address_said, addresses_html, left_words, live_group, live_row, live_text, paragraph, server_html}
-use Rattle.mdns_page.specs.Live.{address_html, servers_html, text_html}
-use Rattle.mdns_page.specs.Live.{type_of}
-use Rattle.mdns_page.specs.Page.{Shown, page}
+use Rattle.mdns_page.specs.LiveSection.{address_if, address_in, address_said, addresses_html, left_words, live_group, live_row, live_text, paragraph, server_html}
+use Rattle.mdns_page.specs.LiveSection.{address_html, servers_html, text_html}
+use Rattle.mdns_page.specs.LiveSection.{type_of}
+use Rattle.mdns_page.specs.Document.{Shown, page}
 use Rattle.mdns_page.specs.Timeline.{Row, are_titled, count_last, group_text, is_open, is_some_such, lives_in, others_group}
 use Rattle.mdns_page.specs.Timeline.{content_name, owner_of, row_text, timeline}
 use Rattle.mdns_page.specs.declared.look.Look.{Look}

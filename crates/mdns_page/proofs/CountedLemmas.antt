@@ -12,9 +12,9 @@ use Rattle.mdns_lives.specs.Chronicle.{Accounts, Chronicles}
 use Rattle.mdns_lives.specs.Heard.{AreSecondsHeard}
 use Rattle.mdns_cache.specs.Live.{record_of}
 use Rattle.mdns_browse.specs.Services.{AreEach}
-use Rattle.mdns_page.specs.Counted.{AreShownBy, IsCounted, shown_seconds}
+use Rattle.mdns_page.specs.TimelineRows.{AreShownBy, IsCounted, shown_seconds}
 use Rattle.mdns_page.specs.Timeline.{Row, counted_lent}
-use Rattle.mdns_page.specs.declared.counted.CountedRow.{CountedRow}
+use Rattle.mdns_page.specs.declared.timeline_rows.CountedRow.{CountedRow}
 use Rattle.mdns_page.proofs.LiveLemmas.{each-count}
 
 -- ---- one capture after another

@@ -17,7 +17,7 @@ use Rattle.mdns_lives.specs.Chronicle.{AreAllLives}
 use Rattle.mdns_lives.specs.declared.life.Life.{Life}
 use Rattle.mdns_browse.specs.declared.about.Subject.{Subject}
 use Rattle.mdns_browse.specs.Services.{name_if}
-use Rattle.mdns_page.specs.Kept.{lasts_of, looked_up}
+use Rattle.mdns_page.specs.KeptRecords.{lasts_of, looked_up}
 
 -- ---- names that a record gives
 

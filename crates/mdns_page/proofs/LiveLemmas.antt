@@ -7,8 +7,8 @@ use Rattle.std.specs.List.{filter_map, flat_map}
 use Rattle.std.specs.String.{string_bytes}
 use Rattle.mdns_message.specs.Resource.{Body}
 use Rattle.mdns_join.specs.declared.latest.Latest.{Latest}
-use Rattle.people_text.specs.Moments.{millis_text}
-use Rattle.mdns_browse.specs.Shown.{shown_instance}
+use Rattle.people_text.specs.MomentText.{millis_text}
+use Rattle.mdns_browse.specs.RecordShown.{shown_instance}
 use Rattle.mdns_browse.specs.Services.{AreEach, GivenRow, InstanceRow, instance_row_in}
 use Rattle.mdns_browse.specs.Sheet.{Piece, server_address, server_end, servers_end, instance_text, instance_end}
 use Rattle.mdns_browse.specs.Sheet.{server_pieces, servers_pieces, instance_pieces}
@@ -17,9 +17,9 @@ use Rattle.mdns_page.specs.declared.axis.Axis.{Axis}
 use Rattle.mdns_page.specs.declared.live_sheet.LiveSheet.{LiveSheet}
 use Rattle.mdns_page.specs.Group.{grouped}
 use Rattle.mdns_page.specs.Html.{isolated}
-use Rattle.mdns_page.specs.Live.{live_text}
-use Rattle.mdns_page.specs.Live.{address_html, addresses_html, given_words, live_group, live_row, server_html}
-use Rattle.mdns_page.specs.Live.{server_line, servers_html, text_html, type_of}
+use Rattle.mdns_page.specs.LiveSection.{live_text}
+use Rattle.mdns_page.specs.LiveSection.{address_html, addresses_html, given_words, live_group, live_row, server_html}
+use Rattle.mdns_page.specs.LiveSection.{server_line, servers_html, text_html, type_of}
 use Rattle.mdns_page.specs.LiveSheet.{Adds, Grows, pieces_html, pieces_next, type_begin}
 use Rattle.mdns_page.specs.laws.LiveSheet.{pieces-append}
 

@@ -3,9 +3,9 @@ use Rattle.std.proofs.Common.{◌≡◌, refl, sym, ◌∙◌, ap, ℕ, Bool, fa
 use Rattle.std.proofs.lemmas.List.{append-nil, append_assoc}
 use Rattle.mdns_message.specs.TextData.{strings_of}
 use Rattle.mdns_browse.specs.Json.{first_after}
-use Rattle.mdns_browse.specs.Shown.{shown_string, shown_strings}
-use Rattle.mdns_browse.specs.laws.Objects.{first_after-append}
-use Rattle.mdns_page.specs.Live.{lines}
+use Rattle.mdns_browse.specs.RecordShown.{shown_string, shown_strings}
+use Rattle.mdns_browse.specs.laws.JsonPieces.{first_after-append}
+use Rattle.mdns_page.specs.LiveSection.{lines}
 
 -- the words of one string, and those of the others
 strings-cons : (bytes string after : List ℕ) → strings_of bytes ≡ string ∷ strings_of after

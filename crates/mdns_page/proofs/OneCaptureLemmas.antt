@@ -12,16 +12,16 @@ use Rattle.mdns_survey.specs.declared.outcome.Why.{Why}
 use Rattle.mdns_survey.specs.declared.outcome.Why.TheVariants as why
 use Rattle.mdns_survey.specs.declared.reading.Reading.{Reading}
 use Rattle.mdns_survey.specs.declared.summary.Summary.{Summary}
-use Rattle.mdns_survey.specs.Captures.{Outcome}
+use Rattle.mdns_survey.specs.Outcomes.{Outcome}
 use Rattle.mdns_survey.specs.Readings.{lost_in, refused_in, skipped_in, summaries_of}
 use Rattle.mdns_survey.specs.Skips.{IsSkipOf, count_of, is_why}
 use Rattle.mdns_survey.specs.Surveys.{AllLeft}
 use Rattle.mdns_survey.specs.Why.{why_text}
 use Rattle.mdns_survey.proofs.LossLemmas.{NeverBoth, SkipsByCause, no-cause}
 use Rattle.mdns_survey.proofs.OutcomeLemmas.{OnePayload}
-use Rattle.mdns_page.specs.Nothing.{broken, broken_rows, nothing_text, other_rows, others as reasons, packets_text, row_text, table_text}
-use Rattle.mdns_page.specs.Nothing.{unread, unread_rows, untold, warning_row}
-use Rattle.mdns_page.specs.Survey.{facts_of}
+use Rattle.mdns_page.specs.SkippedSection.{broken, broken_rows, nothing_text, other_rows, others as reasons, packets_text, row_text, table_text}
+use Rattle.mdns_page.specs.SkippedSection.{unread, unread_rows, untold, warning_row}
+use Rattle.mdns_page.specs.Page.{facts_of}
 
 -- ---- why packets are skipped
 

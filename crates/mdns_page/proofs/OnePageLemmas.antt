@@ -25,8 +25,8 @@ use Rattle.mdns_browse.specs.Services.{AreEach, body_of}
 use Rattle.mdns_survey.specs.declared.reading.Reading.{Reading}
 use Rattle.mdns_survey.specs.declared.request.AsOf.{AsOf}
 use Rattle.mdns_survey.specs.declared.summary.Summary.{Summary}
-use Rattle.mdns_survey.specs.Captures.{Outcome}
-use Rattle.mdns_survey.specs.Lives.{begin_of, end_of, latest_nanos}
+use Rattle.mdns_survey.specs.Outcomes.{Outcome}
+use Rattle.mdns_survey.specs.LivesAnswer.{begin_of, end_of, latest_nanos}
 use Rattle.mdns_survey.specs.Readings.{all_moments, summaries_of}
 use Rattle.mdns_survey.specs.Filter.{counted, counted_each, filter_of}
 use Rattle.mdns_survey.specs.Surveys.{AllLeft}
@@ -38,15 +38,15 @@ use Rattle.mdns_survey.proofs.OneSurveyLemmas.{one-read}
 use Rattle.mdns_survey.proofs.OutcomeLemmas.{OnePayload, OneReading, OneTelling}
 use Rattle.mdns_page.specs.Axis.{dates_of}
 use Rattle.mdns_page.specs.declared.axis.Axis.{Axis}
-use Rattle.mdns_page.specs.declared.kept.Kind.{Kind}
-use Rattle.mdns_page.specs.declared.kept.Kind.TheVariants.{Addresses, Instances, Names}
-use Rattle.mdns_page.specs.Counted.{IsCounted, shown_seconds}
-use Rattle.mdns_page.specs.Hosts.{is_large}
+use Rattle.mdns_page.specs.declared.kept_records.TimelinePart.{TimelinePart}
+use Rattle.mdns_page.specs.declared.kept_records.TimelinePart.TheVariants.{Addresses, Instances, Names}
+use Rattle.mdns_page.specs.TimelineRows.{IsCounted, shown_seconds}
+use Rattle.mdns_page.specs.OtherRows.{is_large}
 use Rattle.mdns_page.specs.Html.{isolated}
-use Rattle.mdns_page.specs.Page.{page}
+use Rattle.mdns_page.specs.Document.{page}
 use Rattle.mdns_page.specs.Servers.{IsServed, servers_of}
-use Rattle.mdns_page.specs.Kept.{AreRows, kept_of}
-use Rattle.mdns_page.specs.Survey.{SurveysPage, WritesPage, live_at_end}
+use Rattle.mdns_page.specs.KeptRecords.{AreRows, kept_of}
+use Rattle.mdns_page.specs.Page.{SurveysPage, WritesPage, live_at_end}
 use Rattle.mdns_page.specs.Timeline.{Row, is_open, record_in}
 use Rattle.mdns_page.proofs.OneCaptureLemmas.{IsAlike, are-alike, facts-alike, lost-alike, nothing-alike, one-each}
 
@@ -149,7 +149,7 @@ module _ (each : List (List Hearing)) (rows : List (Latest × List Life)) where
       (All-tail (IsServed rows) x xs served) (All-tail (IsServed rows) y ys other) in
       λ i. row i ∷ rest i
 
-one-rows : (kind : Kind) (large : Bool) (each : List (List Hearing)) (kept : List (Latest × List Life)) (xs ys : List Row)
+one-rows : (kind : TimelinePart) (large : Bool) (each : List (List Hearing)) (kept : List (Latest × List Life)) (xs ys : List Row)
     → AreRows kind large each kept xs → AreRows kind large each kept ys → xs ≡ ys
 one-rows kind large each kept xs ys are too =
     one-drawn each kept xs ys (are.are ∙ sym too.are) are.counted too.counted are.served too.served
@@ -162,7 +162,7 @@ module _ (one_lives : OneLives) where
       → WritesPage about names readings each heard axis text → WritesPage about names more each heard axis other → text ≡ other
   one-written about names readings more each heard axis text other alike first second =
       let rows : second.rows ≡ first.rows = one_lives heard heard second.rows first.rows (same_itself heard) second.lives first.lives in
-      let own = λ (kind : Kind) (large was : Bool) (xs ys : List Row) (same : was ≡ large)
+      let own = λ (kind : TimelinePart) (large was : Bool) (xs ys : List Row) (same : was ≡ large)
       (are : AreRows kind large each (kept_of about first.rows) xs) (too : AreRows kind was each (kept_of about second.rows) ys).
       one-rows kind large each (kept_of about first.rows) xs ys are
       (subst (λ (l : Bool). AreRows kind l each (kept_of about first.rows) ys) same

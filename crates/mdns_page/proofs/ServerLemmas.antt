@@ -6,10 +6,10 @@ use Rattle.std.specs.List.Sorted.{IsStrictlySortedBy}
 use Rattle.mdns_message.specs.Resource.{key_cmp}
 use Rattle.mdns_join.specs.declared.latest.Latest.{Latest}
 use Rattle.mdns_cache.specs.Live.{record_of}
-use Rattle.mdns_lives.specs.Rows.{row_lent}
+use Rattle.mdns_lives.specs.LentLives.{row_lent}
 use Rattle.mdns_lives.specs.declared.life.Life.{Life}
-use Rattle.mdns_lives.specs.declared.record_lives.RecordLives.{RecordLives}
-use Rattle.mdns_page.specs.Kept.{lasts_of}
+use Rattle.mdns_lives.specs.declared.lives.RecordLives.{RecordLives}
+use Rattle.mdns_page.specs.KeptRecords.{lasts_of}
 use Rattle.mdns_page.specs.Servers.{is_server_of, servers_named}
 use Rattle.mdns_page.specs.Timeline.{lives_lent}
 

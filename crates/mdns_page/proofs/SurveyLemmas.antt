@@ -12,10 +12,10 @@ use Rattle.mdns_lives.specs.Since.{AreLiveSince, all_since_rows, live_row}
 use Rattle.mdns_lives.specs.declared.life.Life.{Life}
 use Rattle.mdns_browse.specs.declared.about.Subject.{Subject}
 use Rattle.mdns_browse.specs.Services.{AreAscending, AreEach, GivenRow}
-use Rattle.mdns_survey.specs.declared.each.EachChronicling.{EachChronicling}
+use Rattle.mdns_survey.specs.declared.each_capture.EachChronicling.{EachChronicling}
 use Rattle.mdns_survey.specs.declared.reading.Reading.{Reading}
 use Rattle.mdns_survey.specs.declared.request.AsOf.{AsOf}
-use Rattle.mdns_survey.specs.Captures.{Outcome}
+use Rattle.mdns_survey.specs.Outcomes.{Outcome}
 use Rattle.mdns_survey.specs.Chronicling.{EachChronicled}
 use Rattle.mdns_survey.specs.Filter.{counted, counted_each, filter_of}
 use Rattle.mdns_survey.specs.Question.{HearsReaders, IsAnswer}
@@ -24,8 +24,8 @@ use Rattle.mdns_survey.specs.Surveys.{AllLeft}
 use Rattle.mdns_cache.proofs.StandsPartLemmas.{Contains-cases, Contains-head, Contains-later}
 use Rattle.mdns_page.specs.Axis.{IsAxis}
 use Rattle.mdns_page.specs.declared.axis.Axis.{Axis}
-use Rattle.mdns_page.specs.Survey.{AreLiveGiven, IsSinceKnown, WritesPage, asked_page, given_of_since, live_given}
-use Rattle.mdns_page.specs.Survey.{record_given}
+use Rattle.mdns_page.specs.Page.{AreLiveGiven, IsSinceKnown, WritesPage, asked_page, given_of_since, live_given}
+use Rattle.mdns_page.specs.Page.{record_given}
 
 -- what holds of the value of each element
 mapped-all : {X Y : Type 0} (f : X → Y) (P : Y → Type 0) (xs : List X) → ((x : X) → Contains xs x → P (f x)) → (y : Y)

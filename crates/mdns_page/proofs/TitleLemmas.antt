@@ -8,7 +8,7 @@ use Rattle.std.proofs.lemmas.List.Folds.{flat_map-map, length-flat_map-take}
 use Rattle.std.specs.List.{flat_map}
 use Rattle.mdns_lives.specs.declared.life.Life.{Life}
 use Rattle.mdns_page.specs.Timeline.{Row, lives_in}
-use Rattle.mdns_page.specs.Titles.{IsLess}
+use Rattle.mdns_page.specs.BarTitles.{IsLess}
 
 module _ {X : Type 0} (lives : X → List Life) (xs : List X) (i left count : ℕ) (x : X) (within : i < length xs) (at : x ≡ get_or xs i x)
     (counted : left + length (flat_map lives (take i xs)) ≡ count) where

@@ -3,8 +3,8 @@ use Rattle.std.specs.Prelude.{◌≡◌, ℕ, ◌+◌, ◌-◌, ◌/◌, ◌==�
 use Rattle.mdns_capture.specs.declared.moment.Moment.{Moment}
 use Rattle.mdns_survey.specs.declared.reading.Span.{Span}
 use Rattle.mdns_survey.specs.declared.request.AsOf.{AsOf}
-use Rattle.mdns_survey.specs.Lives.{begin_of, end_of, latest_nanos}
-use Rattle.people_text.specs.Moments.{clock_text, date_text, month_day_text, seconds_of, year_at}
+use Rattle.mdns_survey.specs.LivesAnswer.{begin_of, end_of, latest_nanos}
+use Rattle.people_text.specs.MomentText.{clock_text, date_text, month_day_text, seconds_of, year_at}
 use Rattle.mdns_page.specs.declared.axis.Axis.{Axis}
 use Rattle.mdns_page.specs.declared.axis.Dates.{Dates}
 use Rattle.mdns_page.specs.declared.axis.Dates.TheVariants.{Omitted, WithoutYear, Whole}

@@ -12,7 +12,7 @@ use Rattle.mdns_survey.specs.declared.reading.Span.{Span}
 use Rattle.mdns_survey.specs.declared.summary.Summary.{Summary}
 use Rattle.mdns_page.specs.Captures.{Facts}
 use Rattle.mdns_page.specs.Group.{grouped}
-use Rattle.mdns_page.specs.Live.{address_in, type_of}
+use Rattle.mdns_page.specs.LiveSection.{address_in, type_of}
 use Rattle.mdns_page.specs.Timeline.{Row, owner_of}
 
 -- text of the network isn't written at all

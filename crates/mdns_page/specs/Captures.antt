@@ -3,11 +3,11 @@ use Rattle.std.specs.Prelude.{ℕ, ◌+◌, Bool, true, if◌then◌else◌, nat
 use Rattle.std.specs.Fmt.{decimal}
 use Rattle.mdns_capture.specs.Text.{ending_text}
 use Rattle.mdns_capture.specs.declared.savefile.Ending.{Ending}
-use Rattle.mdns_survey.specs.Lines.{is_whole}
+use Rattle.mdns_survey.specs.ProgramLines.{is_whole}
 use Rattle.mdns_survey.specs.declared.reading.Span.{Span}
 use Rattle.mdns_survey.specs.declared.summary.Summary.{Summary}
 use Rattle.mdns_survey.specs.declared.summary.Tally.{Tally}
-use Rattle.people_text.specs.Moments.{millis_text}
+use Rattle.people_text.specs.MomentText.{millis_text}
 use Rattle.people_text.specs.Shown.{shown}
 use Rattle.mdns_page.specs.Axis.{has_begun, place, place_end, short_text}
 use Rattle.mdns_page.specs.Counts.{commas, count_text}

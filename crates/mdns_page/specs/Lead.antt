@@ -7,8 +7,8 @@ use Rattle.mdns_lives.specs.declared.life.Life.{Life}
 use Rattle.mdns_lives.specs.declared.life.Reason.{Reason}
 use Rattle.mdns_lives.specs.declared.life.Reason.TheVariants.{RanOut, Goodbye, Flushed}
 use Rattle.mdns_browse.specs.declared.about.Subject.{Subject}
-use Rattle.mdns_survey.specs.Lines.{is_whole}
-use Rattle.people_text.specs.Moments.{millis_text}
+use Rattle.mdns_survey.specs.ProgramLines.{is_whole}
+use Rattle.people_text.specs.MomentText.{millis_text}
 use Rattle.people_text.specs.Shown.{shown}
 use Rattle.mdns_page.specs.Captures.{Facts}
 use Rattle.mdns_page.specs.Counts.{commas, count_text}

@@ -1,13 +1,13 @@
 -- The pieces of instances as rows of a page.
 use Rattle.std.specs.Prelude.{◌≡◌, ℕ, if◌then◌else◌, Bool, true, false, List, [], ◌∷◌, ◌++◌, codes, string_bytes}
 use Rattle.people_text.specs.Shown.{name_shown}
-use Rattle.mdns_browse.specs.Shown.{shown_instance}
+use Rattle.mdns_browse.specs.RecordShown.{shown_instance}
 use Rattle.mdns_browse.specs.Sheet.{Piece, live_record, service_type, instance_begin, server_begin, server_address}
 use Rattle.mdns_browse.specs.Sheet.{server_end, servers_end, instance_text, instance_end}
 use Rattle.mdns_page.specs.declared.axis.Axis.{Axis}
 use Rattle.mdns_page.specs.declared.live_sheet.LiveSheet.{LiveSheet}
 use Rattle.mdns_page.specs.Html.{isolated}
-use Rattle.mdns_page.specs.Live.{address_html, given_words, server_line, text_html}
+use Rattle.mdns_page.specs.LiveSection.{address_html, given_words, server_line, text_html}
 
 -- the text of a piece; `first` tells whether an address is the first of its server
 abbrev pub piece_html : (List ℕ → List ℕ) → Axis → Bool → Piece → List ℕ

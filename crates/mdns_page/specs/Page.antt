@@ -1,84 +1,109 @@
--- The whole page.
-use Rattle.std.specs.Prelude.{ℕ, Option, List, ◌++◌, codes, length, map}
-use Rattle.std.specs.Fmt.{decimal}
+-- The page on captures.
+use Rattle.std.specs.Prelude.{◌≡◌, ℕ, ◌+◌, ◌≤◌, Bool, false, List, [], ◌∷◌, Option, Some, length, map, Contains}
+use Rattle.std.specs.List.{filter}
+use Rattle.mdns_capture.specs.Savefile.{PacketAt}
+use Rattle.mdns_message.specs.declared.hearing.Hearing.{Hearing}
+use Rattle.mdns_join.specs.declared.latest.Latest.{Latest}
+use Rattle.mdns_cache.specs.Live.{AreLiveRecords, record_of}
+use Rattle.mdns_lives.specs.declared.life.Life.{Life}
+use Rattle.mdns_lives.specs.Chronicle.{AreAllLives}
+use Rattle.mdns_lives.specs.Since.{IsLiveSince, all_since_rows}
 use Rattle.mdns_browse.specs.declared.about.Subject.{Subject}
-use Rattle.mdns_survey.specs.declared.reading.Span.{Span}
-use Rattle.mdns_page.specs.Axis.{days_text}
-use Rattle.mdns_page.specs.Captures.{Facts, captures_text, facts_lent, spans_of}
-use Rattle.mdns_page.specs.Hosts.{is_large}
-use Rattle.mdns_page.specs.Lanes.{height, lanes_for}
-use Rattle.mdns_page.specs.Lead.{lead_text}
-use Rattle.mdns_page.specs.Ticks.{symbols_text}
-use Rattle.mdns_page.specs.Timeline.{Row, counted_lent, timeline}
+use Rattle.mdns_browse.specs.Services.{GivenRow}
+use Rattle.mdns_survey.specs.declared.reading.Reading.{Reading}
+use Rattle.mdns_survey.specs.declared.request.AsOf.{AsOf}
+use Rattle.mdns_survey.specs.declared.summary.Summary.{Summary}
+use Rattle.mdns_survey.specs.Outcomes.{Outcome}
+use Rattle.mdns_survey.specs.Filter.{counted, counted_each, filter_of}
+use Rattle.mdns_survey.specs.Readings.{all_moments, lost_in, summaries_of}
+use Rattle.mdns_survey.specs.Question.{Asked, asked_at_once}
+use Rattle.mdns_survey.specs.Surveys.{AllLeft}
 use Rattle.mdns_page.specs.declared.axis.Axis.{Axis}
-use Rattle.mdns_page.specs.declared.page.Parts.{Parts}
-use Rattle.mdns_page.specs.declared.style.TheConstants.{STYLE}
+use Rattle.mdns_page.specs.declared.kept_records.TimelinePart.TheVariants.{Addresses, Instances, Names}
+use Rattle.mdns_page.specs.Axis.{IsAxis}
+use Rattle.mdns_page.specs.Captures.{Facts}
+use Rattle.mdns_page.specs.OtherRows.{is_large}
+use Rattle.mdns_page.specs.Html.{isolated}
+use Rattle.mdns_page.specs.KeptRecords.{AreRows, is_drawn, kept_of, looked_up}
+use Rattle.mdns_page.specs.LiveSection.{live_text}
+use Rattle.mdns_page.specs.SkippedSection.{nothing_text}
+use Rattle.mdns_page.specs.Document.{page}
+use Rattle.mdns_page.specs.Timeline.{Row, is_open}
 
--- ---- the head of the file
+-- ---- what was live at the end
 
--- a document in UTF-8 that runs no script and loads nothing
-unfoldable pub policy : List ℕ
-policy =
-    codes "<!doctype html>\n<html lang=\"en\"><head><meta charset=\"utf-8\">\n"
-    ++ codes "<meta http-equiv=\"Content-Security-Policy\" content=\"default-src 'none'; style-src 'unsafe-inline'\">\n"
-    ++ codes "<meta name=\"viewport\" content=\"width=device-width\">\n"
+-- a live record with its end and since when it has been live, as one that may give an instance
+abbrev pub given_of_since : (Latest × ℕ) × ℕ → GivenRow
+given_of_since row = record { last = row.0.0; end = row.0.1; since = Some row.1 }
 
--- the title, with the days of the captures
-unfoldable pub title : Axis → List ℕ
-title axis = codes "Multicast DNS, " ++ days_text axis
+-- its last hearing with its end
+abbrev pub record_given : GivenRow → Latest × ℕ
+record_given given = (given.last, given.end)
 
--- with the height of the pictures of rows
-unfoldable pub head : Axis → (lanes : ℕ) → List ℕ
-head axis lanes =
-    policy ++ codes "<title>" ++ title axis ++ codes "</title>\n<style>\n" ++ STYLE.now ++ codes "li>svg{height:"
-    ++ decimal (height lanes) ++ codes "px}\n</style></head>\n"
+-- the record has been live since then
+abbrev pub IsSinceKnown : List Hearing → ℕ → Latest → Option ℕ → Type 0
+IsSinceKnown heard now last since = (from : ℕ) × (since ≡ Some from) × IsLiveSince heard now (record_of last) from
 
--- ---- the body
+-- the live records, each with since when it has been live
+pub record AreLiveGiven (heard : List Hearing) (now : ℕ) (rows : List GivenRow) : Type 0 where
+  pub records : AreLiveRecords heard now (map record_given rows)
+  pub since : (row : GivenRow) → Contains rows row → IsSinceKnown heard now row.last row.since
 
--- what the pictures share, and the heading
-unfoldable pub body_begin : Axis → (lanes : ℕ) → List (Option Span) → List ℕ
-body_begin axis lanes spans =
-    codes "<body>\n" ++ symbols_text axis lanes spans ++ codes "<main>\n<h1>" ++ title axis ++ codes "</h1>\n"
+-- the records that are live at the end, each with its end and since when it has been live
+abbrev pub live_given : Axis → List (Latest × List Life) → List GivenRow
+live_given axis rows = map given_of_since (all_since_rows axis.end.nanos rows)
 
--- links to the sections
-unfoldable pub links : List ℕ
-links =
-    codes "<nav><a href=\"#captures\">Captures</a><a href=\"#timeline\">Timeline</a>"
-    ++ codes "<a href=\"#live\">What was live</a><a href=\"#nothing\">Skipped packets</a></nav>\n"
+-- what was live at the end: the instances of these that are about the subjects by all last hearings, with their servers and texts
+-- among all records that are live then
+abbrev pub live_at_end : List Subject → Axis → (opened : Bool) → List (Latest × List Life) → List ℕ
+live_at_end about axis opened rows =
+    let given = live_given axis rows in
+    live_text isolated axis opened (map (λ (row : GivenRow). row.last) given)
+    (filter (λ row. is_drawn about (looked_up about rows) row.last) given)
 
--- ---- the whole
+-- what a page tells of captures with these names and readings
+abbrev pub facts_of : List (List ℕ) → List Reading → List Facts
+facts_of (name ∷ names) (reading ∷ readings) =
+    record { name = name; summary = reading.summary; span = reading.span } ∷ facts_of names readings
+facts_of _ _ = []
 
--- what a page shows: captures, of whose packets `lost` lost what they said, the rows of all instances heard that are about the
--- subjects, those of addresses and of names that aren't one label and the type, what was live at the end, and the packets that told nothing
-pub record Shown : Type 0 where
-  pub axis : Axis
-  pub about : List Subject
-  pub captures : List Facts
-  pub lost : ℕ
-  pub rows : List Row
+-- The text is the page on captures with these names and readings, by hearings none of which is later than the end of the
+-- axis: but for the seconds in which each capture heard a record, all that it shows is a function of the lives of all records.
+pub record WritesPage (about : List Subject) (names : List (List ℕ)) (readings : List Reading) (each : List (List Hearing))
+    (heard : List Hearing) (axis : Axis) (text : List ℕ) : Type 0 where
+  pub latest : (hearing : Hearing) → Contains heard hearing → hearing.moment.nanos ≤ axis.end.nanos
+  pub rows : List (Latest × List Life)
+  pub lives : AreAllLives heard rows
+  pub instances : List Row
+  pub are_instances : AreRows Instances false each (kept_of about rows) instances
   pub addresses : List Row
-  pub names : List Row
-  pub live : List ℕ
-  pub nothing : List ℕ
+  pub are_addresses : AreRows Addresses (is_large (length instances)) each (kept_of about rows) addresses
+  pub others : List Row
+  pub are_others : AreRows Names (is_large (length instances)) each (kept_of about rows) others
+  pub written : text ≡ page isolated (record {
+    axis = axis;
+    about = about;
+    captures = facts_of names readings;
+    lost = lost_in readings;
+    rows = instances;
+    addresses = addresses;
+    names = others;
+    live = live_at_end about axis (is_open (length instances + length addresses + length others)) rows;
+    nothing = nothing_text readings;
+  })
 
-abbrev pub parts_lent : Parts → Shown
-parts_lent parts = record {
-  axis = parts.axis;
-  about = parts.about.now;
-  captures = map facts_lent parts.captures.now;
-  lost = parts.lost;
-  rows = map counted_lent parts.rows.now;
-  addresses = map counted_lent parts.addresses.now;
-  names = map counted_lent parts.names.now;
-  live = parts.live.now;
-  nothing = parts.nothing.now;
-}
+-- The text is the page on all captures, from their earliest packet to their end, by those hearings that count.
+pub record SurveysPage (names : List (List ℕ)) (about : List Subject) (as_of : AsOf) (captures : List (List ℕ))
+    (summaries : List Summary) (text : List ℕ) : Type 0 where
+  pub packets : List (List PacketAt)
+  pub outcomes : List (List Outcome)
+  pub readings : List Reading
+  pub read : AllLeft (map Some captures) packets outcomes readings
+  pub summed : summaries ≡ summaries_of readings
+  pub axis : Axis
+  pub is_axis : IsAxis as_of (all_moments packets) axis
+  pub writes : WritesPage about names readings (counted_each (filter_of as_of) outcomes) (counted (filter_of as_of) outcomes) axis text
 
--- the page; `say` is how text of the network is written
-abbrev pub page : (List ℕ → List ℕ) → Shown → List ℕ
-page say shown =
-    let axis = shown.axis in
-    let lanes = lanes_for (is_large (length shown.rows)) (length shown.captures) in
-    head axis lanes ++ body_begin axis lanes (spans_of shown.captures)
-    ++ lead_text say axis shown.about shown.rows shown.captures shown.lost ++ links ++ captures_text say axis shown.captures
-    ++ timeline say axis lanes shown.rows shown.addresses shown.names ++ shown.live ++ shown.nothing ++ codes "</main></body></html>\n"
+-- a page on captures with these names
+abbrev pub asked_page : List (List ℕ) → List Subject → AsOf → Asked
+asked_page names about as_of = asked_at_once (SurveysPage names about as_of) as_of

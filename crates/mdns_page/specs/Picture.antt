@@ -7,7 +7,7 @@ use Rattle.mdns_lives.specs.declared.life.Life.{Life}
 use Rattle.mdns_lives.specs.declared.life.Reason.{Reason}
 use Rattle.mdns_lives.specs.declared.life.Reason.TheVariants.{RanOut, Goodbye, Flushed}
 use Rattle.mdns_page.specs.Axis.{place, place_end}
-use Rattle.mdns_page.specs.Titles.{life_title}
+use Rattle.mdns_page.specs.BarTitles.{life_title}
 use Rattle.mdns_page.specs.declared.axis.Axis.{Axis}
 use Rattle.mdns_page.specs.declared.picture.Mark.{Mark}
 use Rattle.mdns_page.specs.declared.picture.Stroke.{Stroke}

@@ -5,7 +5,7 @@ use Rattle.std.specs.Fmt.{decimal}
 use Rattle.std.specs.Int.{div_ceil}
 use Rattle.std.specs.List.{flat_map, range_with_len}
 use Rattle.mdns_capture.specs.Limits.{second}
-use Rattle.people_text.specs.Moments.{clock_text, hours_text, seconds_of}
+use Rattle.people_text.specs.MomentText.{clock_text, hours_text, seconds_of}
 use Rattle.mdns_survey.specs.declared.reading.Span.{Span}
 use Rattle.mdns_page.specs.Axis.{day_text, place}
 use Rattle.mdns_page.specs.Lanes.{bases_text, height}

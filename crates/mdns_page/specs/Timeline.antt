@@ -9,21 +9,21 @@ use Rattle.mdns_message.specs.declared.parts.Content.{Content}
 use Rattle.mdns_message.specs.declared.parts.Content.TheVariants as content
 use Rattle.mdns_join.specs.declared.latest.Latest.{Latest}
 use Rattle.mdns_lives.specs.declared.life.Life.{Life}
-use Rattle.mdns_lives.specs.declared.record_lives.RecordLives.{RecordLives}
+use Rattle.mdns_lives.specs.declared.lives.RecordLives.{RecordLives}
 use Rattle.mdns_lives.specs.declared.seconds_heard.SecondHeard.{SecondHeard}
 use Rattle.people_text.specs.Shown.{name_shown}
-use Rattle.mdns_browse.specs.Shown.{shown_instance}
-use Rattle.mdns_cache.specs.Rows.{last_lent}
+use Rattle.mdns_browse.specs.RecordShown.{shown_instance}
+use Rattle.mdns_cache.specs.LentRecords.{last_lent}
 use Rattle.mdns_page.specs.Counts.{live_count_text}
 use Rattle.mdns_page.specs.Group.{axis_picture, first_owner, group, grouped, item}
-use Rattle.mdns_page.specs.Heard.{heard_text}
-use Rattle.mdns_page.specs.Hosts.{host_name, is_large, large_note, others_words}
-use Rattle.mdns_page.specs.Key.{key}
+use Rattle.mdns_page.specs.HeardWords.{heard_text}
+use Rattle.mdns_page.specs.OtherRows.{host_name, is_large, large_note, others_words}
+use Rattle.mdns_page.specs.Legend.{key}
 use Rattle.mdns_page.specs.Picture.{goes_on}
 use Rattle.mdns_page.specs.RowPicture.{picture}
-use Rattle.mdns_page.specs.Words.{lives_words}
+use Rattle.mdns_page.specs.LifeWords.{lives_words}
 use Rattle.mdns_page.specs.declared.axis.Axis.{Axis}
-use Rattle.mdns_page.specs.declared.counted.CountedRow.{CountedRow}
+use Rattle.mdns_page.specs.declared.timeline_rows.CountedRow.{CountedRow}
 use Rattle.mdns_page.specs.declared.look.Look.{Look}
 
 -- ---- rows of records

@@ -13,7 +13,7 @@ use mdns_message::Want;
 use mdns_survey::reading::{Reading, Span};
 use mdns_survey::readings::{begin_of, end_of};
 use mdns_survey::request::AsOf;
-use people_text::moments::{push_clock, push_date, push_month_day, year_at};
+use people_text::moment_text::{push_clock, push_date, push_month_day, year_at};
 
 /// Places on the axis, from 0 on.
 const PLACES: u64 = 1000;

@@ -2,7 +2,7 @@
 
 ghost use Rattle.std.specs.Prelude.{◌≡◌, ◌<◌, ◌^◌, ◌++◌, length, map, nat_lt, OnOk};
 ghost use Rattle.std.specs.String.{string_bytes};
-ghost use Rattle.mdns_survey.specs.Lines.{is_whole};
+ghost use Rattle.mdns_survey.specs.ProgramLines.{is_whole};
 ghost use Rattle.people_text.specs.Shown.{shown};
 ghost use Rattle.mdns_page.specs.Captures.{capture_text, captures_text, each_from, ending_words, facts_lent, number_text};
 ghost use Rattle.mdns_page.specs.Captures.{outcomes_text, recorded_bar, recorded_path, recorded_picture, recorded_stroke, recorded_words, sizes_text};
@@ -16,7 +16,7 @@ use mdns_capture::Ending;
 use mdns_message::Want;
 use mdns_survey::reading::Span;
 use mdns_survey::{Summary, Tally};
-use people_text::moments::push_millis;
+use people_text::moment_text::push_millis;
 use people_text::shown::push_shown;
 
 /// The most captures that have circled digits for their numbers, and ticks for what they heard.

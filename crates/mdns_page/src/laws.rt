@@ -27,11 +27,11 @@ ghost use Rattle.mdns_page.specs.Bare.{bare_capture, bare_groups, bare_instances
 ghost use Rattle.mdns_page.specs.Counts.{commas};
 ghost use Rattle.mdns_page.specs.Group.{AreGroups, grouped};
 ghost use Rattle.mdns_page.specs.Html.{html_text, BeginsReference, IsHarmless};
-ghost use Rattle.mdns_page.specs.Live.{live_text};
+ghost use Rattle.mdns_page.specs.LiveSection.{live_text};
 ghost use Rattle.mdns_page.specs.Lanes.{second_mark};
-ghost use Rattle.mdns_page.specs.Page.{Shown, page};
+ghost use Rattle.mdns_page.specs.Document.{Shown, page};
 ghost use Rattle.mdns_page.specs.Picture.{AreInOrder, differing, mark_of};
-ghost use Rattle.mdns_page.specs.Survey.{AreLiveGiven, SurveysPage, live_given};
+ghost use Rattle.mdns_page.specs.Page.{AreLiveGiven, SurveysPage, live_given};
 ghost use Rattle.mdns_page.specs.Ticks.{step_of, ticks};
 ghost use Rattle.mdns_page.specs.Timeline.{Row, owner_of};
 

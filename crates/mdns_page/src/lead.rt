@@ -13,15 +13,15 @@ ghost use Rattle.mdns_page.specs.Timeline.{count_last, counted_lent, is_some_suc
 
 use crate::axis::Axis;
 use crate::captures::{CaptureFacts, is_whole, push_shown_word};
-use crate::counted::CountedRow;
 use crate::counts::{push_commas, push_count};
 use crate::picture::{goes_on, is_for};
-use crate::rows::live_rows;
+use crate::row_text::live_rows;
+use crate::timeline_rows::CountedRow;
 use mdns_browse::Subject;
 use mdns_capture::Ending;
 use mdns_lives::{Life, Reason};
 use mdns_message::Want;
-use people_text::moments::push_millis;
+use people_text::moment_text::push_millis;
 
 /// Appends what a page begins with: how many instances were live at the end of the captures, how many of them have said goodbye,
 /// and how many had ended before;

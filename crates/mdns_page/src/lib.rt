@@ -3,34 +3,34 @@
 //! listeners heard.
 #![tactic(auto)]
 
-mod about;
+mod about_heard;
 mod axis;
+mod bar_titles;
 mod captures;
-mod counted;
 mod counts;
+mod document;
 mod group;
-mod heard;
-mod hosts;
+mod heard_words;
 mod html;
-mod kept;
-mod key;
+mod kept_records;
 mod lanes;
 pub mod laws;
 mod lead;
-mod live;
+mod legend;
+mod life_words;
+mod live_section;
 mod live_sheet;
 mod live_words;
 mod look;
-mod nothing;
+mod other_rows;
 mod owners;
-mod page;
+pub mod page;
 mod picture;
 mod row_picture;
-mod rows;
+mod row_text;
 mod servers;
+mod skipped_section;
 mod style;
-pub mod survey;
 mod ticks;
 mod timeline;
-mod titles;
-mod words;
+mod timeline_rows;

@@ -13,7 +13,7 @@ use mdns_browse::push_shown_instance;
 use mdns_browse::sheet::{Given, Sheet};
 use mdns_cache::LiveRecord;
 use mdns_message::{BorrowedBody, Bytes, Name, Want};
-use people_text::name_text::push_shown_name;
+use people_text::shown_names::push_shown_name;
 
 /// The text of a page, to which a row is appended for each instance.
 #[derive(Drop)]

@@ -7,10 +7,10 @@ ghost use Rattle.mdns_message.specs.Borrowed.{body_lent};
 ghost use Rattle.mdns_message.specs.Parts.{content_lent};
 ghost use Rattle.mdns_browse.specs.Given.{given_lent, nanos_in};
 ghost use Rattle.mdns_browse.specs.Json.{first_after};
-ghost use Rattle.mdns_browse.specs.Shown.{shown_order, shown_string, shown_strings, spaced_wide};
+ghost use Rattle.mdns_browse.specs.RecordShown.{shown_order, shown_string, shown_strings, spaced_wide};
 ghost use Rattle.mdns_page.specs.Html.{isolated};
-ghost use Rattle.mdns_page.specs.Live.{address_html, address_if, address_said, address_text, given_words, left_words, lines, since_text};
-ghost use Rattle.mdns_page.specs.Live.{text_html};
+ghost use Rattle.mdns_page.specs.LiveSection.{address_html, address_if, address_said, address_text, given_words, left_words, lines, since_text};
+ghost use Rattle.mdns_page.specs.LiveSection.{text_html};
 
 use crate::axis::{Axis, Dates, push_short};
 use crate::html::push_isolated;
@@ -45,7 +45,7 @@ fn push_since(to: &mut String, dates: Dates, since: Option<Moment>) -> Result<()
 }
 
 // Appends how much longer an instance lives, or that it has said goodbye (RFC 6762, section 10.1).
-#[tactic(auto, unfolding(crate::specs::Live::left_words))]
+#[tactic(auto, unfolding(crate::specs::LiveSection::left_words))]
 fn push_left(to: &mut String, now: Moment, given: &Given<'_>) -> Result<(), Want>
     ensures { OnOk result (string_bytes to.new ≡ string_bytes to.old ++ left_words now.nanos (given_lent given.now)) }
 {

@@ -1,132 +1,219 @@
-//! The whole page.
+//! The page on several captures.
 
-ghost use Rattle.std.specs.Prelude.{◌≡◌, ◌++◌, map, OnOk};
-ghost use Rattle.std.specs.String.{string_bytes};
-ghost use Rattle.mdns_page.specs.Captures.{facts_lent, spans_of};
-ghost use Rattle.mdns_page.specs.Html.{isolated};
-ghost use Rattle.mdns_page.specs.Page.{body_begin, head, links, page, parts_lent, policy, title};
+ghost use Rattle.std.specs.Prelude.{◌≡◌, ◌≤◌, ◌++◌, ◌∷◌, [], Contains, IfOk, List, OnOk, map, string_bytes};
+ghost use Rattle.std.specs.List.{filter};
+ghost use Rattle.mdns_message.specs.declared.hearing.Hearing.{Hearing};
+ghost use Rattle.mdns_cache.specs.Live.{NoneLater};
+ghost use Rattle.mdns_cache.specs.LentRecords.{last_lent};
+ghost use Rattle.mdns_lives.specs.Chronicle.{Chronicles, rows_of};
+ghost use Rattle.mdns_lives.specs.Since.{live_since_lent};
+ghost use Rattle.mdns_browse.specs.Given.{given_lent};
+ghost use Rattle.mdns_browse.specs.Services.{AreAscending, AreEach};
+ghost use Rattle.mdns_page.specs.Captures.{facts_lent};
+ghost use Rattle.mdns_page.specs.KeptRecords.{is_drawn, looked_up};
+ghost use Rattle.mdns_page.specs.Page.{WritesPage, facts_of, given_of_since, live_at_end};
 
-use crate::axis::{Axis, push_days};
-use crate::captures::{CaptureFacts, push_captures};
-use crate::counted::CountedRow;
-use crate::hosts::is_large;
-use crate::lanes::{lanes_for, push_height};
-use crate::lead::push_lead;
-use crate::style::STYLE;
-use crate::ticks::push_symbols;
-use crate::timeline::push_timeline;
-use mdns_browse::Subject;
+use crate::about_heard::heard_rows;
+use crate::axis::{Axis, axis_of};
+use crate::captures::CaptureFacts;
+use crate::document::{PageParts, push_page};
+use crate::kept_records::{TimelinePart, is_drawn, kept_rows, unless_large};
+use crate::live_section::push_live;
+use crate::other_rows::is_large;
+use crate::skipped_section::push_nothing;
+use crate::timeline::is_open;
+use crate::timeline_rows::counted_rows;
+use mdns_browse::about::Subject;
+use mdns_browse::report::ReportFault;
+use mdns_browse::sheet::Given;
+use mdns_cache::{Last, LiveRecord};
+use mdns_lives::{LiveSince, Lives};
 use mdns_message::Want;
+use mdns_survey::each_capture::EachChronicling;
+use mdns_survey::question::{Question, TextAnswer};
+use mdns_survey::reading::Reading;
+use mdns_survey::readings::lost_packets;
+use mdns_survey::recording_hearer::newest_after;
+use mdns_survey::request::{AsOf, Subjects};
+use std::alloc::Global;
 
-/// What a page is made of.
+/// A page on captures, about the service instances that are about one of the subjects, or about all where there are no
+/// subjects: what each of the captures `names` is, when each instance, each address, and each name that isn't one label and
+/// its type was live, how often each capture heard it, and what was live at the end. `names` has one name for each capture.
+///
+/// The captures end as for lives: at the moment of `as_of`, or with `AsOf::Newest` at the latest packet's moment. The
+/// page begins at the earliest packet's moment, or at the end where that is earlier.
 #[derive(Drop)]
-pub(crate) struct Parts<'a> {
-    pub(crate) axis: Axis,
-    /// The subjects that it is about.
-    pub(crate) about: &'a [Subject],
-    /// The captures that were read.
-    pub(crate) captures: &'a [CaptureFacts<'a>],
-    /// How many of their packets lost what they said.
-    pub(crate) lost: u128,
-    /// The rows of PTR records that give an instance about the subjects, in key order.
-    pub(crate) rows: &'a [CountedRow<'a>],
-    /// The rows of addresses.
-    pub(crate) addresses: &'a [CountedRow<'a>],
-    /// The rows of names that aren't one label and their type.
-    pub(crate) names: &'a [CountedRow<'a>],
-    /// The section on what was live at the end, which is appended as it is.
-    pub(crate) live: &'a str,
-    /// That on the packets that told nothing, too.
-    pub(crate) nothing: &'a str,
+pub struct Page<'a> {
+    pub names: &'a [String],
+    pub as_of: AsOf,
+    pub about: Subjects,
 }
 
-/// Appends the page: one HTML file without scripts that loads nothing. After `Want` a part of the page may have been appended.
-pub(crate) fn push_page(to: &mut String, parts: &Parts<'_>) -> Result<(), Want>
-    ensures { OnOk result (string_bytes to.new ≡ string_bytes to.old ++ page isolated (parts_lent parts.now)) }
-{
-    let axis = parts.axis;
-    let lanes = lanes_for(is_large(parts.rows.len()), parts.captures.len());
-    push_head(to, axis, lanes)?;
-    push_body_begin(to, axis, lanes, parts.captures)?;
-    push_lead(
-        to,
-        axis,
-        parts.about,
-        parts.rows,
-        parts.captures,
-        parts.lost,
-    )?;
-    push_links(to)?;
-    push_captures(to, axis, parts.captures)?;
-    push_timeline(to, axis, lanes, parts.rows, parts.addresses, parts.names)?;
-    to.push_str(parts.live)?;
-    to.push_str(parts.nothing)?;
-    to.push_str("</main></body></html>\n")?;
-    Ok(())
+impl<'a> Question for Page<'a> {
+    ghost use Rattle.mdns_survey.specs.Chronicling.{EachChronicled};
+    ghost use Rattle.mdns_survey.specs.Filter.{filter_of};
+    ghost use Rattle.mdns_page.specs.Page.{asked_page};
+
+    type Listener = EachChronicling;
+
+    ghost asked = { λ page. asked_page (map string_bytes page.names.now) page.about page.as_of };
+
+    ghost Heard = { λ page. EachChronicled (filter_of page.as_of) };
+
+    fn listener(&self, alloc: Global) -> Result<EachChronicling, Want> {
+        EachChronicling::new(alloc, self.as_of.filter())
+    }
 }
 
-fn push_head(to: &mut String, axis: Axis, lanes: u32) -> Result<(), Want>
-    ensures { OnOk result (string_bytes to.new ≡ string_bytes to.old ++ head axis lanes) }
-{
-    push_policy(to)?;
-    to.push_str("<title>")?;
-    push_title(to, axis)?;
-    to.push_str("</title>\n<style>\n")?;
-    to.push_str(STYLE)?;
-    to.push_str("li>svg{height:")?;
-    push_height(to, lanes)?;
-    to.push_str("px}\n</style></head>\n")?;
-    Ok(())
+impl<'a> TextAnswer for Page<'a> {
+    fn text(
+        self,
+        alloc: Global,
+        listener: EachChronicling,
+        readings: &[Reading],
+    ) -> Result<String, ReportFault> {
+        let axis = axis_of(self.as_of, readings);
+        if let Some(newest) = newest_after(&listener.all, axis.end) {
+            return Err(ReportFault::Early { newest });
+        }
+        let about = self.about.as_slice();
+        match page_of(alloc, self.names, &listener, readings, axis, about) {
+            Ok(text) => Ok(text),
+            Err(Want) => Err(ReportFault::Memory),
+        }
+    }
 }
 
-// Appends what the head begins with. The policy forbids scripts, and to load anything.
-#[tactic(auto, unfolding(crate::specs::Page::policy))]
-fn push_policy(to: &mut String) -> Result<(), Want>
-    ensures { OnOk result (string_bytes to.new ≡ string_bytes to.old ++ policy) }
-{
-    to.push_str(
-        "<!doctype html>\n<html lang=\"en\"><head><meta charset=\"utf-8\">\n\
-         <meta http-equiv=\"Content-Security-Policy\" \
-         content=\"default-src 'none'; style-src 'unsafe-inline'\">\n\
-         <meta name=\"viewport\" content=\"width=device-width\">\n",
-    )?;
-    Ok(())
-}
-
-fn push_title(to: &mut String, axis: Axis) -> Result<(), Want>
-    ensures { OnOk result (string_bytes to.new ≡ string_bytes to.old ++ title axis) }
-{
-    to.push_str("Multicast DNS, ")?;
-    push_days(to, axis)?;
-    Ok(())
-}
-
-// Appends what the body begins with: what the pictures share, and the heading.
-#[tactic(auto, unfolding(crate::specs::Page::body_begin))]
-fn push_body_begin(
-    to: &mut String,
+// Writes the page by hearings none of which is later than the end of the axis.
+fn page_of(
+    alloc: Global,
+    names: &[String],
+    chronicled: &EachChronicling,
+    readings: &[Reading],
     axis: Axis,
-    lanes: u32,
-    captures: &[CaptureFacts<'_>],
-) -> Result<(), Want>
-    ensures { OnOk result (string_bytes to.new
-        ≡ string_bytes to.old ++ body_begin axis lanes (spans_of (map facts_lent captures.now))) }
+    about: &[Subject],
+) -> Result<String, Want>
+    requires { NoneLater chronicled.now.all.newest axis.end }
+    ensures { IfOk result (λ text. (each : List (List Hearing)) (heard : List Hearing)
+        → AreEach Chronicles chronicled.now.captures.items each → Chronicles chronicled.now.all heard
+        → ((hearing : Hearing) → Contains heard hearing → hearing.moment.nanos ≤ axis.end.nanos)
+        → WritesPage about.now (map string_bytes names.now) readings.now each heard axis (string_bytes text)) }
 {
-    to.push_str("<body>\n")?;
-    push_symbols(to, axis, lanes, captures)?;
-    to.push_str("<main>\n<h1>")?;
-    push_title(to, axis)?;
-    to.push_str("</h1>\n")?;
+    let heard = heard_rows(alloc, chronicled.all.walk(), about)?;
+    let kept = kept_rows(alloc, chronicled.all.walk(), heard.as_slice(), about)?;
+    let records = kept.as_slice();
+    let each = chronicled.captures.as_slice();
+    let rows = counted_rows(alloc, TimelinePart::Instances, records, records, each)?;
+    let few = unless_large(is_large(rows.len()), records);
+    let addresses = counted_rows(alloc, TimelinePart::Addresses, few, records, each)?;
+    let others = counted_rows(alloc, TimelinePart::Names, few, records, each)?;
+    let opened = is_open(rows.len(), addresses.len(), others.len());
+    let live = live_of(
+        alloc,
+        &chronicled.all,
+        heard.as_slice(),
+        axis,
+        opened,
+        about,
+    )?;
+    let mut nothing = String::new(alloc);
+    push_nothing(&mut nothing, readings)?;
+    let mut text = String::new(alloc);
+    let captures = facts_of(alloc, names, readings)?;
+    let parts = PageParts {
+        axis,
+        about,
+        captures: captures.as_slice(),
+        lost: lost_packets(readings),
+        rows: rows.as_slice(),
+        addresses: addresses.as_slice(),
+        names: others.as_slice(),
+        live: live.as_str(),
+        nothing: nothing.as_str(),
+    };
+    push_page(&mut text, &parts)?;
+    Ok(text)
+}
+
+// Collects what the page tells of the captures.
+fn facts_of<'a>(
+    alloc: Global,
+    names: &'a [String],
+    readings: &[Reading],
+) -> Result<Vec<CaptureFacts<'a>>, Want>
+    ensures { IfOk result (λ facts. map facts_lent facts.items ≡ facts_of (map string_bytes names.now) readings.now) }
+{
+    let mut facts = Vec::new(alloc);
+    let mut names = names;
+    let mut readings = readings;
+    while let Some((name, more_names)) = names.split_first()
+        && let Some((reading, more_readings)) = readings.split_first()
+    {
+        facts.push(CaptureFacts {
+            name: name.as_str(),
+            summary: reading.summary,
+            span: reading.span,
+        })?;
+        names = more_names;
+        readings = more_readings;
+    }
+    Ok(facts)
+}
+
+// Writes what was live at the end.
+fn live_of(
+    alloc: Global,
+    lives: &Lives,
+    heard: &[Last<'_>],
+    axis: Axis,
+    opened: bool,
+    about: &[Subject],
+) -> Result<String, Want>
+    requires { NoneLater lives.now.newest axis.end }
+    ensures { IfOk result (λ text. (hearings : List Hearing) → Chronicles lives.now hearings
+        → AreAscending (map last_lent heard.now) → map last_lent heard.now ≡ looked_up about.now (rows_of lives.now)
+        → string_bytes text ≡ live_at_end about.now axis opened (rows_of lives.now)) }
+{
+    let live = lives.live_at(axis.end)?;
+    let mut rows = Vec::new(alloc);
+    let mut given = Vec::new(alloc);
+    let mut scratch = String::new(alloc);
+    for row in &live {
+        rows.push(row.last)?;
+        push_given(&mut given, row, heard, about, &mut scratch)?;
+    }
+    let mut text = String::new(alloc);
+    push_live(&mut text, axis, opened, rows.as_slice(), given.as_slice())?;
+    Ok(text)
+}
+
+fn push_given<'a>(
+    to: &mut Vec<Given<'a>>,
+    row: &LiveSince<'a>,
+    heard: &[Last<'_>],
+    about: &[Subject],
+    scratch: &mut String,
+) -> Result<(), Want>
+    ensures { OnOk result (AreAscending (map last_lent heard.now) → map given_lent to.new.items
+        ≡ map given_lent to.old.items ++ filter (λ given. is_drawn about.now (map last_lent heard.now) given.last)
+        (given_of_since (live_since_lent row.now) ∷ [])) }
+{
+    if is_drawn(&row.last, heard, about, scratch)? {
+        to.push(given_by(row))?;
+    }
     Ok(())
 }
 
-#[tactic(auto, unfolding(crate::specs::Page::links))]
-fn push_links(to: &mut String) -> Result<(), Want>
-    ensures { OnOk result (string_bytes to.new ≡ string_bytes to.old ++ links) }
+// Returns a live record as one that gives an instance.
+fn given_by<'a>(row: &LiveSince<'a>) -> Given<'a>
+    ensures { given_lent result ≡ given_of_since (live_since_lent row.now) }
 {
-    to.push_str(
-        "<nav><a href=\"#captures\">Captures</a><a href=\"#timeline\">Timeline</a>\
-         <a href=\"#live\">What was live</a><a href=\"#nothing\">Skipped packets</a></nav>\n",
-    )?;
-    Ok(())
+    Given {
+        row: LiveRecord {
+            last: row.last,
+            end: row.end,
+        },
+        since: Some(row.since),
+    }
 }

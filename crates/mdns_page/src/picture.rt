@@ -10,7 +10,7 @@ ghost use Rattle.mdns_page.specs.Picture.{path, path_begin, path_end, path_last,
 ghost use Rattle.mdns_page.specs.Timeline.{lives_lent};
 
 use crate::axis::Axis;
-use crate::titles::push_life_title;
+use crate::bar_titles::push_life_title;
 use mdns_lives::{Life, Reason, RecordLives};
 use mdns_message::Want;
 

@@ -5,10 +5,10 @@ ghost use Rattle.std.specs.List.Sorted.{IsStrictlySortedBy};
 ghost use Rattle.mdns_message.specs.Resource.{key_cmp, set_key_cmp, set_key_of, type_number};
 ghost use Rattle.mdns_message.specs.declared.record_type.RecordType.TheVariants.{Srv};
 ghost use Rattle.mdns_cache.specs.Live.{record_of};
-ghost use Rattle.mdns_cache.specs.Rows.{last_lent};
-ghost use Rattle.mdns_lives.specs.Rows.{row_lent};
+ghost use Rattle.mdns_cache.specs.LentRecords.{last_lent};
+ghost use Rattle.mdns_lives.specs.LentLives.{row_lent};
 ghost use Rattle.mdns_browse.specs.Services.{body_of, set_for};
-ghost use Rattle.mdns_page.specs.Kept.{lasts_of};
+ghost use Rattle.mdns_page.specs.KeptRecords.{lasts_of};
 ghost use Rattle.mdns_page.specs.Servers.{is_srv, servers_named, servers_of};
 ghost use Rattle.mdns_page.specs.Timeline.{lives_lent};
 

@@ -12,7 +12,7 @@ use crate::captures::CaptureFacts;
 use crate::lanes::{height, push_bases};
 use mdns_capture::moment::SECOND;
 use mdns_message::Want;
-use people_text::moments::{push_clock, push_hours};
+use people_text::moment_text::{push_clock, push_hours};
 use std::alloc::Global;
 
 /// The most ticks that an axis has.

@@ -10,16 +10,18 @@ ghost use Rattle.people_text.specs.Shown.{name_shown};
 ghost use Rattle.mdns_page.specs.Timeline.{counted_lent, group_text, is_open, others_group, others_text, owner_of, timeline, timeline_begin};
 
 use crate::axis::Axis;
-use crate::counted::CountedRow;
+use crate::bar_titles::are_titled;
 use crate::counts::push_live_count;
 use crate::group::{push_axis_picture, push_group_begin};
-use crate::hosts::{is_large, others_heading, push_large_note, push_others_words, push_whole_name};
 use crate::html::push_isolated;
-use crate::key::push_key;
+use crate::legend::push_key;
 use crate::look::Look;
+use crate::other_rows::{
+    is_large, others_heading, push_large_note, push_others_words, push_whole_name,
+};
 use crate::owners::following_len;
-use crate::rows::{live_rows, push_rows};
-use crate::titles::are_titled;
+use crate::row_text::{live_rows, push_rows};
+use crate::timeline_rows::CountedRow;
 use mdns_message::Want;
 
 /// With more rows the groups are closed at first.

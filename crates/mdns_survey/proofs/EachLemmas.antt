@@ -6,10 +6,10 @@ use Rattle.std.proofs.lemmas.List.Concat.{flat_map-append}
 use Rattle.mdns_message.specs.declared.hearing.Hearing.{Hearing}
 use Rattle.mdns_lives.specs.Chronicle.{Accounts, Chronicles}
 use Rattle.mdns_browse.specs.Services.{AreEach}
-use Rattle.mdns_survey.specs.declared.each.EachChronicling.{EachChronicling}
+use Rattle.mdns_survey.specs.declared.each_capture.EachChronicling.{EachChronicling}
 use Rattle.mdns_survey.specs.declared.reading.Reading.{Reading}
 use Rattle.mdns_survey.specs.declared.filter.Filter.{Filter}
-use Rattle.mdns_survey.specs.Captures.{Outcome, hearings_in}
+use Rattle.mdns_survey.specs.Outcomes.{Outcome, hearings_in}
 use Rattle.mdns_survey.specs.Chronicling.{ChroniclesAll}
 use Rattle.mdns_survey.specs.Filter.{selected}
 use Rattle.mdns_survey.specs.Listen.{HearsCapture, ListensTo}

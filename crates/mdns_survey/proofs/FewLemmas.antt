@@ -5,7 +5,7 @@ use Rattle.mdns_capture.specs.declared.savefile.Format.{Format}
 use Rattle.mdns_capture.specs.Frame.{CarriesAfter, FrameCarries, in_ipv4, in_ipv6}
 use Rattle.mdns_capture.specs.Savefile.{CaptureReads, PacketAt, PacketsRead}
 use Rattle.mdns_message.proofs.FaultKindLemmas.{few_hearings}
-use Rattle.mdns_survey.specs.Captures.{AllCome, ComesTo, Outcome, heard, hearings_of_outcome, is_heard, refused, skipped}
+use Rattle.mdns_survey.specs.Outcomes.{AllCome, ComesTo, Outcome, heard, hearings_of_outcome, is_heard, refused, skipped}
 use Rattle.mdns_survey.proofs.ByteLemmas.{AreBytes, bytes_left, bytes_right}
 use Rattle.mdns_survey.proofs.CountLemmas.{AreFew, few-cons, one_if}
 

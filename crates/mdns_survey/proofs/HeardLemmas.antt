@@ -8,7 +8,7 @@ use Rattle.mdns_message.specs.declared.hearing.Hearing.{Hearing}
 use Rattle.mdns_cache.specs.Contents.{Contents, StandsFor}
 use Rattle.mdns_cache.specs.Repeats.{Listened, StandsWith}
 use Rattle.mdns_survey.specs.declared.reading.Reading.{Reading}
-use Rattle.mdns_survey.specs.Captures.{Outcome, hearings_in, hearings_of_outcome}
+use Rattle.mdns_survey.specs.Outcomes.{Outcome, hearings_in, hearings_of_outcome}
 use Rattle.mdns_survey.specs.Listen.{HearsCapture, HearsPackets, Listens}
 use Rattle.mdns_survey.specs.Reading.{ReadsCapture}
 

@@ -8,10 +8,10 @@ use Rattle.std.proofs.lemmas.List.Elements.{filter-append}
 use Rattle.mdns_join.specs.declared.latest.Latest.{Latest}
 use Rattle.mdns_lives.specs.declared.life.Life.{Life}
 use Rattle.mdns_browse.specs.declared.about.Subject.{Subject}
-use Rattle.mdns_browse.specs.declared.lives.Layout.{Layout}
+use Rattle.mdns_browse.specs.declared.life_text.Layout.{Layout}
 use Rattle.mdns_browse.specs.About.{keeps_record}
-use Rattle.mdns_browse.specs.Lives.{IsLayout}
-use Rattle.mdns_survey.specs.Lives.{kept_rows}
+use Rattle.mdns_browse.specs.LifeText.{IsLayout}
+use Rattle.mdns_survey.specs.LivesAnswer.{kept_rows}
 use Rattle.mdns_survey.proofs.RowsLemmas.{FirstRows, RowsSoFar, rows-stop}
 
 abbrev pub Row : Type 0

@@ -9,10 +9,10 @@ use Rattle.mdns_browse.specs.declared.report.Form.{Form}
 use Rattle.mdns_browse.specs.declared.report.Form.TheVariants.{Pretty}
 use Rattle.mdns_survey.specs.declared.reading.Reading.{Reading}
 use Rattle.mdns_survey.specs.declared.summary.Summary.{Summary}
-use Rattle.mdns_survey.specs.Captures.{Outcome, hearings_in}
+use Rattle.mdns_survey.specs.Outcomes.{Outcome, hearings_in}
 use Rattle.mdns_survey.specs.Head.{AllHave, Heads, IsHead, all_lost_frames, all_refused, head_text, hearings_counted}
 use Rattle.mdns_survey.specs.Listen.{HearsCapture, IsReadingOf, ListensTo}
-use Rattle.mdns_survey.specs.Lives.{AllRead}
+use Rattle.mdns_survey.specs.LivesAnswer.{AllRead}
 use Rattle.mdns_survey.specs.Losses.{lost_frames}
 use Rattle.mdns_survey.specs.Readings.{CountLosses, HaveSpans, lost_in, summaries_of}
 use Rattle.mdns_survey.specs.Surveys.{AllLeft, AllTell, HearsAll, Listened, all_hearings}

@@ -13,13 +13,13 @@ use Rattle.mdns_browse.specs.declared.about.Subject.{Subject}
 use Rattle.mdns_browse.specs.declared.report.Form.{Form}
 use Rattle.mdns_lives.specs.declared.life.Which.{Which}
 use Rattle.mdns_lives.specs.Changes.{chosen}
-use Rattle.mdns_browse.specs.Lives.{lives_report}
+use Rattle.mdns_browse.specs.LifeText.{lives_report}
 use Rattle.mdns_cache.proofs.StandsPartLemmas.{Contains-cases, Contains-head, Contains-later}
 use Rattle.mdns_survey.specs.declared.request.AsOf.{AsOf}
 use Rattle.mdns_survey.specs.declared.request.AsOf.TheVariants.{Newest, At, Before}
 use Rattle.mdns_survey.specs.declared.summary.Summary.{Summary}
-use Rattle.mdns_survey.specs.Captures.{Outcome}
-use Rattle.mdns_survey.specs.Lives.{AllRead, SurveysLives, WritesLives, begin_of, earliest_nanos, end_of, kept_rows, latest_nanos}
+use Rattle.mdns_survey.specs.Outcomes.{Outcome}
+use Rattle.mdns_survey.specs.LivesAnswer.{AllRead, SurveysLives, WritesLives, begin_of, earliest_nanos, end_of, kept_rows, latest_nanos}
 use Rattle.mdns_survey.specs.Filter.{filter_of, selected}
 use Rattle.mdns_survey.specs.Readings.{all_moments}
 use Rattle.mdns_survey.specs.Surveys.{AllTell}

@@ -15,24 +15,24 @@ use Rattle.mdns_cache.proofs.RepeatLemmas.{moment_in}
 use Rattle.mdns_lives.specs.Chronicle.{AreAllLives}
 use Rattle.mdns_join.specs.declared.latest.Latest.{Latest}
 use Rattle.mdns_lives.specs.declared.life.Life.{Life}
-use Rattle.mdns_browse.specs.declared.lives.Layout.{Layout}
+use Rattle.mdns_browse.specs.declared.life_text.Layout.{Layout}
 use Rattle.mdns_browse.specs.declared.report.Form.{Form}
 use Rattle.mdns_browse.specs.declared.report.Form.TheVariants.{Lines, Json, Pretty}
 use Rattle.mdns_lives.specs.declared.life.Which.{Which}
 use Rattle.mdns_lives.specs.Changes.{chosen}
-use Rattle.mdns_browse.specs.Lives.{end_width, lives_head, lives_report, lives_text}
+use Rattle.mdns_browse.specs.LifeText.{end_width, lives_head, lives_report, lives_text}
 use Rattle.mdns_survey.specs.declared.request.LivesQuery.{LivesQuery}
 use Rattle.mdns_survey.specs.declared.reading.Reading.{Reading}
 use Rattle.mdns_survey.specs.declared.request.AsOf.{AsOf}
 use Rattle.mdns_survey.specs.declared.request.AsOf.TheVariants.{Newest, At, Before}
 use Rattle.mdns_survey.specs.declared.survey.SurveyFault.{SurveyFault}
 use Rattle.mdns_survey.specs.declared.survey.SurveyFault.TheVariants.{File, Early, Memory, Write}
-use Rattle.mdns_survey.specs.Captures.{AllCome, ComesTo, Outcome, heard, hearings_in, hearings_of_outcome, refused, skipped}
+use Rattle.mdns_survey.specs.Outcomes.{AllCome, ComesTo, Outcome, heard, hearings_in, hearings_of_outcome, refused, skipped}
 use Rattle.mdns_survey.specs.Chronicling.{FitsForm, StopsRows}
 use Rattle.mdns_survey.specs.Head.{Heads, IsHead}
 use Rattle.mdns_survey.specs.Listen.{packet_moments}
-use Rattle.mdns_survey.specs.Lives.{SurveysLives, WritesFirstRows}
-use Rattle.mdns_survey.specs.Lives.{begin_of, end_of, kept_rows, latest_nanos, rows_head}
+use Rattle.mdns_survey.specs.LivesAnswer.{SurveysLives, WritesFirstRows}
+use Rattle.mdns_survey.specs.LivesAnswer.{begin_of, end_of, kept_rows, latest_nanos, rows_head}
 use Rattle.mdns_survey.specs.Question.{HearsReaders, IsAnswer, IsTooEarly, Refuses, WritesAnswer, asked_lives}
 use Rattle.mdns_survey.specs.Readings.{all_moments, summaries_of}
 use Rattle.mdns_survey.specs.Filter.{counted, filter_of}

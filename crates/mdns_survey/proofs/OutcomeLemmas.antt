@@ -14,7 +14,7 @@ use Rattle.mdns_capture.specs.Frame.{word_at}
 use Rattle.mdns_message.specs.Message.{HasHeader, IsIgnored, IsQuery, IsShort, MessageReads}
 use Rattle.mdns_message.specs.FirstMessageFault.{MessageFails}
 use Rattle.mdns_survey.specs.Why.{IsDamagedBy}
-use Rattle.mdns_survey.specs.Captures.{AllCome, ComesTo, Outcome, CaptureTells, heard, refused, skipped}
+use Rattle.mdns_survey.specs.Outcomes.{AllCome, ComesTo, Outcome, CaptureTells, heard, refused, skipped}
 
 -- THE LAWS BELOW
 

@@ -6,8 +6,8 @@ use Rattle.mdns_survey.specs.declared.reading.Reading.{Reading}
 use Rattle.mdns_survey.specs.declared.summary.Summary.{Summary}
 use Rattle.mdns_survey.specs.declared.survey.SurveyFault.{SurveyFault}
 use Rattle.mdns_survey.specs.declared.survey.SurveyFault.TheVariants.{File, Early, Memory, Write}
-use Rattle.mdns_survey.specs.Captures.{Outcome}
-use Rattle.mdns_survey.specs.Lines.{IfFile}
+use Rattle.mdns_survey.specs.Outcomes.{Outcome}
+use Rattle.mdns_survey.specs.ProgramLines.{IfFile}
 use Rattle.mdns_survey.specs.Question.{Asked, HearsReaders, WritesAnswer}
 use Rattle.mdns_survey.specs.Readings.{summaries_of}
 use Rattle.mdns_survey.specs.Refusals.{BlamesReaders}

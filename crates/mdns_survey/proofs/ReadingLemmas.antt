@@ -12,7 +12,7 @@ use Rattle.mdns_capture.specs.Cut.{offset_after}
 use Rattle.mdns_survey.specs.declared.reading.Span.{Span}
 use Rattle.mdns_survey.specs.declared.skips.Skips.{Skips}
 use Rattle.mdns_survey.specs.declared.summary.Tally.{Tally}
-use Rattle.mdns_survey.specs.Captures.{Outcome, ComesTo, Counts, AllCome}
+use Rattle.mdns_survey.specs.Outcomes.{Outcome, ComesTo, Counts, AllCome}
 use Rattle.mdns_survey.specs.Listen.{packet_moments}
 use Rattle.mdns_survey.specs.Reading.{CountsLoss, GoesOn, PacketsStand, ReadSoFar, TakesPacket}
 use Rattle.mdns_survey.specs.Skips.{CountsSkip, CountsSkips}

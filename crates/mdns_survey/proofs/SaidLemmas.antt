@@ -13,7 +13,7 @@ use Rattle.mdns_survey.specs.declared.summary.Summary.{Summary}
 use Rattle.mdns_survey.specs.declared.survey.SurveyFault.{SurveyFault}
 use Rattle.mdns_survey.specs.declared.survey.SurveyFault.TheVariants.{File, Early, Memory, Write}
 use Rattle.mdns_survey.specs.Question.{Leaves}
-use Rattle.mdns_survey.specs.Lines.{ending_line_text, is_whole, said_text}
+use Rattle.mdns_survey.specs.ProgramLines.{ending_line_text, is_whole, said_text}
 use Rattle.mdns_survey.specs.Said.{AreSaid, IsSaid, Says, SaysAll, SaysPrefix, ending_lines}
 use Rattle.mdns_capture.specs.Output.{AppendsPrefix, Writing}
 

@@ -21,7 +21,7 @@ use Rattle.mdns_survey.specs.declared.request.AsOf.{AsOf}
 use Rattle.mdns_survey.specs.declared.request.AsOf.TheVariants.{At, Before}
 use Rattle.mdns_survey.specs.declared.summary.Summary.{Summary}
 use Rattle.mdns_survey.specs.Laws.{AreBefore}
-use Rattle.mdns_survey.specs.Captures.{Outcome}
+use Rattle.mdns_survey.specs.Outcomes.{Outcome}
 use Rattle.mdns_survey.specs.Filter.{counted, counts, filter_of, selected}
 use Rattle.mdns_survey.specs.Surveys.{AllTell, IsAsOf, ReportsBy, SurveysBy, all_hearings}
 use Rattle.mdns_lives.proofs.FilterLemmas.{from-filter, to-filter}

@@ -16,7 +16,7 @@ use Rattle.mdns_survey.specs.declared.outcome.Found.{Found}
 use Rattle.mdns_survey.specs.declared.outcome.Found.TheVariants as found
 use Rattle.mdns_survey.specs.declared.outcome.Why.{Why}
 use Rattle.mdns_survey.specs.declared.skips.Skips.{Skips}
-use Rattle.mdns_survey.specs.Captures.{ComesTo}
+use Rattle.mdns_survey.specs.Outcomes.{ComesTo}
 use Rattle.mdns_survey.specs.Listen.{outcome_of}
 use Rattle.mdns_survey.specs.Skips.{CountsSkip, IsSkipOf, is_why, place_of, why_of}
 use Rattle.mdns_survey.specs.Why.{SaysWhy}

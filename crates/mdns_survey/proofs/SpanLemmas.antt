@@ -14,7 +14,7 @@ use Rattle.mdns_survey.specs.declared.reading.Span.{Span}
 use Rattle.mdns_survey.specs.declared.request.AsOf.{AsOf}
 use Rattle.mdns_survey.specs.declared.request.AsOf.TheVariants.{Newest, At, Before}
 use Rattle.mdns_survey.specs.Listen.{packet_moments}
-use Rattle.mdns_survey.specs.Lives.{begin_of, earliest_nanos, end_of, latest_nanos}
+use Rattle.mdns_survey.specs.LivesAnswer.{begin_of, earliest_nanos, end_of, latest_nanos}
 use Rattle.mdns_survey.specs.Readings.{HaveSpans, all_moments}
 use Rattle.mdns_survey.specs.Request.{moment_of}
 use Rattle.mdns_survey.specs.Span.{HasEnds, both_spans, earlier_moment, joined_spans, span_at, span_of}

@@ -11,7 +11,7 @@ use Rattle.mdns_capture.specs.Savefile.{CaptureReads, PacketAt}
 use Rattle.mdns_capture.specs.Cut.{ending_at, moved_to, part_before, part_from, offset_after}
 use Rattle.mdns_message.specs.declared.hearing.Hearing.{Hearing}
 use Rattle.mdns_survey.specs.declared.summary.Summary.{Summary}
-use Rattle.mdns_survey.specs.Captures.{AllCome, Outcome, hearings_in}
+use Rattle.mdns_survey.specs.Outcomes.{AllCome, Outcome, hearings_in}
 use Rattle.mdns_survey.specs.Laws.{with_both_parts, with_capture}
 use Rattle.mdns_survey.specs.Listen.{packet_moments}
 use Rattle.mdns_survey.proofs.CountLemmas.{AreFew, tallied, tallied_together}

@@ -8,7 +8,7 @@ use Rattle.mdns_survey.specs.declared.request.Request.{Request}
 use Rattle.mdns_survey.specs.declared.request.Request.TheVariants.{Check}
 use Rattle.mdns_survey.specs.declared.summary.Summary.{Summary}
 use Rattle.mdns_survey.specs.declared.survey.SurveyFault.{SurveyFault}
-use Rattle.mdns_survey.specs.Lines.{is_whole}
+use Rattle.mdns_survey.specs.ProgramLines.{is_whole}
 use Rattle.mdns_survey.specs.Question.{Asked, asked_of}
 use Rattle.mdns_survey.specs.Refusals.{BlamesReaders, BlamesWriter}
 use Rattle.mdns_survey.specs.Said.{Says, ending_lines, RefusedFor}

@@ -9,14 +9,14 @@ use Rattle.mdns_lives.specs.Chronicle.{Chronicles}
 use Rattle.mdns_lives.specs.Recording.{Recorded, RecordsAll}
 use Rattle.mdns_browse.specs.declared.report.Form.{Form}
 use Rattle.mdns_browse.specs.declared.report.Form.TheVariants.{Pretty}
-use Rattle.mdns_browse.specs.declared.lives.Layout.{Layout}
-use Rattle.mdns_browse.specs.Lives.{IsLayout}
+use Rattle.mdns_browse.specs.declared.life_text.Layout.{Layout}
+use Rattle.mdns_browse.specs.LifeText.{IsLayout}
 use Rattle.mdns_browse.specs.Services.{AreEach}
-use Rattle.mdns_survey.specs.declared.each.EachChronicling.{EachChronicling}
+use Rattle.mdns_survey.specs.declared.each_capture.EachChronicling.{EachChronicling}
 use Rattle.mdns_survey.specs.declared.filter.Filter.{Filter}
 use Rattle.mdns_survey.specs.declared.survey.SurveyFault.{SurveyFault}
 use Rattle.mdns_survey.specs.declared.survey.SurveyFault.TheVariants.{File, Early, Memory, Write}
-use Rattle.mdns_survey.specs.Captures.{Outcome}
+use Rattle.mdns_survey.specs.Outcomes.{Outcome}
 use Rattle.mdns_survey.specs.Filter.{counted, counted_each}
 
 -- those hearings of all captures that count, and no others, are recorded

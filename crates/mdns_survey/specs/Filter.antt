@@ -6,7 +6,7 @@ use Rattle.mdns_message.specs.declared.hearing.Hearing.{Hearing}
 use Rattle.mdns_survey.specs.declared.filter.Filter.{Filter}
 use Rattle.mdns_survey.specs.declared.request.AsOf.{AsOf}
 use Rattle.mdns_survey.specs.declared.request.AsOf.TheVariants.{Before}
-use Rattle.mdns_survey.specs.Captures.{Outcome, hearings_in}
+use Rattle.mdns_survey.specs.Outcomes.{Outcome, hearings_in}
 
 -- with `Before` the hearings earlier than its moment, and else all
 abbrev pub filter_of : AsOf → Filter

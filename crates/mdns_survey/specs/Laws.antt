@@ -6,7 +6,7 @@ use Rattle.mdns_capture.specs.Savefile.{PacketAt}
 use Rattle.mdns_capture.specs.Cut.{offset_after, part_before, part_from}
 use Rattle.mdns_message.specs.declared.hearing.Hearing.{Hearing}
 use Rattle.mdns_survey.specs.declared.summary.Summary.{Summary}
-use Rattle.mdns_survey.specs.Captures.{Outcome}
+use Rattle.mdns_survey.specs.Outcomes.{Outcome}
 use Rattle.mdns_survey.specs.Surveys.{AllTell, all_hearings}
 
 -- the same captures, in whatever order and however often

@@ -1,11 +1,11 @@
 pub mod Answer
-pub mod Captures
+pub mod Outcomes
 pub mod Chronicling
 pub mod Filter
 pub mod Head
 pub mod Laws
-pub mod Lines
-pub mod Lives
+pub mod ProgramLines
+pub mod LivesAnswer
 pub mod Listen
 pub mod Losses
 pub mod Question

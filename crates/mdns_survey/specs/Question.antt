@@ -14,9 +14,9 @@ use Rattle.mdns_survey.specs.declared.request.Request.TheVariants.{Report, Lives
 use Rattle.mdns_survey.specs.declared.summary.Summary.{Summary}
 use Rattle.mdns_survey.specs.declared.survey.SurveyFault.{SurveyFault}
 use Rattle.mdns_survey.specs.declared.survey.SurveyFault.TheVariants.{File, Early, Memory, Write}
-use Rattle.mdns_survey.specs.Captures.{Outcome}
-use Rattle.mdns_survey.specs.Lines.{check_lines_text}
-use Rattle.mdns_survey.specs.Lives.{SurveysLivesWithHead, WritesFirstRecords}
+use Rattle.mdns_survey.specs.Outcomes.{Outcome}
+use Rattle.mdns_survey.specs.ProgramLines.{check_lines_text}
+use Rattle.mdns_survey.specs.LivesAnswer.{SurveysLivesWithHead, WritesFirstRecords}
 use Rattle.mdns_survey.specs.Refusals.{FirstFails, HasNewest, LeavesOut}
 use Rattle.mdns_survey.specs.Request.{IsEarly}
 use Rattle.mdns_survey.specs.Surveys.{AllLeft, AllTell, SurveysQuery}

@@ -13,7 +13,7 @@ use Rattle.mdns_survey.specs.declared.reading.Reading.{Reading}
 use Rattle.mdns_survey.specs.declared.reading.Span.{Span}
 use Rattle.mdns_survey.specs.declared.skips.Skips.{Skips}
 use Rattle.mdns_survey.specs.declared.summary.Tally.{Tally}
-use Rattle.mdns_survey.specs.Captures.{Outcome, AllCome, ComesTo, Counts}
+use Rattle.mdns_survey.specs.Outcomes.{Outcome, AllCome, ComesTo, Counts}
 use Rattle.mdns_survey.specs.Listen.{HasListenFault, IsNoReadFault, packet_moments}
 use Rattle.mdns_survey.specs.Losses.{lost_frames}
 use Rattle.mdns_survey.specs.Skips.{CountsSkips}

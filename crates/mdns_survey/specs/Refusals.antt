@@ -11,8 +11,8 @@ use Rattle.mdns_survey.specs.declared.request.AsOf.{AsOf}
 use Rattle.mdns_survey.specs.declared.survey.SurveyFault.{SurveyFault}
 use Rattle.mdns_survey.specs.declared.survey.SurveyFault.TheVariants.{File, Early, Memory, Write}
 use Rattle.mdns_survey.specs.declared.summary.Summary.{Summary}
-use Rattle.mdns_survey.specs.Captures.{Outcome}
-use Rattle.mdns_survey.specs.Lines.{IfFile}
+use Rattle.mdns_survey.specs.Outcomes.{Outcome}
+use Rattle.mdns_survey.specs.ProgramLines.{IfFile}
 use Rattle.mdns_survey.specs.Listen.{HasListenFault, IsNoReadFault}
 use Rattle.mdns_survey.specs.Request.{IsEarly}
 use Rattle.mdns_survey.specs.Surveys.{AllTell, all_hearings, SurveysBy}

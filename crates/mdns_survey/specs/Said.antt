@@ -5,7 +5,7 @@ use Rattle.mdns_capture.specs.Stream.{OneMoreFailed}
 use Rattle.mdns_capture.specs.Output.{AppendsPrefix, Writing}
 use Rattle.mdns_survey.specs.declared.survey.SurveyFault.{SurveyFault}
 use Rattle.mdns_survey.specs.declared.summary.Summary.{Summary}
-use Rattle.mdns_survey.specs.Lines.{ending_line_text, fault_line_text, is_whole}
+use Rattle.mdns_survey.specs.ProgramLines.{ending_line_text, fault_line_text, is_whole}
 use Rattle.mdns_survey.specs.Question.{Asked, Leaves, Refuses}
 
 -- a line as a program writes it: the line itself, or `out of memory` where its allocation failed

@@ -2,33 +2,33 @@
 //! that several listeners made of one link.
 #![tactic(auto)]
 
-pub mod chronicling;
-pub mod each;
+pub mod answer;
+pub mod each_capture;
+pub mod error_lines;
 pub mod filter;
 mod head;
 mod hearer;
 pub mod laws;
-pub mod lines;
 pub mod listen;
-pub mod lives;
+pub mod lives_answer;
 pub mod outcome;
+pub mod program_lines;
 pub mod question;
 pub mod reading;
 pub mod readings;
+pub mod recording_hearer;
 pub mod request;
-pub mod run;
-pub mod saying;
 pub mod skips;
 pub mod status;
 pub mod summary;
 pub mod survey;
 
-pub use each::EachChronicling;
-pub use lines::{check_line, ending_line, fault_line, open_line};
+pub use answer::{answer, answer_request, answer_with};
+pub use each_capture::EachChronicling;
 pub use listen::{Heard, ListenFault};
+pub use program_lines::{check_line, ending_line, fault_line, open_line};
 pub use question::{Answer, Question, TextAnswer, survey_with};
 pub use request::{AsOf, LivesQuery, Query, Request, Subjects, What, Which};
-pub use run::{answer, answer_request, answer_with};
 pub use skips::Skips;
 pub use summary::{Summary, Tally};
 pub use survey::{SurveyFault, survey_query};

@@ -3,7 +3,7 @@
 ghost use Rattle.std.specs.Prelude.{◌≡◌, IsTrue, IfOk, IfErr, IfSome, List, None};
 ghost use Rattle.mdns_capture.specs.Capture.{IsOver};
 ghost use Rattle.mdns_capture.specs.Savefile.{header_fault};
-ghost use Rattle.mdns_survey.specs.Captures.{Outcome};
+ghost use Rattle.mdns_survey.specs.Outcomes.{Outcome};
 ghost use Rattle.mdns_survey.specs.Listen.{Listens, ListensTo, HearsCapture, HasListenFault, IsNoReadFault};
 
 use crate::hearer::Hearer;

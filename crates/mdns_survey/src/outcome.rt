@@ -4,7 +4,7 @@ ghost use Rattle.std.specs.Prelude.{◌≡◌, ◌≤◌, ℕ, IfOk, List, lengt
 ghost use Rattle.mdns_capture.specs.Frame.{FrameCarries};
 ghost use Rattle.mdns_capture.specs.Source.{IsSourceOf};
 ghost use Rattle.mdns_message.specs.Message.{most_hearings};
-ghost use Rattle.mdns_survey.specs.Captures.{ComesTo, ReadsTo, hearings_of_outcome};
+ghost use Rattle.mdns_survey.specs.Outcomes.{ComesTo, ReadsTo, hearings_of_outcome};
 ghost use Rattle.mdns_survey.specs.Listen.{outcome_of};
 ghost use Rattle.mdns_survey.specs.Why.{SaysWhy, cause_text, why_text};
 

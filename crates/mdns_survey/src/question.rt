@@ -3,8 +3,8 @@
 ghost use Rattle.std.specs.Prelude.{◌≡◌, ℕ, [], map, IfErr, IfOk, List, OnOk, Option, string_bytes};
 ghost use Rattle.mdns_capture.specs.Output.{writing};
 ghost use Rattle.mdns_browse.specs.Report.{IfEarly};
-ghost use Rattle.mdns_survey.specs.Captures.{Outcome};
-ghost use Rattle.mdns_survey.specs.Lines.{IfFile};
+ghost use Rattle.mdns_survey.specs.Outcomes.{Outcome};
+ghost use Rattle.mdns_survey.specs.ProgramLines.{IfFile};
 ghost use Rattle.mdns_survey.specs.Question.{Asked, HearsReaders, IsAnswer, IsTooEarly, Leaves, Refuses, WritesAnswer};
 ghost use Rattle.mdns_survey.specs.Readings.{summaries_of};
 ghost use Rattle.mdns_survey.specs.Refusals.{BlamesReaders, BlamesWriter};

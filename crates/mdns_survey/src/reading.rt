@@ -10,7 +10,7 @@ ghost use Rattle.mdns_message.specs.declared.hearing.Hearing.{Hearing};
 ghost use Rattle.mdns_message.specs.Message.{MessageReads, most_hearings};
 ghost use Rattle.mdns_cache.specs.Contents.{later_moment};
 ghost use Rattle.mdns_cache.specs.Repeats.{ReadsAs};
-ghost use Rattle.mdns_survey.specs.Captures.{Outcome, ComesTo, ReadsTo, hearings_of_outcome, heard};
+ghost use Rattle.mdns_survey.specs.Outcomes.{Outcome, ComesTo, ReadsTo, hearings_of_outcome, heard};
 ghost use Rattle.mdns_survey.specs.Listen.{outcome_of};
 ghost use Rattle.mdns_survey.specs.Losses.{loses};
 ghost use Rattle.mdns_survey.specs.Reading.{CountsLoss, HasReadFault, IsNoCaptureRead, LeavesConsumer, ReadsCapture};

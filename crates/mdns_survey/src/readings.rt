@@ -3,7 +3,7 @@
 ghost use Rattle.std.specs.Prelude.{◌≡◌, ◌+◌, IfOk, List};
 ghost use Rattle.mdns_capture.specs.Savefile.{PacketAt};
 ghost use Rattle.mdns_survey.specs.Head.{all_lost_frames, all_refused};
-ghost use Rattle.mdns_survey.specs.Lives.{begin_of, end_of};
+ghost use Rattle.mdns_survey.specs.LivesAnswer.{begin_of, end_of};
 ghost use Rattle.mdns_survey.specs.Readings.{CountLosses, HaveSpans, all_moments, lost_in, refused_in, skipped_in};
 ghost use Rattle.mdns_survey.specs.Readings.{summaries_of};
 ghost use Rattle.mdns_survey.specs.Span.{span_of};

@@ -1,7 +1,7 @@
 //! The exit status, which the endings of the captures decide.
 
 ghost use Rattle.std.specs.Prelude.{◌≡◌, ◌≤◌};
-ghost use Rattle.mdns_survey.specs.Lines.{is_whole};
+ghost use Rattle.mdns_survey.specs.ProgramLines.{is_whole};
 ghost use Rattle.mdns_survey.specs.Answer.{are_whole, status_of};
 
 use crate::summary::Summary;

@@ -36,7 +36,7 @@ pub struct Summary {
 
 impl Tally {
     ghost use Rattle.mdns_message.specs.declared.hearing.Hearing.{Hearing};
-    ghost use Rattle.mdns_survey.specs.Captures.{Outcome, Counts, hearings_of_outcome, heard as told};
+    ghost use Rattle.mdns_survey.specs.Outcomes.{Outcome, Counts, hearings_of_outcome, heard as told};
     ghost use Rattle.mdns_survey.specs.Listen.{outcome_of};
 
     /// Makes a tally of no packets.
@@ -89,7 +89,7 @@ impl Tally {
 
 /// The counts, each after its name: `packets 3 skipped 1 refused 0 messages 2 hearings 9`.
 impl fmt::Display for Tally {
-    ghost use Rattle.mdns_survey.specs.Lines.{tally_text};
+    ghost use Rattle.mdns_survey.specs.ProgramLines.{tally_text};
 
     ghost output = { λ tally. Some (tally_text tally) };
 

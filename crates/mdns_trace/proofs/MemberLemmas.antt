@@ -2,7 +2,7 @@
 use Rattle.std.proofs.Common.{◌≡◌, ℕ, Bool, false, List, [], ◌∷◌, ◌++◌, refl, sym, ap, ◌∙◌, append_assoc, append-nil}
 use Rattle.std.specs.List.{flat_map}
 use Rattle.mdns_browse.specs.Json.{comma_unless, first_after, json_object, parted}
-use Rattle.mdns_trace.specs.VerdictObjects.{AddsObjects}
+use Rattle.mdns_trace.specs.VerdictJson.{AddsObjects}
 
 first_after-false : {X : Type 0} (xs : List X) → first_after false xs ≡ false
 first_after-false [] = refl

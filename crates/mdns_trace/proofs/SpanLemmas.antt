@@ -9,13 +9,13 @@ use Rattle.mdns_message.specs.Message.{hearing_of}
 use Rattle.mdns_message.specs.RecordAt.{HeardRecord}
 use Rattle.mdns_survey.specs.declared.reading.Span.{Span}
 use Rattle.mdns_survey.specs.declared.summary.Summary.{Summary}
-use Rattle.mdns_survey.specs.Captures.{Outcome, heard, ComesTo, hearings_in, hearings_of_outcome}
+use Rattle.mdns_survey.specs.Outcomes.{Outcome, heard, ComesTo, hearings_in, hearings_of_outcome}
 use Rattle.mdns_survey.specs.Span.{joined_spans, span_at, span_of}
 use Rattle.mdns_survey.proofs.SpanLemmas.{span-both}
 use Rattle.mdns_browse.specs.declared.report.Form.{Form}
-use Rattle.mdns_trace.specs.declared.span.Spanned.{Spanned}
-use Rattle.mdns_trace.specs.Objects.{span_text}
-use Rattle.mdns_trace.specs.Span.{IsSpanned, hearing_moments}
+use Rattle.mdns_trace.specs.declared.span_line.Spanned.{Spanned}
+use Rattle.mdns_trace.specs.TraceJson.{span_text}
+use Rattle.mdns_trace.specs.SpanLine.{IsSpanned, hearing_moments}
 use Rattle.mdns_trace.specs.SpanWritten.{SpansCapture}
 
 -- ONE PACKET

@@ -13,14 +13,14 @@ use Rattle.mdns_survey.specs.declared.listen.ListenFault.TheVariants.{Begin, Rea
 use Rattle.mdns_survey.specs.declared.reading.ReadingFault.{ReadingFault}
 use Rattle.mdns_survey.specs.declared.reading.ReadingFault.TheVariants.{Listen as OfListen, Consumer as OfConsumer}
 use Rattle.mdns_survey.specs.declared.reading.Reading.{Reading}
-use Rattle.mdns_survey.specs.Captures.{Outcome, AllCome}
+use Rattle.mdns_survey.specs.Outcomes.{Outcome, AllCome}
 use Rattle.mdns_capture.specs.Output.{AppendsPrefix}
 use Rattle.mdns_survey.specs.Reading.{CaptureBegins, HasReadFault, IsNoCaptureRead, LeavesConsumer, ReadsCapture}
-use Rattle.mdns_trace.specs.declared.kind.Trace.{Trace}
+use Rattle.mdns_trace.specs.declared.inquiry.Trace.{Trace}
 use Rattle.mdns_trace.specs.declared.trace.Lines.{Lines}
 use Rattle.mdns_trace.specs.declared.trace.TraceFault.{TraceFault}
 use Rattle.mdns_trace.specs.declared.trace.TraceFault.TheVariants.{Listen, Write}
-use Rattle.mdns_trace.specs.Faults.{Stops, WritesLines}
+use Rattle.mdns_trace.specs.TraceFaults.{Stops, WritesLines}
 use Rattle.mdns_trace.specs.Trace.{AddsLines, AreAllLines, AreLinesOf, LeavesLines, LinesBroke, LinesTook, PrintsPart}
 use Rattle.mdns_trace.specs.Trace.{TracesCapture, TracesFront, trace_fault}
 

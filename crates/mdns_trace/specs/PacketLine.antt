@@ -7,7 +7,7 @@ use Rattle.mdns_capture.specs.Text.{moment_text}
 use Rattle.mdns_capture.specs.Savefile.{PacketAt}
 use Rattle.mdns_survey.specs.declared.outcome.Found.{Found}
 use Rattle.mdns_survey.specs.declared.outcome.Found.TheVariants as found
-use Rattle.mdns_survey.specs.Lines.{◌<>◌}
+use Rattle.mdns_survey.specs.ProgramLines.{◌<>◌}
 use Rattle.mdns_survey.specs.Why.{why_text}
 
 -- The fault of a damaged message in words, and its offset from the message's first byte. The last three are no damage, so

@@ -4,11 +4,11 @@ use Rattle.mdns_browse.specs.declared.report.Form.{Form}
 use Rattle.mdns_capture.specs.declared.stream.Sink.{Ghosts}
 use Rattle.mdns_capture.specs.Output.{AppendsPrefix}
 use Rattle.mdns_survey.specs.declared.summary.Summary.{Summary}
-use Rattle.mdns_trace.specs.declared.span.Spanned.{Spanned}
+use Rattle.mdns_trace.specs.declared.span_line.Spanned.{Spanned}
 use Rattle.mdns_trace.specs.declared.trace.TraceFault.{TraceFault}
 use Rattle.mdns_trace.specs.declared.trace.TraceFault.TheVariants.{Listen, Write}
-use Rattle.mdns_trace.specs.Objects.{span_text}
-use Rattle.mdns_trace.specs.Span.{IsSpanned}
+use Rattle.mdns_trace.specs.TraceJson.{span_text}
+use Rattle.mdns_trace.specs.SpanLine.{IsSpanned}
 
 -- the text is the line of a capture with that summary, in that form
 pub record SpansCapture (form : Form) (file bytes : List ℕ) (summary : Summary) (text : List ℕ) : Type 0 where

@@ -5,7 +5,7 @@ use Rattle.std.specs.Io.KnownBytes.{Appends}
 use Rattle.mdns_browse.specs.About.{keeps_record}
 use Rattle.mdns_browse.specs.declared.about.Subject.{Subject}
 use Rattle.mdns_browse.specs.declared.report.Form.{Form}
-use Rattle.mdns_capture.specs.declared.source.SourceAddress.{SourceAddress}
+use Rattle.mdns_capture.specs.declared.source_address.SourceAddress.{SourceAddress}
 use Rattle.mdns_capture.specs.Savefile.{PacketAt}
 use Rattle.mdns_capture.specs.Stream.{OneMoreFailed}
 use Rattle.mdns_capture.specs.declared.stream.Sink.{Ghosts}
@@ -18,15 +18,15 @@ use Rattle.mdns_survey.specs.declared.outcome.Why.{Why}
 use Rattle.mdns_survey.specs.declared.reading.ReadingFault.{ReadingFault}
 use Rattle.mdns_survey.specs.declared.reading.ReadingFault.TheVariants as reading
 use Rattle.mdns_survey.specs.declared.summary.Summary.{Summary}
-use Rattle.mdns_survey.specs.Captures.{Outcome, skipped, refused, heard, AllCome, CaptureTells, Counts}
+use Rattle.mdns_survey.specs.Outcomes.{Outcome, skipped, refused, heard, AllCome, CaptureTells, Counts}
 use Rattle.mdns_survey.specs.Reading.{CaptureBegins}
 use Rattle.mdns_survey.specs.Why.{IsRefusedFor, IsSkippedFor}
-use Rattle.mdns_trace.specs.declared.kind.Trace.{Trace}
-use Rattle.mdns_trace.specs.declared.kind.Trace.TheVariants.{Hearings, Packets, Spans}
+use Rattle.mdns_trace.specs.declared.inquiry.Trace.{Trace}
+use Rattle.mdns_trace.specs.declared.inquiry.Trace.TheVariants.{Hearings, Packets, Spans}
 use Rattle.mdns_trace.specs.declared.trace.Lines.{Lines}
 use Rattle.mdns_trace.specs.declared.trace.TraceFault.{TraceFault}
 use Rattle.mdns_trace.specs.declared.trace.TraceFault.TheVariants.{Listen, Write}
-use Rattle.mdns_trace.specs.Objects.{found_members, hearing_text, packet_text, silence_members}
+use Rattle.mdns_trace.specs.TraceJson.{found_members, hearing_text, packet_text, silence_members}
 use Rattle.mdns_trace.specs.PacketLine.{found_text, silence_text}
 
 -- WHAT A CAPTURE'S LINES ARE

@@ -14,14 +14,14 @@ use Rattle.mdns_survey.specs.declared.listen.ListenFault.TheVariants.{Begin, Rea
 use Rattle.mdns_survey.specs.declared.reading.Reading.{Reading}
 use Rattle.mdns_survey.specs.declared.reading.Span.{Span}
 use Rattle.mdns_survey.specs.declared.summary.Tally.{Tally}
-use Rattle.mdns_survey.specs.Captures.{Outcome}
-use Rattle.mdns_survey.specs.Lines.{is_whole}
+use Rattle.mdns_survey.specs.Outcomes.{Outcome}
+use Rattle.mdns_survey.specs.ProgramLines.{is_whole}
 use Rattle.mdns_survey.specs.Listen.{IsReadingOf}
 use Rattle.mdns_trace.specs.declared.verdict.Verdict.{Verdict}
 use Rattle.mdns_trace.specs.declared.verdict.Verdict.TheVariants.{Capture, Other, Unread, Unopened}
 use Rattle.mdns_trace.specs.Flaw.{cure_text, flaw_of, head_of, what_text}
 use Rattle.mdns_trace.specs.Loss.{loss_text, losses}
-use Rattle.mdns_trace.specs.Span.{bounds_text}
+use Rattle.mdns_trace.specs.SpanLine.{bounds_text}
 
 -- WHAT A FILE IS
 

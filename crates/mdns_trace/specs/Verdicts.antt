@@ -11,17 +11,17 @@ use Rattle.mdns_message.specs.TextData.{string_text}
 use Rattle.mdns_survey.specs.declared.listen.ListenFault.TheVariants.{Memory as ListenMemory}
 use Rattle.mdns_survey.specs.declared.survey.SurveyFault.{SurveyFault}
 use Rattle.mdns_survey.specs.declared.survey.SurveyFault.TheVariants as survey
-use Rattle.mdns_survey.specs.Lines.{fault_line_text, is_whole}
+use Rattle.mdns_survey.specs.ProgramLines.{fault_line_text, is_whole}
 use Rattle.mdns_survey.specs.Said.{Says}
 use Rattle.mdns_trace.specs.declared.verdict.Verdict.{Verdict}
 use Rattle.mdns_trace.specs.declared.verdict.Verdict.TheVariants.{Capture}
-use Rattle.mdns_trace.specs.declared.files.FilesFault.{FilesFault}
-use Rattle.mdns_trace.specs.declared.files.FilesFault.TheVariants.{File, Memory}
+use Rattle.mdns_trace.specs.declared.each_file.FilesFault.{FilesFault}
+use Rattle.mdns_trace.specs.declared.each_file.FilesFault.TheVariants.{File, Memory}
 use Rattle.mdns_trace.specs.declared.trace.TraceFault.{TraceFault}
 use Rattle.mdns_trace.specs.declared.trace.TraceFault.TheVariants.{Listen, Write}
-use Rattle.mdns_trace.specs.Files.{StopsAmong, WritesEach}
+use Rattle.mdns_trace.specs.EachFile.{StopsAmong, WritesEach}
 use Rattle.mdns_trace.specs.Verdict.{IsVerdict, is_silent}
-use Rattle.mdns_trace.specs.VerdictObjects.{file_text}
+use Rattle.mdns_trace.specs.VerdictJson.{file_text}
 
 -- no write failed
 abbrev pub IsUnfailed : {W : Type 0} → SinkGhosts W → W → W → Type 0

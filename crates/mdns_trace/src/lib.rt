@@ -3,27 +3,27 @@
 //! each file whether it is a capture, what it lost, and what to do about it.
 #![tactic(auto)]
 
-pub mod files;
+pub mod each_file;
 mod flaw;
 mod headed;
-pub mod kind;
-pub mod line;
+pub mod hearing_line;
+pub mod inquiry;
 mod loss;
-mod objects;
 mod packet_line;
-mod pretty;
-pub mod run;
-mod span;
+mod span_line;
 pub mod trace;
+pub mod trace_answer;
+mod trace_columns;
+mod trace_json;
 mod verdict;
-mod verdict_objects;
+mod verdict_json;
 pub mod verdicts;
 
-pub use files::{FilesFault, write_traces};
+pub use each_file::{FilesFault, write_traces};
 pub use flaw::Flaw;
-pub use kind::{Inquiry, Trace};
-pub use line::push_hearing_line;
-pub use run::answer_traces;
+pub use hearing_line::push_hearing_line;
+pub use inquiry::{Inquiry, Trace};
 pub use trace::{TraceFault, write_trace};
+pub use trace_answer::answer_traces;
 pub use verdict::Verdict;
 pub use verdicts::{answer_files, write_verdicts};

@@ -5,8 +5,8 @@ ghost use Rattle.mdns_capture.specs.Capture.{packet_lent};
 ghost use Rattle.mdns_trace.specs.PacketLine.{fault_at, fault_text, found_text, packet_line, place_text};
 ghost use Rattle.mdns_trace.specs.Trace.{text_of_found};
 
-use crate::objects::push_packet_json;
-use crate::pretty::push_packet_row;
+use crate::trace_columns::push_packet_row;
+use crate::trace_json::push_packet_json;
 use mdns_browse::format::push_nanos;
 use mdns_browse::report::Form;
 use mdns_capture::Packet;

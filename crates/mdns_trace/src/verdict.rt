@@ -3,18 +3,18 @@
 ghost use Rattle.std.specs.Prelude.{◌≡◌, ◌++◌, IfOk, IfSome, OnOk, Some, string_bytes};
 ghost use Rattle.std.specs.Io.KnownBytes.{prepend_known};
 ghost use Rattle.mdns_message.specs.TextData.{string_text};
-ghost use Rattle.mdns_survey.specs.Lines.{is_whole};
+ghost use Rattle.mdns_survey.specs.ProgramLines.{is_whole};
 ghost use Rattle.mdns_trace.specs.Flaw.{cure_text, head_of, what_text};
 ghost use Rattle.mdns_trace.specs.Verdict.{IsVerdict, IsVerdictOf, capture_front, capture_line, capture_text, early_cure};
 ghost use Rattle.mdns_trace.specs.Verdict.{early_text, is_silent, silent_text, unusable_line, verdict_for, verdict_text};
-ghost use Rattle.mdns_trace.specs.VerdictObjects.{file_text};
+ghost use Rattle.mdns_trace.specs.VerdictJson.{file_text};
 
 use crate::flaw::{Flaw, cure_words, flaw_of, push_what};
 use crate::headed::{Headed, read_head};
 use crate::loss::{LOSSES, push_losses};
-use crate::span::{push_bounds, read_spanned};
+use crate::span_line::{push_bounds, read_spanned};
 use crate::trace::word_of;
-use crate::verdict_objects::push_verdict_json;
+use crate::verdict_json::push_verdict_json;
 use mdns_browse::format::push_nanos;
 use mdns_browse::report::Form;
 use mdns_capture::savefile::FILE_HEADER;

@@ -2,18 +2,18 @@
 
 ghost use Rattle.std.specs.Prelude.{◌≡◌, ◌⊎◌, ◌≤◌, IfErr, IfOk, length, map, string_bytes};
 ghost use Rattle.mdns_capture.specs.Output.{writing};
-ghost use Rattle.mdns_trace.specs.Files.{NamesFile, StopsAmong, WritesEach};
+ghost use Rattle.mdns_trace.specs.EachFile.{NamesFile, StopsAmong, WritesEach};
 ghost use Rattle.mdns_trace.specs.Verdicts.{IsAnsweredFiles, IsRefusedFiles, StopsVerdict, WritesVerdict, are_sound};
 ghost use Rattle.mdns_trace.specs.Verdicts.{are_usable, is_sound, is_usable, status_of, survey_fault};
 
-use crate::files::{FilesFault, Scribe, write_each};
+use crate::each_file::{FilesFault, Scribe, write_each};
 use crate::trace::TraceFault;
 use crate::verdict::{Verdict, is_silent, is_whole, judge, lines_of};
 use mdns_browse::report::Form;
 use mdns_capture::{Broken, Sink, Source, write_whole};
+use mdns_survey::error_lines::refuse;
 use mdns_survey::listen::ListenFault;
 use mdns_survey::reading::Reading;
-use mdns_survey::saying::refuse;
 use mdns_survey::status::{DAMAGED, REFUSED, WHOLE};
 use mdns_survey::survey::SurveyFault;
 use std::alloc::Global;

@@ -3,7 +3,7 @@ use Rattle.std.specs.Prelude.{ℕ, true, List}
 use Rattle.mdns_capture.specs.declared.stream.Source.{Ghosts}
 use Rattle.mdns_capture.specs.Output.{Writing}
 use Rattle.mdns_survey.specs.Answer.{Answers, IsRefused, IsRefusedOf, Reports}
-use Rattle.mdns_page.specs.Survey.{asked_page}
+use Rattle.mdns_page.specs.Page.{asked_page}
 use Rattle.command_line.specs.declared.words.Task.{Task}
 use Rattle.command_line.specs.declared.words.Task.TheVariants.{Survey, Page}
 

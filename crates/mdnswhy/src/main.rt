@@ -10,11 +10,11 @@ use mdns_browse::about::Subject;
 use mdns_browse::report::Form;
 use mdns_capture::Through;
 use mdns_message::Want;
-use mdns_survey::lines::open_line_of;
+use mdns_survey::program_lines::open_line_of;
 use mdns_survey::request::Subjects;
 use mdns_survey::status::REFUSED;
-use mdns_trace::kind::{Inquiry, Trace};
-use mdns_trace::run::answer_traces;
+use mdns_trace::inquiry::{Inquiry, Trace};
+use mdns_trace::trace_answer::answer_traces;
 use mdns_trace::verdicts::answer_files;
 use std::process::ExitCode;
 

@@ -1,4 +1,4 @@
 pub mod Address
 pub mod Calendar
-pub mod Moments
+pub mod MomentText
 pub mod Shown

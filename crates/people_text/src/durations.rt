@@ -2,7 +2,7 @@
 
 ghost use Rattle.std.specs.Prelude.{◌≡◌, ◌++◌, OnOk};
 ghost use Rattle.std.specs.String.{string_bytes};
-ghost use Rattle.people_text.specs.Moments.{duration_text, two_units};
+ghost use Rattle.people_text.specs.MomentText.{duration_text, two_units};
 
 use mdns_capture::moment::SECOND;
 use memory::Want;
@@ -15,7 +15,7 @@ const DAY: u64 = 24 * HOUR;
 
 /// Appends a duration of so many nanoseconds, cut off and not rounded: the greatest unit that fits, and the next one
 /// unless there are none of it, as `3 d 4 h` or `2 min`; `under 1 s` below one second.
-#[tactic(auto, unfolding(crate::specs::Moments::duration_text))]
+#[tactic(auto, unfolding(crate::specs::MomentText::duration_text))]
 pub fn push_duration(to: &mut String, nanos: u64) -> Result<(), Want>
     ensures { OnOk result (string_bytes to.new ≡ string_bytes to.old ++ duration_text nanos) }
 {
@@ -38,7 +38,7 @@ pub fn push_duration(to: &mut String, nanos: u64) -> Result<(), Want>
 }
 
 // Appends so many of a unit, and so many of the next one, unless there are none of it.
-#[tactic(auto, unfolding(crate::specs::Moments::two_units))]
+#[tactic(auto, unfolding(crate::specs::MomentText::two_units))]
 fn push_units(to: &mut String, count: u64, unit: &str, below: u64, next: &str) -> Result<(), Want>
     ensures { OnOk result (string_bytes to.new ≡ string_bytes to.old ++ two_units count unit.now below next.now) }
 {

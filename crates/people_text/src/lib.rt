@@ -7,8 +7,8 @@ pub mod calendar;
 pub mod durations;
 mod hidden;
 pub mod laws;
-pub mod moments;
-pub mod name_text;
+pub mod moment_text;
 pub mod shown;
+pub mod shown_names;
 
 pub use memory::Want;

@@ -5,7 +5,7 @@ use crate::listen::fault_of;
 use crate::requests::PACKET;
 use crate::slow::{FAILING_CALLS, Trial, passes_unread, two_names};
 use mdns_browse::report::{Ask, Form};
-use mdns_page::survey::Page;
+use mdns_page::page::Page;
 use mdns_survey::survey::{SurveyFault, survey};
 use mdns_survey::{
     AsOf, ListenFault, LivesQuery, Query, Subjects, Which, survey_query, survey_with,

@@ -4,9 +4,9 @@ use crate::written::Answer;
 use mdns_message::Want;
 use people_text::address::push_ipv6_short;
 use people_text::durations::push_duration;
-use people_text::moments::{push_clock, push_date, push_millis, push_seconds};
-use people_text::name_text::push_shown_name;
+use people_text::moment_text::{push_clock, push_date, push_millis, push_seconds};
 use people_text::shown::push_shown;
+use people_text::shown_names::push_shown_name;
 use std::alloc::Global;
 use test_values::values;
 

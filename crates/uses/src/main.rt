@@ -23,9 +23,9 @@ ghost use Rattle.std.specs.Prelude.{◌≡◌, IfOk, length};
 
 use mdns_browse::{Ask, Form};
 use mdns_capture::{ReadAhead, Through};
+use mdns_survey::answer::answer_request;
 use mdns_survey::open_line;
 use mdns_survey::request::{AsOf, Query, Request, Subjects};
-use mdns_survey::run::answer_request;
 use mdns_survey::status::REFUSED;
 use std::alloc::Global;
 use std::env::{self, Env};

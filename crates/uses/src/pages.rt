@@ -1,10 +1,10 @@
 //! Pages about captures.
 
 ghost use Rattle.std.specs.Prelude.{◌≡◌, [], ℕ, List, map, string_bytes, Some, IfOk};
-ghost use Rattle.mdns_page.specs.Survey.{SurveysPage};
+ghost use Rattle.mdns_page.specs.Page.{SurveysPage};
 
 use mdns_capture::{Source, Through};
-use mdns_page::survey::Page;
+use mdns_page::page::Page;
 use mdns_survey::question::survey_with;
 use mdns_survey::request::{AsOf, Subjects};
 use mdns_survey::summary::Summary;

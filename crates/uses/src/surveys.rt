@@ -4,7 +4,7 @@ ghost use Rattle.std.specs.Prelude.{◌≡◌, ◌≢◌, ◌∷◌, [], ℕ, Li
 ghost use Rattle.std.specs.Io.KnownBytes.{Appends};
 ghost use Rattle.mdns_capture.specs.declared.savefile.Ending.{Ending as ending};
 ghost use Rattle.mdns_survey.specs.Answer.{Reports};
-ghost use Rattle.mdns_survey.specs.Captures.{Outcome, CaptureTells, hearings_in};
+ghost use Rattle.mdns_survey.specs.Outcomes.{Outcome, CaptureTells, hearings_in};
 ghost use Rattle.mdns_survey.specs.Laws.{SameCaptures};
 ghost use Rattle.mdns_survey.specs.Listen.{HasListenFault};
 ghost use Rattle.mdns_capture.specs.Output.{writing};
@@ -17,10 +17,10 @@ ghost use Rattle.mdns_survey.specs.declared.request.AsOf.TheVariants.{Newest};
 
 use mdns_browse::Ask;
 use mdns_capture::{Moment, Sink, Source, Through};
+use mdns_survey::answer::answer;
 use mdns_survey::laws::{plain_survey, same_text};
 use mdns_survey::listen::{ListenFault, listen};
 use mdns_survey::request::What;
-use mdns_survey::run::answer;
 use mdns_survey::status::REFUSED;
 use mdns_survey::summary::Summary;
 use mdns_survey::survey::{SurveyFault, survey};

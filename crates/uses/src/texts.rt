@@ -1,13 +1,13 @@
 //! Texts for people.
 
 ghost use Rattle.std.specs.Prelude.{◌≡◌, ◌++◌, ◌∷◌, IfOk, string_bytes};
-ghost use Rattle.people_text.specs.Moments.{seconds_text};
+ghost use Rattle.people_text.specs.MomentText.{seconds_text};
 ghost use Rattle.people_text.specs.Shown.{name_shown};
 
 use dns_name::Name;
 use memory::Want;
-use people_text::moments::push_seconds;
-use people_text::name_text::push_shown_name;
+use people_text::moment_text::push_seconds;
+use people_text::shown_names::push_shown_name;
 use std::alloc::Global;
 
 /// Returns when a name was heard, in nanoseconds since 1970, and the name as people read it.

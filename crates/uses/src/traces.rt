@@ -1,11 +1,11 @@
 //! Hearings as lines.
 
 ghost use Rattle.std.specs.Prelude.{◌≡◌, IfOk, string_bytes};
-ghost use Rattle.mdns_trace.specs.Line.{hearing_line};
+ghost use Rattle.mdns_trace.specs.HearingLine.{hearing_line};
 
 use mdns_capture::SourceAddress;
 use mdns_message::{Hearing, Want};
-use mdns_trace::line::push_hearing_line;
+use mdns_trace::hearing_line::push_hearing_line;
 use std::alloc::Global;
 
 /// Returns the line of a hearing that came from an address and was captured in a file.

@@ -1,5 +1,5 @@
 use Rattle.std.proofs.Common.{refl, sym, ◌∙◌, ap, map, arith}
-use Rattle.mdns_cache.specs.Rows.{last_lent}
+use Rattle.mdns_cache.specs.LentRecords.{last_lent}
 use Rattle.mdns_cache.specs.declared.cache.Last.{Last}
 use Rattle.mdns_browse.specs.About.{is_heard_server_about}
 use Rattle.mdns_browse.specs.Services.{body_of}

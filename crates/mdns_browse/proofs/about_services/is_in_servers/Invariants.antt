@@ -1,6 +1,6 @@
 use Rattle.std.proofs.Common.{◌≡◌, false, map, take}
 use Rattle.std.specs.List.{list_any}
-use Rattle.mdns_cache.specs.Rows.{last_lent}
+use Rattle.mdns_cache.specs.LentRecords.{last_lent}
 use Rattle.mdns_browse.specs.Services.{AreAscending, body_of}
 use Rattle.mdns_browse.proofs.AboutServiceLemmas.{any_in_server}
 use Rattle.mdns_browse.proofs.about_services.is_in_servers.Given as goal

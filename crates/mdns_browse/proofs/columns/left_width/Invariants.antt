@@ -1,6 +1,6 @@
 use Rattle.std.proofs.Common.{◌≡◌, map, take}
-use Rattle.mdns_cache.specs.Rows.{live_record_lent}
-use Rattle.mdns_browse.specs.Pretty.{left_text, widest}
+use Rattle.mdns_cache.specs.LentRecords.{live_record_lent}
+use Rattle.mdns_browse.specs.Columns.{left_text, widest}
 use Rattle.mdns_browse.proofs.columns.left_width.Given as goal
 
 abbrev pub invariant-loop-row : goal.invariant-loop-row

@@ -3,7 +3,7 @@ use Rattle.std.specs.Ordering.{is_lt, is_le}
 use Rattle.std.proofs.lemmas.List.Sorted.{IsPartitionPoint-from_clause}
 use Rattle.mdns_message.specs.Resource.{type_number}
 use Rattle.mdns_cache.specs.Live.{record_of}
-use Rattle.mdns_cache.specs.Rows.{last_lent}
+use Rattle.mdns_cache.specs.LentRecords.{last_lent}
 use Rattle.mdns_cache.specs.declared.cache.Last.{Last}
 use Rattle.mdns_browse.specs.Services.{set_for}
 use Rattle.mdns_browse.proofs.SearchLemmas.{against, parted_below, parted_after, filter-rest, set-found, after_whole, ascending_seen}

@@ -1,8 +1,8 @@
 use Rattle.std.proofs.Common.{◌≡◌, ◌++◌, map, take}
 use Rattle.std.specs.List.{flat_map}
 use Rattle.std.specs.String.{string_bytes}
-use Rattle.mdns_cache.specs.Rows.{live_record_lent}
-use Rattle.mdns_browse.specs.Pretty.{other_row}
+use Rattle.mdns_cache.specs.LentRecords.{live_record_lent}
+use Rattle.mdns_browse.specs.Columns.{other_row}
 use Rattle.mdns_browse.proofs.other_names.push_rows.Given as goal
 
 abbrev pub invariant-loop-row : goal.invariant-loop-row

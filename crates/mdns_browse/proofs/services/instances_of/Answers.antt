@@ -1,4 +1,4 @@
-use Rattle.mdns_cache.specs.Rows.{last_lent}
+use Rattle.mdns_cache.specs.LentRecords.{last_lent}
 use Rattle.mdns_browse.specs.Given.{given_lent}
 use Rattle.std.proofs.lemmas.Grind.{common_steps}
 use Rattle.std.proofs.Common.{None, Some, ◌≡◌, ◌∙◌, ap, sym, List, map, ◌++◌, [], ◌∷◌, arith}

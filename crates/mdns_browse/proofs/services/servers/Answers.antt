@@ -2,7 +2,7 @@ use Rattle.std.proofs.lemmas.Grind.{common_steps}
 use Rattle.std.proofs.Common.{option_map, ◌∙◌, ap, sym, ℕ, List, map, ◌++◌, [], ◌∷◌, arith}
 use Rattle.std.specs.List.{cons_option}
 use Rattle.mdns_message.specs.Resource.{Body}
-use Rattle.mdns_cache.specs.Rows.{last_lent}
+use Rattle.mdns_cache.specs.LentRecords.{last_lent}
 use Rattle.mdns_browse.specs.Services.{server_at}
 use Rattle.mdns_browse.specs.declared.instance.Server.{Server}
 use Rattle.mdns_browse.proofs.InstanceLemmas.{servers-append, servers_of}

@@ -1,6 +1,6 @@
 use Rattle.std.proofs.Common.{◌≡◌, map, take}
 use Rattle.std.specs.List.{filter_map}
-use Rattle.mdns_cache.specs.Rows.{last_lent}
+use Rattle.mdns_cache.specs.LentRecords.{last_lent}
 use Rattle.mdns_message.specs.Parts.{text_of}
 use Rattle.mdns_browse.specs.Services.{body_of}
 use Rattle.mdns_browse.proofs.services.texts.Given as goal

@@ -1,5 +1,5 @@
 use Rattle.std.proofs.Common.{◌≡◌, ◌++◌, map}
-use Rattle.mdns_cache.specs.Rows.{last_lent}
+use Rattle.mdns_cache.specs.LentRecords.{last_lent}
 use Rattle.mdns_cache.proofs.LiveRowLemmas.{last_of}
 use Rattle.mdns_cache.proofs.live.lasts_of.Given as goal
 

@@ -1,4 +1,4 @@
-use Rattle.mdns_cache.specs.Rows.{live_record_lent}
+use Rattle.mdns_cache.specs.LentRecords.{live_record_lent}
 use Rattle.mdns_cache.proofs.LiveRowLemmas.{kept-more}
 use Rattle.mdns_cache.proofs.live.records_of.Goals as goal
 

@@ -1,5 +1,5 @@
 use Rattle.std.proofs.Common.{◌≡◌, ◌++◌, map}
-use Rattle.mdns_cache.specs.Rows.{live_record_lent}
+use Rattle.mdns_cache.specs.LentRecords.{live_record_lent}
 use Rattle.mdns_cache.proofs.live.records_of.Given as goal
 
 -- the records so far, with those that are left, are all

@@ -1,4 +1,4 @@
-use Rattle.mdns_cache.specs.Rows.{last_lent}
+use Rattle.mdns_cache.specs.LentRecords.{last_lent}
 use Rattle.mdns_lives.proofs.ChosenLemmas.{set-goes-on}
 use Rattle.mdns_lives.proofs.changes.goes_on.Goals as goal
 

@@ -3,8 +3,8 @@ use Rattle.std.specs.List.{list_any}
 use Rattle.mdns_join.specs.Kept.{ascending}
 use Rattle.mdns_join.specs.Nanos.{nanos_of}
 use Rattle.mdns_lives.specs.Changes.{begins_in, strays}
-use Rattle.mdns_lives.specs.Rows.{row_lent}
-use Rattle.mdns_lives.specs.declared.record_lives.RecordLives.{RecordLives}
+use Rattle.mdns_lives.specs.LentLives.{row_lent}
+use Rattle.mdns_lives.specs.declared.lives.RecordLives.{RecordLives}
 use Rattle.mdns_lives.proofs.ChosenLemmas.{kept-set}
 use Rattle.mdns_lives.proofs.changes.has_changed.Goals as goal
 

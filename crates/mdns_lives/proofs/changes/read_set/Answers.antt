@@ -2,11 +2,11 @@ use Rattle.std.proofs.Common.{◌≢◌}
 use Rattle.mdns_lives.specs.Changes.{by_sets}
 use Rattle.std.proofs.Common.{◌≡◌, ◌∷◌, [], ◌∙◌, true, List, ap, map, rules, sym}
 use Rattle.std.proofs.lemmas.List.{map-append}
-use Rattle.mdns_cache.specs.Rows.{last_lent}
-use Rattle.mdns_lives.specs.declared.record_lives.RecordLives.{RecordLives}
+use Rattle.mdns_cache.specs.LentRecords.{last_lent}
+use Rattle.mdns_lives.specs.declared.lives.RecordLives.{RecordLives}
 use Rattle.mdns_lives.specs.Changes.{goes_on, maybe_row}
 use Rattle.mdns_lives.specs.Lives.{AreApart}
-use Rattle.mdns_lives.specs.Rows.{row_lent}
+use Rattle.mdns_lives.specs.LentLives.{row_lent}
 use Rattle.mdns_lives.proofs.ChosenLemmas.{none-left, read-more, read-some}
 use Rattle.mdns_cache.proofs.BetweenLemmas.{on_err_any}
 use Rattle.mdns_lives.proofs.changes.read_set.Goals as goal

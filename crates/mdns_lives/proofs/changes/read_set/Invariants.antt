@@ -1,6 +1,6 @@
 use Rattle.std.proofs.Common.{length, map}
 use Rattle.mdns_lives.specs.Changes.{maybe_row}
-use Rattle.mdns_lives.specs.Rows.{row_lent}
+use Rattle.mdns_lives.specs.LentLives.{row_lent}
 use Rattle.mdns_lives.proofs.ChosenLemmas.{ReadSo}
 use Rattle.mdns_lives.proofs.changes.read_set.Given as goal
 

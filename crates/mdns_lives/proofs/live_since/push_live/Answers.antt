@@ -1,5 +1,5 @@
 use Rattle.std.proofs.Common.{arith}
-use Rattle.mdns_cache.specs.Rows.{last_lent}
+use Rattle.mdns_cache.specs.LentRecords.{last_lent}
 use Rattle.mdns_lives.specs.Since.{live_since_lent}
 use Rattle.mdns_lives.proofs.SinceLemmas.{rows-more, rows-start, rows-whole}
 use Rattle.mdns_lives.proofs.live_since.push_live.Goals as goal

@@ -1,6 +1,6 @@
 use Rattle.std.proofs.Common.{◌∙◌, ◌++◌, ℕ, ap}
 use Rattle.std.specs.String.{string_bytes}
-use Rattle.people_text.specs.Moments.{millis_text}
+use Rattle.people_text.specs.MomentText.{millis_text}
 use Rattle.mdns_page.specs.Captures.{recorded_bar}
 use Rattle.mdns_page.proofs.PartLemmas.{parts6}
 use Rattle.mdns_page.proofs.captures.push_recorded_bar.Goals as goal

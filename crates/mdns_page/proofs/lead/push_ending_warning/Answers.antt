@@ -1,5 +1,5 @@
 use Rattle.std.proofs.Common.{◌≡◌, ◌∙◌, false, sym}
-use Rattle.mdns_survey.specs.Lines.{is_whole}
+use Rattle.mdns_survey.specs.ProgramLines.{is_whole}
 use Rattle.mdns_page.specs.Lead.{ending_warning}
 use Rattle.mdns_page.proofs.PartLemmas.{parts5}
 use Rattle.mdns_page.proofs.lead.push_ending_warning.Goals as goal

@@ -1,6 +1,6 @@
 use Rattle.std.proofs.Common.{◌∙◌, ◌++◌, ap, codes, map, ℕ}
 use Rattle.std.specs.String.{string_bytes}
-use Rattle.people_text.specs.Moments.{millis_text}
+use Rattle.people_text.specs.MomentText.{millis_text}
 use Rattle.mdns_lives.specs.declared.life.Reason.{Reason}
 use Rattle.mdns_lives.specs.declared.life.Reason.TheVariants.{Goodbye, Flushed}
 use Rattle.mdns_page.specs.Counts.{count_text}

@@ -4,9 +4,9 @@ use Rattle.std.specs.Ordering.{is_le, is_lt}
 use Rattle.mdns_message.specs.Resource.{type_number}
 use Rattle.mdns_message.specs.declared.record_type.RecordType.TheVariants as kind
 use Rattle.mdns_cache.specs.Live.{record_of}
-use Rattle.mdns_cache.specs.Rows.{last_lent}
-use Rattle.mdns_lives.specs.Rows.{row_lent}
-use Rattle.mdns_lives.specs.declared.record_lives.RecordLives.{RecordLives}
+use Rattle.mdns_cache.specs.LentRecords.{last_lent}
+use Rattle.mdns_lives.specs.LentLives.{row_lent}
+use Rattle.mdns_lives.specs.declared.lives.RecordLives.{RecordLives}
 use Rattle.mdns_browse.specs.Services.{set_for}
 use Rattle.mdns_browse.proofs.SearchLemmas.{after_whole, against, filter-rest, parted_after, parted_below}
 use Rattle.mdns_page.proofs.ServerLemmas.{ascending-lent, named-lent}

@@ -1,6 +1,6 @@
 use Rattle.std.proofs.Common.{◌∙◌, List, ap, map}
 use Rattle.mdns_join.specs.declared.latest.Latest.{Latest}
-use Rattle.mdns_lives.specs.Rows.{row_lent}
+use Rattle.mdns_lives.specs.LentLives.{row_lent}
 use Rattle.mdns_lives.specs.declared.life.Life.{Life}
 use Rattle.mdns_page.specs.Servers.{servers_if}
 use Rattle.mdns_page.proofs.ServerLemmas.{lives-lent}

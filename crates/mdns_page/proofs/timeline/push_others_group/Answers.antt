@@ -1,7 +1,7 @@
 use Rattle.std.proofs.Common.{◌∙◌, ◌++◌, List, ℕ, ap, length, map, sym}
 use Rattle.std.proofs.lemmas.List.{length-map}
 use Rattle.std.specs.String.{string_bytes}
-use Rattle.mdns_page.specs.Hosts.{others_words}
+use Rattle.mdns_page.specs.OtherRows.{others_words}
 use Rattle.mdns_page.specs.Html.{isolated}
 use Rattle.mdns_page.specs.Timeline.{counted_lent, others_group}
 use Rattle.mdns_page.proofs.PartLemmas.{parts8}

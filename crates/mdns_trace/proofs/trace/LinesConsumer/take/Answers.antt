@@ -4,7 +4,7 @@ use Rattle.mdns_browse.specs.declared.about.Subject.{Subject}
 use Rattle.mdns_capture.specs.Capture.{packet_lent}
 use Rattle.mdns_capture.specs.Stream.{OneMoreFailed}
 use Rattle.mdns_survey.specs.Listen.{outcome_of}
-use Rattle.mdns_trace.specs.declared.kind.Trace.{Trace}
+use Rattle.mdns_trace.specs.declared.inquiry.Trace.{Trace}
 use Rattle.mdns_trace.specs.Trace.{AddsLines}
 use Rattle.mdns_trace.proofs.TraceLemmas.{part-more, part-on}
 use Rattle.mdns_trace.proofs.trace.LinesConsumer.take.Goals as goal

@@ -1,0 +1,57 @@
+use Rattle.std.proofs.Common.{sym, ◌∙◌, ap, subst, map, max, length, [], ◌++◌}
+use Rattle.std.specs.List.{filter, flat_map}
+use Rattle.std.specs.String.{string_bytes}
+use Rattle.std.proofs.lemmas.List.{length-map}
+use Rattle.mdns_capture.specs.declared.moment.Moment.{Moment}
+use Rattle.mdns_cache.specs.LentRecords.{last_lent, live_record_lent}
+use Rattle.mdns_browse.specs.About.{keeps_instance}
+use Rattle.mdns_browse.specs.Given.{given_lent}
+use Rattle.mdns_browse.specs.ColumnPieces.{piece_columns, rows_pieces}
+use Rattle.mdns_browse.specs.Columns.{given_left, instances_pretty, left_text, widest}
+use Rattle.mdns_browse.specs.Report.{instances_about, records_about}
+use Rattle.mdns_browse.specs.Services.{AreAscending, InstanceRow, given_of, gives_instance, lasts_in, others_in}
+use Rattle.mdns_browse.proofs.InstanceLemmas.{shown-again, shown_in}
+use Rattle.mdns_browse.proofs.PageLemmas.{page_by_parts}
+use Rattle.mdns_browse.proofs.RowLemmas.{ascending_lasts, one_records}
+use Rattle.mdns_browse.proofs.instance_columns.instances_columns.Goals as goal
+
+pub returns : goal.returns
+returns c heard stands =
+    let now = c.args.now.nanos in
+    let about = c.args.about.now in
+    let records = c.walk_live.result in
+    let are = c.walk_live.ensures heard stands in
+    let lasts = lasts_in records in
+    let ascending = ascending_lasts heard now records are in
+    let rows = ap (map last_lent) c.as_slice-2.ensures.value ∙ c.in_ok-gathered.ensures.rows in
+    let listed = c.as_slice-listed.result.now in
+    let given = ap (map given_lent) c.as_slice-listed.ensures.value ∙ c.in_ok-gathered.ensures.given ascending in
+    let others = c.as_slice-3.result.now in
+    let same = c.as_slice.ensures.value ∙ sym c.as_slice-3.ensures.value in
+    let found = ap (map live_record_lent) c.as_slice-3.ensures.value ∙ c.in_ok-others.ensures
+    ∙ ap (λ rows. records_about about (others_in rows))
+    (one_records heard now c.walk_live-2.result records (c.walk_live-2.ensures heard stands) are) in
+    let shown = ap (λ all. shown_in all (map given_lent listed)) rows ∙ ap (shown_in lasts) given
+    ∙ shown-again lasts (λ (row : InstanceRow). keeps_instance about row.instance) (filter gives_instance (map given_of records)) in
+    let pushed = c.in_ok-push_instances.ensures (subst AreAscending (sym rows) ascending) in
+    let begun = string_bytes c.push_heading.new.to in
+    record {
+      rows = records;
+      are = are;
+      is =
+          page_by_parts now _ (length listed) (map given_lent listed) (instances_about about records) (map live_record_lent others)
+          (string_bytes c.new-page.result.text) begun _ _ given c.new-page.ensures.text (sym (length-map listed given_lent))
+          (c.in_ok-width.ensures
+          ∙ ap
+          (λ rows. max (widest (map (given_left now) (map given_lent listed))) (widest (map (left_text now) (map live_record_lent rows))))
+          same)
+          c.in_ok-push_heading.ensures
+          (pushed.written
+          ∙ ap (λ (at : Moment). begun ++ flat_map (piece_columns c.new-page.result.width at.nanos)
+          (rows_pieces [] (shown_in (map last_lent c.as_slice-2.result.now) (map given_lent listed)))) c.new-page.ensures.now
+          ∙ ap (λ width. begun ++ flat_map (piece_columns width now)
+          (rows_pieces [] (shown_in (map last_lent c.as_slice-2.result.now) (map given_lent listed)))) c.new-page.ensures.width
+          ∙ ap (λ rows. begun ++ flat_map (piece_columns c.in_ok-width.width now) (rows_pieces [] rows)) shown)
+          c.in_ok-push_others.ensures
+          ∙ ap (instances_pretty now (instances_about about records)) found;
+    }

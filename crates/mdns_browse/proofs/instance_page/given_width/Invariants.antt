@@ -1,7 +1,0 @@
-use Rattle.std.proofs.Common.{◌≡◌, map, take}
-use Rattle.mdns_browse.specs.Given.{given_lent}
-use Rattle.mdns_browse.specs.Pretty.{given_left, widest}
-use Rattle.mdns_browse.proofs.instance_page.given_width.Given as goal
-
-abbrev pub invariant-loop-row : goal.invariant-loop-row
-invariant-loop-row l = l.width ≡ widest (map (given_left l.now.nanos) (map given_lent (take l.row-index l.given)))

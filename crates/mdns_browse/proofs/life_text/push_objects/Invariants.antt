@@ -1,0 +1,11 @@
+use Rattle.std.proofs.Common.{◌≡◌, ◌++◌, take}
+use Rattle.std.specs.List.{flat_map}
+use Rattle.std.specs.String.{string_bytes}
+use Rattle.mdns_browse.specs.LifeText.{life_rest}
+use Rattle.mdns_browse.proofs.life_text.push_objects.Given as goal
+
+-- the objects of the lives so far were appended
+abbrev pub invariant-loop-life : goal.invariant-loop-life
+invariant-loop-life l =
+    string_bytes l.text
+    ≡ string_bytes l.initial.text ++ flat_map (λ life. string_bytes l.head.text ++ life_rest l.end.nanos life) (take l.life-index l.lives)

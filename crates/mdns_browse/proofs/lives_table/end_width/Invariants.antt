@@ -1,7 +1,0 @@
-use Rattle.std.proofs.Common.{◌≡◌, map, take}
-use Rattle.mdns_browse.specs.Lives.{end_shown}
-use Rattle.mdns_browse.specs.Pretty.{widest}
-use Rattle.mdns_browse.proofs.lives_table.end_width.Given as goal
-
-abbrev pub invariant-loop-life : goal.invariant-loop-life
-invariant-loop-life l = l.width ≡ widest (map (end_shown l.end.nanos) (take l.life-index l.lives))

@@ -1,8 +1,0 @@
-use Rattle.std.proofs.Common.{arith}
-use Rattle.std.proofs.lemmas.List.{length-map}
-use Rattle.std.proofs.lemmas.Result.{on_ok_weaker}
-use Rattle.mdns_browse.proofs.ColumnLemmas.{table_by_parts}
-use Rattle.mdns_browse.proofs.pretty.push_table.Goals as goal
-
-pub returns : goal.returns
-returns c = grind (arith, length-map, on_ok_weaker, table_by_parts)

@@ -1,9 +1,0 @@
-use Rattle.std.proofs.Common.{◌≡◌, ◌++◌, map, take}
-use Rattle.std.specs.List.{flat_map}
-use Rattle.std.specs.String.{string_bytes}
-use Rattle.mdns_browse.specs.Pretty.{type_row}
-use Rattle.mdns_browse.proofs.pretty.push_type_rows.Given as goal
-
-abbrev pub invariant-loop-name : goal.invariant-loop-name
-invariant-loop-name l =
-    string_bytes l.to ≡ string_bytes l.initial.to ++ flat_map type_row (map (λ name. name.now) (take l.name-index l.names))

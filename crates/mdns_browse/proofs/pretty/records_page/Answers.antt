@@ -1,6 +1,0 @@
-use Rattle.std.proofs.Common.{arith}
-use Rattle.std.proofs.Common.{string_bytes}
-use Rattle.mdns_browse.proofs.pretty.records_page.Goals as goal
-
-pub returns : goal.returns
-returns c heard stands = grind (arith, string_bytes)

@@ -1,0 +1,15 @@
+use Rattle.std.proofs.lemmas.Grind.{common_steps}
+use Rattle.std.proofs.Common.{arith}
+use Rattle.std.proofs.Common.{rules}
+use Rattle.mdns_browse.proofs.KeptLemmas.{records_about-append}
+use Rattle.mdns_browse.proofs.ListLemmas.{left_all, left_more}
+use Rattle.mdns_browse.proofs.record_columns.kept_records.Goals as goal
+
+pub loop-row-init : goal.loop-row-init
+loop-row-init c = grind arith
+
+pub loop-row-preserved : goal.loop-row-preserved
+loop-row-preserved c = grind (arith, common_steps, left_more, records_about-append)
+
+pub returns : goal.returns
+returns c = search (rules, left_all, records_about-append)

@@ -1,0 +1,11 @@
+use Rattle.std.proofs.Common.{◌≡◌, ◌++◌, map, take}
+use Rattle.std.specs.List.{flat_map}
+use Rattle.std.specs.String.{string_bytes}
+use Rattle.mdns_cache.specs.LentRecords.{live_record_lent}
+use Rattle.mdns_browse.specs.Columns.{record_row}
+use Rattle.mdns_browse.proofs.record_columns.push_rows.Given as goal
+
+abbrev pub invariant-loop-row : goal.invariant-loop-row
+invariant-loop-row l =
+    string_bytes l.to
+    ≡ string_bytes l.initial.to ++ flat_map (record_row l.left 20 4 l.now.nanos) (map live_record_lent (take l.row-index l.rows))

@@ -1,0 +1,6 @@
+use Rattle.std.proofs.Common.{arith}
+use Rattle.std.proofs.Common.{string_bytes}
+use Rattle.mdns_browse.proofs.record_columns.records_columns.Goals as goal
+
+pub returns : goal.returns
+returns c heard stands = grind (arith, string_bytes)

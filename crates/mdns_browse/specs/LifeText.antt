@@ -1,0 +1,147 @@
+-- The lives of records as text.
+use Rattle.std.specs.Prelude.{◌≡◌, ℕ, nat_lt, ◌==◌, if◌then◌else◌, List, [], ◌∷◌, ◌++◌, length, map, codes}
+use Rattle.std.specs.Fmt.{decimal}
+use Rattle.std.specs.List.{flat_map}
+use Rattle.mdns_capture.specs.Text.{moment_text}
+use Rattle.dns_name.specs.Name.{name_text}
+use Rattle.mdns_message.specs.Resource.{type_name, type_of}
+use Rattle.mdns_message.specs.declared.resource.Resource.{Resource}
+use Rattle.mdns_join.specs.declared.latest.Latest.{Latest}
+use Rattle.mdns_lives.specs.declared.life.Life.{Life}
+use Rattle.mdns_lives.specs.declared.life.Reason.{Reason}
+use Rattle.mdns_lives.specs.declared.life.Reason.TheVariants.{RanOut, Goodbye, Flushed}
+use Rattle.mdns_lives.specs.declared.life.Which.{Which}
+use Rattle.mdns_lives.specs.declared.life.Which.TheVariants.{All, Changes}
+use Rattle.mdns_browse.specs.declared.report.Form.{Form}
+use Rattle.mdns_browse.specs.declared.report.Form.TheVariants.{Lines, Json, Pretty}
+use Rattle.people_text.specs.MomentText.{millis_text}
+use Rattle.mdns_browse.specs.declared.life_text.Layout.{Layout}
+use Rattle.mdns_browse.specs.Columns.{padded, widest}
+use Rattle.mdns_browse.specs.RecordShown.{shown_record}
+use Rattle.mdns_browse.specs.RecordText.{data_words, resource_text}
+use Rattle.mdns_browse.specs.Json.{json_string, json_member, json_object, json_words, resource_members}
+
+-- why a life ended, as a word
+abbrev pub reason_text : Reason → List ℕ
+reason_text RanOut = codes "expired"
+reason_text Goodbye = codes "goodbye"
+reason_text Flushed = codes "flushed"
+
+-- how a life ends, as a word: `live` if it goes on after the end of the captures, which is in nanoseconds
+abbrev pub end_text : ℕ → Life → List ℕ
+end_text end life = if nat_lt end life.until then codes "live" else reason_text life.reason
+
+-- what is said for people of a life that goes on, and will end for this reason unless the record is heard again
+abbrev pub open_text : Reason → List ℕ
+open_text RanOut = codes "live"
+open_text Goodbye = codes "live, said goodbye"
+open_text Flushed = codes "live, flushed"
+
+-- how a life ends, for people
+abbrev pub end_shown : ℕ → Life → List ℕ
+end_shown end life = if nat_lt end life.until then open_text life.reason else reason_text life.reason
+
+-- when a life began, the TTL and the moment of its last hearing, when it ends and how, and a line feed
+abbrev pub life_words : ℕ → Life → List ℕ
+life_words end life =
+    codes " from " ++ moment_text life.from.nanos
+    ++ codes " ttl " ++ decimal life.last.ttl ++ codes " heard " ++ moment_text life.last.moment.nanos
+    ++ codes " until " ++ moment_text life.until ++ 32 ∷ end_text end life ++ 10 ∷ []
+
+-- the line of a life, by the end of the captures, the record and the life: owner and type, the words of the data, and
+-- those of the life
+abbrev pub life_line : ℕ → Resource → Life → List ℕ
+life_line end resource life = resource_text resource ++ life_words end life
+
+-- the same as an object: that of a live record, with `from` before `ttl`, and `end` last
+unfoldable pub life_json : ℕ → Resource → Life → List ℕ
+life_json end resource life =
+    json_object
+    (resource_members resource
+    ++ json_member (codes "from") (json_string (moment_text life.from.nanos))
+    ∷ json_member (codes "ttl") (decimal life.last.ttl)
+    ∷ json_member (codes "heard") (json_string (moment_text life.last.moment.nanos))
+    ∷ json_member (codes "until") (json_string (moment_text life.until))
+    ∷ json_member (codes "end") (json_string (end_text end life)) ∷ []) ++ 10 ∷ []
+
+-- the beginning of that object: owner, type, and the words of the data
+abbrev pub resource_begin : Resource → List ℕ
+resource_begin resource =
+    codes "{\"owner\":" ++ json_string (name_text resource.owner)
+    ++ codes ",\"type\":" ++ json_string (type_name (type_of resource.body))
+    ++ codes ",\"data\":" ++ json_words (data_words resource.body)
+
+-- what that object says of the record
+abbrev pub resource_json : Resource → List ℕ
+resource_json resource = resource_begin resource ++ codes ",\"shown\":" ++ json_string (shown_record resource)
+
+-- the rest of it, with what it says of the life
+abbrev pub life_rest : ℕ → Life → List ℕ
+life_rest end life =
+    codes ",\"from\":" ++ json_string (moment_text life.from.nanos) ++ codes ",\"ttl\":" ++ decimal life.last.ttl
+    ++ codes ",\"heard\":" ++ json_string (moment_text life.last.moment.nanos)
+    ++ codes ",\"until\":" ++ json_string (moment_text life.until)
+    ++ codes ",\"end\":" ++ json_string (end_text end life) ++ codes "}\n"
+
+-- ---- columns
+
+-- the lives of rows
+abbrev pub lives_in : List (Latest × List Life) → List Life
+lives_in rows = flat_map (λ row. row.1) rows
+
+-- how wide the column is that says how lives end
+abbrev pub end_width : ℕ → List (Latest × List Life) → ℕ
+end_width end rows = widest (codes "END" ∷ map (end_shown end) (lives_in rows))
+
+-- a life in columns: from when until when, each of 24 bytes, how it ended, the type, and the record
+unfoldable pub life_row : ℕ → ℕ → Resource → Life → List ℕ
+life_row width end resource life =
+    millis_text life.from.nanos ++ codes "  " ++ millis_text life.until ++ codes "  " ++ padded width (end_shown end life)
+    ++ codes "  " ++ padded 4 (type_name (type_of resource.body)) ++ codes "  " ++ shown_record resource ++ 10 ∷ []
+
+-- the heads of the columns
+unfoldable pub life_heads : ℕ → List ℕ
+life_heads width = codes "FROM                      UNTIL                     " ++ padded width (codes "END") ++ codes "  TYPE  RECORD\n"
+
+-- what so many of them are called
+abbrev pub called : Which → ℕ → List ℕ
+called All count = if count == 1 then codes " life between " else codes " lives between "
+called Changes count =
+    if count == 1 then codes " life of record sets that changed, between "
+    else codes " lives of record sets that changed, between "
+
+-- how many lives there are, which those are, and between which moments; an empty line, and the heads of the columns, unless
+-- there are none
+unfoldable pub lives_heading : Which → (count width begin end : ℕ) → List ℕ
+lives_heading which count width begin end =
+    decimal count ++ called which count ++ millis_text begin ++ codes " and "
+    ++ millis_text end ++ 10 ∷ (if count == 0 then [] else 10 ∷ life_heads width)
+
+-- ---- forms
+
+-- what stands before the lives; in columns also the earliest moment, and the width of the column that says how they end
+abbrev pub lives_head : Which → Form → (count width begin end : ℕ) → List ℕ
+lives_head which Lines count width begin end = []
+lives_head which Json count width begin end = []
+lives_head which Pretty count width begin end = lives_heading which count width begin end
+
+-- a life in that form
+abbrev pub life_text : Form → ℕ → ℕ → Resource → Life → List ℕ
+life_text Lines width = life_line
+life_text Json width = life_json
+life_text Pretty width = life_row width
+
+-- the lives of a record in that form, spelled as in its last hearing
+abbrev pub lives_text : Form → ℕ → ℕ → Latest × List Life → List ℕ
+lives_text form width end row = flat_map (life_text form width end row.0.resource) row.1
+
+-- all of it: `begin` is the earliest moment, and `end` the end of the captures
+abbrev pub lives_report : Which → Form → (begin end : ℕ) → List (Latest × List Life) → List ℕ
+lives_report which form begin end rows =
+    lives_head which form (length (lives_in rows)) (end_width end rows) begin end
+    ++ flat_map (lives_text form (end_width end rows) end) rows
+
+-- how many lives the rows have, and how wide the column is that says how they end
+pub record IsLayout (end : ℕ) (rows : List (Latest × List Life)) (layout : Layout) : Type 0 where
+  pub count : layout.count ≡ length (lives_in rows)
+  pub width : layout.width ≡ end_width end rows

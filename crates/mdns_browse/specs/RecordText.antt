@@ -1,0 +1,128 @@
+-- Records and services as text: presentation form after RFC 1035, section 5.1, and this project's own lines.
+use Rattle.std.specs.Prelude.{ℕ, zero, suc, false, ◌+◌, ◌*◌, ◌/◌, ◌%◌, nat_lt, if◌then◌else◌}
+use Rattle.std.specs.Prelude.{List, [], ◌∷◌, ◌++◌, slice_index, codes}
+use Rattle.std.specs.Fmt.{decimal, digit_glyph}
+use Rattle.std.specs.List.{flat_map}
+unfoldable pub use Rattle.mdns_capture.specs.Text.{moment_text}
+use Rattle.dns_name.specs.Name.{name_text}
+use Rattle.mdns_message.specs.Resource.{type_name, type_of, Body}
+use Rattle.mdns_message.specs.TextData.{string_text, strings_of}
+use Rattle.mdns_join.specs.declared.latest.Latest.{Latest}
+use Rattle.mdns_message.specs.declared.resource.Resource.{Resource}
+use Rattle.mdns_message.specs.Parts.{content_of}
+use Rattle.mdns_message.specs.declared.parts.Address.{Address}
+use Rattle.mdns_message.specs.declared.parts.Address.TheVariants.{V4, V6}
+use Rattle.mdns_message.specs.declared.parts.Content.{Content}
+use Rattle.mdns_message.specs.declared.parts.Content.TheVariants as content
+use Rattle.mdns_message.specs.declared.parts.Service.{Service}
+use Rattle.mdns_browse.specs.declared.instance.Instance.{Instance}
+use Rattle.mdns_browse.specs.declared.instance.Server.{Server}
+use Rattle.mdns_browse.specs.declared.data_words.Word.{Word}
+use Rattle.mdns_browse.specs.declared.data_words.Word.TheVariants.{Ipv4, Ipv6, Name as NameWord, Number, String as StringWord, Moment}
+
+-- one word for a string that isn't empty, none for an empty one
+abbrev pub string_words : List ℕ → List (List ℕ)
+string_words [] = []
+string_words (b ∷ bytes) = string_text (b ∷ bytes) ∷ []
+
+-- the words of TXT data
+unfoldable pub text_words : List ℕ → List (List ℕ)
+text_words bytes = flat_map string_words (strings_of bytes)
+
+-- an octet as two hexadecimal digits, in lower case
+abbrev pub hex_octet : ℕ → List ℕ
+hex_octet octet = digit_glyph false (octet / 16) ∷ digit_glyph false (octet % 16) ∷ []
+
+-- a group of an IPv6 address at its place: two octets, with a colon before each group but the first
+abbrev pub placed_group : List ℕ → ℕ → List ℕ
+placed_group octets k =
+    (if nat_lt 0 k then 58 ∷ [] else []) ++ (hex_octet (slice_index octets (2 * k)) ++ hex_octet (slice_index octets (2 * k + 1)))
+
+-- the first groups of an IPv6 address
+unfoldable pub groups_text : List ℕ → ℕ → List ℕ
+groups_text octets zero = []
+groups_text octets (suc k) = groups_text octets k ++ placed_group octets k
+
+-- an IPv6 address: eight groups of four lower case hexadecimal digits
+abbrev pub ipv6_text : List ℕ → List ℕ
+ipv6_text octets = groups_text octets 8
+
+-- an IPv4 address: four decimal numbers
+abbrev pub ipv4_text : List ℕ → List ℕ
+ipv4_text octets =
+    decimal (slice_index octets 0) ++ 46 ∷ decimal (slice_index octets 1) ++ 46 ∷ decimal (slice_index octets 2)
+    ++ 46 ∷ decimal (slice_index octets 3)
+
+-- the text of a word
+abbrev pub word_text : Word → List ℕ
+word_text (Ipv4 octets) = ipv4_text octets.now
+word_text (Ipv6 octets) = ipv6_text octets.now
+word_text (NameWord name) = name_text name.now
+word_text (Number number) = decimal number
+word_text (StringWord string) = string_text string.now
+word_text (Moment nanos) = moment_text nanos
+
+-- the words, each after one space
+abbrev pub spaced : List (List ℕ) → List ℕ
+spaced words = flat_map (λ word. 32 ∷ word) words
+
+-- an address
+abbrev pub address_text : Address → List ℕ
+address_text (V4 octets) = ipv4_text octets
+address_text (V6 octets) = ipv6_text octets
+
+-- the words of what data says: those of a service are priority, weight, port and target (RFC 2782), and an address or a name
+-- is one word
+abbrev pub content_words : Content (List ℕ) (List ℕ) → List (List ℕ)
+content_words (content.Address address) = address_text address ∷ []
+content_words (content.Name name) = name_text name ∷ []
+content_words (content.Strings bytes) = text_words bytes
+content_words (content.Service service) =
+    decimal service.priority ∷ decimal service.weight ∷ decimal service.port ∷ name_text service.target ∷ []
+
+-- the words of a record's data
+abbrev pub data_words : Body → List (List ℕ)
+data_words b = content_words (content_of b)
+
+-- a record: its owner, its type, and the words of its data
+abbrev pub resource_text : Resource → List ℕ
+resource_text resource =
+    name_text resource.owner ++ 32 ∷ type_name (type_of resource.body) ++ spaced (data_words resource.body)
+
+-- the line of a live record, by its last hearing and its end: owner and type, the words of the data, the TTL as it was
+-- heard, the moment, the end, and a line feed
+unfoldable pub record_line : Latest × ℕ → List ℕ
+record_line (last, end) =
+    name_text last.resource.owner ++ 32 ∷ type_name (type_of last.resource.body)
+    ++ spaced (data_words last.resource.body)
+    ++ codes " ttl " ++ decimal last.ttl ++ codes " heard " ++ moment_text last.moment.nanos
+    ++ codes " until " ++ moment_text end ++ 10 ∷ []
+
+-- the line of a service type: its name, and a line feed
+unfoldable pub type_line : List ℕ → List ℕ
+type_line name = name_text name ++ 10 ∷ []
+
+-- the line of an address
+unfoldable pub address_line : Body → List ℕ
+address_line address = codes "    address" ++ spaced (data_words address) ++ 10 ∷ []
+
+-- the line of a server: target, port, priority and weight (RFC 2782), and the lines of its addresses
+unfoldable pub server_lines : Server → List ℕ
+server_lines server =
+    codes "  server " ++ name_text server.target ++ 32 ∷ decimal server.port
+    ++ codes " priority " ++ decimal server.priority ++ codes " weight " ++ decimal server.weight
+    ++ 10 ∷ flat_map address_line server.addresses
+
+-- the lines of an instance's servers; where it has none, one line that says so
+unfoldable pub servers_lines : List Server → List ℕ
+servers_lines [] = codes "  unresolved" ++ 10 ∷ []
+servers_lines (server ∷ servers) = flat_map server_lines (server ∷ servers)
+
+-- the line of a TXT record: its words, each after a space
+unfoldable pub text_line : List ℕ → List ℕ
+text_line text = codes "  text" ++ spaced (text_words text) ++ 10 ∷ []
+
+-- the lines of an instance: its name, its servers, its texts
+unfoldable pub instance_lines : Instance → List ℕ
+instance_lines instance =
+    name_text instance.name ++ 10 ∷ servers_lines instance.servers ++ flat_map text_line instance.texts

@@ -1,0 +1,115 @@
+//! The live records that give instances, and which of these instances are about the subjects.
+
+ghost use Rattle.std.specs.Prelude.{◌≡◌, ◌++◌, ◌∷◌, [], List, map, IfOk, OnOk};
+ghost use Rattle.std.specs.List.{filter};
+ghost use Rattle.mdns_cache.specs.LentRecords.{last_lent};
+ghost use Rattle.mdns_browse.specs.About.{keeps_instance};
+ghost use Rattle.mdns_browse.specs.Given.{given_lent, kept_given};
+ghost use Rattle.mdns_browse.specs.Report.{instances_about};
+ghost use Rattle.mdns_browse.specs.Services.{AreAscending, GivenRow, given_of, gives_instance, instance_rows_in};
+ghost use Rattle.mdns_browse.specs.Services.{lasts_in};
+
+use crate::about::Subject;
+use crate::keeps::keeps_heard_instance;
+use crate::services::instance_of;
+use crate::sheet::Given;
+use mdns_cache::{Last, LiveWalk};
+use mdns_message::Want;
+use std::alloc::Global;
+
+/// The live records, and those that give an instance, both in key order.
+#[derive(Drop)]
+pub struct Gathered<'a> {
+    /// The last hearing of each live record.
+    pub rows: Vec<Last<'a>>,
+    /// The live records that give an instance.
+    pub given: Vec<Given<'a>>,
+}
+
+/// Collects the live records, and of these those that give an instance about one of the subjects, or where there are no
+/// subjects all that give one. Since when they have been live isn't known.
+pub(crate) fn given_in<'a>(
+    alloc: Global,
+    walk: LiveWalk<'a>,
+    about: &[Subject],
+) -> Result<Gathered<'a>, Want>
+    ensures rows { IfOk result (λ gathered. map last_lent gathered.rows.items ≡ lasts_in walk.entry) }
+    ensures given { IfOk result (λ gathered. AreAscending (lasts_in walk.entry)
+        → map given_lent gathered.given.items ≡ map (λ row. row.given) (instances_about about.now walk.entry)) }
+{
+    let gathered = gather(alloc, walk)?;
+    let rows = gathered.rows;
+    let given = kept_of(alloc, about, rows.as_slice(), gathered.given)?;
+    Ok(Gathered { rows, given })
+}
+
+/// Collects live records, and those that give an instance.
+pub(crate) fn gather<'a>(alloc: Global, walk: LiveWalk<'a>) -> Result<Gathered<'a>, Want>
+    ensures rows { IfOk result (λ gathered. map last_lent gathered.rows.items ≡ lasts_in walk.entry) }
+    ensures given { IfOk result (λ gathered. map given_lent gathered.given.items ≡ filter gives_instance (map given_of walk.entry)) }
+{
+    let mut rows = Vec::new(alloc);
+    let mut given = Vec::new(alloc);
+    for row in walk {
+        rows.push(row.last)?;
+        push_given(&mut given, Given { row, since: None })?;
+    }
+    Ok(Gathered { rows, given })
+}
+
+// Appends a live record that gives an instance; leaves out any other.
+fn push_given<'a>(to: &mut Vec<Given<'a>>, given: Given<'a>) -> Result<(), Want>
+    ensures { OnOk result (map given_lent to.new.items
+        ≡ map given_lent to.old.items ++ filter gives_instance (given_lent given.entry ∷ [])) }
+{
+    if instance_of(&given.row.last).is_some() {
+        to.push(given)?;
+    }
+    Ok(())
+}
+
+// Returns those of these records, each of which gives an instance, whose instance is about the subjects. The servers are
+// looked up in the rows.
+fn kept_of<'a>(
+    alloc: Global,
+    about: &[Subject],
+    rows: &[Last<'_>],
+    given: Vec<Given<'a>>,
+) -> Result<Vec<Given<'a>>, Want>
+    ensures { IfOk result (λ kept. AreAscending (map last_lent rows.now)
+        → (all : List GivenRow) → map given_lent given.entry.items ≡ filter gives_instance all
+        → map given_lent kept.items ≡ map (λ row. row.given)
+        (filter (λ row. keeps_instance about.now row.instance) (instance_rows_in (map last_lent rows.now) all))) }
+{
+    // Without subjects there is no second list.
+    if about.is_empty() {
+        return Ok(given);
+    }
+    let mut scratch = String::new(alloc);
+    let mut kept = Vec::new(alloc);
+    for row in &given {
+        push_kept(&mut kept, about, rows, *row, &mut scratch)?;
+    }
+    Ok(kept)
+}
+
+fn push_kept<'a>(
+    to: &mut Vec<Given<'a>>,
+    about: &[Subject],
+    rows: &[Last<'_>],
+    given: Given<'a>,
+    scratch: &mut String,
+) -> Result<(), Want>
+    ensures { OnOk result (AreAscending (map last_lent rows.now)
+        → map given_lent to.new.items ≡ map given_lent to.old.items
+        ++ kept_given about.now (map last_lent rows.now) (given_lent given.entry ∷ [])) }
+{
+    // Each has the name of an instance: only PTR records give one.
+    let Some(name) = given.row.last.resource.body.pointer() else {
+        return Ok(());
+    };
+    if keeps_heard_instance(about, rows, name, scratch)? {
+        to.push(given)?;
+    }
+    Ok(())
+}

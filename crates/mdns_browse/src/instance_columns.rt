@@ -1,0 +1,127 @@
+//! Service instances in readable columns, for people.
+
+ghost use Rattle.std.specs.Prelude.{◌≡◌, List, [], map, max, IfOk, OnOk};
+ghost use Rattle.std.specs.List.{filter_map};
+ghost use Rattle.std.specs.String.{string_bytes};
+ghost use Rattle.mdns_message.specs.declared.hearing.Hearing.{Hearing};
+ghost use Rattle.mdns_cache.specs.Contents.{StandsFor};
+ghost use Rattle.mdns_cache.specs.Live.{NoneLater};
+ghost use Rattle.mdns_cache.specs.LentRecords.{last_lent, live_record_lent};
+ghost use Rattle.mdns_browse.specs.Given.{given_lent};
+ghost use Rattle.mdns_browse.specs.ColumnPieces.{Writes, row_pieces, rows_pieces, type_pieces};
+ghost use Rattle.mdns_browse.specs.Columns.{given_left, left_text, widest};
+ghost use Rattle.mdns_browse.specs.Report.{IsReportIn};
+ghost use Rattle.mdns_browse.specs.Services.{AreAscending, instance_in, instance_row_in};
+ghost use Rattle.mdns_browse.specs.declared.report.Ask.TheVariants.{Instances};
+ghost use Rattle.mdns_browse.specs.declared.report.Form.TheVariants.{Pretty};
+
+use crate::about::Subject;
+use crate::columns::{left_len, left_width, push_heading, wider};
+use crate::given_rows::given_in;
+use crate::instance_sheet::InstanceSheet;
+use crate::other_names::{kept_others, push_others};
+use crate::report_walk::walk_instance;
+use crate::sheet::{Given, Sheet};
+use dns_name::fold::folded_cmp;
+use mdns_cache::{Cache, Last, LiveRecord};
+use mdns_capture::Moment;
+use mdns_message::{Name, Want};
+use std::alloc::Global;
+
+/// Writes the service instances of a cache that are about the subjects, each below the name of its type, and after them the
+/// other names that are given for a type.
+pub(crate) fn instances_columns(
+    alloc: Global,
+    cache: &Cache,
+    about: &[Subject],
+    now: Moment,
+) -> Result<String, Want>
+    requires { NoneLater cache.now.newest now }
+    ensures { IfOk result (λ text. (heard : List Hearing) → StandsFor cache.now heard
+        → IsReportIn about.now Pretty Instances heard now.nanos (string_bytes text)) }
+{
+    let gathered = given_in(alloc, cache.walk_live(now), about)?;
+    let listed = gathered.given.as_slice();
+    let others = kept_others(alloc, about, cache.walk_live(now))?;
+    let width = names_width(alloc, now, listed, others.as_slice())?;
+    let mut page = InstanceSheet::new(alloc, now, width);
+    push_heading(&mut page.text, listed.len(), "instance", "instances", now)?;
+    push_instances(&mut page, gathered.rows.as_slice(), listed)?;
+    push_others(&mut page.text, width, now, others.as_slice())?;
+    Ok(page.text)
+}
+
+// Returns the width of the first column.
+fn names_width(
+    alloc: Global,
+    now: Moment,
+    given: &[Given<'_>],
+    others: &[LiveRecord<'_>],
+) -> Result<usize, Want>
+    ensures { IfOk result (λ width. width ≡ max (widest (map (given_left now.nanos) (map given_lent given.now)))
+        (widest (map (left_text now.nanos) (map live_record_lent others.now)))) }
+{
+    let width = given_width(alloc, now, given)?;
+    Ok(wider(width, left_width(alloc, now, others)?))
+}
+
+// Returns the greatest length of the texts of how much longer the records live.
+fn given_width(alloc: Global, now: Moment, given: &[Given<'_>]) -> Result<usize, Want>
+    ensures { IfOk result (λ width. width ≡ widest (map (given_left now.nanos) (map given_lent given.now))) }
+{
+    let mut text = String::new(alloc);
+    let mut width = 0;
+    for row in given {
+        let len = left_len(&mut text, now, &row.row)?;
+        width = wider(width, len);
+    }
+    Ok(width)
+}
+
+// Appends each instance, and before the first of a type the type's name. The servers and texts are looked up in the rows.
+fn push_instances(
+    page: &mut InstanceSheet,
+    rows: &[Last<'_>],
+    given: &[Given<'_>],
+) -> Result<(), Want>
+    ensures { OnOk result (AreAscending (map last_lent rows.now) → Writes page.old
+        (rows_pieces [] (filter_map (instance_row_in (map last_lent rows.now)) (map given_lent given.now))) page.new) }
+{
+    let mut before: &[u8] = b"";
+    for row in given {
+        // Each has the name of an instance: only PTR records give one.
+        let Some(name) = row.row.last.resource.body.pointer() else {
+            continue;
+        };
+        push_instance(page, rows, row, name, before)?;
+        before = row.row.last.resource.owner.wire();
+    }
+    Ok(())
+}
+
+// Appends an instance by the record that gives it.
+fn push_instance(
+    page: &mut InstanceSheet,
+    rows: &[Last<'_>],
+    given: &Given<'_>,
+    name: &Name,
+    before: &[u8],
+) -> Result<(), Want>
+    ensures { OnOk result (AreAscending (map last_lent rows.now) → Writes page.old (row_pieces before.now (record {
+      given = given_lent given.now;
+      instance = instance_in (map last_lent rows.now) name.now;
+    })) page.new) }
+{
+    push_type(page, before, &given.row.last.resource.owner)?;
+    walk_instance(page, rows, given, name)
+}
+
+// Appends the name of a type, unless the instance before is of that type.
+fn push_type(page: &mut InstanceSheet, before: &[u8], owner: &Name) -> Result<(), Want>
+    ensures { OnOk result (Writes page.old (type_pieces before.now owner.now) page.new) }
+{
+    if folded_cmp(before, owner.wire()).is_eq() {
+        return Ok(());
+    }
+    page.service_type(owner)
+}

@@ -1,0 +1,129 @@
+//! A page of service instances in readable columns.
+
+ghost use Rattle.std.specs.Prelude.{◌≡◌, ◌++◌, ◌∷◌, [], codes, OnOk};
+ghost use Rattle.std.specs.String.{string_bytes};
+ghost use Rattle.mdns_browse.specs.Columns.{spaces};
+
+use crate::columns::{push_padded_left, push_spaces};
+use crate::record_columns::push_type_row;
+use crate::record_shown::{
+    push_shown_instance, push_shown_order, push_shown_strings, push_shown_target, push_shown_words,
+};
+use crate::sheet::{Given, Sheet};
+use mdns_cache::LiveRecord;
+use mdns_capture::Moment;
+use mdns_message::{BorrowedBody, Bytes, Name, Want};
+use std::alloc::Global;
+
+/// A page of service instances, as of a moment, with a column of this width for what is left.
+#[derive(Drop)]
+pub(crate) struct InstanceSheet {
+    pub(crate) text: String,
+    now: Moment,
+    width: usize,
+    // Room for the words of a text: a line is written only where it has some.
+    words: String,
+}
+
+impl InstanceSheet {
+    /// Makes an empty page.
+    pub(crate) fn new(alloc: Global, now: Moment, width: usize) -> InstanceSheet
+        ensures text { string_bytes result.text ≡ [] }
+        ensures now { result.now ≡ now }
+        ensures width { result.width ≡ width }
+    {
+        InstanceSheet {
+            text: String::new(alloc),
+            now,
+            width,
+            words: String::new(alloc),
+        }
+    }
+}
+
+fn push_indent(to: &mut String, width: usize) -> Result<(), Want>
+    ensures { OnOk result (string_bytes to.new ≡ string_bytes to.old ++ (spaces width ++ codes "    ")) }
+{
+    push_spaces(to, width)?;
+    to.push_str("    ")?;
+    Ok(())
+}
+
+fn push_line(to: &mut String, width: usize, words: &str) -> Result<(), Want>
+    ensures { OnOk result (string_bytes to.new
+        ≡ string_bytes to.old ++ (spaces width ++ codes "    " ++ words.now ++ 10 ∷ [])) }
+{
+    push_indent(to, width)?;
+    to.push_str(words)?;
+    to.push('\n')?;
+    Ok(())
+}
+
+impl Sheet for InstanceSheet {
+    ghost use Rattle.mdns_browse.specs.ColumnPieces.{Writes};
+    ghost use Rattle.mdns_browse.specs.laws.ColumnPieces.{writes_page-laws};
+
+    ghost takes = { Writes };
+
+    // A page of instances has no other records.
+    fn live_record(&mut self, _row: &LiveRecord<'_>) -> Result<(), Want> {
+        Ok(())
+    }
+
+    fn service_type(&mut self, name: &Name) -> Result<(), Want> {
+        self.text.push('\n')?;
+        push_type_row(&mut self.text, name)
+    }
+
+    #[tactic(auto, unfolding(crate::specs::Columns::instance_row))]
+    fn instance_begin(&mut self, given: &Given<'_>, name: &Name) -> Result<(), Want> {
+        self.text.push_str("  ")?;
+        push_padded_left(&mut self.text, self.width, self.now, &given.row)?;
+        self.text.push_str("  ")?;
+        push_shown_instance(&mut self.text, &name.borrowed())?;
+        Ok(self.text.push('\n')?)
+    }
+
+    fn server_begin(
+        &mut self,
+        priority: u16,
+        weight: u16,
+        port: u16,
+        target: &Name,
+    ) -> Result<(), Want> {
+        push_indent(&mut self.text, self.width)?;
+        push_shown_target(&mut self.text, &target.borrowed(), port)?;
+        push_shown_order(&mut self.text, priority, weight)
+    }
+
+    fn server_address(&mut self, address: &BorrowedBody<'_>) -> Result<(), Want> {
+        push_shown_words(&mut self.text, address)
+    }
+
+    fn server_end(&mut self) -> Result<(), Want> {
+        Ok(self.text.push('\n')?)
+    }
+
+    #[tactic(auto, unfolding(crate::specs::Columns::words_line))]
+    fn servers_end(&mut self, none: bool) -> Result<(), Want> {
+        if none {
+            return push_line(&mut self.text, self.width, "  unresolved");
+        }
+        Ok(())
+    }
+
+    fn instance_text(&mut self, text: &Bytes) -> Result<(), Want> {
+        self.words.clear();
+        push_shown_strings(&mut self.words, text.as_slice())?;
+        if self.words.is_empty() {
+            return Ok(());
+        }
+        push_line(&mut self.text, self.width, self.words.as_str())
+    }
+
+    fn instance_end(&mut self) -> Result<(), Want> {
+        Ok(())
+    }
+
+    ghost laws = { writes_page-laws };
+}

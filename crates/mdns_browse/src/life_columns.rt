@@ -1,0 +1,152 @@
+//! The lives of records in readable columns, for people. After `Want` the contents of `text` are not specified.
+
+ghost use Rattle.std.specs.Prelude.{◌≡◌, ◌++◌, ◌∷◌, [], codes, length, map, IfOk, OnOk};
+ghost use Rattle.std.specs.List.{flat_map};
+ghost use Rattle.std.specs.String.{string_bytes};
+ghost use Rattle.mdns_message.specs.Resource.{type_name, type_of};
+ghost use Rattle.people_text.specs.MomentText.{millis_text};
+ghost use Rattle.mdns_browse.specs.LifeText.{called, end_shown, life_heads, life_row, lives_heading, open_text};
+ghost use Rattle.mdns_browse.specs.Columns.{padded, widest};
+ghost use Rattle.mdns_browse.specs.RecordShown.{shown_record};
+
+use crate::columns::{push_padded, wider, word_for};
+use crate::life_text::{Layout, reason_word};
+use crate::record_shown::push_shown_record;
+use mdns_capture::Moment;
+use mdns_lives::{Life, Reason, Which};
+use mdns_message::{Resource, Want};
+use people_text::moment_text::push_millis;
+
+/// Returns the greatest length of the words for how the lives end.
+pub(crate) fn end_width(end: Moment, lives: &[Life]) -> usize
+    ensures { result ≡ widest (map (end_shown end.nanos) lives.now) }
+{
+    let mut width = 0;
+    for life in lives {
+        width = wider(width, end_shown(end, life).len());
+    }
+    width
+}
+
+/// Appends how many lives there are, which those are, and between which moments; then an empty line and the heads of the columns,
+/// unless there are none.
+#[tactic(auto, unfolding(crate::specs::LifeText::lives_heading))]
+pub(crate) fn push_heading(
+    text: &mut String,
+    which: Which,
+    layout: Layout,
+    begin: Moment,
+    end: Moment,
+) -> Result<(), Want>
+    ensures { OnOk result (string_bytes text.new
+        ≡ string_bytes text.old ++ lives_heading which layout.count layout.width begin.nanos end.nanos) }
+{
+    let called = called(which, layout.count);
+    write!(text, "{}{called}", layout.count)?;
+    push_millis(text, begin.nanos())?;
+    text.push_str(" and ")?;
+    push_millis(text, end.nanos())?;
+    text.push('\n')?;
+    if layout.count == 0 {
+        return Ok(());
+    }
+    text.push('\n')?;
+    push_heads(text, layout.width)
+}
+
+// Returns what so many lives are called.
+fn called(which: Which, count: usize) -> &'static str
+    ensures { result.now ≡ called which count }
+{
+    match which {
+        Which::All => word_for(count, " life between ", " lives between "),
+        Which::Changes => word_for(
+            count,
+            " life of record sets that changed, between ",
+            " lives of record sets that changed, between ",
+        ),
+    }
+}
+
+#[tactic(auto, unfolding(crate::specs::LifeText::life_heads))]
+fn push_heads(text: &mut String, width: usize) -> Result<(), Want>
+    ensures { OnOk result (string_bytes text.new ≡ string_bytes text.old ++ life_heads width) }
+{
+    text.push_str("FROM                      UNTIL                     ")?;
+    push_padded(text, width, "END")?;
+    text.push_str("  TYPE  RECORD\n")?;
+    Ok(())
+}
+
+/// Appends a row for each life. The type and the record are written once, and copied for each.
+pub(crate) fn push_rows(
+    text: &mut String,
+    width: usize,
+    end: Moment,
+    resource: &Resource,
+    lives: &[Life],
+) -> Result<(), Want>
+    ensures { OnOk result (string_bytes text.new
+        ≡ string_bytes text.old ++ flat_map (life_row width end.nanos resource.now) lives.now) }
+{
+    let mut tail = String::new(*text.allocator());
+    push_tail(&mut tail, resource)?;
+    for life in lives {
+        push_row(text, width, end, tail.as_str(), life)?;
+    }
+    Ok(())
+}
+
+fn push_tail(text: &mut String, resource: &Resource) -> Result<(), Want>
+    ensures { OnOk result (string_bytes text.new ≡ string_bytes text.old
+        ++ (codes "  " ++ padded 4 (type_name (type_of resource.now.body)) ++ codes "  "
+        ++ shown_record resource.now ++ 10 ∷ [])) }
+{
+    text.push_str("  ")?;
+    push_padded(text, 4, resource.body.record_type().name())?;
+    text.push_str("  ")?;
+    push_shown_record(text, &resource.borrowed())?;
+    text.push('\n')?;
+    Ok(())
+}
+
+fn push_row(
+    text: &mut String,
+    width: usize,
+    end: Moment,
+    tail: &str,
+    life: &Life,
+) -> Result<(), Want>
+    ensures { OnOk result (string_bytes text.new ≡ string_bytes text.old
+        ++ (millis_text life.now.from.nanos ++ codes "  " ++ millis_text life.now.until ++ codes "  "
+        ++ padded width (end_shown end.nanos life.now) ++ tail.now)) }
+{
+    push_millis(text, life.from.nanos())?;
+    text.push_str("  ")?;
+    push_millis(text, life.until)?;
+    text.push_str("  ")?;
+    push_padded(text, width, end_shown(end, life))?;
+    text.push_str(tail)?;
+    Ok(())
+}
+
+// Returns how a life ends, for people.
+fn end_shown(end: Moment, life: &Life) -> &'static str
+    ensures { result.now ≡ end_shown end.nanos life.now }
+{
+    if end.nanos() < life.until {
+        return open_word(life.reason);
+    }
+    reason_word(life.reason)
+}
+
+// Returns what is said of a life that goes on, and will end for this reason unless the record is heard again.
+fn open_word(reason: Reason) -> &'static str
+    ensures { result.now ≡ open_text reason }
+{
+    match reason {
+        Reason::RanOut => "live",
+        Reason::Goodbye => "live, said goodbye",
+        Reason::Flushed => "live, flushed",
+    }
+}

@@ -1,0 +1,175 @@
+//! The lives of records as text. After `Want` the contents of `text` are not specified.
+
+ghost use Rattle.std.specs.Prelude.{◌≡◌, ◌++◌, ◌∷◌, [], ◌≤◌, ℕ, IfOk, List, length, OnOk};
+ghost use Rattle.std.specs.List.{flat_map};
+ghost use Rattle.std.specs.String.{string_bytes};
+ghost use Rattle.mdns_join.specs.declared.latest.Latest.{Latest};
+ghost use Rattle.mdns_browse.specs.LifeText.{IsLayout, end_text, life_json, life_line, life_rest, life_text, life_words};
+ghost use Rattle.mdns_browse.specs.LifeText.{lives_head, reason_text};
+
+use crate::columns::wider;
+use crate::format::push_resource;
+use crate::life_columns::{end_width, push_heading, push_rows};
+use crate::report::Form;
+use crate::report_json::Objects;
+use crate::report_lines::push_life;
+use mdns_capture::Moment;
+use mdns_lives::{Life, Reason, Which};
+use mdns_message::{Resource, Want};
+
+/// How many lives there are, and how wide their columns are.
+#[derive(Clone, Copy)]
+pub struct Layout {
+    /// How many lives there are.
+    pub count: usize,
+    /// The width of the column that says how they end.
+    pub width: usize,
+}
+
+impl Layout {
+    /// Makes the layout of no lives.
+    pub fn new() -> Layout
+        ensures { (end : ℕ) → IsLayout end [] result }
+    {
+        Layout { count: 0, width: 3 }
+    }
+
+    /// Adds the lives of a record. `end` is the end of the captures. `Want` where a `usize` can't count the lives, which
+    /// can't happen to lives in memory.
+    pub fn with(self, end: Moment, lives: &[Life]) -> Result<Layout, Want>
+        ensures { IfOk result (λ layout. (rows : List (Latest × List Life)) (last : Latest)
+            → IsLayout end.nanos rows self → IsLayout end.nanos (rows ++ (last, lives.now) ∷ []) layout) }
+    {
+        let Some(count) = self.count.checked_add(lives.len()) else {
+            return Err(Want);
+        };
+        let width = wider(self.width, end_width(end, lives));
+        Ok(Layout { count, width })
+    }
+}
+
+/// Appends what stands before the lives of all records: nothing in `Form::Lines` and `Form::Json`, and in `Form::Pretty`
+/// how many lives there are, which those are, the earliest moment and the end of the captures, and, unless there are none,
+/// an empty line and the heads of the columns. `layout` is that of all lives that follow.
+pub fn push_lives_head(
+    text: &mut String,
+    which: Which,
+    form: Form,
+    layout: Layout,
+    begin: Moment,
+    end: Moment,
+) -> Result<(), Want>
+    ensures { OnOk result (string_bytes text.new
+        ≡ string_bytes text.old ++ lives_head which form layout.count layout.width begin.nanos end.nanos) }
+{
+    match form {
+        Form::Lines | Form::Json => Ok(()),
+        Form::Pretty => push_heading(text, which, layout, begin, end),
+    }
+}
+
+/// Appends a line for each life of a record, in the form `form`. `end` is the end of the captures: a life that goes on
+/// after it is told to be live, any other with the reason for its end. In `Form::Pretty` the lines are rows below the
+/// heads that `push_lives_head` appends, and `width` is that of the `Layout` of all lives; the other forms don't need it.
+pub fn push_lives(
+    text: &mut String,
+    form: Form,
+    width: usize,
+    end: Moment,
+    resource: &Resource,
+    lives: &[Life],
+) -> Result<(), Want>
+    ensures { OnOk result (string_bytes text.new
+        ≡ string_bytes text.old ++ flat_map (life_text form width end.nanos resource.now) lives.now) }
+{
+    match form {
+        Form::Lines => push_lines(text, end, resource, lives),
+        Form::Json => push_objects(text, end, resource, lives),
+        Form::Pretty => push_rows(text, width, end, resource, lives),
+    }
+}
+
+// Appends a line of words for each life. The record is written once, and copied for each.
+fn push_lines(
+    text: &mut String,
+    end: Moment,
+    resource: &Resource,
+    lives: &[Life],
+) -> Result<(), Want>
+    ensures { OnOk result (string_bytes text.new
+        ≡ string_bytes text.old ++ flat_map (life_line end.nanos resource.now) lives.now) }
+{
+    let mut head = String::new(*text.allocator());
+    push_resource(&mut head, &resource.borrowed())?;
+    for life in lives {
+        push_line(text, head.as_str(), end, life)?;
+    }
+    Ok(())
+}
+
+fn push_line(text: &mut String, head: &str, end: Moment, life: &Life) -> Result<(), Want>
+    ensures { OnOk result (string_bytes text.new
+        ≡ string_bytes text.old ++ (head.now ++ life_words end.nanos life.now)) }
+{
+    text.push_str(head)?;
+    push_life(text, end, life)
+}
+
+// Appends an object for each life. The record is written once, and copied for each.
+fn push_objects(
+    text: &mut String,
+    end: Moment,
+    resource: &Resource,
+    lives: &[Life],
+) -> Result<(), Want>
+    ensures { OnOk result (string_bytes text.new
+        ≡ string_bytes text.old ++ flat_map (life_json end.nanos resource.now) lives.now) }
+{
+    let mut head = Objects::new(*text.allocator());
+    head.resource(resource)?;
+    let mut rest = Objects::new(*text.allocator());
+    for life in lives {
+        push_object(text, head.text.as_str(), &mut rest, end, life)?;
+    }
+    Ok(())
+}
+
+fn push_object(
+    text: &mut String,
+    head: &str,
+    rest: &mut Objects,
+    end: Moment,
+    life: &Life,
+) -> Result<(), Want>
+    ensures { OnOk result (string_bytes text.new
+        ≡ string_bytes text.old ++ (head.now ++ life_rest end.nanos life.now)) }
+{
+    rest.text.clear();
+    rest.life(end, life)?;
+    text.push_str(head)?;
+    text.push_str(rest.text.as_str())?;
+    Ok(())
+}
+
+/// Returns how a life ends, as a word of at most seven letters; `end` is the end of the captures.
+pub(crate) fn end_word(end: Moment, life: &Life) -> &'static str
+    ensures word { result.now ≡ end_text end.nanos life.now }
+    ensures short { length result.now ≤ 7 }
+{
+    if end.nanos() < life.until {
+        return "live";
+    }
+    reason_word(life.reason)
+}
+
+/// Returns why a life ended, as a word of seven letters.
+pub(crate) fn reason_word(reason: Reason) -> &'static str
+    ensures word { result.now ≡ reason_text reason }
+    ensures short { length result.now ≤ 7 }
+{
+    match reason {
+        Reason::RanOut => "expired",
+        Reason::Goodbye => "goodbye",
+        Reason::Flushed => "flushed",
+    }
+}

@@ -1,0 +1,41 @@
+-- The lives of a record by a walk over its hearings in order.
+use Rattle.std.specs.Prelude.{ℕ, ◌+◌, ◌==◌, nat_lt, nat_le, if◌then◌else◌, List, [], ◌∷◌}
+use Rattle.mdns_lives.specs.declared.life.Heard.{Heard}
+use Rattle.mdns_lives.specs.declared.life.Life.{Life}
+use Rattle.mdns_lives.specs.declared.life.Reason.{Reason}
+use Rattle.mdns_lives.specs.declared.life.Reason.TheVariants.{RanOut, Goodbye, Flushed}
+use Rattle.mdns_cache.specs.Live.{life_of}
+use Rattle.mdns_cache.specs.LentRecords.{end_of}
+
+-- when the life of a hearing runs out
+abbrev pub out_of : Heard → ℕ
+out_of h = h.moment.nanos + life_of h.ttl
+
+-- the end of a record whose last hearing is this one
+abbrev pub end_after : List ℕ → Heard → ℕ
+end_after flushes h = end_of flushes h.moment.nanos (out_of h)
+
+-- and why it ends
+abbrev pub reason_after : List ℕ → Heard → Reason
+reason_after flushes h =
+    if nat_lt (end_after flushes h) (out_of h) then Flushed else (if h.ttl == 0 then Goodbye else RanOut)
+
+-- the life that begins and ends with a hearing
+abbrev pub life_after : List ℕ → Heard → Life
+life_after flushes h = record { from = h.moment; last = h; until = end_after flushes h; reason = reason_after flushes h }
+
+-- the life that goes on into the next one
+abbrev pub carried_on : Life → Life → Life
+carried_on life next = record { from = life.from; last = next.last; until = next.until; reason = next.reason }
+
+-- the lives, the first of which is `life` as of the hearings before these
+unfoldable pub lives_from : List ℕ → Life → List Heard → List Life
+lives_from flushes life [] = life ∷ []
+lives_from flushes life (h ∷ hs) =
+    if nat_le h.moment.nanos life.until then lives_from flushes (carried_on life (life_after flushes h)) hs
+    else life ∷ lives_from flushes (life_after flushes h) hs
+
+-- the lives that hearings in order give
+abbrev pub walked : List ℕ → List Heard → List Life
+walked flushes [] = []
+walked flushes (h ∷ hs) = lives_from flushes (life_after flushes h) hs

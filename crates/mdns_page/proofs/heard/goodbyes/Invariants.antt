@@ -1,7 +1,0 @@
-use Rattle.std.proofs.Common.{◌≡◌, take}
-use Rattle.mdns_page.specs.Heard.{goodbyes}
-use Rattle.mdns_page.proofs.heard.goodbyes.Given as goal
-
--- those of the seconds so far
-abbrev pub invariant-loop-second : goal.invariant-loop-second
-invariant-loop-second l = l.count ≡ goodbyes (take l.second-index l.seconds)

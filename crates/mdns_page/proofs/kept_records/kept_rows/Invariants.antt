@@ -1,0 +1,19 @@
+use Rattle.std.proofs.Common.{◌≡◌, ◌++◌, length, map}
+use Rattle.std.specs.List.{filter}
+use Rattle.std.specs.List.Sorted.{IsStrictlySortedBy}
+use Rattle.mdns_message.specs.Resource.{key_cmp}
+use Rattle.mdns_cache.specs.Live.{record_of}
+use Rattle.mdns_cache.specs.LentRecords.{last_lent}
+use Rattle.mdns_lives.specs.LentLives.{row_lent}
+use Rattle.mdns_page.specs.KeptRecords.{is_kept}
+use Rattle.mdns_page.proofs.kept_records.kept_rows.Given as goal
+
+-- those of the rows so far were kept
+abbrev pub invariant-loop-scratch : goal.invariant-loop-scratch
+invariant-loop-scratch l =
+    IsStrictlySortedBy key_cmp (map record_of (map last_lent l.heard))
+    → filter (λ row. is_kept l.about (map last_lent l.heard) row.0) l.fn.rows
+    ≡ map row_lent l.kept.items ++ filter (λ row. is_kept l.about (map last_lent l.heard) row.0) l.walk
+
+abbrev pub decreases-loop-scratch : goal.decreases-loop-scratch
+decreases-loop-scratch l = length l.walk

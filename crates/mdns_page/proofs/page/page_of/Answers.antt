@@ -1,0 +1,115 @@
+use Rattle.std.proofs.Common.{◌≡◌, ◌∙◌, ◌+◌, ◌++◌, [], Bool, if◌then◌else◌, List, ℕ, ap, length, map, string_bytes, subst, sym}
+use Rattle.std.proofs.lemmas.List.{length-map}
+use Rattle.std.specs.List.{filter}
+use Rattle.std.specs.List.Sorted.{IsStrictlySortedBy}
+use Rattle.mdns_message.specs.Resource.{key_cmp}
+use Rattle.mdns_cache.specs.Live.{record_of}
+use Rattle.mdns_cache.specs.LentRecords.{last_lent}
+use Rattle.mdns_join.specs.declared.latest.Latest.{Latest}
+use Rattle.mdns_lives.specs.Chronicle.{Accounts, Chronicles}
+use Rattle.mdns_lives.specs.LentLives.{row_lent}
+use Rattle.mdns_lives.specs.declared.life.Life.{Life}
+use Rattle.mdns_browse.specs.Services.{AreEach}
+use Rattle.mdns_page.specs.Captures.{facts_lent}
+use Rattle.mdns_page.specs.OtherRows.{is_large}
+use Rattle.mdns_page.specs.Html.{isolated}
+use Rattle.mdns_page.specs.KeptRecords.{AreRows, is_kept, is_of, kept_of, lasts_of, looked_up}
+use Rattle.mdns_page.specs.SkippedSection.{nothing_text}
+use Rattle.mdns_page.specs.Document.{Shown, page}
+use Rattle.mdns_page.specs.Page.{live_at_end}
+use Rattle.mdns_page.specs.Timeline.{Row, counted_lent, is_open}
+use Rattle.mdns_page.specs.declared.kept_records.TimelinePart.{TimelinePart}
+use Rattle.mdns_page.specs.declared.kept_records.TimelinePart.TheVariants.{Addresses, Instances, Names}
+use Rattle.mdns_page.proofs.KeptLemmas.{looked_up-sorted, some-sorted}
+use Rattle.mdns_page.proofs.page.page_of.Goals as goal
+
+pub returns : goal.returns
+returns c = λ each heard chronicled all latest.
+    let axis = c.args.axis in
+    let about = c.args.about.now in
+    let walk = c.walk-2.result in
+    let lives = c.walk-2.ensures.all heard all in
+    let rows = map counted_lent c.in_ok-rows.rows.items in
+    let addresses = map counted_lent c.in_ok-addresses.addresses.items in
+    let others = map counted_lent c.in_ok-others.others.items in
+    let found : map last_lent c.in_ok-heard.heard.items ≡ looked_up about walk =
+    c.in_ok-heard.ensures ∙ ap (looked_up about) (c.walk.ensures.left ∙ sym c.walk-2.ensures.left) in
+    let looked : map last_lent c.as_slice.result.now ≡ looked_up about walk = ap (map last_lent) c.as_slice.ensures.value ∙ found in
+    let looked_live : map last_lent c.as_slice-2.result.now ≡ looked_up about walk =
+    ap (map last_lent) c.as_slice-2.ensures.value ∙ found in
+    let Sorted = λ (ls : List Latest). IsStrictlySortedBy key_cmp (map record_of ls) in
+    let sorted = looked_up-sorted heard walk lives about in
+    let records = map row_lent c.as_slice-records.result.now in
+    let kept : records ≡ kept_of about walk =
+    ap (map row_lent) c.as_slice-records.ensures.value ∙ c.in_ok-kept.ensures (subst Sorted (sym looked) sorted)
+    ∙ ap (λ (ls : List Latest). filter (λ (row : Latest × List Life). is_kept about ls row.0) walk) looked in
+    let in_order = subst (λ (rs : List (Latest × List Life)). Sorted (lasts_of rs)) (sym kept)
+    (some-sorted heard walk lives (λ (row : Latest × List Life). is_kept about (looked_up about walk) row.0)) in
+    let captures = subst (λ (captures : List Accounts). AreEach Chronicles captures each) (sym c.as_slice-each.ensures.value) chronicled in
+    let count : c.len.result ≡ length rows =
+    c.len.ensures ∙ c.in_ok-rows.rows.ok.0 ∙ sym (length-map c.in_ok-rows.rows.items counted_lent) in
+    let few : map row_lent c.unless_large-few.result.now ≡ (if is_large (length rows) then [] else records) =
+    c.unless_large-few.ensures
+    ∙ ap (λ (large : Bool). if large then [] else records) (c.is_large.ensures ∙ ap is_large count) in
+    let are = λ (kind : TimelinePart) (large : Bool) (made : List Row) (own : AreRows kind large each records made).
+    subst (λ (rs : List (Latest × List Life)). AreRows kind large each rs made) kept own in
+    let filtered = λ (kind : TimelinePart). ap (filter (λ (row : Latest × List Life). is_of kind row.0)) few in
+    let count_rows : c.len-2.result ≡ length rows =
+    c.len-2.ensures ∙ c.in_ok-rows.rows.ok.0 ∙ sym (length-map c.in_ok-rows.rows.items counted_lent) in
+    let count_addresses : c.len-3.result ≡ length addresses =
+    c.len-3.ensures ∙ c.in_ok-addresses.addresses.ok.0 ∙ sym (length-map c.in_ok-addresses.addresses.items counted_lent) in
+    let count_others : c.len-4.result ≡ length others =
+    c.len-4.ensures ∙ c.in_ok-others.others.ok.0 ∙ sym (length-map c.in_ok-others.others.items counted_lent) in
+    let opened : c.is_open-opened.result ≡ is_open (length rows + length addresses + length others) =
+    c.is_open-opened.ensures ∙ (λ i. is_open (count_rows i + count_addresses i + count_others i)) in
+    let live : string_bytes c.in_ok-live.live
+    ≡ live_at_end about axis (is_open (length rows + length addresses + length others)) walk =
+    c.in_ok-live.ensures heard all (subst Sorted (sym looked_live) sorted) (looked_live ∙ ap (looked_up about) c.walk-2.ensures.left)
+    ∙ (λ i. live_at_end about axis (opened i) (sym c.walk-2.ensures.left i)) in
+    let shown : Shown = record {
+      axis = axis;
+      about = about;
+      captures = map facts_lent c.as_slice-3.result.now;
+      lost = c.lost_packets.result;
+      rows = map counted_lent c.as_slice-4.result.now;
+      addresses = map counted_lent c.as_slice-5.result.now;
+      names = map counted_lent c.as_slice-6.result.now;
+      live = c.as_str.result.now;
+      nothing = c.as_str-2.result.now;
+    } in
+    record {
+      latest = latest;
+      rows = walk;
+      lives = lives;
+      instances = rows;
+      are_instances = are Instances _ rows (record {
+        are = c.in_ok-rows.ensures.records;
+        counted = c.in_ok-rows.ensures.heard each captures;
+        served = c.in_ok-rows.ensures.servers in_order;
+      });
+      addresses = addresses;
+      are_addresses = are Addresses _ addresses (record {
+        are = c.in_ok-addresses.ensures.records ∙ filtered Addresses;
+        counted = c.in_ok-addresses.ensures.heard each captures;
+        served = c.in_ok-addresses.ensures.servers in_order;
+      });
+      others = others;
+      are_others = are Names _ others (record {
+        are = c.in_ok-others.ensures.records ∙ filtered Names;
+        counted = c.in_ok-others.ensures.heard each captures;
+        served = c.in_ok-others.ensures.servers in_order;
+      });
+      written = c.in_ok-push_page.ensures ∙ ap (λ (text : List ℕ). text ++ page isolated shown) c.new-text.ensures.bytes
+          ∙ ap (page isolated) (λ i. record {
+            axis = axis;
+            about = about;
+            captures = (ap (map facts_lent) c.as_slice-3.ensures.value ∙ c.in_ok-captures.ensures) i;
+            lost = c.lost_packets.ensures.value i;
+            rows = ap (map counted_lent) c.as_slice-4.ensures.value i;
+            addresses = ap (map counted_lent) c.as_slice-5.ensures.value i;
+            names = ap (map counted_lent) c.as_slice-6.ensures.value i;
+            live = (c.as_str.ensures.value ∙ live) i;
+            nothing = (c.as_str-2.ensures.value ∙ c.in_ok-push_nothing.ensures
+                ∙ ap (λ (none : List ℕ). none ++ nothing_text c.args.readings.now) c.new-nothing.ensures.bytes) i;
+          });
+    }

@@ -1,9 +1,0 @@
-use Rattle.std.proofs.Common.{◌≡◌, ◌++◌, take}
-use Rattle.std.specs.List.{flat_map}
-use Rattle.std.specs.String.{string_bytes}
-use Rattle.mdns_page.specs.Words.{life_words}
-use Rattle.mdns_page.proofs.words.push_each.Given as goal
-
--- the words of the lives so far were appended
-abbrev pub invariant-loop-life : goal.invariant-loop-life
-invariant-loop-life l = string_bytes l.to ≡ string_bytes l.initial.to ++ flat_map (life_words l.axis) (take l.life-index l.lives)

@@ -1,0 +1,132 @@
+//! What bars say of lives.
+
+ghost use Rattle.std.specs.Prelude.{◌≡◌, ◌≤◌, ◌++◌, if◌then◌else◌, length, map, OnOk};
+ghost use Rattle.std.specs.List.{flat_map};
+ghost use Rattle.std.specs.String.{string_bytes};
+ghost use Rattle.mdns_browse.specs.LifeText.{reason_text};
+ghost use Rattle.mdns_page.specs.Timeline.{are_titled, counted_lent, lives_in, lives_lent};
+ghost use Rattle.mdns_page.specs.BarTitles.{IsLess, life_title, still_text};
+
+use crate::timeline_rows::CountedRow;
+use mdns_lives::{Life, Reason, RecordLives};
+use mdns_message::Want;
+use people_text::durations::push_duration;
+use people_text::moment_text::push_millis;
+
+/// With more lives, those of all rows together, bars have no titles.
+const TITLED_LIVES: usize = 1000;
+
+/// Checks that all rows together, those of instances, addresses and names, have so few lives, those of servers too, that each
+/// bar has a title.
+pub(crate) fn are_titled(
+    rows: &[CountedRow<'_>],
+    addresses: &[CountedRow<'_>],
+    names: &[CountedRow<'_>],
+) -> bool
+    ensures { result ≡ are_titled (map counted_lent rows.now ++ map counted_lent addresses.now ++ map counted_lent names.now) }
+{
+    left_after_all(rows, addresses, names).is_some()
+}
+
+// Subtracts the number of lives of all rows from how many may have titles, if there are so many.
+fn left_after_all(
+    rows: &[CountedRow<'_>],
+    addresses: &[CountedRow<'_>],
+    names: &[CountedRow<'_>],
+) -> Option<usize>
+    ensures { IsLess 1000 (length (flat_map lives_in (map counted_lent rows.now ++ map counted_lent addresses.now ++ map counted_lent names.now)))
+        result }
+{
+    let left = left_after(TITLED_LIVES, rows)?;
+    let left = left_after(left, addresses)?;
+    left_after(left, names)
+}
+
+// Subtracts the number of lives of some rows, if there are so many.
+fn left_after(count: usize, rows: &[CountedRow<'_>]) -> Option<usize>
+    ensures { IsLess count (length (flat_map lives_in (map counted_lent rows.now))) result }
+{
+    let mut left = count;
+    for row in rows {
+        match less_row(left, row) {
+            Some(rest) => left = rest,
+            None => return None,
+        }
+    }
+    Some(left)
+}
+
+// Subtracts the number of lives of a row, if there are so many.
+fn less_row(count: usize, row: &CountedRow<'_>) -> Option<usize>
+    ensures { IsLess count (length (lives_in (counted_lent row.now))) result }
+{
+    let own = row.record.lives.len();
+    if own > count {
+        return None;
+    }
+    less_servers(count - own, row.servers)
+}
+
+// Subtracts the number of lives of some servers, if there are so many.
+fn less_servers(count: usize, servers: &[RecordLives<'_>]) -> Option<usize>
+    ensures { IsLess count (length (flat_map lives_lent servers.now)) result }
+{
+    let mut left = count;
+    for server in servers {
+        let lives = server.lives.len();
+        if lives > left {
+            return None;
+        }
+        left -= lives;
+    }
+    Some(left)
+}
+
+/// Appends the title of a life's bar: from when until when, to the millisecond, how long that is, and why it ended, or that
+/// it goes on. After `Want` a part of it may have been appended.
+pub(crate) fn push_life_title(to: &mut String, goes_on: bool, life: &Life) -> Result<(), Want>
+    ensures { OnOk result (string_bytes to.new ≡ string_bytes to.old ++ life_title goes_on life.now) }
+{
+    let from = life.from.nanos();
+    push_millis(to, from)?;
+    to.push_str(" to ")?;
+    push_millis(to, life.until)?;
+    to.push_str(", ")?;
+    push_duration(to, life.until.saturating_sub(from))?;
+    to.push_str(": ")?;
+    to.push_str(end_word(goes_on, life.reason))?;
+    Ok(())
+}
+
+// Returns why a life ended, or that it goes on.
+fn end_word(goes_on: bool, reason: Reason) -> &'static str
+    ensures { result.now ≡ (if goes_on then still_text reason else reason_text reason) }
+{
+    if goes_on {
+        return open_word(reason);
+    }
+    reason_word(reason)
+}
+
+/// Returns what is said of a life that goes on after the end of the captures: a flush or a goodbye ends it, unless the
+/// record is heard again.
+pub(crate) fn open_word(reason: Reason) -> &'static str
+    ensures { result.now ≡ still_text reason }
+{
+    match reason {
+        Reason::RanOut => "still live",
+        Reason::Goodbye => "still live, said goodbye",
+        Reason::Flushed => "still live, flushed",
+    }
+}
+
+/// Returns why a life ended, as a word.
+pub(crate) fn reason_word(reason: Reason) -> &'static str
+    ensures { result.now ≡ reason_text reason }
+{
+    match reason {
+        Reason::RanOut => "expired",
+        Reason::Goodbye => "goodbye",
+        Reason::Flushed => "flushed",
+    }
+}

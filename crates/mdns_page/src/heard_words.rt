@@ -1,0 +1,152 @@
+//! How often captures heard a record, in words.
+
+ghost use Rattle.std.specs.Prelude.{◌≡◌, ◌<◌, ◌^◌, [], ◌++◌, codes, if◌then◌else◌, length, map, nat_lt, sum_by, OnOk};
+ghost use Rattle.std.specs.String.{string_bytes};
+ghost use Rattle.mdns_page.specs.Captures.{each_from};
+ghost use Rattle.mdns_page.specs.HeardWords.{capture_times, goodbyes, goodbyes_text, heard_text, times_text, together_text};
+ghost use Rattle.mdns_page.specs.Timeline.{seconds_lent};
+
+use crate::captures::{FEW_CAPTURES, push_number};
+use crate::counts::push_commas;
+use crate::lanes::is_goodbye;
+use mdns_lives::SecondHeard;
+use mdns_message::Want;
+
+/// Appends how often each of `captures` captures heard a record, by the seconds in which each did, in order; where there are
+/// many, how often those that heard it did so together. After `Want` a part of it may have been appended.
+#[tactic(auto, unfolding(crate::specs::HeardWords::heard_text))]
+pub(crate) fn push_heard(
+    to: &mut String,
+    captures: usize,
+    heard: &[Vec<SecondHeard>],
+) -> Result<(), Want>
+    ensures { OnOk result (string_bytes to.new
+        ≡ string_bytes to.old ++ heard_text captures (map seconds_lent heard.now)) }
+{
+    to.push_str("<small>heard ")?;
+    push_times_words(to, captures, heard)?;
+    to.push_str("</small>")?;
+    Ok(())
+}
+
+fn push_times_words(
+    to: &mut String,
+    captures: usize,
+    heard: &[Vec<SecondHeard>],
+) -> Result<(), Want>
+    ensures { OnOk result (string_bytes to.new ≡ string_bytes to.old
+        ++ (if nat_lt 4 captures then together_text captures (map seconds_lent heard.now)
+        else each_from capture_times 0 (map seconds_lent heard.now))) }
+{
+    if captures > FEW_CAPTURES {
+        return push_together(to, captures, heard);
+    }
+    push_each(to, heard)
+}
+
+#[tactic(auto, unfolding(crate::specs::HeardWords::together_text))]
+fn push_together(to: &mut String, captures: usize, hearers: &[Vec<SecondHeard>]) -> Result<(), Want>
+    ensures { OnOk result (string_bytes to.new
+        ≡ string_bytes to.old ++ together_text captures (map seconds_lent hearers.now)) }
+{
+    let times = times_of(hearers);
+    let ended = goodbyes_of(hearers);
+    push_commas(to, times)?;
+    to.push_str("&#215;")?;
+    push_goodbyes(to, ended)?;
+    to.push_str(" in ")?;
+    push_commas(to, hearers.len() as u128)?;
+    to.push_str(" of ")?;
+    push_commas(to, captures as u128)?;
+    to.push_str(" captures")?;
+    Ok(())
+}
+
+// Returns how often all captures together heard a record.
+fn times_of(captures: &[Vec<SecondHeard>]) -> u128
+    ensures { result ≡ sum_by length (map seconds_lent captures.now) }
+{
+    let mut times = 0;
+    for seconds in captures {
+        times += seconds.len() as u128;
+    }
+    times
+}
+
+// Returns how many of the seconds of all captures together have a goodbye.
+fn goodbyes_of(captures: &[Vec<SecondHeard>]) -> u128
+    ensures { result ≡ sum_by goodbyes (map seconds_lent captures.now) }
+{
+    let mut ended = 0;
+    for seconds in captures {
+        ended += goodbyes(seconds.as_slice()) as u128;
+    }
+    ended
+}
+
+// Returns how many seconds have a goodbye.
+fn goodbyes(seconds: &[SecondHeard]) -> usize
+    ensures { result ≡ goodbyes seconds.now }
+{
+    let mut count = 0;
+    for second in seconds {
+        count += usize::from(is_goodbye(second));
+    }
+    count
+}
+
+fn push_each(to: &mut String, captures: &[Vec<SecondHeard>]) -> Result<(), Want>
+    ensures { OnOk result (string_bytes to.new ≡ string_bytes to.old ++ each_from capture_times 0 (map seconds_lent captures.now)) }
+{
+    for (index, seconds) in captures.iter().enumerate() {
+        push_capture_times(to, index, seconds.as_slice())?;
+    }
+    Ok(())
+}
+
+#[tactic(auto, unfolding(crate::specs::HeardWords::capture_times))]
+fn push_capture_times(to: &mut String, index: usize, seconds: &[SecondHeard]) -> Result<(), Want>
+    requires { index < 2 ^ 63 }
+    ensures { OnOk result (string_bytes to.new ≡ string_bytes to.old ++ capture_times index seconds.now) }
+{
+    push_comma_unless(to, index == 0)?;
+    push_number(to, false, index)?;
+    to.push_str(" ")?;
+    push_times(to, seconds.len(), goodbyes(seconds))
+}
+
+fn push_comma_unless(to: &mut String, first: bool) -> Result<(), Want>
+    ensures { OnOk result (string_bytes to.new ≡ string_bytes to.old ++ (if first then [] else codes ", ")) }
+{
+    if !first {
+        to.push_str(", ")?;
+    }
+    Ok(())
+}
+
+#[tactic(auto, unfolding(crate::specs::HeardWords::times_text))]
+fn push_times(to: &mut String, count: usize, ended: usize) -> Result<(), Want>
+    ensures { OnOk result (string_bytes to.new ≡ string_bytes to.old ++ times_text count ended) }
+{
+    if count == 0 {
+        to.push_str("<b>never</b>")?;
+        return Ok(());
+    }
+    push_commas(to, count as u128)?;
+    to.push_str("&#215;")?;
+    push_goodbyes(to, ended as u128)
+}
+
+fn push_goodbyes(to: &mut String, count: u128) -> Result<(), Want>
+    ensures { OnOk result (string_bytes to.new ≡ string_bytes to.old ++ goodbyes_text count) }
+{
+    if count == 0 {
+        return Ok(());
+    }
+    to.push_str(" (")?;
+    push_commas(to, count)?;
+    to.push_str("&#160;")?;
+    to.push_str(if count == 1 { "goodbye" } else { "goodbyes" })?;
+    to.push_str(")")?;
+    Ok(())
+}

@@ -1,0 +1,135 @@
+//! The records of a page.
+
+ghost use Rattle.std.specs.Prelude.{◌≡◌, ◌++◌, ◌||◌, ◌∷◌, [], if◌then◌else◌, is_some, IfOk, OnOk, map};
+ghost use Rattle.std.specs.List.{filter};
+ghost use Rattle.std.specs.List.Sorted.{IsStrictlySortedBy};
+ghost use Rattle.mdns_message.specs.Resource.{key_cmp};
+ghost use Rattle.mdns_cache.specs.Live.{record_of};
+ghost use Rattle.mdns_cache.specs.LentRecords.{last_lent};
+ghost use Rattle.mdns_lives.specs.LentLives.{row_lent};
+ghost use Rattle.mdns_browse.specs.Services.{body_of, other_given};
+ghost use Rattle.mdns_page.specs.OtherRows.{has_address};
+ghost use Rattle.mdns_page.specs.KeptRecords.{is_drawn, is_kept, is_of};
+
+use crate::other_rows::has_address;
+use crate::servers::is_server;
+use mdns_browse::about::{Subject, keeps_heard_instance, keeps_record};
+use mdns_browse::services::{instance_of, other_of};
+use mdns_cache::Last;
+use mdns_lives::{LivesWalk, RecordLives};
+use mdns_message::Want;
+use std::alloc::Global;
+
+/// Which records have rows in a part of the timeline.
+#[derive(Clone, Copy)]
+pub(crate) enum TimelinePart {
+    /// Those that give an instance.
+    Instances,
+    Addresses,
+    /// Those that point from a service type to a name that isn't one label and the type.
+    Names,
+}
+
+/// Collects the records that a page keeps, in key order.
+pub(crate) fn kept_rows<'a>(
+    alloc: Global,
+    rows: LivesWalk<'a>,
+    heard: &[Last<'_>],
+    about: &[Subject],
+) -> Result<Vec<RecordLives<'a>>, Want>
+    ensures { IfOk result (λ kept. IsStrictlySortedBy key_cmp (map record_of (map last_lent heard.now))
+        → map row_lent kept.items ≡ filter (λ row. is_kept about.now (map last_lent heard.now) row.0) rows.entry) }
+{
+    let mut kept = Vec::new(alloc);
+    let mut scratch = String::new(alloc);
+    let mut walk = rows;
+    while let Some(row) = walk.next()? {
+        push_kept(&mut kept, row, heard, about, &mut scratch)?;
+    }
+    Ok(kept)
+}
+
+fn push_kept<'a>(
+    to: &mut Vec<RecordLives<'a>>,
+    row: RecordLives<'a>,
+    heard: &[Last<'_>],
+    about: &[Subject],
+    scratch: &mut String,
+) -> Result<(), Want>
+    ensures { OnOk result (IsStrictlySortedBy key_cmp (map record_of (map last_lent heard.now))
+        → map row_lent to.new.items ≡ map row_lent to.old.items
+        ++ filter (λ row. is_kept about.now (map last_lent heard.now) row.0) (row_lent row.entry ∷ [])) }
+{
+    if is_kept(&row.last, heard, about, scratch)? {
+        to.push(row)?;
+    }
+    Ok(())
+}
+
+/// Checks that a page about the subjects keeps a record. `heard` are the last hearings in which servers and addresses are
+/// looked up.
+pub(crate) fn is_kept(
+    last: &Last<'_>,
+    heard: &[Last<'_>],
+    about: &[Subject],
+    scratch: &mut String,
+) -> Result<bool, Want>
+    ensures { IfOk result (λ kept. IsStrictlySortedBy key_cmp (map record_of (map last_lent heard.now))
+        → kept ≡ is_kept about.now (map last_lent heard.now) (last_lent last.now)) }
+{
+    if instance_of(last).is_some() {
+        return is_drawn(last, heard, about, scratch);
+    }
+    if is_apart(last) {
+        return keeps_record(about, &last.resource.borrowed(), scratch);
+    }
+    Ok(is_server(last))
+}
+
+/// Checks that a record gives an instance about one of the subjects. `heard` are the last hearings in which servers and
+/// addresses are looked up.
+pub(crate) fn is_drawn(
+    last: &Last<'_>,
+    heard: &[Last<'_>],
+    about: &[Subject],
+    scratch: &mut String,
+) -> Result<bool, Want>
+    ensures { IfOk result (λ drawn. IsStrictlySortedBy key_cmp (map record_of (map last_lent heard.now))
+        → drawn ≡ is_drawn about.now (map last_lent heard.now) (last_lent last.now)) }
+{
+    match instance_of(last) {
+        Some(name) => keeps_heard_instance(about, heard, name, scratch),
+        None => Ok(false),
+    }
+}
+
+// Checks that a record is of an address, or of a name that isn't one label and the type.
+fn is_apart(last: &Last<'_>) -> bool
+    ensures { result ≡ (has_address (body_of (last_lent last.now)) || is_some (other_given (last_lent last.now))) }
+{
+    has_address(&last.resource.body) || other_of(last).is_some()
+}
+
+/// Checks that a record has its row in a part of the timeline.
+pub(crate) fn is_of(kind: TimelinePart, last: &Last<'_>) -> bool
+    ensures { result ≡ is_of kind (last_lent last.now) }
+{
+    match kind {
+        TimelinePart::Instances => instance_of(last).is_some(),
+        TimelinePart::Addresses => has_address(&last.resource.body),
+        TimelinePart::Names => other_of(last).is_some(),
+    }
+}
+
+/// Returns the rows; none of a large page.
+pub(crate) fn unless_large<'a, 'b>(
+    large: bool,
+    rows: &'a [RecordLives<'b>],
+) -> &'a [RecordLives<'b>]
+    ensures { map row_lent result.now ≡ (if large then [] else map row_lent rows.now) }
+{
+    if large {
+        return &rows[..0];
+    }
+    rows
+}

@@ -1,0 +1,172 @@
+//! The rows of the timeline: which of them are live, and their texts.
+
+ghost use Rattle.std.specs.Prelude.{◌≡◌, ◌-◌, ◌++◌, length, map, slice_get, OnOk};
+ghost use Rattle.std.specs.List.{flat_map};
+ghost use Rattle.std.specs.String.{string_bytes};
+ghost use Rattle.mdns_message.specs.Parts.{content_lent};
+ghost use Rattle.mdns_browse.specs.RecordShown.{shown_instance};
+ghost use Rattle.mdns_page.specs.Html.{isolated};
+ghost use Rattle.mdns_page.specs.HeardWords.{heard_text};
+ghost use Rattle.mdns_page.specs.Picture.{goes_on};
+ghost use Rattle.mdns_page.specs.Timeline.{content_name, count_last, counted_lent, is_some_such, owner_of, record_name, row_text, seconds_lent};
+ghost use Rattle.mdns_page.specs.Timeline.{target_shown};
+
+use crate::axis::Axis;
+use crate::heard_words::push_heard;
+use crate::html::push_isolated;
+use crate::life_words::push_lives_words;
+use crate::look::Look;
+use crate::other_rows::{push_host_name, push_whole_name};
+use crate::owners::Owned;
+use crate::picture::goes_on;
+use crate::row_picture::push_picture;
+use crate::timeline_rows::CountedRow;
+use mdns_browse::push_shown_instance;
+use mdns_lives::Life;
+use mdns_message::{BorrowedName, Content, Name, Resource, Want};
+
+impl Owned for CountedRow<'_> {
+    ghost owner = { λ row. owner_of (counted_lent row) };
+
+    fn owner(&self) -> &Name {
+        let record = self.record;
+        &record.last.resource.owner
+    }
+}
+
+/// Returns how many rows are of records that are live at the end of the captures.
+pub(crate) fn live_rows(axis: Axis, rows: &[CountedRow<'_>]) -> usize
+    ensures { result ≡ count_last (goes_on axis) (map counted_lent rows.now) }
+{
+    let mut count = 0;
+    for row in rows {
+        count += usize::from(is_live(axis, row.record.lives.as_slice()));
+    }
+    count
+}
+
+/// Checks that the last of some lives goes on after the end of the captures.
+pub(crate) fn is_live(axis: Axis, lives: &[Life]) -> bool
+    ensures { result ≡ is_some_such (goes_on axis) (slice_get lives.now (length lives.now - 1)) }
+{
+    match lives.last() {
+        Some(life) => goes_on(axis, life),
+        None => false,
+    }
+}
+
+/// Appends each of some rows, whose records name what they point to whole or as instances, by way of `scratch`. After `Want` a
+/// part of it may have been appended.
+pub(crate) fn push_rows(
+    to: &mut String,
+    scratch: &mut String,
+    whole: bool,
+    look: Look,
+    rows: &[CountedRow<'_>],
+) -> Result<(), Want>
+    ensures { OnOk result (string_bytes to.new
+        ≡ string_bytes to.old ++ flat_map (row_text isolated whole look) (map counted_lent rows.now)) }
+{
+    for row in rows {
+        push_row(to, scratch, whole, look, row)?;
+    }
+    Ok(())
+}
+
+// Appends a record, by way of `scratch`: what it names, whole or as an instance, how often each capture heard it, the picture
+// of its lives and those of its servers, and its own in words.
+#[tactic(auto, unfolding(crate::specs::Timeline::row_text))]
+fn push_row(
+    to: &mut String,
+    scratch: &mut String,
+    whole: bool,
+    look: Look,
+    row: &CountedRow<'_>,
+) -> Result<(), Want>
+    ensures { OnOk result (string_bytes to.new
+        ≡ string_bytes to.old ++ row_text isolated whole look (counted_lent row.now)) }
+{
+    let lives = row.record.lives.as_slice();
+    to.push_str("<li><div>")?;
+    push_name(to, scratch, whole, row)?;
+    to.push_str("</div>")?;
+    push_picture(to, look, lives, row.servers, row.heard.as_slice())?;
+    to.push_str("<div>")?;
+    push_lives_words(to, look.axis, lives)?;
+    to.push_str("</div></li>\n")?;
+    Ok(())
+}
+
+fn push_name(
+    to: &mut String,
+    scratch: &mut String,
+    whole: bool,
+    row: &CountedRow<'_>,
+) -> Result<(), Want>
+    ensures { OnOk result (string_bytes to.new ≡ string_bytes to.old
+        ++ (record_name isolated whole (owner_of (counted_lent row.now)) (counted_lent row.now).last.resource.body
+        ++ heard_text row.now.captures (map seconds_lent row.now.heard.items))) }
+{
+    let record = row.record;
+    push_record_name(to, scratch, whole, record.last.resource)?;
+    push_heard(to, row.captures, row.heard.as_slice())
+}
+
+// Appends what a record names, by way of `scratch`: an instance or another whole name, or a host with its address; nothing
+// for other records.
+fn push_record_name(
+    to: &mut String,
+    scratch: &mut String,
+    whole: bool,
+    resource: &Resource,
+) -> Result<(), Want>
+    ensures { OnOk result (string_bytes to.new
+        ≡ string_bytes to.old ++ record_name isolated whole resource.now.owner resource.now.body) }
+{
+    let body = resource.body.borrowed();
+    push_content_name(to, scratch, whole, &resource.owner, body.content())
+}
+
+fn push_content_name(
+    to: &mut String,
+    scratch: &mut String,
+    whole: bool,
+    owner: &Name,
+    content: Content<&BorrowedName<'_>, &[u8]>,
+) -> Result<(), Want>
+    ensures { OnOk result (string_bytes to.new
+        ≡ string_bytes to.old ++ content_name isolated whole owner.now (content_lent content.entry)) }
+{
+    match content {
+        Content::Address(address) => push_host_name(to, scratch, owner, address),
+        Content::Name(name) => push_target(to, scratch, whole, name),
+        _ => Ok(()),
+    }
+}
+
+// Appends the name to which a record points, by way of `scratch`: whole, or that of an instance alone.
+fn push_target(
+    to: &mut String,
+    scratch: &mut String,
+    whole: bool,
+    target: &BorrowedName<'_>,
+) -> Result<(), Want>
+    ensures { OnOk result (string_bytes to.new ≡ string_bytes to.old ++ isolated (target_shown whole target.now)) }
+{
+    if whole {
+        return push_whole_name(to, scratch, target);
+    }
+    push_instance_name(to, scratch, target)
+}
+
+fn push_instance_name(
+    to: &mut String,
+    scratch: &mut String,
+    target: &BorrowedName<'_>,
+) -> Result<(), Want>
+    ensures { OnOk result (string_bytes to.new ≡ string_bytes to.old ++ isolated (shown_instance target.now)) }
+{
+    scratch.clear();
+    push_shown_instance(scratch, target)?;
+    push_isolated(to, scratch.as_str())
+}

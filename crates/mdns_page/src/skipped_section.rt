@@ -1,0 +1,190 @@
+//! The table of the packets that told nothing: how many, why, and what that means.
+
+ghost use Rattle.std.specs.Prelude.{◌≡◌, ◌++◌, OnOk, codes, false, true};
+ghost use Rattle.std.specs.String.{string_bytes};
+ghost use Rattle.mdns_page.specs.SkippedSection.{broken_rows, damaged_row, meaning_text, nothing_text, other_rows, row_text, skipped_row};
+ghost use Rattle.mdns_page.specs.SkippedSection.{packets_text, some_row, table_text, unread_rows, untold, warning_row};
+
+use crate::counts::push_commas;
+use mdns_capture::Cause;
+use mdns_message::Want;
+use mdns_survey::outcome::Why;
+use mdns_survey::reading::Reading;
+use mdns_survey::readings::{refused_packets, skipped_packets};
+
+const MISSING: &str = "bytes are missing: record with tcpdump -s 0";
+
+const UNLESS_TOLD: &str = "what it told is missing, unless another message told it";
+
+const BROKEN: &str = "a broken sender, or a damaged capture";
+
+/// Appends how many packets of all captures were skipped or refused, for each reason, and what it means. After `Want` a part
+/// of it may have been appended.
+#[tactic(auto, unfolding(crate::specs::SkippedSection::nothing_text))]
+pub(crate) fn push_nothing(to: &mut String, readings: &[Reading]) -> Result<(), Want>
+    ensures { OnOk result (string_bytes to.new ≡ string_bytes to.old ++ nothing_text readings.now) }
+{
+    to.push_str("<h2 id=\"nothing\">Skipped and refused packets</h2>\n")?;
+    push_packets(to, readings)
+}
+
+#[tactic(auto, unfolding(crate::specs::SkippedSection::packets_text))]
+fn push_packets(to: &mut String, readings: &[Reading]) -> Result<(), Want>
+    ensures { OnOk result (string_bytes to.new ≡ string_bytes to.old ++ packets_text readings.now) }
+{
+    if untold(readings) == 0 {
+        to.push_str("<p class=\"note\">None.</p>\n")?;
+        return Ok(());
+    }
+    push_table(to, readings)
+}
+
+// Returns how many packets of all captures were skipped or refused.
+fn untold(readings: &[Reading]) -> u128
+    ensures { result ≡ untold readings.now }
+{
+    let mut untold = 0;
+    for reading in readings {
+        untold += reading.summary.tally.skipped as u128 + reading.summary.tally.refused as u128;
+    }
+    untold
+}
+
+#[tactic(auto, unfolding(crate::specs::SkippedSection::table_text))]
+fn push_table(to: &mut String, readings: &[Reading]) -> Result<(), Want>
+    ensures { OnOk result (string_bytes to.new ≡ string_bytes to.old ++ table_text readings.now) }
+{
+    to.push_str("<table>\n")?;
+    push_unread(to, readings)?;
+    push_broken(to, readings)?;
+    push_damaged(to, readings)?;
+    push_others(to, readings)?;
+    to.push_str("</table>\n")?;
+    Ok(())
+}
+
+#[tactic(auto, unfolding(crate::specs::SkippedSection::unread_rows))]
+fn push_unread(to: &mut String, readings: &[Reading]) -> Result<(), Want>
+    ensures { OnOk result (string_bytes to.new ≡ string_bytes to.old ++ unread_rows readings.now) }
+{
+    push_warning(
+        to,
+        readings,
+        Why::Frame(Cause::VlanTag),
+        "not read: split the capture into its VLANs",
+    )?;
+    push_warning(to, readings, Why::Frame(Cause::EthernetCut), MISSING)?;
+    push_warning(to, readings, Why::Frame(Cause::HeaderCut), MISSING)?;
+    push_warning(to, readings, Why::Frame(Cause::DatagramCut), MISSING)?;
+    push_warning(to, readings, Why::Frame(Cause::Fragment), UNLESS_TOLD)?;
+    push_warning(to, readings, Why::Frame(Cause::FragmentHeader), UNLESS_TOLD)
+}
+
+#[tactic(auto, unfolding(crate::specs::SkippedSection::broken_rows))]
+fn push_broken(to: &mut String, readings: &[Reading]) -> Result<(), Want>
+    ensures { OnOk result (string_bytes to.new ≡ string_bytes to.old ++ broken_rows readings.now) }
+{
+    push_warning(to, readings, Why::Frame(Cause::IpHeader), BROKEN)?;
+    push_warning(to, readings, Why::Frame(Cause::TotalLength), BROKEN)?;
+    push_warning(to, readings, Why::Frame(Cause::UdpLength), BROKEN)?;
+    push_warning(to, readings, Why::Ignored, "a broken sender")
+}
+
+fn push_warning(to: &mut String, readings: &[Reading], why: Why, meaning: &str) -> Result<(), Want>
+    ensures { OnOk result (string_bytes to.new
+        ≡ string_bytes to.old ++ warning_row readings.now (why, meaning.now)) }
+{
+    push_row(
+        to,
+        skipped_packets(readings, why),
+        why.words(),
+        true,
+        meaning,
+    )
+}
+
+fn push_damaged(to: &mut String, readings: &[Reading]) -> Result<(), Want>
+    ensures { OnOk result (string_bytes to.new ≡ string_bytes to.old ++ damaged_row readings.now) }
+{
+    push_row(
+        to,
+        refused_packets(readings),
+        "damaged message",
+        true,
+        "damaged: refused whole",
+    )
+}
+
+#[tactic(auto, unfolding(crate::specs::SkippedSection::other_rows))]
+fn push_others(to: &mut String, readings: &[Reading]) -> Result<(), Want>
+    ensures { OnOk result (string_bytes to.new ≡ string_bytes to.old ++ other_rows readings.now) }
+{
+    push_other(to, readings, Why::Query)?;
+    push_other(to, readings, Why::Frame(Cause::Port))?;
+    push_other(to, readings, Why::Frame(Cause::Group))?;
+    push_other(to, readings, Why::Frame(Cause::Protocol))?;
+    push_other(to, readings, Why::Frame(Cause::EtherType))?;
+    push_other(to, readings, Why::Frame(Cause::ExtensionHeader))
+}
+
+fn push_other(to: &mut String, readings: &[Reading], why: Why) -> Result<(), Want>
+    ensures { OnOk result (string_bytes to.new
+        ≡ string_bytes to.old ++ skipped_row readings.now false why (codes "normal")) }
+{
+    push_row(
+        to,
+        skipped_packets(readings, why),
+        why.words(),
+        false,
+        "normal",
+    )
+}
+
+#[tactic(auto, unfolding(crate::specs::SkippedSection::row_text))]
+fn push_row(
+    to: &mut String,
+    count: u128,
+    cause: &str,
+    bold: bool,
+    meaning: &str,
+) -> Result<(), Want>
+    ensures { OnOk result (string_bytes to.new
+        ≡ string_bytes to.old ++ row_text count cause.now bold meaning.now) }
+{
+    if count == 0 {
+        return Ok(());
+    }
+    push_some_row(to, count, cause, bold, meaning)
+}
+
+fn push_some_row(
+    to: &mut String,
+    count: u128,
+    cause: &str,
+    bold: bool,
+    meaning: &str,
+) -> Result<(), Want>
+    ensures { OnOk result (string_bytes to.new
+        ≡ string_bytes to.old ++ some_row count cause.now bold meaning.now) }
+{
+    to.push_str("<tr><td>")?;
+    push_commas(to, count)?;
+    to.push_str("</td><th scope=\"row\">")?;
+    to.push_str(cause)?;
+    to.push_str("</th><td>")?;
+    push_meaning(to, bold, meaning)?;
+    to.push_str("</td></tr>\n")?;
+    Ok(())
+}
+
+#[tactic(auto, unfolding(crate::specs::SkippedSection::meaning_text))]
+fn push_meaning(to: &mut String, bold: bool, meaning: &str) -> Result<(), Want>
+    ensures { OnOk result (string_bytes to.new ≡ string_bytes to.old ++ meaning_text bold meaning.now) }
+{
+    if bold {
+        write!(to, "<b class=\"warn\">{meaning}</b>")?;
+    } else {
+        to.push_str(meaning)?;
+    }
+    Ok(())
+}

@@ -1,0 +1,115 @@
+//! The rows of the timeline: records with their lives, those of their servers, and the seconds in which captures heard them.
+
+ghost use Rattle.std.specs.Prelude.{◌≡◌, ◌++◌, ◌∷◌, [], List, IfOk, OnOk, length, map, nat_lt};
+ghost use Rattle.std.specs.List.{All, filter};
+ghost use Rattle.std.specs.List.Sorted.{IsStrictlySortedBy};
+ghost use Rattle.mdns_message.specs.Resource.{key_cmp, key_of};
+ghost use Rattle.mdns_message.specs.declared.hearing.Hearing.{Hearing};
+ghost use Rattle.mdns_cache.specs.Live.{record_of};
+ghost use Rattle.mdns_browse.specs.Services.{AreEach};
+ghost use Rattle.mdns_lives.specs.Chronicle.{Chronicles};
+ghost use Rattle.mdns_lives.specs.LentLives.{row_lent};
+ghost use Rattle.mdns_page.specs.TimelineRows.{AreShownBy, IsCounted, shown_seconds};
+ghost use Rattle.mdns_page.specs.KeptRecords.{is_of, lasts_of};
+ghost use Rattle.mdns_page.specs.Servers.{IsServed};
+ghost use Rattle.mdns_page.specs.Timeline.{counted_lent, record_in, seconds_lent};
+
+use crate::captures::FEW_CAPTURES;
+use crate::kept_records::{TimelinePart, is_of};
+use crate::servers::servers_of;
+use mdns_lives::{Lives, RecordLives, SecondHeard};
+use mdns_message::{Resource, Want};
+use std::alloc::Global;
+
+/// A record that was heard, with its lives.
+#[derive(Drop)]
+pub(crate) struct CountedRow<'a> {
+    pub(crate) record: &'a RecordLives<'a>,
+    /// The SRV records of the instance that it gives, in key order.
+    pub(crate) servers: &'a [RecordLives<'a>],
+    /// How many captures there are.
+    pub(crate) captures: usize,
+    /// Of each capture, in order, the whole seconds in which it heard the record; where there are many captures, only of those
+    /// that heard it, since a list for each row and capture would take much memory.
+    pub(crate) heard: Vec<Vec<SecondHeard>>,
+}
+
+/// Makes the rows of a part of the timeline, of some records, each with its servers, by the hearings of each capture.
+pub(crate) fn counted_rows<'a>(
+    alloc: Global,
+    kind: TimelinePart,
+    records: &'a [RecordLives<'a>],
+    servers: &'a [RecordLives<'a>],
+    captures: &[Lives],
+) -> Result<Vec<CountedRow<'a>>, Want>
+    ensures records { IfOk result (λ rows.
+        map record_in (map counted_lent rows.items) ≡ filter (λ row. is_of kind row.0) (map row_lent records.now)) }
+    ensures heard { IfOk result (λ rows. (each : List (List Hearing)) → AreEach Chronicles captures.now each
+        → All (IsCounted each) (map counted_lent rows.items)) }
+    ensures servers { IfOk result (λ rows. IsStrictlySortedBy key_cmp (map record_of (lasts_of (map row_lent servers.now)))
+        → All (IsServed (map row_lent servers.now)) (map counted_lent rows.items)) }
+{
+    let mut rows = Vec::new(alloc);
+    for record in records {
+        if !is_of(kind, &record.last) {
+            continue;
+        }
+        rows.push(counted_row(alloc, record, servers, captures)?)?;
+    }
+    Ok(rows)
+}
+
+// Makes the row of a record.
+fn counted_row<'a>(
+    alloc: Global,
+    record: &'a RecordLives<'a>,
+    servers: &'a [RecordLives<'a>],
+    captures: &[Lives],
+) -> Result<CountedRow<'a>, Want>
+    ensures record { IfOk result (λ row. record_in (counted_lent row) ≡ row_lent «record».now) }
+    ensures heard { IfOk result (λ row. (each : List (List Hearing)) → AreEach Chronicles captures.now each
+        → IsCounted each (counted_lent row)) }
+    ensures servers { IfOk result (λ row. IsStrictlySortedBy key_cmp (map record_of (lasts_of (map row_lent servers.now)))
+        → IsServed (map row_lent servers.now) (counted_lent row)) }
+{
+    let heard = heard_by(alloc, captures, record.last.resource)?;
+    Ok(CountedRow {
+        record,
+        servers: servers_of(servers, &record.last.resource.body),
+        captures: captures.len(),
+        heard,
+    })
+}
+
+// Returns the whole seconds in which each capture heard a record; where there are many captures, of those that heard it.
+fn heard_by(
+    alloc: Global,
+    captures: &[Lives],
+    resource: &Resource,
+) -> Result<Vec<Vec<SecondHeard>>, Want>
+    ensures { IfOk result (λ heard. (each : List (List Hearing)) → AreEach Chronicles captures.now each
+        → AreShownBy (nat_lt 4 (length captures.now)) each (key_of resource.now) (map seconds_lent heard.items)) }
+{
+    let many = captures.len() > FEW_CAPTURES;
+    let mut heard = Vec::new(alloc);
+    for capture in captures {
+        push_shown(&mut heard, many, capture.seconds_heard(resource)?)?;
+    }
+    Ok(heard)
+}
+
+// Appends the seconds in which a capture heard a record; where there are many captures, only if it heard it.
+fn push_shown(
+    to: &mut Vec<Vec<SecondHeard>>,
+    many: bool,
+    seconds: Vec<SecondHeard>,
+) -> Result<(), Want>
+    ensures { OnOk result (map seconds_lent to.new.items
+        ≡ map seconds_lent to.old.items ++ shown_seconds many (seconds_lent seconds ∷ [])) }
+{
+    if many && seconds.is_empty() {
+        return Ok(());
+    }
+    to.push(seconds)?;
+    Ok(())
+}

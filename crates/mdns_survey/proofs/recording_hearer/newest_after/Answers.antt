@@ -1,0 +1,11 @@
+use Rattle.std.proofs.Common.{◌≤◌, Some, rules}
+use Rattle.mdns_survey.proofs.SurveyLemmas.{none-later}
+use Rattle.mdns_survey.proofs.recording_hearer.newest_after.Goals as goal
+
+pub returns-then-lt-clause-some : goal.returns-then-lt-clause-some
+returns-then-lt-clause-some c = (search rules, c.in_ok-newest.ensures.stands)
+
+pub returns-else-lt-clause-none : goal.returns-else-lt-clause-none
+returns-else-lt-clause-none c = λ heard stands.
+    let no_later : c.in_ok-newest.newest.nanos ≤ c.args.end.nanos = search rules in
+    none-later (Some c.in_ok-newest.newest) heard c.args.end (c.in_ok-newest.ensures.stands heard stands) no_later

@@ -1,0 +1,108 @@
+-- The text of the lives of all records of captures, and why a survey of them is refused.
+use Rattle.std.specs.Prelude.{◌≡◌, ℕ, ◌≤◌, max, min, List, [], ◌∷◌, ◌++◌, length, Contains}
+use Rattle.std.specs.List.{filter, flat_map}
+use Rattle.std.specs.Io.KnownBytes.{Appends}
+use Rattle.mdns_capture.specs.declared.moment.Moment.{Moment}
+use Rattle.mdns_capture.specs.Output.{Writing}
+use Rattle.mdns_capture.specs.Savefile.{CaptureReads, PacketAt}
+use Rattle.mdns_message.specs.declared.hearing.Hearing.{Hearing}
+use Rattle.mdns_join.specs.declared.latest.Latest.{Latest}
+use Rattle.mdns_lives.specs.declared.life.Life.{Life}
+use Rattle.mdns_lives.specs.declared.life.Which.{Which}
+use Rattle.mdns_lives.specs.Changes.{chosen}
+use Rattle.mdns_lives.specs.Chronicle.{AreAllLives}
+use Rattle.mdns_browse.specs.declared.about.Subject.{Subject}
+use Rattle.mdns_browse.specs.declared.report.Form.{Form}
+use Rattle.mdns_browse.specs.About.{keeps_record}
+use Rattle.mdns_browse.specs.LifeText.{end_width, lives_head, lives_in, lives_report, lives_text}
+use Rattle.mdns_survey.specs.declared.request.AsOf.{AsOf}
+use Rattle.mdns_survey.specs.declared.request.AsOf.TheVariants.{Newest, At, Before}
+use Rattle.mdns_survey.specs.declared.summary.Summary.{Summary}
+use Rattle.mdns_survey.specs.Outcomes.{AllCome, Counts, Outcome}
+use Rattle.mdns_survey.specs.Head.{IsHead}
+use Rattle.mdns_survey.specs.Filter.{counted, filter_of}
+use Rattle.mdns_survey.specs.Readings.{all_moments}
+
+-- THE END OF CAPTURES
+
+-- each capture has its packets and its ending, and its packets come to its outcomes, which its tally counts
+abbrev pub AllRead : List (List ℕ) → List (List PacketAt) → List (List Outcome) → List Summary → Type 0
+AllRead [] [] [] [] = Unit {0}
+AllRead (bytes ∷ captures) (packets ∷ more) (outcomes ∷ rest) (summary ∷ summaries) =
+    CaptureReads bytes packets summary.ending × AllCome packets outcomes × Counts outcomes summary.tally
+    × AllRead captures more rest summaries
+AllRead _ _ _ _ = ⊥
+
+-- the latest of the moments, and 0 of none
+abbrev pub latest_nanos : List Moment → ℕ
+latest_nanos [] = 0
+latest_nanos (moment ∷ moments) = max moment.nanos (latest_nanos moments)
+
+-- the end of captures with packets at these moments: the moment that is given, or without one the latest of them
+abbrev pub end_of : AsOf → List Moment → ℕ
+end_of Newest moments = latest_nanos moments
+end_of (At moment) moments = moment.nanos
+end_of (Before moment) moments = moment.nanos
+
+-- the earliest of the moments, or `end` where that is earlier
+abbrev pub earliest_nanos : ℕ → List Moment → ℕ
+earliest_nanos end [] = end
+earliest_nanos end (moment ∷ moments) = min moment.nanos (earliest_nanos end moments)
+
+-- the earliest moment of captures with packets at these moments, or their end where that is earlier. Packets that aren't
+-- earlier than the end, which don't count where the hearings before it do, make no difference.
+abbrev pub begin_of : AsOf → List Moment → ℕ
+begin_of as_of moments = earliest_nanos (end_of as_of moments) moments
+
+-- THE TEXT
+
+-- the rows of the records that are about one of the subjects, or all where there are no subjects
+abbrev pub kept_rows : List Subject → List (Latest × List Life) → List (Latest × List Life)
+kept_rows about rows = filter (λ (row : Latest × List Life). keeps_record about row.0.resource) rows
+
+-- what stands before the lives of rows
+abbrev pub rows_head : Which → Form → (begin end : ℕ) → List (Latest × List Life) → List ℕ
+rows_head which form begin end rows = lives_head which form (length (lives_in rows)) (end_width end rows) begin end
+
+-- The text is that of those lives of all records about these subjects which are chosen, between the earliest moment and the
+-- end of the captures, which no hearing is later than.
+pub record WritesLives (which : Which) (form : Form) (about : List Subject) (heard : List Hearing) (begin end : ℕ) (text : List ℕ)
+    : Type 0 where
+  pub latest : (hearing : Hearing) → Contains heard hearing → hearing.moment.nanos ≤ end
+  pub rows : List (Latest × List Life)
+  pub lives : AreAllLives heard rows
+  pub lines : text ≡ lives_report which form begin end (kept_rows about (chosen which rows))
+
+-- The text is right for those hearings of all captures that count.
+pub record SurveysLives (which : Which) (form : Form) (about : List Subject) (captures : List (List ℕ)) (as_of : AsOf)
+    (summaries : List Summary) (text : List ℕ) : Type 0 where
+  pub packets : List (List PacketAt)
+  pub outcomes : List (List Outcome)
+  pub read : AllRead captures packets outcomes summaries
+  pub writes : WritesLives which form about (counted (filter_of as_of) outcomes) (begin_of as_of (all_moments packets))
+      (end_of as_of (all_moments packets)) text
+
+-- the text is those lives after the head
+abbrev pub SurveysLivesWithHead : Which → Form → List Subject → List (List ℕ) → AsOf → List Summary → List ℕ → Type 0
+SurveysLivesWithHead which form about captures as_of summaries text =
+    (head : List ℕ) × ((lives : List ℕ) × (text ≡ head ++ lives)
+    × IsHead form captures summaries head × SurveysLives which form about captures as_of summaries lives)
+
+-- WHY A SURVEY IS REFUSED
+
+-- the head was written, what stands before the lives of all rows, the lines of some first rows, and of the others nothing
+abbrev pub WritesFirstRows : List ℕ → Which → Form → (begin end : ℕ) → List (Latest × List Life) → Writing → Type 0
+WritesFirstRows head which form begin end rows out =
+    (first : List (Latest × List Life)) × ((later : List (Latest × List Life)) × (rows ≡ first ++ later)
+    × Appends out.old out.new (head ++ (rows_head which form begin end rows ++ flat_map (lives_text form (end_width end rows) end) first)))
+
+-- the head was written, what stands before the lives, and all lines of some first records
+pub record WritesFirstRecords (which : Which) (form : Form) (about : List Subject) (captures : List (List ℕ)) (as_of : AsOf)
+    (out : Writing) : Type 0 where
+  pub summaries : List Summary
+  pub head : List ℕ
+  pub is_head : IsHead form captures summaries head
+  pub lives : List ℕ
+  pub surveys : SurveysLives which form about captures as_of summaries lives
+  pub written : WritesFirstRows head which form (begin_of as_of (all_moments surveys.packets))
+      (end_of as_of (all_moments surveys.packets)) (kept_rows about (chosen which surveys.writes.rows)) out

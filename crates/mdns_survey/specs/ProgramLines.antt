@@ -1,0 +1,85 @@
+-- The program's lines about files, faults and endings.
+use Rattle.std.specs.Prelude.{ℕ, Bool, true, false, List, [], ◌∷◌, ◌++◌, codes, decimal, slice_get, unwrap_or, Result}
+use Rattle.std.specs.Prelude.{Ok, Err, String, string_bytes}
+use Rattle.std.specs.Global.{Global}
+use Rattle.mdns_capture.specs.declared.savefile.Ending.{Ending}
+use Rattle.mdns_capture.specs.declared.savefile.Ending.TheVariants.{Whole}
+pub use Rattle.mdns_capture.specs.Text.{ending_text}
+use Rattle.mdns_capture.specs.declared.savefile.BeginFault.{BeginFault}
+use Rattle.mdns_capture.specs.declared.savefile.BeginFault.TheVariants.{Memory as BeginMemory, Read as BeginRead}
+use Rattle.mdns_capture.specs.declared.savefile.BeginFault.TheVariants.{ShortHeader, Magic, Version, Link}
+use Rattle.mdns_survey.specs.declared.listen.ListenFault.{ListenFault}
+use Rattle.mdns_survey.specs.declared.listen.ListenFault.TheVariants.{Begin, Read, Memory as ListenMemory}
+use Rattle.mdns_survey.specs.declared.survey.SurveyFault.{SurveyFault}
+use Rattle.mdns_survey.specs.declared.survey.SurveyFault.TheVariants.{File, Early, Memory, Write}
+use Rattle.memory.specs.declared.want.Want.{Want}
+use Rattle.mdns_browse.specs.RecordText.{moment_text}
+use Rattle.mdns_survey.specs.declared.summary.Tally.{Tally}
+use Rattle.mdns_survey.specs.declared.summary.Summary.{Summary}
+
+infixr 10 ◌<>◌
+-- texts one after another
+abbrev pub ◌<>◌ : List ℕ → List ℕ → List ℕ
+a <> b = a ++ b
+
+-- the counts of a tally
+abbrev pub tally_text : Tally → List ℕ
+tally_text t = codes "packets " <> decimal t.packets <> codes " skipped " <> decimal t.skipped <> codes " refused " <>
+    decimal t.refused <> codes " messages " <> decimal t.messages <> codes " hearings " <> decimal t.hearings
+
+-- the line of `check` for one file
+abbrev pub check_text : List ℕ → Summary → List ℕ
+check_text name s = name <> codes ": " <> tally_text s.tally <> codes " " <> ending_text s.ending
+
+-- the error line of a program for a file that isn't whole
+abbrev pub ending_line_text : List ℕ → List ℕ → Ending → List ℕ
+ending_line_text program name ending = program <> codes ": " <> name <> codes ": " <> ending_text ending
+
+-- the error line for a file that can't be opened
+abbrev pub open_line_text : List ℕ → List ℕ → List ℕ
+open_line_text program name = program <> codes ": " <> name <> codes ": cannot be opened"
+
+-- why a file header is refused
+abbrev pub begin_text : BeginFault → List ℕ
+begin_text BeginMemory = codes "out of memory"
+begin_text BeginRead = codes "read failed"
+begin_text ShortHeader = codes "file header is cut short"
+begin_text Magic = codes "not a classic pcap file"
+begin_text Version = codes "pcap version is not 2.4"
+begin_text Link = codes "link type is not Ethernet"
+
+-- why a capture is refused
+abbrev pub listen_text : ListenFault → List ℕ
+listen_text (Begin fault) = begin_text fault
+listen_text Read = codes "read failed"
+listen_text ListenMemory = codes "out of memory"
+
+-- the error line of a program that is refused, over captures of these names
+abbrev pub fault_line_text : List ℕ → List (List ℕ) → SurveyFault → List ℕ
+fault_line_text program names (File index fault) =
+    program <> codes ": " <> unwrap_or (slice_get names index) [] <> codes ": " <> listen_text fault
+fault_line_text program names (Early newest) =
+    program <> codes ": the moment is earlier than the newest hearing, " <> moment_text newest.nanos
+fault_line_text program names Memory = program <> codes ": out of memory"
+fault_line_text program names Write = program <> codes ": write failed"
+
+-- a fact of the index that a file's fault carries
+abbrev pub IfFile : SurveyFault → (ℕ → Type 0) → Type 0
+IfFile (File index fault) p = p index
+IfFile _ p = Unit {0}
+
+-- the lines of a check, one for each capture, each with its line feed
+abbrev pub check_lines_text : List (List ℕ) → List Summary → List ℕ
+check_lines_text [] summaries = []
+check_lines_text (name ∷ names) [] = []
+check_lines_text (name ∷ names) (summary ∷ summaries) = check_text name summary <> 10 ∷ check_lines_text names summaries
+
+-- the line that a program writes: the line itself, or `out of memory` where its allocation failed
+abbrev pub said_text : List ℕ → Result (String Global) Want → List ℕ
+said_text program (Ok line) = string_bytes line
+said_text program (Err want) = program <> codes ": out of memory"
+
+-- the bytes of the capture end where a packet does
+abbrev pub is_whole : Ending → Bool
+is_whole Whole = true
+is_whole _ = false

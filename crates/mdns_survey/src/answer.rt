@@ -1,0 +1,163 @@
+//! A run over captures: the report, the lives or the lines of a check on one writer, and error lines on another.
+
+ghost use Rattle.std.specs.Prelude.{◌≡◌, ◌≢◌, ◌≤◌, ℕ, List, map, length, string_bytes, Some, IfOk};
+ghost use Rattle.mdns_capture.specs.Output.{writing};
+ghost use Rattle.mdns_survey.specs.Answer.{Answers, IsRefused, IsRefusedOf, Reports};
+ghost use Rattle.mdns_survey.specs.ProgramLines.{check_lines_text};
+ghost use Rattle.mdns_survey.specs.Readings.{summaries_of};
+ghost use Rattle.mdns_survey.specs.Request.{request_of};
+
+use crate::error_lines::{refuse, say_endings};
+use crate::hearer::Forgetful;
+use crate::program_lines::check_line;
+use crate::question::{Answer, Question, TextAnswer, survey_with};
+use crate::reading::Reading;
+use crate::request::{Request, What};
+use crate::status::{REFUSED, status_of};
+use mdns_browse::report::ReportFault;
+use mdns_capture::{Sink, Source};
+use mdns_message::Want;
+use std::alloc::Global;
+
+/// Writes the report or the check of the captures `names`, read by `readers`, to `out`, and error lines to `err`.
+/// Returns the exit status: `WHOLE`, `DAMAGED` or `REFUSED` of `status`.
+///
+/// After a failed write to `err` nothing more is written there; the status stays the same. No program calls it: they
+/// call `answer_request` or `answer_with`.
+pub fn answer<R: Source + Drop, O: Sink, E: Sink>(
+    alloc: Global,
+    what: What,
+    names: &[String],
+    readers: Vec<R>,
+    out: &mut O,
+    err: &mut E,
+) -> u8
+    requires { length names.now ≡ length readers.items }
+    ensures status { result ≤ 2 }
+    // Over readers whose bytes are known, exactly what is asked was written on `out`, and nothing else; on `err` what
+    // went wrong, or where it failed a prefix of that.
+    ensures answers { result ≢ REFUSED → (captures : List (List ℕ))
+        → map R.remaining readers.items ≡ map Some captures
+        → Answers (request_of what) (map string_bytes names.now) captures
+        (writing O.Sink out.old out.new) (writing E.Sink err.old err.new) result }
+    ensures refused { result ≡ REFUSED → IsRefused R.Source (request_of what) (map string_bytes names.now) readers.items
+        (writing O.Sink out.old out.new) (writing E.Sink err.old err.new) }
+    ensures unfailed { result ≢ REFUSED → O.failures out.new ≡ O.failures out.old }
+{
+    answer_request(alloc, what.request(alloc), names, readers, out, err)
+}
+
+/// Answers a request as `answer` does, with the lives of all records for `Lives`. The error lines and the exit status
+/// depend on how the reading of each whole capture ended, also for a report on what was heard before a moment.
+pub fn answer_request<R: Source + Drop, O: Sink, E: Sink>(
+    alloc: Global,
+    request: Request,
+    names: &[String],
+    readers: Vec<R>,
+    out: &mut O,
+    err: &mut E,
+) -> u8
+    requires { length names.now ≡ length readers.items }
+    ensures status { result ≤ 2 }
+    // Over readers whose bytes are known, exactly what is requested was written on `out`, and nothing else; on `err`
+    // what went wrong, or where it failed a prefix of that.
+    ensures answers { result ≢ REFUSED → (captures : List (List ℕ))
+        → map R.remaining readers.items ≡ map Some captures
+        → Answers request (map string_bytes names.now) captures
+        (writing O.Sink out.old out.new) (writing E.Sink err.old err.new) result }
+    ensures refused { result ≡ REFUSED → IsRefused R.Source request (map string_bytes names.now) readers.items
+        (writing O.Sink out.old out.new) (writing E.Sink err.old err.new) }
+    ensures unfailed { result ≢ REFUSED → O.failures out.new ≡ O.failures out.old }
+{
+    match request {
+        Request::Report(query) => answer_with(query, true, names, readers, out, err),
+        Request::Lives(lives) => answer_with(lives, true, names, readers, out, err),
+        Request::Check => answer_with(Check { names }, false, names, readers, out, err),
+    }
+}
+
+/// Answers a question as `answer` does, and where `says` is `true` writes an error line for each capture that isn't whole.
+pub fn answer_with<R: Source + Drop, Q: Answer + Drop, O: Sink, E: Sink>(
+    question: Q,
+    says: bool,
+    names: &[String],
+    readers: Vec<R>,
+    out: &mut O,
+    err: &mut E,
+) -> u8
+    requires { length names.now ≡ length readers.items }
+    ensures status { result ≤ 2 }
+    ensures answers { result ≢ REFUSED → (captures : List (List ℕ))
+        → map R.remaining readers.items ≡ map Some captures
+        → Reports (Q.asked question).Answers says (map string_bytes names.now) captures
+        (writing O.Sink out.old out.new) (writing E.Sink err.old err.new) result }
+    ensures refused { result ≡ REFUSED → IsRefusedOf R.Source (Q.asked question) (map string_bytes names.now) readers.items
+        (writing O.Sink out.old out.new) (writing E.Sink err.old err.new) }
+    ensures unfailed { result ≢ REFUSED → O.failures out.new ≡ O.failures out.old }
+{
+    let alloc = *readers.allocator();
+    match survey_with(alloc, readers, question, out) {
+        Ok(summaries) => {
+            if says {
+                say_endings(alloc, "mdnsmerge", names, summaries.as_slice(), err);
+            }
+            status_of(summaries.as_slice())
+        }
+        Err(fault) => refuse(alloc, "mdnsmerge", names, &fault, err),
+    }
+}
+
+/// A line for each capture, once all were read.
+#[derive(Drop)]
+pub(crate) struct Check<'a> {
+    names: &'a [String],
+}
+
+impl<'a> Question for Check<'a> {
+    ghost use Rattle.mdns_survey.specs.Question.{asked_check};
+
+    type Listener = Forgetful;
+
+    ghost asked = { λ check. asked_check (map string_bytes check.names.now) };
+
+    ghost Heard = { λ _ _ _. Unit {0} };
+
+    fn listener(&self, alloc: Global) -> Result<Forgetful, Want> {
+        Ok(Forgetful::new(alloc))
+    }
+}
+
+impl<'a> TextAnswer for Check<'a> {
+    fn text(
+        self,
+        alloc: Global,
+        listener: Forgetful,
+        readings: &[Reading],
+    ) -> Result<String, ReportFault> {
+        drop(listener);
+        match check_lines(alloc, self.names, readings) {
+            Ok(text) => Ok(text),
+            Err(Want) => Err(ReportFault::Memory),
+        }
+    }
+}
+
+// Returns a line for each capture.
+fn check_lines(alloc: Global, names: &[String], readings: &[Reading]) -> Result<String, Want>
+    ensures { IfOk result (λ text. string_bytes text
+        ≡ check_lines_text (map string_bytes names.now) (summaries_of readings.now)) }
+{
+    let mut text = String::new(alloc);
+    let mut names = names;
+    let mut readings = readings;
+    while let Some((name, more_names)) = names.split_first()
+        && let Some((reading, more_readings)) = readings.split_first()
+    {
+        let line = check_line(alloc, name.as_str(), &reading.summary)?;
+        text.push_str(line.as_str())?;
+        text.push('\n')?;
+        names = more_names;
+        readings = more_readings;
+    }
+    Ok(text)
+}

@@ -1,0 +1,82 @@
+//! The hearings of each of several captures, and of all together.
+
+ghost use Rattle.std.specs.Prelude.{◌≡◌, ◌++◌, ◌∷◌, [], List, IfOk, OnOk};
+ghost use Rattle.mdns_lives.specs.Chronicle.{Chronicles};
+ghost use Rattle.mdns_survey.specs.Outcomes.{Outcome, hearings_in};
+ghost use Rattle.mdns_survey.specs.Chronicling.{ChroniclesAll};
+ghost use Rattle.mdns_survey.specs.Filter.{selected};
+ghost use Rattle.mdns_survey.specs.declared.each_capture.EachChronicling.{EachChronicling};
+
+use crate::filter::{Filter, Filtered};
+use crate::listen::{ListenFault, Listener, hear_capture};
+use crate::reading::Reading;
+use crate::recording_hearer::finished;
+use mdns_capture::Source;
+use mdns_lives::{Chronicle, Lives, Recording};
+use mdns_message::Want;
+use std::alloc::Global;
+
+/// A listener that chronicles the hearings that count, of each capture and of all. It takes longer than chronicling all
+/// together, and about twice the memory.
+#[derive(Drop)]
+pub struct EachChronicling {
+    pub captures: Vec<Lives>,
+    pub all: Lives,
+    filter: Filter,
+}
+
+impl EachChronicling {
+    /// Makes a listener that has listened to no capture.
+    pub fn new(alloc: Global, filter: Filter) -> Result<EachChronicling, Want>
+        ensures filter { IfOk result (λ chronicling. chronicling.filter ≡ filter) }
+        ensures nothing { IfOk result (λ chronicling. ChroniclesAll chronicling chronicling []) }
+    {
+        Ok(EachChronicling {
+            captures: Vec::new(alloc),
+            all: Chronicle::new(alloc).finish()?,
+            filter,
+        })
+    }
+
+    // Adds the chronicle of one more capture. After `Want` nothing is promised of the chronicles.
+    fn add(&mut self, capture: Lives) -> Result<(), Want>
+        ensures { OnOk result ((begun : EachChronicling) (before : List (List Outcome)) (outcomes : List Outcome)
+            → Chronicles capture (selected begun.filter (hearings_in outcomes)) → ChroniclesAll begun self.old before
+            → ChroniclesAll begun self.new (before ++ outcomes ∷ [])) }
+    {
+        self.all.join_with(&capture)?;
+        self.captures.push(capture)?;
+        Ok(())
+    }
+}
+
+/// Each capture is heard by a `Recording` of its own, since a chronicle of all doesn't tell them apart.
+impl Listener for EachChronicling {
+    ghost use Rattle.mdns_survey.specs.Chronicling.{ChroniclesAll};
+
+    ghost HeardAll = { ChroniclesAll };
+
+    fn listen_to<R: Source + Drop>(
+        &mut self,
+        alloc: Global,
+        reader: R,
+    ) -> Result<Reading, ListenFault> {
+        let mut filtered = Filtered {
+            hearer: Recording::new(alloc),
+            filter: self.filter,
+        };
+        let reading = match hear_capture(alloc, reader, &mut filtered) {
+            Ok(reading) => reading,
+            // The clauses name this very fault, and `?` would convert it.
+            Err(fault) => return Err(fault),
+        };
+        let capture = match finished(filtered.hearer) {
+            Ok(capture) => capture,
+            Err(Want) => return Err(ListenFault::Memory),
+        };
+        match self.add(capture) {
+            Ok(()) => Ok(reading),
+            Err(Want) => Err(ListenFault::Memory),
+        }
+    }
+}

@@ -1,0 +1,252 @@
+//! The lives of all records of several captures.
+
+ghost use Rattle.std.specs.Prelude.{◌≡◌, ◌++◌, ◌∷◌, [], ℕ, IfOk, IfErr, List, OnErr, OnOk, is_ok, string_bytes};
+ghost use Rattle.std.specs.List.{flat_map};
+ghost use Rattle.std.specs.Io.KnownBytes.{Appends};
+ghost use Rattle.mdns_capture.specs.Calls.{WritesWell};
+ghost use Rattle.mdns_capture.specs.Output.{AppendsPrefix, writing};
+ghost use Rattle.mdns_join.specs.declared.latest.Latest.{Latest};
+ghost use Rattle.mdns_lives.specs.LentLives.{row_lent};
+ghost use Rattle.mdns_lives.specs.declared.life.Life.{Life};
+ghost use Rattle.mdns_browse.specs.LifeText.{IsLayout, lives_head, lives_text};
+ghost use Rattle.mdns_survey.specs.Chronicling.{FitsForm, IsTextOut, StopsRows};
+ghost use Rattle.mdns_survey.specs.Head.{Heads};
+ghost use Rattle.mdns_survey.specs.LivesAnswer.{kept_rows};
+ghost use Rattle.mdns_survey.specs.Refusals.{BlamesWriter};
+
+use crate::filter::Filtered;
+use crate::head::head_in;
+use crate::question::{Answer, Question};
+use crate::reading::Reading;
+use crate::readings::{begin_of, end_of};
+use crate::recording_hearer::{finished, newest_after};
+use crate::request::LivesQuery;
+use crate::survey::SurveyFault;
+use mdns_browse::about::{Subject, keeps_record};
+use mdns_browse::life_text::{Layout, push_lives, push_lives_head};
+use mdns_browse::report::Form;
+use mdns_capture::{Broken, Moment, Sink, write_whole};
+use mdns_lives::{ChosenWalk, RecordLives, Recording};
+use mdns_message::Want;
+use std::alloc::Global;
+
+/// How many bytes of lines wait before they are written.
+const PIECE: usize = 65_536;
+
+impl Question for LivesQuery {
+    ghost use Rattle.mdns_survey.specs.Chronicling.{Chronicled};
+    ghost use Rattle.mdns_survey.specs.Filter.{filter_of};
+    ghost use Rattle.mdns_survey.specs.Question.{asked_lives};
+
+    type Listener = Filtered<Recording>;
+
+    ghost asked = { asked_lives };
+
+    ghost Heard = { λ question now. Chronicled (filter_of question.as_of) now.hearer };
+
+    fn listener(&self, alloc: Global) -> Result<Filtered<Recording>, Want> {
+        Ok(Filtered {
+            hearer: Recording::new(alloc),
+            filter: self.as_of.filter(),
+        })
+    }
+}
+
+/// Records are in key order, and the lives of each in order of time. In `Form::Pretty` the head of a report in this form
+/// comes first, and a heading, with the earliest packet's moment, or the end of the captures where that is earlier. A line
+/// says `live` of a life that goes on after the end.
+///
+/// The lines are written in pieces of 64 KiB or more, each of which ends with the last line of a record. In
+/// `Form::Pretty` all lives are found twice, first for the widths of the columns.
+/// After `Memory` nothing was written, or the head, the heading and all lines of some first records.
+impl Answer for LivesQuery {
+    fn write<W: Sink>(
+        self,
+        alloc: Global,
+        listener: Filtered<Recording>,
+        readings: &[Reading],
+        out: &mut W,
+    ) -> Result<(), SurveyFault> {
+        let lives = match finished(listener.hearer) {
+            Ok(lives) => lives,
+            Err(Want) => return Err(SurveyFault::Memory),
+        };
+        let begin = begin_of(self.as_of, readings);
+        let end = end_of(self.as_of, readings);
+        if let Some(newest) = newest_after(&lives, end) {
+            return Err(SurveyFault::Early { newest });
+        }
+        let about = self.about.as_slice();
+        let columns = lives.chosen(self.which);
+        let layout = match layout_of(alloc, columns, self.form, about, end) {
+            Ok(layout) => layout,
+            Err(Want) => return Err(SurveyFault::Memory),
+        };
+        let text = match text_before(alloc, &self, readings, layout, begin, end) {
+            Ok(text) => text,
+            Err(Want) => return Err(SurveyFault::Memory),
+        };
+        let rows = lives.chosen(self.which);
+        let lines = RowLines {
+            form: self.form,
+            about,
+            width: layout.width,
+            end,
+        };
+        write_rows(text, rows, lines, out)
+    }
+}
+
+// The lines of rows: their form, what the records are about, the width of the column of ends, and the end of the captures.
+#[derive(Clone, Copy)]
+struct RowLines<'a> {
+    form: Form,
+    about: &'a [Subject],
+    width: usize,
+    end: Moment,
+}
+
+// Returns what stands before the lives: the head of captures with these readings, and the heading.
+fn text_before(
+    alloc: Global,
+    query: &LivesQuery,
+    readings: &[Reading],
+    layout: Layout,
+    begin: Moment,
+    end: Moment,
+) -> Result<String, Want>
+    ensures { IfOk result (λ text. (head : List ℕ) × Heads query.now.form readings.now head × (string_bytes text
+        ≡ head ++ lives_head query.now.which query.now.form layout.count layout.width begin.nanos end.nanos)) }
+{
+    let mut text = head_in(alloc, query.form, readings)?;
+    push_lives_head(&mut text, query.which, query.form, layout, begin, end)?;
+    Ok(text)
+}
+
+// Returns the layout of the rows that are about the subjects; in a form without columns, that of no rows.
+fn layout_of(
+    alloc: Global,
+    rows: ChosenWalk<'_>,
+    form: Form,
+    about: &[Subject],
+    end: Moment,
+) -> Result<Layout, Want>
+    ensures { IfOk result (FitsForm form end.nanos (kept_rows about.now rows.entry)) }
+{
+    match form {
+        Form::Lines | Form::Json => Ok(Layout::new()),
+        Form::Pretty => columns_of(alloc, rows, about, end),
+    }
+}
+
+// Returns the layout of the rows that are about the subjects.
+fn columns_of(
+    alloc: Global,
+    rows: ChosenWalk<'_>,
+    about: &[Subject],
+    end: Moment,
+) -> Result<Layout, Want>
+    ensures { IfOk result (IsLayout end.nanos (kept_rows about.now rows.entry)) }
+{
+    let mut walk = rows;
+    let mut layout = Layout::new();
+    let mut scratch = String::new(alloc);
+    while let Some(row) = walk.next()? {
+        layout = with_row(layout, about, end, &row, &mut scratch)?;
+    }
+    Ok(layout)
+}
+
+// Returns the layout with a row that is about the subjects, or without it.
+fn with_row(
+    layout: Layout,
+    about: &[Subject],
+    end: Moment,
+    row: &RecordLives<'_>,
+    scratch: &mut String,
+) -> Result<Layout, Want>
+    ensures { IfOk result (λ more. (taken : List (Latest × List Life))
+        → IsLayout end.nanos (kept_rows about.now taken) layout
+        → IsLayout end.nanos (kept_rows about.now (taken ++ row_lent row.now ∷ [])) more) }
+{
+    if keeps_record(about, &row.last.resource.borrowed(), scratch)? {
+        return layout.with(end, row.lives.as_slice());
+    }
+    Ok(layout)
+}
+
+// Writes a text that stands before the rows, and the lines of those that are about the subjects.
+fn write_rows<W: Sink>(
+    head: String,
+    rows: ChosenWalk<'_>,
+    lines: RowLines<'_>,
+    out: &mut W,
+) -> Result<(), SurveyFault>
+    ensures written { OnOk result (Appends (W.written out.old) (W.written out.new)
+        (string_bytes head ++ flat_map (lives_text lines.entry.form lines.entry.width lines.entry.end.nanos)
+        (kept_rows lines.entry.about.now rows.entry))) }
+    ensures stops { IfErr result (StopsRows (string_bytes head) (lives_text lines.entry.form lines.entry.width lines.entry.end.nanos)
+        (kept_rows lines.entry.about.now rows.entry) (writing W.Sink out.old out.new)) }
+    ensures writer { IfErr result (BlamesWriter (writing W.Sink out.old out.new)) }
+    ensures unfailed { OnOk result (W.failures out.new ≡ W.failures out.old) }
+{
+    let mut walk = rows;
+    let mut text = head;
+    let mut scratch = String::new(*text.allocator());
+    loop {
+        let row = match walk.next() {
+            Ok(Some(row)) => row,
+            Ok(None) => break,
+            Err(Want) => return Err(SurveyFault::Memory),
+        };
+        match push_row(&mut text, lines, &row, &mut scratch) {
+            Ok(()) => {}
+            Err(Want) => return Err(SurveyFault::Memory),
+        }
+        match write_piece(&mut text, out) {
+            Ok(()) => {}
+            Err(Broken) => return Err(SurveyFault::Write),
+        }
+    }
+    match write_whole(out, text.as_bytes()) {
+        Ok(()) => Ok(()),
+        Err(Broken) => Err(SurveyFault::Write),
+    }
+}
+
+fn push_row(
+    text: &mut String,
+    lines: RowLines<'_>,
+    row: &RecordLives<'_>,
+    scratch: &mut String,
+) -> Result<(), Want>
+    ensures { OnOk result (string_bytes text.new ≡ string_bytes text.old
+        ++ flat_map (lives_text lines.entry.form lines.entry.width lines.entry.end.nanos)
+        (kept_rows lines.entry.about.now (row_lent row.now ∷ []))) }
+{
+    let resource = row.last.resource;
+    let lives = row.lives.as_slice();
+    if keeps_record(lines.about, &resource.borrowed(), scratch)? {
+        push_lives(text, lines.form, lines.width, lines.end, resource, lives)?;
+    }
+    Ok(())
+}
+
+// Writes a text that has grown to a piece, and empties it.
+fn write_piece<W: Sink>(text: &mut String, out: &mut W) -> Result<(), Broken>
+    ensures whole { OnOk result (IsTextOut (W.written out.old) (W.written out.new)
+        (string_bytes text.old) (string_bytes text.new)) }
+    ensures prefix { OnErr result (AppendsPrefix (W.written out.old) (W.written out.new) (string_bytes text.old)) }
+    ensures well { WritesWell W.Sink out.old out.new (is_ok result) }
+{
+    if text.len() < PIECE {
+        return Ok(());
+    }
+    match write_whole(out, text.as_bytes()) {
+        Ok(()) => {
+            text.clear();
+            Ok(())
+        }
+        Err(broken) => Err(broken),
+    }
+}

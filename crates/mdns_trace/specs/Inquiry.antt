@@ -1,0 +1,31 @@
+-- What is written of a capture, by the kind of trace.
+use Rattle.std.specs.Prelude.{ℕ, List, Option}
+use Rattle.mdns_browse.specs.declared.about.Subject.{Subject}
+use Rattle.mdns_capture.specs.declared.stream.Sink.{Ghosts as SinkGhosts}
+use Rattle.mdns_capture.specs.declared.stream.Source.{Ghosts as SourceGhosts}
+use Rattle.mdns_message.specs.TextData.{string_text}
+use Rattle.mdns_survey.specs.declared.summary.Summary.{Summary}
+use Rattle.mdns_trace.specs.declared.inquiry.Trace.{Trace}
+use Rattle.mdns_trace.specs.declared.inquiry.Trace.TheVariants.{Spans}
+use Rattle.mdns_trace.specs.declared.trace.TraceFault.{TraceFault}
+use Rattle.mdns_trace.specs.TraceFaults.{Stops, WritesLines}
+use Rattle.mdns_trace.specs.SpanWritten.{LeavesSpan, SpansCapture}
+use Rattle.mdns_trace.specs.Trace.{LeavesLines, TracesCapture}
+
+-- the text is what is written of a capture of these bytes, in a file of that name
+abbrev pub Traces : Trace → List Subject → List ℕ → List ℕ → Summary → List ℕ → Type 0
+Traces (Spans form) about file bytes summary text = SpansCapture form file bytes summary text
+Traces trace about file bytes summary text = TracesCapture trace about file bytes summary text
+
+-- what went out before a fault
+abbrev pub LeavesTrace : {W : Type 0} → SinkGhosts W → Trace → List Subject → List ℕ → Option (List ℕ) → W → W → TraceFault → Type 0
+LeavesTrace sink (Spans form) about file left old new fault = LeavesSpan sink form file left old new fault
+LeavesTrace sink trace about file left old new fault = LeavesLines sink trace about file left old new fault
+
+-- the lines of a capture in a file of that name were written, and weren't all written
+abbrev pub WritesTrace : {R W : Type 0} → SourceGhosts R → SinkGhosts W → Trace → List Subject → List ℕ → R → W → W → Summary → Type 0
+WritesTrace source sink trace about name = WritesLines source sink (Traces trace about (string_text name))
+
+abbrev pub StopsTrace : {R W : Type 0} → SourceGhosts R → SinkGhosts W → Trace → List Subject → List ℕ → R → W → W → TraceFault → Type 0
+StopsTrace source sink trace about name reader =
+    Stops source sink (LeavesTrace sink trace about (string_text name) (source.remaining reader)) reader
