@@ -1,11 +1,17 @@
-//! The lives of all records, in key order.
+//! The lives of all records, in key order, and those of several chronicles together.
 
-ghost use Rattle.std.specs.Prelude.{◌≡◌, List, IfOk, IfSome, OnErr};
+ghost use Rattle.std.specs.Prelude.{◌≡◌, ◌++◌, [], List, IfOk, IfSome, MatchOption, OnErr, OnOk};
+ghost use Rattle.join_map.specs.Entries.{joined, joined_at};
+ghost use Rattle.join_map.specs.Join.{IsPartOfJoin};
 ghost use Rattle.std.specs.Map.Iter.{TakesFirst};
+ghost use Rattle.mdns_message.specs.Resource.{key_cmp, set_key_cmp};
 ghost use Rattle.mdns_message.specs.declared.hearing.Hearing.{Hearing};
+ghost use Rattle.mdns_cache.specs.Contents.{later_moment};
+ghost use Rattle.mdns_cache.specs.Live.{IsNewest};
 ghost use Rattle.mdns_cache.specs.LentRecords.{last_lent};
-ghost use Rattle.mdns_lives.specs.Chronicle.{AreAllLives, Chronicles, rows_of};
-ghost use Rattle.mdns_join.specs.Kept.{IsAscending};
+ghost use Rattle.mdns_lives.specs.Account.{join_account};
+ghost use Rattle.mdns_lives.specs.Chronicle.{AreAccounts, AreAllLives, Chronicles, accounts, join_accounts, rows_of};
+ghost use Rattle.mdns_join.specs.Kept.{IsAscending, union};
 ghost use Rattle.mdns_join.specs.Nanos.{nanos_of};
 ghost use Rattle.mdns_lives.specs.Lives.{AreApart};
 ghost use Rattle.mdns_lives.specs.LentLives.{LosesFirst, row_lent};
@@ -13,12 +19,13 @@ ghost use Rattle.mdns_lives.specs.Seconds.{listed_ends};
 ghost use Rattle.mdns_lives.specs.LifeWalk.{walked};
 
 use crate::account::Account;
+use crate::chronicle::newer;
 use crate::flush_moments::FlushMoments;
 use crate::history::History;
 use crate::laws::lives_by_history;
 use crate::life::Life;
 use crate::life_walk::lives_of;
-use join_map::{JoinMap, Walk};
+use join_map::{Join, JoinMap, Walk};
 use mdns_cache::Last;
 use mdns_capture::Moment;
 use mdns_join::{FlushWalk, Latest};
@@ -65,6 +72,79 @@ impl Lives {
             flushes: FlushWalk::new(&self.flushes),
             alloc: self.alloc,
         }
+    }
+
+    /// Joins the hearings of another. After `Want` they may have been joined in part: the contents lie between the old ones
+    /// and their join with those of `other`. Repeating the call until it returns `Ok` joins them whole.
+    pub fn join_with(&mut self, other: &Lives) -> Result<(), Want>
+        ensures ok { OnOk result (self.new ≡ join_accounts self.old other.now) }
+        ensures err { OnErr result (IsPartOfJoin join_accounts self.old other.now self.new) }
+
+        // Repeating the call until it returns `Ok` gives the join.
+        ensures again { OnErr result (join_accounts self.new other.now ≡ join_accounts self.old other.now) }
+
+        // The hearings of both.
+        ensures stands { OnOk result ((heard others : List Hearing) → Chronicles self.old heard → Chronicles other.now others
+            → Chronicles self.new (heard ++ others)) }
+    {
+        other.hold();
+        self.join_records(other)?;
+        self.join_flushes(other)?;
+        self.raise(other.newest());
+        Ok(())
+    }
+
+    /// Returns the newest hearing's moment; `None` if nothing was heard.
+    pub fn newest(&self) -> Option<Moment>
+        ensures value { result ≡ self.now.newest }
+        ensures stands { (heard : List Hearing) → Chronicles self.now heard
+            → MatchOption result (heard ≡ []) (IsNewest heard) }
+    {
+        let Lives { newest, .. } = self;
+        *newest
+    }
+
+    // Raises the newest moment to that of another.
+    fn raise(&mut self, newest: Option<Moment>)
+        ensures { self.new ≡ accounts self.old.records self.old.flushes (joined_at later_moment self.old.newest newest) }
+    {
+        if let Some(newest) = newest {
+            self.newest = newer(self.newest, newest);
+        }
+    }
+
+    // Both maps are in key order.
+    fn hold(&self)
+        ensures { AreAccounts self.now }
+    {
+        self.records.valid();
+        self.flushes.valid();
+    }
+
+    // Joins the accounts of each record.
+    fn join_records(&mut self, other: &Lives) -> Result<(), Want>
+        ensures ok { OnOk result (self.new.records ≡ joined key_cmp join_account self.old.records other.now.records) }
+        ensures err { OnErr result (IsPartOfJoin (joined key_cmp join_account) self.old.records other.now.records self.new.records) }
+        ensures rest { (self.new.flushes ≡ self.old.flushes) × (self.new.newest ≡ self.old.newest) }
+        ensures was { AreAccounts self.old }
+        ensures held { AreAccounts self.new }
+    {
+        self.hold();
+        let answer = self.records.join_with(self.alloc, &other.records);
+        self.hold();
+        answer
+    }
+
+    // Joins the flush moments of each record set.
+    fn join_flushes(&mut self, other: &Lives) -> Result<(), Want>
+        ensures ok { OnOk result (self.new.flushes ≡ joined set_key_cmp union self.old.flushes other.now.flushes) }
+        ensures err { OnErr result (IsPartOfJoin (joined set_key_cmp union) self.old.flushes other.now.flushes self.new.flushes) }
+        ensures rest { (self.new.records ≡ self.old.records) × (self.new.newest ≡ self.old.newest) }
+        ensures held { AreAccounts self.new }
+    {
+        let answer = self.flushes.join_with(self.alloc, &other.flushes);
+        self.hold();
+        answer
     }
 }
 

@@ -121,8 +121,8 @@ impl Recording {
         Ok(chronicle)
     }
 
-    // Hears a message at its moments that wait, if it is the one that was found last, by its hearings at another moment.
-    // Returns whether it is.
+    // If this is the message that was found last, hears it at all its waiting moments, and returns true. It was read at
+    // `moment`, which is another one.
     fn hear_waiting(
         &mut self,
         message: &[u8],
