@@ -24,7 +24,7 @@ const AT_ONCE: usize = 64;
 pub struct LateMoments {
     kept: Moments,
 
-    // Moments that came when more than a few were kept. They wait, unsorted, and are never more than these.
+    // Moments that came when more than `AT_ONCE` were kept; they wait, unsorted, and are never more than the kept ones.
     late: Vec<Moment>,
 }
 

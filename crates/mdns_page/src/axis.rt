@@ -135,7 +135,7 @@ pub(crate) fn push_short(to: &mut String, dates: Dates, nanos: u64) -> Result<()
     push_clock(to, nanos)
 }
 
-/// Appends a date, with its year if the page needs it. After `Want` a part of it may have been appended.
+/// Appends a date, with its year if the page needs it.
 pub(crate) fn push_day(to: &mut String, dates: Dates, nanos: u64) -> Result<(), Want>
     ensures { OnOk result (string_bytes to.new ≡ string_bytes to.old ++ day_text dates nanos) }
 {

@@ -82,8 +82,8 @@ fn less_servers(count: usize, servers: &[RecordLives<'_>]) -> Option<usize>
     Some(left)
 }
 
-/// Appends the title of a life's bar: from when until when, to the millisecond, how long that is, and why it ended, or that
-/// it goes on. After `Want` a part of it may have been appended.
+/// Appends the title of a life's bar: from when until when, to the millisecond, how long that is, and why it ended,
+/// or that it goes on.
 pub(crate) fn push_life_title(to: &mut String, goes_on: bool, life: &Life) -> Result<(), Want>
     ensures { OnOk result (string_bytes to.new ≡ string_bytes to.old ++ life_title goes_on life.now) }
 {

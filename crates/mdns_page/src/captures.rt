@@ -36,8 +36,8 @@ pub struct CaptureFacts<'a> {
     pub span: Option<Span>,
 }
 
-/// Appends the captures as a group, with a row for each: its number, the name of its file, when it recorded, in a picture
-/// and in words, how it ends, and how many packets and hearings it has. After `Want` a part of it may have been appended.
+/// Appends the captures as a group, with a row for each: its number, the name of its file, when it recorded, in a
+/// picture and in words, how it ends, and how many packets and hearings it has.
 #[tactic(auto, unfolding(crate::specs::Captures::captures_text))]
 pub(crate) fn push_captures(
     to: &mut String,
@@ -62,7 +62,7 @@ pub(crate) fn push_captures(
     Ok(())
 }
 
-/// Appends the name of a file, or a subject. After `Want` a part of it may have been appended.
+/// Appends the name of a file, or a subject.
 pub(crate) fn push_shown_word(to: &mut String, word: &str) -> Result<(), Want>
     ensures { OnOk result (string_bytes to.new ≡ string_bytes to.old ++ isolated (shown word.now)) }
 {
@@ -119,7 +119,7 @@ fn push_row(
     Ok(())
 }
 
-/// Appends the number of a capture. After `Want` a part of it may have been appended.
+/// Appends the number of a capture.
 #[tactic(auto, unfolding(crate::specs::Captures::number_text))]
 pub(crate) fn push_number(to: &mut String, many: bool, index: usize) -> Result<(), Want>
     requires { index < 2 ^ 63 }

@@ -7,8 +7,7 @@ ghost use Rattle.mdns_page.specs.Counts.{commas, count_text, live_count_text};
 
 use mdns_message::Want;
 
-/// Appends a count, and the word for one or the word for more: `1 packet`, `1,234 packets`. After `Want` a part of it may
-/// have been appended.
+/// Appends a count, and the word for one or the word for more: `1 packet`, `1,234 packets`.
 #[tactic(auto, unfolding(crate::specs::Counts::count_text))]
 pub(crate) fn push_count(to: &mut String, count: u128, one: &str, many: &str) -> Result<(), Want>
     ensures { OnOk result (string_bytes to.new ≡ string_bytes to.old ++ count_text count one.now many.now) }
@@ -19,8 +18,7 @@ pub(crate) fn push_count(to: &mut String, count: u128, one: &str, many: &str) ->
     Ok(())
 }
 
-/// Appends such a count, and how many of those are live: `12 instances, 3 live`. After `Want` a part of it may have been
-/// appended.
+/// Appends such a count, and how many of those are live: `12 instances, 3 live`.
 #[tactic(auto, unfolding(crate::specs::Counts::live_count_text))]
 pub(crate) fn push_live_count(
     to: &mut String,
@@ -38,7 +36,7 @@ pub(crate) fn push_live_count(
     Ok(())
 }
 
-/// Appends a number with commas between thousands: `1,234`. After `Want` a part of it may have been appended.
+/// Appends a number with commas between thousands: `1,234`.
 pub(crate) fn push_commas(to: &mut String, number: u128) -> Result<(), Want>
     ensures { OnOk result (string_bytes to.new ≡ string_bytes to.old ++ commas number) }
 {

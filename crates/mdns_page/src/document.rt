@@ -40,7 +40,7 @@ pub(crate) struct PageParts<'a> {
     pub(crate) nothing: &'a str,
 }
 
-/// Appends the page: one HTML file without scripts that loads nothing. After `Want` a part of the page may have been appended.
+/// Appends the page: one HTML file without scripts that loads nothing.
 pub(crate) fn push_page(to: &mut String, parts: &PageParts<'_>) -> Result<(), Want>
     ensures { OnOk result (string_bytes to.new ≡ string_bytes to.old ++ page isolated (parts_lent parts.now)) }
 {

@@ -12,8 +12,8 @@ use crate::lanes::is_goodbye;
 use mdns_lives::SecondHeard;
 use mdns_message::Want;
 
-/// Appends how often each of `captures` captures heard a record, by the seconds in which each did, in order; where there are
-/// many, how often those that heard it did so together. After `Want` a part of it may have been appended.
+/// Appends how often each of `captures` captures heard a record, by the seconds in which each did, in order; where
+/// there are many, how often those that heard it did so together.
 #[tactic(auto, unfolding(crate::specs::HeardWords::heard_text))]
 pub(crate) fn push_heard(
     to: &mut String,

@@ -6,8 +6,8 @@ ghost use Rattle.mdns_page.specs.Html.{html_byte, html_text, is_marked, isolated
 
 use mdns_message::Want;
 
-/// Appends a text of the network as markup shows it, apart in its direction of writing from what is around it. Nothing of it
-/// is read as markup. After `Want` a part of it may have been appended.
+/// Appends a text of the network as markup shows it, apart in its direction of writing from what is around it.
+/// Nothing of it is read as markup.
 pub(crate) fn push_isolated(to: &mut String, text: &str) -> Result<(), Want>
     ensures { OnOk result (string_bytes to.new ≡ string_bytes to.old ++ isolated text.now) }
 {

@@ -44,7 +44,7 @@ pub(crate) fn height(lanes: u32) -> u64
     PLAIN + LANE * u64::from(lanes)
 }
 
-/// Appends the height of a picture with so many lanes. After `Want` a part of it may have been appended.
+/// Appends the height of a picture with so many lanes.
 pub(crate) fn push_height(to: &mut String, lanes: u32) -> Result<(), Want>
     ensures { OnOk result (string_bytes to.new ≡ string_bytes to.old ++ decimal (height lanes)) }
 {
@@ -81,8 +81,7 @@ fn goodbye_of(second: &SecondHeard) -> Heard
     second.first
 }
 
-/// Appends the lanes of a row, by the seconds in which each capture heard its record. After `Want` a part of them may have
-/// been appended.
+/// Appends the lanes of a row, by the seconds in which each capture heard its record.
 pub(crate) fn push_lanes(
     to: &mut String,
     axis: Axis,
@@ -188,8 +187,7 @@ fn point(axis: Axis, heard: Heard) -> Mark
     }
 }
 
-/// Appends the lines on which the ticks stand: below each capture's lane one for the time that it recorded. After `Want` a
-/// part of them may have been appended.
+/// Appends the lines on which the ticks stand: below each capture's lane one for the time that it recorded.
 #[tactic(auto, unfolding(crate::specs::Lanes::bases_text))]
 pub(crate) fn push_bases(
     to: &mut String,

@@ -23,10 +23,9 @@ use mdns_lives::{Life, Reason};
 use mdns_message::Want;
 use people_text::moment_text::push_millis;
 
-/// Appends what a page begins with: how many instances were live at the end of the captures, how many of them have said goodbye,
-/// and how many had ended before;
-/// the subjects, if there are any; a warning for each capture that isn't whole, and one of `lost` packets, if any lost what
-/// they said. After `Want` a part of it may have been appended.
+/// Appends what a page begins with: how many instances were live at the end of the captures, how many of them have
+/// said goodbye, and how many had ended before; the subjects, if there are any; a warning for each capture that isn't
+/// whole, and one of `lost` packets, if any lost what they said.
 pub(crate) fn push_lead(
     to: &mut String,
     axis: Axis,

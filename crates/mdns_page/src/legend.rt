@@ -6,7 +6,7 @@ ghost use Rattle.mdns_page.specs.Legend.{key, key_entry, key_lives, key_ticks};
 
 use mdns_message::Want;
 
-/// Appends what the strokes of the pictures mean. After `Want` a part of it may have been appended.
+/// Appends what the strokes of the pictures mean.
 #[tactic(auto, unfolding(crate::specs::Legend::key))]
 pub(crate) fn push_key(to: &mut String, lanes: u32) -> Result<(), Want>
     ensures { OnOk result (string_bytes to.new ≡ string_bytes to.old ++ key lanes) }

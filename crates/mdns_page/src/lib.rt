@@ -1,6 +1,6 @@
 //! A page about the service instances of captures, for people: one HTML file that shows in pictures and in words when each
 //! was live, and each address of a host and each name that isn't one label and its type, by the records that several
-//! listeners heard.
+//! listeners heard. After `Want` a part of what a function appends may have been appended.
 #![tactic(auto)]
 
 mod about_heard;

@@ -16,8 +16,7 @@ use mdns_message::Want;
 /// How many lives of a row are told in words.
 const TOLD_LIVES: usize = 3;
 
-/// Appends the last three lives of a row, and before them how many were earlier. After `Want` a part of it may have been
-/// appended.
+/// Appends the last three lives of a row, and before them how many were earlier.
 pub(crate) fn push_lives_words(to: &mut String, axis: Axis, lives: &[Life]) -> Result<(), Want>
     ensures { OnOk result (string_bytes to.new ≡ string_bytes to.old ++ lives_words axis lives.now) }
 {

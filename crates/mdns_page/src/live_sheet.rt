@@ -41,7 +41,7 @@ impl LiveSheet {
         }
     }
 
-    /// Appends what the group of a type begins with, up to its first row. After `Want` a part of it may have been appended.
+    /// Appends what the group of a type begins with, up to its first row.
     pub(crate) fn begin_type(&mut self, opened: bool, owner: &Name) -> Result<(), Want>
         ensures { OnOk result (Adds self.old (type_begin isolated opened owner.now) self.new) }
     {

@@ -22,8 +22,7 @@ use mdns_message::{BorrowedBody, BorrowedName, Content, Want};
 use people_text::durations::push_duration;
 use people_text::shown::push_shown;
 
-/// Appends since when an instance is live, where that is known, and how much longer. After `Want` a part of it may have been
-/// appended.
+/// Appends since when an instance is live, where that is known, and how much longer.
 pub(crate) fn push_given(to: &mut String, axis: Axis, given: &Given<'_>) -> Result<(), Want>
     ensures { OnOk result (string_bytes to.new ≡ string_bytes to.old ++ given_words axis (given_lent given.now)) }
 {
@@ -63,8 +62,8 @@ fn push_word(to: &mut String, word: &str) -> Result<(), Want>
     Ok(())
 }
 
-/// Appends the paragraph of a server: its target as people read it, its port, and its priority and weight unless both are 0
-/// (RFC 2782). After `Want` a part of it may have been appended.
+/// Appends the paragraph of a server: its target as people read it, its port, and its priority and weight unless both
+/// are 0 (RFC 2782).
 pub(crate) fn push_server(
     to: &mut String,
     priority: u16,
@@ -90,8 +89,7 @@ fn push_paragraph(to: &mut String, text: &str) -> Result<(), Want>
     push_word(to, "</p>")
 }
 
-/// Appends an address of a server, with a space before it unless it is the first. After `Want` a part of it may have been
-/// appended.
+/// Appends an address of a server, with a space before it unless it is the first.
 pub(crate) fn push_address(
     to: &mut String,
     first: bool,
@@ -107,7 +105,7 @@ pub(crate) fn push_address(
     push_word(to, "</code>")
 }
 
-// Appends an address as people read it. Only A and AAAA records have one. After `Want` a part of it may have been appended.
+// Appends an address as people read it. Only A and AAAA records have one.
 fn push_octets(to: &mut String, address: &BorrowedBody<'_>) -> Result<(), Want>
     ensures { OnOk result (string_bytes to.new ≡ string_bytes to.old ++ address_text (body_lent address.now)) }
 {
@@ -127,7 +125,7 @@ fn push_address_said(
     }
 }
 
-/// Appends the paragraph of an instance without servers, if there are none. After `Want` a part of it may have been appended.
+/// Appends the paragraph of an instance without servers, if there are none.
 pub(crate) fn push_unresolved_if(to: &mut String, none: bool) -> Result<(), Want>
     ensures { OnOk result (string_bytes to.new ≡ string_bytes to.old ++ (if none then codes "<p>unresolved</p>" else [])) }
 {
@@ -137,8 +135,8 @@ pub(crate) fn push_unresolved_if(to: &mut String, none: bool) -> Result<(), Want
     Ok(())
 }
 
-/// Appends the paragraph of TXT data, in which each string that isn't empty is a line; nothing where there is none. `scratch`
-/// is only room. After `Want` a part of it may have been appended.
+/// Appends the paragraph of TXT data, in which each string that isn't empty is a line; nothing where there is none.
+/// `scratch` is only room.
 pub(crate) fn push_text(to: &mut String, scratch: &mut String, text: &[u8]) -> Result<(), Want>
     ensures { OnOk result (string_bytes to.new ≡ string_bytes to.old ++ text_html isolated text.now) }
 {

@@ -30,8 +30,7 @@ pub(crate) fn is_large(instances: usize) -> bool
     instances > LARGE_INSTANCES
 }
 
-/// Appends that the ticks of hearings and the rows of other records are left out, if they are. After `Want` a part of it may
-/// have been appended.
+/// Appends that the ticks of hearings and the rows of other records are left out, if they are.
 #[tactic(auto, unfolding(crate::specs::OtherRows::large_note))]
 pub(crate) fn push_large_note(to: &mut String, large: bool) -> Result<(), Want>
     ensures { OnOk result (string_bytes to.new ≡ string_bytes to.old ++ large_note large) }
@@ -45,7 +44,7 @@ pub(crate) fn push_large_note(to: &mut String, large: bool) -> Result<(), Want>
     Ok(())
 }
 
-/// Appends a host, by way of `scratch`, and an address of it. After `Want` a part of it may have been appended.
+/// Appends a host, by way of `scratch`, and an address of it.
 #[tactic(auto, unfolding(crate::specs::OtherRows::host_name))]
 pub(crate) fn push_host_name(
     to: &mut String,
@@ -62,7 +61,7 @@ pub(crate) fn push_host_name(
     Ok(())
 }
 
-/// Appends a whole name as people read it, by way of `scratch`. After `Want` a part of it may have been appended.
+/// Appends a whole name as people read it, by way of `scratch`.
 pub(crate) fn push_whole_name(
     to: &mut String,
     scratch: &mut String,
@@ -85,8 +84,7 @@ pub(crate) fn others_heading(names: bool) -> &'static str
     "Addresses of hosts"
 }
 
-/// Appends how many names or addresses there are, and how many of them are live. After `Want` a part of it may have been
-/// appended.
+/// Appends how many names or addresses there are, and how many of them are live.
 pub(crate) fn push_others_words(
     to: &mut String,
     names: bool,

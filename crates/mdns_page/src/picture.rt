@@ -38,7 +38,7 @@ pub(crate) struct Mark {
     pub(crate) end: u64,
 }
 
-/// Appends the bars of each server. After `Want` a part of them may have been appended.
+/// Appends the bars of each server.
 pub(crate) fn push_servers(
     to: &mut String,
     axis: Axis,
@@ -54,7 +54,7 @@ pub(crate) fn push_servers(
     Ok(())
 }
 
-/// Appends the bars of some lives, each with a title, or all as one path. After `Want` a part of them may have been appended.
+/// Appends the bars of some lives, each with a title, or all as one path.
 pub(crate) fn push_bars(
     to: &mut String,
     axis: Axis,
@@ -101,7 +101,7 @@ fn title_word(stroke: Stroke) -> &'static str
     }
 }
 
-/// Appends the strokes of a kind as one path; nothing where no life has one. After `Want` a part of it may have been appended.
+/// Appends the strokes of a kind as one path; nothing where no life has one.
 pub(crate) fn push_path(
     to: &mut String,
     axis: Axis,
@@ -117,8 +117,8 @@ pub(crate) fn push_path(
     push_path_last(to, before)
 }
 
-/// Appends the next stroke of a path, if there is one, unless it is the same as the one before. Returns the last stroke then.
-/// After `Want` a part of it may have been appended.
+/// Appends the next stroke of a path, if there is one, unless it is the same as the one before. Returns the last
+/// stroke then.
 pub(crate) fn push_next(
     to: &mut String,
     stroke: Stroke,
@@ -143,7 +143,7 @@ pub(crate) fn push_next(
     Ok(Some(mark))
 }
 
-/// Appends what ends a path, if it has a stroke. After `Want` a part of it may have been appended.
+/// Appends what ends a path, if it has a stroke.
 pub(crate) fn push_path_last(to: &mut String, last: Option<Mark>) -> Result<(), Want>
     ensures { OnOk result (string_bytes to.new ≡ string_bytes to.old ++ path_last last) }
 {

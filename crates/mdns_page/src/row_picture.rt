@@ -13,10 +13,10 @@ use crate::picture::{Stroke, push_bars, push_path, push_servers};
 use mdns_lives::{Life, Reason, RecordLives, SecondHeard};
 use mdns_message::Want;
 
-/// Appends the picture of some lives, which are in order of time: a bar for each, one for each life of the servers, for each
-/// that ended before the end of the axis a pin that tells why, and in lanes the seconds in which each capture heard the record.
-/// Where bars have titles each has one; other strokes of one kind at one place are drawn once, those of each server and
-/// of each capture by themselves. After `Want` a part of it may have been appended.
+/// Appends the picture of some lives, which are in order of time: a bar for each, one for each life of the servers,
+/// for each that ended before the end of the axis a pin that tells why, and in lanes the seconds in which each
+/// capture heard the record. Where bars have titles each has one; other strokes of one kind at one place are drawn
+/// once, those of each server and of each capture by themselves.
 pub(crate) fn push_picture(
     to: &mut String,
     look: Look,

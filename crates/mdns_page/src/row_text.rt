@@ -55,8 +55,7 @@ pub(crate) fn is_live(axis: Axis, lives: &[Life]) -> bool
     }
 }
 
-/// Appends each of some rows, whose records name what they point to whole or as instances, by way of `scratch`. After `Want` a
-/// part of it may have been appended.
+/// Appends rows. `whole` says whether what a record points to is written in full, or as an instance. `scratch` is only room.
 pub(crate) fn push_rows(
     to: &mut String,
     scratch: &mut String,

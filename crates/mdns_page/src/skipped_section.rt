@@ -18,8 +18,7 @@ const UNLESS_TOLD: &str = "what it told is missing, unless another message told 
 
 const BROKEN: &str = "a broken sender, or a damaged capture";
 
-/// Appends how many packets of all captures were skipped or refused, for each reason, and what it means. After `Want` a part
-/// of it may have been appended.
+/// Appends how many packets of all captures were skipped or refused, for each reason, and what it means.
 #[tactic(auto, unfolding(crate::specs::SkippedSection::nothing_text))]
 pub(crate) fn push_nothing(to: &mut String, readings: &[Reading]) -> Result<(), Want>
     ensures { OnOk result (string_bytes to.new ≡ string_bytes to.old ++ nothing_text readings.now) }

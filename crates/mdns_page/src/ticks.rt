@@ -30,8 +30,7 @@ const STEPS: [u32; 17] = [
     1, 2, 5, 10, 15, 30, 60, 120, 300, 600, 900, 1800, 3600, 7200, 10_800, 21_600, 43_200,
 ];
 
-/// Appends what the pictures share: the labels of the axis, the lines at its ticks, and those of the lanes. After `Want` a part
-/// of it may have been appended.
+/// Appends what the pictures share: the labels of the axis, the lines at its ticks, and those of the lanes.
 pub(crate) fn push_symbols(
     to: &mut String,
     axis: Axis,

@@ -27,9 +27,9 @@ use mdns_message::Want;
 /// With more rows the groups are closed at first.
 const OPEN_ROWS: usize = 200;
 
-/// Appends the timeline of some rows: what the strokes of the pictures mean, a group for each type with a row for each of
-/// its instances, a group of addresses, and one of names that aren't one label and their type; pictures have `lanes` lanes. All
-/// rows are in key order. After `Want` a part of it may have been appended.
+/// Appends the timeline of some rows: what the strokes of the pictures mean, a group for each type with a row for
+/// each of its instances, a group of addresses, and one of names that aren't one label and their type; pictures have
+/// `lanes` lanes. All rows are in key order.
 pub(crate) fn push_timeline(
     to: &mut String,
     axis: Axis,

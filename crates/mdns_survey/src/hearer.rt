@@ -1,4 +1,4 @@
-//! Consumers of hearings: a cache that is filled, or none if hearings are only counted.
+//! `Hearer`, which takes hearings, and two of them: `Listening`, which fills a cache, and `Forgetful`, which only counts.
 
 ghost use Rattle.std.specs.Prelude.{◌≡◌, ◌++◌, List, IfNone, IfSome, OnOk};
 ghost use Rattle.mdns_capture.specs.declared.moment.Moment.{Moment};

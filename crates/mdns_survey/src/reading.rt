@@ -200,7 +200,7 @@ fn later(one: Moment, other: Moment) -> Moment
     if one < other { other } else { one }
 }
 
-// Passes a packet to the consumer, and counts it, whether its frame lost something, and why it is skipped. `Err` is a failed allocation;
+// Passes a packet on, and adds it to the tally, to the lost ones and to the skips by reason. `Err` is a failed allocation;
 // otherwise the result is the consumer's.
 fn take_packet<C: Consumer>(
     messages: &mut MessageReader,
