@@ -121,9 +121,8 @@ lives_heading which count width begin end =
 
 -- what stands before the lives; in columns also the earliest moment, and the width of the column that says how they end
 abbrev pub lives_head : Which → Form → (count width begin end : ℕ) → List ℕ
-lives_head which Lines count width begin end = []
-lives_head which Json count width begin end = []
 lives_head which Pretty count width begin end = lives_heading which count width begin end
+lives_head which _ count width begin end = []
 
 -- a life in that form
 abbrev pub life_text : Form → ℕ → ℕ → Resource → Life → List ℕ

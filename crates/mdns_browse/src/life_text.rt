@@ -63,8 +63,8 @@ pub fn push_lives_head(
         ≡ string_bytes text.old ++ lives_head which form layout.count layout.width begin.nanos end.nanos) }
 {
     match form {
-        Form::Lines | Form::Json => Ok(()),
         Form::Pretty => push_heading(text, which, layout, begin, end),
+        _ => Ok(()),
     }
 }
 

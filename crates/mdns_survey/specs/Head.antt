@@ -1,7 +1,7 @@
 -- What a report for people begins with: how many packets were lost, and that nothing was heard.
 use Rattle.std.specs.Prelude.{◌≡◌, ℕ, ◌+◌, ◌==◌, if◌then◌else◌, List, [], ◌∷◌, ◌++◌, codes, decimal, sum_by}
 use Rattle.mdns_browse.specs.declared.report.Form.{Form}
-use Rattle.mdns_browse.specs.declared.report.Form.TheVariants.{Lines, Json, Pretty}
+use Rattle.mdns_browse.specs.declared.report.Form.TheVariants.{Pretty}
 use Rattle.mdns_capture.specs.Savefile.{CaptureReads, PacketAt}
 use Rattle.mdns_survey.specs.declared.reading.Reading.{Reading}
 use Rattle.mdns_survey.specs.declared.summary.Summary.{Summary}
@@ -52,11 +52,10 @@ AllHave _ _ _ = ⊥
 -- The head of a report on captures with these summaries: for people the text of what they lost, which is a frame that lost
 -- what it said or a damaged message, and of whether nothing was heard; else nothing.
 abbrev pub IsHead : Form → List (List ℕ) → List Summary → List ℕ → Type 0
-IsHead Lines captures summaries head = head ≡ []
-IsHead Json captures summaries head = head ≡ []
 IsHead Pretty captures summaries head =
     (packets : List (List PacketAt)) × AllHave captures packets summaries
     × (head ≡ head_text (all_lost_frames packets + all_refused summaries) (hearings_counted summaries))
+IsHead _ captures summaries head = head ≡ []
 
 -- the head of captures with these readings
 abbrev pub Heads : Form → List Reading → List ℕ → Type 0

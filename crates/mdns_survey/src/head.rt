@@ -18,11 +18,11 @@ pub(crate) fn head_in(alloc: Global, form: Form, readings: &[Reading]) -> Result
 {
     let mut head = String::new(alloc);
     match form {
-        Form::Lines | Form::Json => Ok(head),
         Form::Pretty => {
             push_head(&mut head, readings)?;
             Ok(head)
         }
+        _ => Ok(head),
     }
 }
 

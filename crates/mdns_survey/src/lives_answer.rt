@@ -134,8 +134,8 @@ fn layout_of(
     ensures { IfOk result (FitsForm form end.nanos (kept_rows about.now rows.entry)) }
 {
     match form {
-        Form::Lines | Form::Json => Ok(Layout::new()),
         Form::Pretty => columns_of(alloc, rows, about, end),
+        _ => Ok(Layout::new()),
     }
 }
 
