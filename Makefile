@@ -88,10 +88,10 @@ install: $(PROGRAMS)
 	set -e; for program in $(PROGRAMS); do \
 		install -D -m 755 $$program "$(DESTDIR)$(PREFIX)/bin/$$program"; \
 		install -D -m 644 man/$$program.1 "$(DESTDIR)$(PREFIX)/share/man/man1/$$program.1"; \
-		install -D -m 644 completions/$$program.bash "$(DESTDIR)$(PREFIX)/share/bash-completion/completions/$$program"; \
-		install -D -m 644 completions/_$$program "$(DESTDIR)$(PREFIX)/share/zsh/site-functions/_$$program"; \
-		install -D -m 644 completions/$$program.fish "$(DESTDIR)$(PREFIX)/share/fish/vendor_completions.d/$$program.fish"; \
+		install -D -m 644 completions/mdnsmerge.bash "$(DESTDIR)$(PREFIX)/share/bash-completion/completions/$$program"; \
+		install -D -m 644 completions/mdnsmerge.fish "$(DESTDIR)$(PREFIX)/share/fish/vendor_completions.d/$$program.fish"; \
 	done
+	install -D -m 644 completions/_mdnsmerge "$(DESTDIR)$(PREFIX)/share/zsh/site-functions/_mdnsmerge"
 	@echo 'Where they are not set so already:'
 	@echo '  export PATH=$(PREFIX)/bin:$$PATH'
 	@echo '  export MANPATH=$(PREFIX)/share/man:'

@@ -1,30 +1,25 @@
-# fish completions for mdnsmerge: the commands, their options, and captures
+# fish completions for the program that this file is named after, mdnsmerge or mdnswhy: the commands, their options, and captures.
+# The help of a program lists what it has; where it can't be asked, files are completed.
 
-set -l commands records types instances lives changes page check
+set -l program (string replace '.fish' '' -- (status basename))
+set -l pages (command $program --help 2>/dev/null)
+set -l commands (string replace -rf '^  ([a-z]+)  .*' '$1' -- $pages)
+set -q commands[1]; and complete -c $program -f
 
-complete -c mdnsmerge -f
-complete -c mdnsmerge -s h -l help -d 'Print help'
-complete -c mdnsmerge -n "not __fish_seen_subcommand_from $commands" -s V -l version -d 'Print version'
+complete -c $program -s h -l help -d 'Print help'
+complete -c $program -n "not __fish_seen_subcommand_from $commands" -s V -l version -d 'Print version'
 
-complete -c mdnsmerge -n "not __fish_seen_subcommand_from $commands" -a records -d 'The records that were live, a line for each'
-complete -c mdnsmerge -n "not __fish_seen_subcommand_from $commands" -a types -d 'The service types that were live, a line for each'
-complete -c mdnsmerge -n "not __fish_seen_subcommand_from $commands" -a instances -d 'The service instances that were live, with their servers and texts'
-complete -c mdnsmerge -n "not __fish_seen_subcommand_from $commands" -a lives -d 'When each record was live, and why it ended, a line for each life'
-complete -c mdnsmerge -n "not __fish_seen_subcommand_from $commands" -a changes -d 'Which addresses and services changed, and when'
-complete -c mdnsmerge -n "not __fish_seen_subcommand_from $commands" -a page -d 'One HTML file for people: when each instance was live, as a picture'
-complete -c mdnsmerge -n "not __fish_seen_subcommand_from $commands" -a check -d 'What was counted in each file, and how its reading ended'
-
-# The options of each command, as its help lists them; none where it can't be asked.
 for name in $commands
-    command -sq mdnsmerge; or break
-    for line in (command mdnsmerge $name --help 2>/dev/null)
+    set -l about (string replace -rf "^  $name  +" '' -- $pages)
+    complete -c $program -n "not __fish_seen_subcommand_from $commands" -a $name -d $about
+    for line in (command $program $name --help 2>/dev/null)
         if set -l found (string match -r '^ +--([a-z-]+)( <[A-Z]+>|)  +(.*)$' -- $line)
             set -l about (string replace -r ' \[.*' '' -- $found[4])
             set -l taken
             test -n "$found[3]"; and set taken -x
-            complete -c mdnsmerge -n "__fish_seen_subcommand_from $name" -l $found[2] $taken -d $about
+            complete -c $program -n "__fish_seen_subcommand_from $name" -l $found[2] $taken -d $about
         end
     end
 end
 
-complete -c mdnsmerge -n "__fish_seen_subcommand_from $commands" -k -a '(__fish_complete_suffix .pcap)'
+complete -c $program -n "__fish_seen_subcommand_from $commands" -k -a '(__fish_complete_suffix .pcap)'
