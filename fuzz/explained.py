@@ -7,12 +7,11 @@ from typing import NamedTuple
 
 import savefile
 from causes import DAMAGED, LOSSES, causes_of
+from commands import TRACES
 from lines import TYPE, Unreadable, labels_of, moment_of, wire_of
 from pretty import pretty_text
 from program import Answer, expect
 from words import moment_text
-
-TRACES = ("hearings", "packets", "spans")
 
 HEARING = re.compile(rf"(\d+\.\d{{9}}) (\S+) (\S+) ((\S+) ({TYPE})((?: [!-~]+)*)) ttl (\d+)(?: flush)?")
 

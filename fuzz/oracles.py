@@ -7,6 +7,7 @@ import re
 from collections import Counter
 
 import savefile
+from commands import ANSWERS, ASKS
 from explained import Explained
 from lived import Lived
 from lines import Unreadable, instances_text, lines_of, types_text
@@ -20,11 +21,6 @@ from words import moment_text
 CHECK = re.compile(r"(\S+): packets (\d+) skipped (\d+) refused (\d+) messages (\d+) hearings (\d+) (.*)\n")
 
 LAST_SECOND = 4_294_967_295
-
-ASKS = ("records", "types", "instances", "lives", "changes")
-
-# All commands that take a moment.
-ANSWERS = (*ASKS, "page")
 
 
 def try_case(program, why, rng, captures, second_opinion, seen):

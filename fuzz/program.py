@@ -6,6 +6,7 @@ import subprocess
 from collections import Counter
 from typing import NamedTuple
 
+from commands import FORMS
 from shown import HIDDEN
 
 # Characters that people don't see, among them controls.
@@ -55,7 +56,7 @@ class Program:
         self.statuses[ended.returncode] += 1
         expect(ended.returncode in (0, 1, 2), "status", ended.returncode, "of", *words)
         expect(spent <= self.seconds, f"{spent:.3f} seconds of processor time for", *words)
-        out = people_of(ended.stdout) if {"page", "--json", "--pretty"} & {*words} else text_of(ended.stdout)
+        out = people_of(ended.stdout) if {"page", *FORMS} & {*words} else text_of(ended.stdout)
         return Answer(ended.returncode, out, text_of(ended.stderr))
 
 

@@ -6,15 +6,17 @@ from itertools import compress
 from typing import NamedTuple
 
 from columns import instances_columns, instances_in, lives_columns, others_in, records_columns, sets_of, types_columns
+from commands import ASKS, FORMS
 from lines import Line, Unreadable, instances_text, line_of, lines_of, moment_of, types_names
 from lived import LAST_MOMENT, lives_in
 from program import Finding, expect
 from subjects import gives_about, is_about, is_name, is_record_about, some_word
 from words import moment_text
 
-ASKS = ("records", "types", "instances", "lives", "changes")
+LINES, PRETTY = (), ("--pretty",)
 
-LINES, JSON, PRETTY = [], ["--json"], ["--pretty"]
+# Lines, and each form; those for programs list as many as the lines.
+ALL_FORMS = (LINES, *((form,) for form in FORMS))
 
 
 class Life(NamedTuple):
@@ -44,41 +46,86 @@ class Basis:
     def sets(self):
         return sets_of(self.lines)
 
+    @cached_property
+    def others(self):
+        return others_in(self.lines)
+
     def lives_of(self, ask):
         return [life_of(found) for found in lives_in(self.report(ask))]
 
-    def listed(self, ask):
-        """What a command lists."""
-        if ask == "records":
-            return self.lines
-        if ask == "types":
-            return types_names(self.lines)
-        return instances_in(self.lines) if ask == "instances" else self.lives_of(ask)
 
-    def keeps(self, ask, words, told):
-        """Whether something that a command lists is about one of the words."""
-        if ask == "instances":
-            return gives_about(words, told, self.sets)
-        if ask == "types":
-            return is_about(is_name, words, told)
-        return is_about(is_record_about, words, told if ask == "records" else told.record)
+class Records:
+    """What `records` lists: which of it is about words, and the text in lines and in columns."""
 
-    def lines_text(self, ask, some):
-        """Some of what a command lists, in lines."""
-        if ask == "instances":
-            return instances_text(self.lines, some)
-        return "".join(f"{one if ask == 'types' else one.text}\n" for one in some)
+    def listed(self, basis):
+        return basis.lines
 
-    def columns(self, ask, words, some):
-        """The same in columns, of an answer about some words."""
-        if ask == "records":
-            return records_columns(some, self.now)
-        if ask == "types":
-            return types_columns(some, self.now)
-        if ask == "instances":
-            others = [line for line in others_in(self.lines) if self.keeps("records", words, line)]
-            return instances_columns(some, others, self.sets, self.now)
-        return lives_columns(some, self.begin, self.end, " of record sets that changed," if ask == "changes" else "")
+    def keeps(self, basis, words, line):
+        return is_about(is_record_about, words, line)
+
+    def lines_text(self, basis, some):
+        return "".join(f"{line.text}\n" for line in some)
+
+    def columns(self, basis, words, some):
+        return records_columns(some, basis.now)
+
+
+class Types(Records):
+    """The same of `types`."""
+
+    def listed(self, basis):
+        return types_names(basis.lines)
+
+    def keeps(self, basis, words, name):
+        return is_about(is_name, words, name)
+
+    def lines_text(self, basis, some):
+        return "".join(f"{name}\n" for name in some)
+
+    def columns(self, basis, words, some):
+        return types_columns(some, basis.now)
+
+
+class Instances(Records):
+    """The same of `instances`."""
+
+    def listed(self, basis):
+        return instances_in(basis.lines)
+
+    def keeps(self, basis, words, instance):
+        return gives_about(words, instance, basis.sets)
+
+    def lines_text(self, basis, some):
+        return instances_text(basis.lines, some)
+
+    def columns(self, basis, words, some):
+        others = [line for line in basis.others if is_about(is_record_about, words, line)]
+        return instances_columns(some, others, basis.sets, basis.now)
+
+
+class Lives(Records):
+    """The same of a command that lists lives, and how its columns say of which."""
+
+    def __init__(self, ask, which):
+        self.ask, self.which = ask, which
+
+    def listed(self, basis):
+        return basis.lives_of(self.ask)
+
+    def keeps(self, basis, words, life):
+        return is_about(is_record_about, words, life.record)
+
+    def columns(self, basis, words, some):
+        return lives_columns(some, basis.begin, basis.end, self.which)
+
+
+KINDS = {
+    "records": Records(),
+    "types": Types(),
+    "instances": Instances(),
+    "lives": Lives("lives", ""),
+    "changes": Lives("changes", " of record sets that changed,"),
+}
 
 
 class Told:
@@ -107,7 +154,7 @@ class Told:
         lines = [life.record for life in basis.lives_of("lives")]
         for ask in ASKS:
             words = [some_word(rng, lines) for _ in range(rng.choice((1, 1, 1, 2, 3)))]
-            self.expect_answer(basis, ask, rng.choice((LINES, JSON, PRETTY)), words)
+            self.expect_answer(basis, ask, rng.choice(ALL_FORMS), words)
 
     def expect_answer(self, basis, ask, form, words):
         options = [*(f"--about={word}" for word in words), *form]
@@ -116,14 +163,17 @@ class Told:
 
     def text_about(self, basis, ask, form, words):
         """The text of an answer: of what a command lists, that which is about the words."""
-        listed = basis.listed(ask)
-        kept = [basis.keeps(ask, words, told) for told in listed]
-        if form == JSON:
-            objects = basis.report(ask, *form).splitlines(keepends=True)
-            expect(len(objects) == len(listed), ask, *basis.moments, "has", len(listed), "and as JSON", len(objects))
-            return "".join(compress(objects, kept))
+        kind = KINDS[ask]
+        listed = kind.listed(basis)
+        kept = [kind.keeps(basis, words, told) for told in listed]
         some = list(compress(listed, kept))
-        return self.head() + basis.columns(ask, words, some) if form == PRETTY else basis.lines_text(ask, some)
+        if form == LINES:
+            return kind.lines_text(basis, some)
+        if form == PRETTY:
+            return self.head() + kind.columns(basis, words, some)
+        objects = basis.report(ask, *form).splitlines(keepends=True)
+        expect(len(objects) == len(listed), ask, *basis.moments, "has", len(listed), "and with", *form, len(objects))
+        return "".join(compress(objects, kept))
 
     def head(self):
         """What was lost, and whether anything was heard."""

@@ -23,6 +23,7 @@ from pathlib import Path
 from typing import NamedTuple
 
 from captures import frame_of, labels, lay_out_small, write_capture
+from commands import ASKS, COMMANDS, COMMON_FORMS, FORMS, WHYS
 from link import Link
 from memory import again
 from refusals import DAMAGED, REFUSED, WHOLE
@@ -85,35 +86,19 @@ class Run(NamedTuple):
 
 
 RUNS = (
-    Run(("records", *BOTH), 2, WHOLE),
-    Run(("types", *BOTH), 2, WHOLE),
-    Run(("instances", *BOTH), 2, WHOLE),
-    Run(("records", "--json", *BOTH), 2, WHOLE),
-    Run(("types", "--json", *BOTH), 2, WHOLE),
-    Run(("instances", "--json", *BOTH), 2, WHOLE),
-    Run(("records", "--pretty", *BOTH), 2, WHOLE),
-    Run(("types", "--pretty", *BOTH), 2, WHOLE),
-    Run(("instances", "--pretty", *BOTH), 2, WHOLE),
+    *(Run((command, *BOTH), 2, WHOLE) for command in COMMANDS),
+    *(Run((ask, form, *BOTH), 2, WHOLE) for ask in ASKS for form in FORMS),
     Run(("records", "--about", "a", "--about", "192.0.2.1", *BOTH), 2, WHOLE),
     Run(("types", "--about", "_ipp", *BOTH), 2, WHOLE),
     Run(("instances", "--pretty", "--about", "_ipp._tcp", *BOTH), 2, WHOLE),
-    Run(("lives", *BOTH), 2, WHOLE),
-    Run(("lives", "--json", *BOTH), 2, WHOLE),
     Run(("lives", "--pretty", "--about", "a", *BOTH), 2, WHOLE),
     Run(("lives", "--pretty", "long.pcap"), 1, WHOLE),
     Run(("lives", "--before", "1795332450", *BOTH), 2, WHOLE),
     Run(("lives", "long.pcap"), 1, WHOLE),
     Run(("lives", "--json", "long.pcap"), 1, WHOLE),
-    Run(("changes", *BOTH), 2, WHOLE),
     Run(("changes", "--pretty", "--about", "a", *BOTH), 2, WHOLE),
-    Run(("page", *BOTH), 2, WHOLE),
     Run(("page", "--before", "1795332450", "--about", "alder", *BOTH), 2, WHOLE),
-    Run(("check", *BOTH), 2, WHOLE),
-    Run(("records", "one.pcap", "cut.pcap"), 2, DAMAGED),
-    Run(("lives", "one.pcap", "cut.pcap"), 2, DAMAGED),
-    Run(("changes", "one.pcap", "cut.pcap"), 2, DAMAGED),
-    Run(("page", "one.pcap", "cut.pcap"), 2, DAMAGED),
-    Run(("check", "one.pcap", "cut.pcap"), 2, DAMAGED),
+    *(Run((command, "one.pcap", "cut.pcap"), 2, DAMAGED) for command in COMMANDS),
     Run(("records", "--at", "99", "one.pcap"), 1, REFUSED),
     Run(("lives", "--at", "99", "one.pcap"), 1, REFUSED),
     Run(("page", "--at", "99", "one.pcap"), 1, REFUSED),
@@ -126,18 +111,13 @@ RUNS = (
 )
 
 WHY_RUNS = tuple(run._replace(program="mdnswhy") for run in (
-    Run(("hearings", *BOTH), 2, WHOLE),
-    Run(("hearings", "one.pcap", "cut.pcap"), 2, DAMAGED),
+    *(Run((command, *BOTH), 2, WHOLE) for command in WHYS),
+    *(Run(("files", form, *BOTH), 2, WHOLE) for form in COMMON_FORMS),
+    *(Run((command, "one.pcap", "cut.pcap"), 2, DAMAGED) for command in WHYS),
     Run(("hearings", "one.pcap", "text.pcap"), 2, REFUSED),
-    Run(("packets", *BOTH), 2, WHOLE),
-    Run(("packets", "one.pcap", "cut.pcap"), 2, DAMAGED),
-    Run(("spans", *BOTH), 2, WHOLE),
     Run(("spans", "one.pcap", "text.pcap"), 2, REFUSED),
     Run(("hearings", "--about", "a", *BOTH), 2, WHOLE),
     Run(("hearings", "--pretty", *BOTH), 2, WHOLE),
-    Run(("files", *BOTH), 2, WHOLE),
-    Run(("files", "--json", *BOTH), 2, WHOLE),
-    Run(("files", "one.pcap", "cut.pcap"), 2, DAMAGED),
     Run(("hearings", "missing.pcap"), 1, REFUSED, are_read=False),
     Run(("--help",), 0, WHOLE),
     Run(("hearings", "--help"), 0, WHOLE),

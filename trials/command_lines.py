@@ -6,9 +6,11 @@ named, in the order of the words."""
 
 import re
 from calendar import timegm
+from itertools import cycle
 from pathlib import Path
 from typing import NamedTuple, Optional
 
+from commands import ANSWERS, ASKS, COMMANDS, END, FLAGS, OF_A_PAGE, REPEATED, TWO_FORMS, page
 from captures import frame_of, lay_out_small, pointer, write_capture
 from runs import DAMAGED, WHOLE, Case, agrees, refused, said
 from wire import SECOND
@@ -18,32 +20,6 @@ TRY_HELP = "For more information, try '--help'.\n"
 
 # A page of help is one screen.
 LINES, COLUMNS = 24, 80
-
-# What a flag of the reports, of `lives` and of `changes` takes, and its line of help. A page of help has all of them in its line FLAGS,
-# and those that `page` takes in its line FLAGS OF A PAGE.
-FLAGS = {
-    "--at": (" <MOMENT>", "As of seconds since 1970, or a date and time with zone"),
-    "--before": (" <MOMENT>", "Only what was heard before that moment, as of it"),
-    "--about": (" <WORD>", "Only what is about a name, word or address; repeatable"),
-    "--json": ("", "One JSON object a line"),
-    "--pretty": ("", "Readable columns, for people"),
-}
-REPEATED = ("--about",)
-OF_A_PAGE = ("--at", "--before", "--about")
-
-
-def page(name):
-    text = (HERE / "help" / f"{name}.txt").read_text()
-    return (text.replace("\nFLAGS\n", f"\n{listed_flags(FLAGS)}")
-            .replace("\nFLAGS OF A PAGE\n", f"\n{listed_flags(OF_A_PAGE)}"))
-
-
-def listed_flags(flags):
-    """The lines of the flags and of `--help`, whose texts begin in one column."""
-    lines = [("      ", flag + FLAGS[flag][0], FLAGS[flag][1]) for flag in flags]
-    lines.append(("  -h, ", "--help", "Print help"))
-    width = max(len(flag) for _, flag, _ in lines)
-    return "".join(f"{short}{flag:{width}}  {text}\n" for short, flag, text in lines)
 
 
 def newest_version():
@@ -115,7 +91,7 @@ NO_MOMENTS = (
 REPORT = "records [OPTIONS] <FILE>..."
 NO_FILE = "the following required arguments were not provided:\n  <FILE>..."
 NO_COMMAND = ("'mdnsmerge' requires a subcommand but one was not provided\n"
-              "  [subcommands: records, types, instances, lives, changes, page, check]")
+              f"  [subcommands: {', '.join(COMMANDS)}]")
 
 REFUSALS = (
     misused([], NO_COMMAND, "<COMMAND>"),
@@ -130,13 +106,10 @@ REFUSALS = (
             "'records --at' exists"),
     misused(["--before", "5", "records", "one.pcap"], "unexpected argument '--before' found", "<COMMAND>",
             "'records --before' exists"),
-    *(misused([name], NO_FILE, f"{name} <FILE>...")
-      for name in ("records", "types", "instances", "lives", "changes", "page", "check")),
+    *(misused([name], NO_FILE, f"{name} <FILE>...") for name in COMMANDS),
     misused(["records", "--at", "5"], NO_FILE, "records --at <MOMENT> <FILE>..."),
     *(no_moment([command, f"{flag}={value}", "one.pcap"], flag, f"'{value}' ")
-      for value in NO_MOMENTS
-      for command, flag in (("records", "--at"), ("types", "--before"), ("lives", "--before"),
-                            ("changes", "--at"), ("page", "--at"))),
+      for value in NO_MOMENTS for command, flag in zip(ANSWERS, cycle(("--at", "--before")))),
     # Only printable ASCII is repeated.
     *(no_moment(["records", "--before", value, "one.pcap"], "--before", "")
       for value in ("12\n3", "\x1b[2J", "1\x7f", "\u0661\u0662", "2026-11-22\u00a007:27Z")),
@@ -166,8 +139,8 @@ REFUSALS = (
             "to pass '-x' as a value, use '-- -x'"),
     misused(["lives", "one.pcap", "--about"],
             "a value is required for '--about <WORD>' but none was supplied"),
-    *(said([command, *words, "one.pcap"], "--json and --pretty can't be given together")
-      for command in ("records", "lives", "changes") for words in (["--json", "--pretty"], ["--pretty", "--about=a", "--json"])),
+    *(said([command, *words, "one.pcap"], f"{one} and {other} can't be given together")
+      for command in ASKS for one, other in TWO_FORMS for words in ([one, other], [other, "--about=a", one])),
     misused(["records", "--version", "one.pcap"], "unexpected argument '--version' found", REPORT,
             "to pass '--version' as a value, use '-- --version'"),
     misused(["records", "--ta", "5", "one.pcap"], "unexpected argument '--ta' found", REPORT,
@@ -175,7 +148,7 @@ REFUSALS = (
     misused(["records", "-x", "one.pcap"], "unexpected argument '-x' found", REPORT,
             "to pass '-x' as a value, use '-- -x'"),
     *(said([command, "--at", "5", "--before", "5", "one.pcap"], "--at and --before can't be given together")
-      for command in ("lives", "changes", "page")),
+      for command in ANSWERS),
     misused(["check", "-x.pcap"], "unexpected argument '-x' found", "check <FILE>...",
             "to pass '-x' as a value, use '-- -x'"),
     said(["records", b"\xff.pcap"], "an argument is not UTF-8 text"),
@@ -193,14 +166,8 @@ HELP = (
     Case(("--help",), WHOLE, page("program")),
     Case(("-h",), WHOLE, page("program")),
     Case(("--help", "records"), WHOLE, page("program")),
-    Case(("records", "--help"), WHOLE, page("records")),
-    Case(("types", "--help"), WHOLE, page("types")),
-    Case(("instances", "--help"), WHOLE, page("instances")),
-    Case(("lives", "--help"), WHOLE, page("lives")),
-    Case(("changes", "--help"), WHOLE, page("changes")),
-    Case(("page", "--help"), WHOLE, page("page")),
+    *(Case((name, "--help"), WHOLE, page(name)) for name in COMMANDS),
     Case(("page", "--about", "elm", "missing.pcap", "-h"), WHOLE, page("page")),
-    Case(("check", "--help"), WHOLE, page("check")),
     Case(("check", "-h"), WHOLE, page("check")),
     Case(("records", "missing.pcap", "--help"), WHOLE, page("records")),
     Case(("records", "--at", "5", "-h"), WHOLE, page("records")),
@@ -408,10 +375,7 @@ def try_told(told, program, folder):
 def is_fit(text):
     """Whether a page is one screen, and says at its end what all of them say."""
     lines = text.splitlines()
-    return (0 < len(lines) <= LINES and max(map(len, lines)) <= COLUMNS
-            and "Exit status: 0 printed" in text
-            and "tcpdump -i eth0 -U -w a.pcap udp port 5353\n" in text
-            and text.endswith("mdnswhy files FILE...\n"))
+    return 0 < len(lines) <= LINES and max(map(len, lines)) <= COLUMNS and text.endswith(f"\n\n{END}")
 
 
 def try_command_lines(program, folder):

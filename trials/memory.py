@@ -9,11 +9,12 @@ from itertools import islice
 from typing import NamedTuple
 
 from captures import frame_of, labels, lay_out_small, write_capture
+from commands import TRACES
 from floods import flushes, hearings, instances, late_flushes, records
 from link import MICROSECOND, START, Link
 from measure import become_reaper, cost_of
 from page_packets import LOCAL, at, full
-from runs import TRACES, WHOLE
+from runs import WHOLE
 from unique import unique
 from wire import SECOND, TXT
 

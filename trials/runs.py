@@ -17,10 +17,6 @@ PATIENCE = 20
 
 WHOLE, DAMAGED, REFUSED = 0, 1, 2
 
-# The commands of mdnswhy, of which all but the last stop at a file that is no capture.
-TRACES = ("hearings", "packets", "spans")
-WHYS = (*TRACES, "files")
-
 
 class Case(NamedTuple):
     """Words after the program's name, and what must come of them."""

@@ -15,9 +15,10 @@ from typing import NamedTuple
 import command_lines
 import runs
 from captures import TOP, frame_of, labels, lay_out_small, write_capture
-from command_lines import NO_FILE, is_fit, page, version_of
+from command_lines import NO_FILE, is_fit, version_of
+from commands import TRACES, TWO_FORMS, WHYS, page
 from pretty import SPAN, pretty_text
-from runs import DAMAGED, PATIENCE, REFUSED, TRACES, WHOLE, WHYS, Case, agrees
+from runs import DAMAGED, PATIENCE, REFUSED, WHOLE, Case, agrees
 from wire import AAAA, ANSWER, MAGICS, PTR, SECOND, SRV, TXT, A, Message, ipv6_frame
 
 EXAMPLES = TOP / "examples"
@@ -176,8 +177,7 @@ REFUSALS = (
 )
 
 WORDS = (
-    misused([], "'mdnswhy' requires a subcommand but one was not provided\n  [subcommands: hearings, packets, spans, files]",
-            "<COMMAND>"),
+    misused([], f"'mdnswhy' requires a subcommand but one was not provided\n  [subcommands: {', '.join(WHYS)}]", "<COMMAND>"),
     misused(["records", "one.pcap"], "unrecognized subcommand 'records'", "<COMMAND>"),
     *(misused([trace[:-1], "one.pcap"], f"unrecognized subcommand '{trace[:-1]}'", "<COMMAND>",
               f"a similar subcommand exists: '{trace}'") for trace in WHYS),
@@ -188,8 +188,8 @@ WORDS = (
               "to pass '--about' as a value, use '-- --about'") for trace in WHYS if trace != "hearings"),
     misused(["files", "--pretty", "one.pcap"], "unexpected argument '--pretty' found", "files [OPTIONS] <FILE>...",
             "to pass '--pretty' as a value, use '-- --pretty'"),
-    *(said([trace, *words, "one.pcap"], "--json and --pretty can't be given together")
-      for trace in TRACES for words in (["--json", "--pretty"], ["--pretty", "--json"])),
+    *(said([trace, *words, "one.pcap"], f"{one} and {other} can't be given together")
+      for trace in TRACES for one, other in TWO_FORMS for words in ([one, other], [other, one])),
     *(Case((word,), WHOLE, version_of("mdnswhy")) for word in ("--version", "-V")),
 )
 
