@@ -34,9 +34,8 @@ LISTS = {
 
 # What all pages say at their end.
 END = """\
-Exit status: 0 printed, files whole; 1 printed, some cut or damaged; 2 refused.
-To record:                   tcpdump -i eth0 -U -w a.pcap udp port 5353
-If a file is refused:        mdnswhy files FILE...
+Exit: 0 printed, whole; 1 printed, some cut or damaged; 2 refused: mdnswhy files
+To record: tcpdump -i eth0 -U -w a.pcap udp port 5353
 """
 
 

@@ -8,5 +8,6 @@ mod PrintLemmas
 mod ReadLemmas
 mod SecondsLemmas
 mod SoundLemmas
+mod TableLemmas
 mod WalkKeepsLemmas
 mod WhyLemmas

@@ -1,15 +1,15 @@
 -- The command lines of `mdnsmerge` and `mdnswhy`, and what clap's matches of them ask for.
-use Rattle.std.specs.Prelude.{◌≡◌, ◌⊎◌, ◌&&◌, ◌++◌, ◌∷◌, Bool, List, Option, Some, None, IsSomeAnd, codes}
+use Rattle.std.specs.Prelude.{◌≡◌, ◌⊎◌, ◌&&◌, ◌++◌, ◌∷◌, Bool, List, Option, Some, None, IsSomeAnd, codes, map}
 use Rattle.std.specs.Prelude.{if◌then◌else◌, nat_le, string_bytes, true, false, []}
 use Rattle.std.specs.List.{list_all}
 use Rattle.clap.specs.Words.{App, Row, Text, fault_of, first_of, one_of, subcommand_of}
 use Rattle.mdns_capture.specs.declared.moment.Moment.{Moment}
 use Rattle.mdns_lives.specs.declared.life.Which.{Which}
-use Rattle.mdns_lives.specs.declared.life.Which.TheVariants.{All, Changes}
+use Rattle.mdns_lives.specs.declared.life.Which.TheVariants as which
 use Rattle.mdns_browse.specs.declared.report.Ask.{Ask}
-use Rattle.mdns_browse.specs.declared.report.Ask.TheVariants.{Records, Types, Instances}
+use Rattle.mdns_browse.specs.declared.report.Ask.TheVariants as ask
 use Rattle.mdns_browse.specs.declared.report.Form.{Form}
-use Rattle.mdns_browse.specs.declared.report.Form.TheVariants.{Json, Pretty}
+use Rattle.mdns_browse.specs.declared.report.Form.TheVariants as form
 use Rattle.mdns_survey.specs.declared.request.What.{What}
 use Rattle.mdns_survey.specs.declared.request.What.TheVariants as what
 use Rattle.mdns_survey.specs.declared.request.AsOf.{AsOf}
@@ -18,8 +18,7 @@ use Rattle.mdns_survey.specs.declared.request.Request.{Request}
 use Rattle.mdns_survey.specs.declared.request.Request.TheVariants.{Report, Lives, Check}
 use Rattle.mdns_trace.specs.declared.inquiry.Inquiry.{Inquiry}
 use Rattle.mdns_trace.specs.declared.inquiry.Inquiry.TheVariants as inquiry
-use Rattle.mdns_trace.specs.declared.inquiry.Trace.{Trace}
-use Rattle.mdns_trace.specs.declared.inquiry.Trace.TheVariants.{Hearings, Packets, Spans}
+use Rattle.mdns_trace.specs.declared.inquiry.Trace.TheVariants as trace
 use Rattle.command_line.specs.declared.line.Takes.{Takes}
 use Rattle.command_line.specs.declared.line.Takes.TheVariants as takes
 use Rattle.command_line.specs.declared.words.WordsFault.TheVariants.{Refused}
@@ -30,12 +29,7 @@ use Rattle.command_line.specs.declared.words.Task.TheVariants.{Survey, Page}
 use Rattle.command_line.specs.Line.{Flags, HasForm, IsGiven, IsMomentOf, line_of, texts_of, words_of}
 use Rattle.command_line.specs.Moments.{IsMomentText}
 
--- ---- `mdnsmerge`
-
--- the reports, which take these flags, others, and the check
-abbrev pub merge_line : Bool → Flags → List (Text × Flags) → App
-merge_line has_version flags others = line_of (codes "mdnsmerge") has_version
-    ((codes "records", flags) ∷ (codes "types", flags) ∷ (codes "instances", flags) ∷ (others ++ (codes "check", []) ∷ []))
+-- ---- the flags
 
 abbrev pub at_flag : Text × Takes
 at_flag = (codes "at", takes.Moment)
@@ -46,17 +40,18 @@ before_flag = (codes "before", takes.Moment)
 abbrev pub about_flag : Text × Takes
 about_flag = (codes "about", takes.Words)
 
-abbrev pub json_flag : Text × Takes
-json_flag = (codes "json", takes.Nothing Json)
+-- the flags that ask for the forms that every output has
+abbrev pub common_forms : Flags
+common_forms = (codes "json", takes.Nothing form.Json) ∷ []
 
-abbrev pub pretty_flag : Text × Takes
-pretty_flag = (codes "pretty", takes.Nothing Pretty)
+-- those of the forms for people, and all flags that ask for a form
+abbrev pub people_forms : Flags
+people_forms = (codes "pretty", takes.Nothing form.Pretty) ∷ []
 
--- the flags that ask for a form
 abbrev pub form_flags : Flags
-form_flags = json_flag ∷ pretty_flag ∷ []
+form_flags = common_forms ++ people_forms
 
--- the flags of a report that `told` reads, and of a report, lives and changes that `asked` does
+-- the flags of a report that `told` reads, and of a report and of lives that `asked` does
 abbrev pub told_flags : Flags
 told_flags = (codes "at", takes.Seconds) ∷ []
 
@@ -67,24 +62,39 @@ report_flags = at_flag ∷ before_flag ∷ about_flag ∷ form_flags
 abbrev pub page_flags : Flags
 page_flags = at_flag ∷ before_flag ∷ about_flag ∷ []
 
+-- the flags of the hearings; those of the other traces are `form_flags`, and those of the files `common_forms`
+abbrev pub hearings_flags : Flags
+hearings_flags = about_flag ∷ form_flags
+
+-- ---- `mdnsmerge`
+
+-- the subcommand of each report
+abbrev pub reports : List (Text × Ask)
+reports = (codes "records", ask.Records) ∷ (codes "types", ask.Types) ∷ (codes "instances", ask.Instances) ∷ []
+
+-- the subcommand of all lives, and those of some
+abbrev pub lives : List (Text × Which)
+lives = (codes "lives", which.All) ∷ (codes "changes", which.Changes) ∷ []
+
+-- the subcommand of this name asks for it, by such a list
+abbrev pub IsNamed : {A : Type 0} → List (Text × A) → Text → A → Type 0
+IsNamed [] name own = ⊥
+IsNamed (row ∷ rows) name own = ((name ≡ row.0) × (own ≡ row.1)) ⊎ IsNamed rows name own
+
+-- the subcommands of such a list, which take these flags
+abbrev pub taking : {A : Type 0} → Flags → List (Text × A) → List (Text × Flags)
+taking flags = map (λ row. (row.0, flags))
+
+-- the reports, which take these flags, others, and the check
+abbrev pub merge_line : Bool → Flags → List (Text × Flags) → App
+merge_line has_version flags others =
+    line_of (codes "mdnsmerge") has_version (taking flags reports ++ (others ++ (codes "check", []) ∷ []))
+
 abbrev pub command_line : App
 command_line = merge_line false told_flags []
 
 abbrev pub command_line_with_past : App
-command_line_with_past = merge_line true report_flags
-    ((codes "lives", report_flags) ∷ (codes "changes", report_flags) ∷ (codes "page", page_flags) ∷ [])
-
--- the subcommand of a report, and that of the check
-abbrev pub subcommand_for : Option Ask → Text
-subcommand_for (Some Records) = codes "records"
-subcommand_for (Some Types) = codes "types"
-subcommand_for (Some Instances) = codes "instances"
-subcommand_for None = codes "check"
-
--- the subcommand of all lives, and that of the changes
-abbrev pub lives_subcommand : Which → Text
-lives_subcommand All = codes "lives"
-lives_subcommand Changes = codes "changes"
+command_line_with_past = merge_line true report_flags (taking report_flags lives ++ (codes "page", page_flags) ∷ [])
 
 abbrev pub what_of : Option Ask → Option Moment → What
 what_of (Some ask) at = what.Report ask at
@@ -92,8 +102,8 @@ what_of None at = what.Check
 
 -- a subcommand with these matches asks for `what`
 abbrev pub AsksWhat : Text → List Row → What → Type 0
-AsksWhat name rows (what.Report ask at) = (name ≡ subcommand_for (Some ask)) × IsMomentOf (one_of (codes "at") rows) at
-AsksWhat name rows what.Check = name ≡ subcommand_for None
+AsksWhat name rows (what.Report ask at) = IsNamed reports name ask × IsMomentOf (one_of (codes "at") rows) at
+AsksWhat name rows what.Check = name ≡ codes "check"
 
 -- the text is given, and names the moment
 abbrev pub Names : Option Text → Moment → Type 0
@@ -106,15 +116,15 @@ GivesAsOf at before Newest = (at ≡ None) × (before ≡ None)
 GivesAsOf at before (At moment) = Names at moment × (before ≡ None)
 GivesAsOf at before (Before moment) = (at ≡ None) × Names before moment
 
--- a subcommand with these matches makes the request: a report, lives, changes, or the check
+-- a subcommand with these matches makes the request: a report, lives, or the check
 abbrev pub AsksRequest : Text → List Row → Request → Type 0
-AsksRequest name rows (Report query) = (name ≡ subcommand_for (Some query.ask)) × HasForm report_flags rows query.form
+AsksRequest name rows (Report query) = IsNamed reports name query.ask × HasForm report_flags rows query.form
     × GivesAsOf (first_of (codes "at") rows) (first_of (codes "before") rows) query.as_of
     × (texts_of query.about ≡ words_of (codes "about") rows)
-AsksRequest name rows (Lives query) = (name ≡ lives_subcommand query.which) × HasForm report_flags rows query.form
+AsksRequest name rows (Lives query) = IsNamed lives name query.which × HasForm report_flags rows query.form
     × GivesAsOf (first_of (codes "at") rows) (first_of (codes "before") rows) query.as_of
     × (texts_of query.about ≡ words_of (codes "about") rows)
-AsksRequest name rows Check = name ≡ subcommand_for None
+AsksRequest name rows Check = name ≡ codes "check"
 
 -- the same of a task: such a request, or a page
 abbrev pub AsksTask : Text → List Row → Task → Type 0
@@ -138,6 +148,15 @@ abbrev pub GivesBoth : Text → Text × Takes → Text × Takes → List Row →
 GivesBoth program one other rows line =
     IsGiven one.1 one.0 rows × IsGiven other.1 other.0 rows × (line ≡ both_given program one.0 other.0)
 
+-- a flag of these and one after it are both given, and so says the line
+abbrev pub GivesAfter : Text → Text × Takes → Flags → List Row → Text → Type 0
+GivesAfter program one [] rows line = ⊥
+GivesAfter program one (other ∷ flags) rows line = GivesBoth program one other rows line ⊎ GivesAfter program one flags rows line
+
+abbrev pub GivesTwo : Text → Flags → List Row → Text → Type 0
+GivesTwo program [] rows line = ⊥
+GivesTwo program (one ∷ flags) rows line = GivesAfter program one flags rows line ⊎ GivesTwo program flags rows line
+
 -- a text of printable ASCII is repeated
 abbrev pub is_plain : Text → Bool
 is_plain = list_all (λ byte. nat_le 32 byte && nat_le byte 126)
@@ -160,34 +179,28 @@ GivesNoMoment program rows line =
 
 -- ---- `mdnswhy`
 
--- the flags of the hearings, and of the files; those of the packets and of the spans are `form_flags`
-abbrev pub hearings_flags : Flags
-hearings_flags = about_flag ∷ form_flags
-
-abbrev pub files_flags : Flags
-files_flags = json_flag ∷ []
-
--- the subcommand that writes a trace
-abbrev pub trace_name : Trace → Text
-trace_name (Hearings form) = codes "hearings"
-trace_name (Packets form) = codes "packets"
-trace_name (Spans form) = codes "spans"
-
-abbrev pub trace_form : Trace → Form
-trace_form (Hearings form) = form
-trace_form (Packets form) = form
-trace_form (Spans form) = form
-
-abbrev pub trace_flags : Trace → Flags
-trace_flags (Hearings form) = hearings_flags
-trace_flags (Packets form) = form_flags
-trace_flags (Spans form) = form_flags
+-- the subcommands, each with its flags and what it asks for where no flag asks for a form
+abbrev pub inquiries : List (Text × Flags × Inquiry)
+inquiries = (codes "hearings", hearings_flags, inquiry.Trace (trace.Hearings form.Lines))
+    ∷ (codes "packets", form_flags, inquiry.Trace (trace.Packets form.Lines))
+    ∷ (codes "spans", form_flags, inquiry.Trace (trace.Spans form.Lines))
+    ∷ (codes "files", common_forms, inquiry.Files form.Lines) ∷ []
 
 abbrev pub why_line : App
-why_line = line_of (codes "mdnswhy") true
-    ((codes "hearings", hearings_flags) ∷ (codes "packets", form_flags) ∷ (codes "spans", form_flags) ∷ (codes "files", files_flags) ∷ [])
+why_line = line_of (codes "mdnswhy") true (map (λ (row : Text × Flags × Inquiry). (row.0, row.1)) inquiries)
 
--- a subcommand with these matches asks for it
+-- the same in a form
+abbrev pub in_form : Inquiry → Form → Inquiry
+in_form (inquiry.Trace (trace.Hearings own)) form = inquiry.Trace (trace.Hearings form)
+in_form (inquiry.Trace (trace.Packets own)) form = inquiry.Trace (trace.Packets form)
+in_form (inquiry.Trace (trace.Spans own)) form = inquiry.Trace (trace.Spans form)
+in_form (inquiry.Files own) form = inquiry.Files form
+
+-- a subcommand of these with these matches asks for it, in the form that its flags ask for
+abbrev pub AsksOneOf : List (Text × Flags × Inquiry) → Text → List Row → Inquiry → Type 0
+AsksOneOf [] name rows asked = ⊥
+AsksOneOf (row ∷ rest) name rows asked =
+    ((name ≡ row.0) × ((form : Form) × HasForm row.1 rows form × (asked ≡ in_form row.2 form))) ⊎ AsksOneOf rest name rows asked
+
 abbrev pub AsksInquiry : Text → List Row → Inquiry → Type 0
-AsksInquiry name rows (inquiry.Trace trace) = (name ≡ trace_name trace) × HasForm (trace_flags trace) rows (trace_form trace)
-AsksInquiry name rows (inquiry.Files form) = (name ≡ codes "files") × HasForm files_flags rows form
+AsksInquiry = AsksOneOf inquiries

@@ -1,6 +1,5 @@
 pub mod CommandLine
 pub mod Faults
-pub mod Inquiries
 pub mod Line
 pub mod MomentReading
 pub mod Moments

@@ -1,4 +1,4 @@
-//! The flags of the programs.
+//! The flags of the programs, and which of them an output takes.
 
 use crate::line::{Flag, Takes};
 use mdns_browse::report::Form;
@@ -28,14 +28,36 @@ pub(crate) const ABOUT: Flag = Flag {
     help: "Only what is about a name, word or address; repeatable",
 };
 
-pub(crate) const JSON: Flag = Flag {
-    name: "json",
-    takes: Takes::Nothing(Form::Json),
-    help: "One JSON object a line",
-};
+/// The flags of an output: some, those of the forms that every output has, and others.
+macro_rules! with_forms {
+    ([$($first:expr),*], [$($last:expr),*]) => {
+        &[
+            $($first,)*
+            Flag {
+                name: "json",
+                takes: Takes::Nothing(Form::Json),
+                help: "One JSON object a line",
+            },
+            $($last,)*
+        ]
+    };
+}
 
-pub(crate) const PRETTY: Flag = Flag {
+const PRETTY: Flag = Flag {
     name: "pretty",
     takes: Takes::Nothing(Form::Pretty),
     help: "Readable columns, for people",
 };
+
+/// The flags of a report, and of lives, that `asked` reads.
+pub(crate) const REPORT_FLAGS: &[Flag] = with_forms!([AT, BEFORE, ABOUT], [PRETTY]);
+
+/// The flags of a page.
+pub(crate) const PAGE_FLAGS: &[Flag] = &[AT, BEFORE, ABOUT];
+
+/// The flags of the hearings, of another trace, and of what is said of files.
+pub(crate) const HEARINGS_FLAGS: &[Flag] = with_forms!([ABOUT], [PRETTY]);
+
+pub(crate) const TRACE_FLAGS: &[Flag] = with_forms!([], [PRETTY]);
+
+pub(crate) const FILES_FLAGS: &[Flag] = with_forms!([], []);

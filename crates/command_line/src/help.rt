@@ -16,9 +16,8 @@ macro_rules! page {
         concat!(
             $own,
             "\n\n\
-Exit status: 0 printed, files whole; 1 printed, some cut or damaged; 2 refused.
-To record:                   tcpdump -i eth0 -U -w a.pcap udp port 5353
-If a file is refused:        mdnswhy files FILE..."
+Exit: 0 printed, whole; 1 printed, some cut or damaged; 2 refused: mdnswhy files
+To record: tcpdump -i eth0 -U -w a.pcap udp port 5353"
         )
     };
 }
@@ -39,9 +38,8 @@ pub const RECORDS: HelpText = HelpText {
     about: "The records that were live, a line for each",
     more: page!(
         "\
-Live as of the newest hearing, or of --at, which may not be earlier; with
---before as of that moment, by what was heard before it. A line says when a
-record was heard, and until when it lives, in seconds since 1970:
+Live as of the newest hearing, or of --at, which may not be earlier. A line
+says when a record was heard, and until when it lives, in seconds since 1970:
     mdnsmerge records --at 2026-11-22T07:28:20Z west.pcap east.pcap
     elm.local A 198.51.100.22 ttl 120 heard 1795332403.397617000 until ..."
     ),
@@ -52,8 +50,7 @@ pub const TYPES: HelpText = HelpText {
     about: "The service types that were live, a line for each",
     more: page!(
         "\
-Live as of the newest hearing, or of --at, which may not be earlier;
-with --before as of that moment, by what was heard before it. Each line
+Live as of the newest hearing, or of --at, which may not be earlier. Each line
 is a type that hosts listed for those who browse:
     mdnsmerge types west.pcap east.pcap
     _ssh._tcp.local"
@@ -68,8 +65,7 @@ pub const INSTANCES: HelpText = HelpText {
 Live as of the newest hearing, or of --at, which may not be earlier:
     mdnsmerge instances west.pcap east.pcap
     Elm\\032Shell._ssh._tcp.local
-      server elm.local 22 priority 0 weight 0
-        address 198.51.100.22"
+      server elm.local 22 priority 0 weight 0"
     ),
 };
 
@@ -78,9 +74,8 @@ pub const LIVES: HelpText = HelpText {
     about: "When each record was live, and why it ended, a line for each life",
     more: page!(
         "\
-A line says from when until when a record was live, and how that life ended:
-`goodbye`, `flushed` or `expired`; or `live`, if it lasts longer than the
-captures, which end at their last packet, or at --at or --before:
+A line says when a record was live, and how that ended: `goodbye`, `flushed`,
+`expired`, or `live` past the last packet, or past --at or --before:
     mdnsmerge lives west.pcap east.pcap
     doum.local A 198.51.100.21 from 1795332398.060651000 ttl 120 ... flushed"
     ),
@@ -91,8 +86,7 @@ pub const CHANGES: HelpText = HelpText {
     about: "Which addresses and services changed, and when",
     more: page!(
         "\
-All lines of `lives` of a name and type if a record came, or came back, after
-another: a host's old and new address, a service's port, server or text:
+All `lives` of a name and type if a record came, or came back, after another:
     mdnsmerge changes west.pcap east.pcap
     doum.local A 198.51.100.21 from 1795332398.060651000 ttl 120 ... flushed
     doum.local A 198.51.100.121 from 1795332432.917026000 ttl 0 ... goodbye"

@@ -4,14 +4,14 @@ ghost use Rattle.std.specs.Prelude.{◌≡◌, ◌≢◌, ◌⊎◌, [], IfErr, 
 ghost use Rattle.clap.specs.Words.{fault_of};
 ghost use Rattle.command_line.specs.Line.{IsAsked};
 ghost use Rattle.command_line.specs.Faults.{IsUnasked, IsUntold};
-ghost use Rattle.command_line.specs.CommandLine.{AsksTask, AsksWhat, GivesAsOf, GivesBoth, GivesNoMoment};
+ghost use Rattle.command_line.specs.CommandLine.{AsksTask, AsksWhat, GivesAsOf, GivesBoth, GivesNoMoment, GivesTwo};
 ghost use Rattle.command_line.specs.CommandLine.{IsRefusedFor, at_flag, before_flag, command_line};
-ghost use Rattle.command_line.specs.CommandLine.{command_line_with_past, json_flag, pretty_flag, what_of};
+ghost use Rattle.command_line.specs.CommandLine.{command_line_with_past, form_flags, what_of};
 ghost use Rattle.command_line.specs.Unmade.{Makes, MakesNone, text_of};
 
-use crate::flags::{ABOUT, AT, AT_SECONDS, BEFORE, JSON, PRETTY};
-use crate::help::{CHANGES, CHECK, HTML_PAGE, INSTANCES, LIVES, PROGRAM, RECORDS, TYPES};
-use crate::line::{Flag, Line, Subcommand};
+use crate::flags::{AT, AT_SECONDS, BEFORE, PAGE_FLAGS, REPORT_FLAGS};
+use crate::help;
+use crate::line::{Line, Subcommand};
 use crate::moments::moment_of_text;
 use crate::options::{Both, Options};
 use crate::read::read;
@@ -21,12 +21,6 @@ use mdns_browse::report::Ask;
 use mdns_capture::Moment;
 use mdns_survey::request::{AsOf, LivesQuery, Query, Request, Subjects, What, Which};
 use std::alloc::Global;
-
-/// The flags of a report, of `lives` and of `changes` that `asked` reads.
-const REPORT_FLAGS: &[Flag] = &[AT, BEFORE, ABOUT, JSON, PRETTY];
-
-/// The flags of a page.
-const PAGE_FLAGS: &[Flag] = &[AT, BEFORE, ABOUT];
 
 /// What a subcommand of `asked` asks for.
 #[derive(Clone, Copy)]
@@ -44,26 +38,26 @@ macro_rules! subcommands {
         &[
             Subcommand {
                 name: "records",
-                page: RECORDS,
+                page: help::RECORDS,
                 flags: $flags,
                 asks: $report(Ask::Records),
             },
             Subcommand {
                 name: "types",
-                page: TYPES,
+                page: help::TYPES,
                 flags: $flags,
                 asks: $report(Ask::Types),
             },
             Subcommand {
                 name: "instances",
-                page: INSTANCES,
+                page: help::INSTANCES,
                 flags: $flags,
                 asks: $report(Ask::Instances),
             },
             $($other,)*
             Subcommand {
                 name: "check",
-                page: CHECK,
+                page: help::CHECK,
                 flags: &[],
                 asks: $check,
             },
@@ -74,7 +68,7 @@ macro_rules! subcommands {
 /// The command line of `told`.
 const TOLD: Line<Option<Ask>> = Line {
     name: "mdnsmerge",
-    page: PROGRAM,
+    page: help::PROGRAM,
     has_version: false,
     subcommands: subcommands!(&[AT_SECONDS], Some, [], None),
 };
@@ -82,7 +76,7 @@ const TOLD: Line<Option<Ask>> = Line {
 /// The command line of `asked`.
 const ASKED: Line<Asks> = Line {
     name: "mdnsmerge",
-    page: PROGRAM,
+    page: help::PROGRAM,
     has_version: true,
     subcommands: subcommands!(
         REPORT_FLAGS,
@@ -90,19 +84,19 @@ const ASKED: Line<Asks> = Line {
         [
             Subcommand {
                 name: "lives",
-                page: LIVES,
+                page: help::LIVES,
                 flags: REPORT_FLAGS,
                 asks: Asks::Lives(Which::All),
             },
             Subcommand {
                 name: "changes",
-                page: CHANGES,
+                page: help::CHANGES,
                 flags: REPORT_FLAGS,
                 asks: Asks::Lives(Which::Changes),
             },
             Subcommand {
                 name: "page",
-                page: HTML_PAGE,
+                page: help::HTML_PAGE,
                 flags: PAGE_FLAGS,
                 asks: Asks::Page,
             }
@@ -114,8 +108,8 @@ const ASKED: Line<Asks> = Line {
 /// Reads the words of a command line on which a report takes `--at` alone. The first is the program's name.
 /// No program calls it: they call `asked`.
 ///
-/// It is `records`, `types` or `instances`, with `--at SECONDS` or without it, or `check`, and then one or more
-/// files. `SECONDS` are whole seconds since 1970, at most 4,294,967,295.
+/// It is the subcommand of a report, with `--at SECONDS` or without it, or `check`, and then one or more files. `SECONDS`
+/// are whole seconds since 1970, at most 4,294,967,295.
 ///
 /// # Errors
 ///
@@ -159,23 +153,23 @@ fn what_of(ask: Option<Ask>, at: Option<Moment>) -> What
 
 /// Reads the words of a command line of `mdnsmerge`, of which the first is the program's name.
 ///
-/// It is what `told` reads, or `lives` or `page` and one or more files. A report, `lives` and `page` take `--at` or
-/// `--before`, and `--about WORD`, any number of times; a report and `lives` also `--json` or `--pretty`. `--version` asks
-/// for the version. `--at MOMENT` and `--before MOMENT` take seconds since 1970, with up to nine digits of a fraction, or
+/// It is what `told` reads, or a subcommand of lives or `page` and one or more files. All but `check` take `--at` or
+/// `--before`, and `--about WORD`, any number of times; all but `page` and `check` also the flag of a form. `--version`
+/// asks for the version. `--at MOMENT` and `--before MOMENT` take seconds since 1970, with up to nine digits of a fraction, or
 /// a date and time of RFC 3339 with its zone; a space may be in place of the `T`, and the second may be left out. A leap
 /// second, `23:59:60`, names no moment.
 ///
 /// # Errors
 ///
 /// `Help` where help was asked for, `Version` where the version was, `Refused` where the words are no such command
-/// line, give both moments or both forms, or give a text that names no moment, and `Memory` where an allocation failed.
+/// line, give both moments or two forms, or give a text that names no moment, and `Memory` where an allocation failed.
 pub fn asked(alloc: Global, words: Vec<String>) -> Result<Asked<Task>, AskFault>
     ensures asked { IfOk result (IsAsked AsksTask command_line_with_past (map string_bytes words.items)) }
     ensures files { IfOk result (λ asked. asked.names.items ≢ []) }
     ensures unasked { IfErr result (λ fault.
         IsUnasked (fault_of command_line_with_past (map string_bytes words.items)) fault
         ⊎ IsRefusedFor (GivesBoth (codes "mdnsmerge") at_flag before_flag) command_line_with_past (map string_bytes words.items) fault
-        ⊎ IsRefusedFor (GivesBoth (codes "mdnsmerge") json_flag pretty_flag) command_line_with_past (map string_bytes words.items) fault
+        ⊎ IsRefusedFor (GivesTwo (codes "mdnsmerge") form_flags) command_line_with_past (map string_bytes words.items) fault
         ⊎ IsRefusedFor (GivesNoMoment (codes "mdnsmerge")) command_line_with_past (map string_bytes words.items) fault) }
 {
     read_asked(alloc, words.as_slice())
@@ -187,7 +181,7 @@ fn read_asked(alloc: Global, words: &[String]) -> Result<Asked<Task>, AskFault>
     ensures unasked { IfErr result (λ fault.
         IsUnasked (fault_of command_line_with_past (map string_bytes words.now)) fault
         ⊎ IsRefusedFor (GivesBoth (codes "mdnsmerge") at_flag before_flag) command_line_with_past (map string_bytes words.now) fault
-        ⊎ IsRefusedFor (GivesBoth (codes "mdnsmerge") json_flag pretty_flag) command_line_with_past (map string_bytes words.now) fault
+        ⊎ IsRefusedFor (GivesTwo (codes "mdnsmerge") form_flags) command_line_with_past (map string_bytes words.now) fault
         ⊎ IsRefusedFor (GivesNoMoment (codes "mdnsmerge")) command_line_with_past (map string_bytes words.now) fault) }
 {
     let asked = read(alloc, &ASKED, words)?;

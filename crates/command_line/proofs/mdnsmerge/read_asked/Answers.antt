@@ -2,7 +2,8 @@ use Rattle.std.proofs.Common.{rules, map, string_bytes}
 use Rattle.command_line.specs.CommandLine.{AsksTask, command_line_with_past}
 use Rattle.command_line.specs.Line.{IsAsked}
 use Rattle.command_line.specs.Unmade.{Makes, MakesNone}
-use Rattle.command_line.proofs.MergeLemmas.{AsksAsked, asks-also, task-asked, unmade-refused}
+use Rattle.command_line.proofs.MergeLemmas.{AsksAsked, task-asked, unmade-refused}
+use Rattle.command_line.proofs.TableLemmas.{asks-also}
 use Rattle.command_line.proofs.mdnsmerge.read_asked.Goals as goal
 
 pub returns-in-Ok-clause-asked : goal.returns-in-Ok-clause-asked

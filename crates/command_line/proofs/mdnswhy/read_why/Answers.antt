@@ -1,8 +1,7 @@
 use Rattle.std.proofs.Common.{◌≡◌, rules, map, string_bytes, Ok, Err}
-use Rattle.command_line.specs.CommandLine.{AsksInquiry, why_line}
-use Rattle.command_line.specs.Inquiries.{inquiry_of}
+use Rattle.command_line.specs.CommandLine.{AsksInquiry, in_form, why_line}
 use Rattle.command_line.specs.Line.{AsksAbout, IsAsked}
-use Rattle.command_line.proofs.MergeLemmas.{asks-also}
+use Rattle.command_line.proofs.TableLemmas.{asks-also}
 use Rattle.command_line.proofs.WhyLemmas.{AsksWhy, both-refused, inquiry-asked}
 use Rattle.command_line.proofs.mdnswhy.read_why.Goals as goal
 
@@ -13,8 +12,8 @@ returns-in-Ok-clause-asked c =
     let asked : IsAsked AsksWhy why_line words c.in_ok-asked.asked = c.in_ok-asked.ensures.asked in
     let is : what.0.1.form ≡ Ok c.in-Ok.form = search rules in (
       asked.0,
-      rw c.inquiry_of.ensures
-          (asks-also AsksWhy (AsksAbout AsksInquiry) what (inquiry_of what.0.0 c.in-Ok.form, what.1) (inquiry-asked what c.in-Ok.form is)
+      rw c.in_form.ensures
+          (asks-also AsksWhy (AsksAbout AsksInquiry) what (in_form what.0.0 c.in-Ok.form, what.1) (inquiry-asked what c.in-Ok.form is)
           _ _ asked.1),
     )
 
