@@ -9,6 +9,7 @@ pub mod FilterLemmas
 pub mod FlushLemmas
 pub mod HeardLemmas
 pub mod HearingLemmas
+pub mod LaterLemmas
 pub mod LawLemmas
 pub mod LiveLifeLemmas
 pub mod ListedLemmas

@@ -1,5 +1,5 @@
 -- The lives of a record by a walk over its hearings in order.
-use Rattle.std.specs.Prelude.{ℕ, ◌+◌, ◌==◌, nat_lt, nat_le, if◌then◌else◌, List, [], ◌∷◌}
+use Rattle.std.specs.Prelude.{◌≡◌, ℕ, ◌+◌, ◌≤◌, ◌==◌, nat_lt, nat_le, if◌then◌else◌, List, [], ◌∷◌}
 use Rattle.mdns_lives.specs.declared.life.Heard.{Heard}
 use Rattle.mdns_lives.specs.declared.life.Life.{Life}
 use Rattle.mdns_lives.specs.declared.life.Reason.{Reason}
@@ -14,6 +14,10 @@ out_of h = h.moment.nanos + life_of h.ttl
 -- the end of a record whose last hearing is this one
 abbrev pub end_after : List ℕ → Heard → ℕ
 end_after flushes h = end_of flushes h.moment.nanos (out_of h)
+
+-- both lists of flush moments give the same end to each record that was last heard at the moment `low` or later
+abbrev pub GiveSameEnds : ℕ → List ℕ → List ℕ → Type 0
+GiveSameEnds low fs gs = (t out : ℕ) → low ≤ t → end_of fs t out ≡ end_of gs t out
 
 -- and why it ends
 abbrev pub reason_after : List ℕ → Heard → Reason

@@ -1,18 +1,25 @@
 //! The lives of one record, by its hearings and the flushes of its record set.
 
-ghost use Rattle.std.specs.Prelude.{◌≡◌, ◌++◌, ◌∷◌, List, IfOk, OnOk};
+ghost use Rattle.std.specs.Prelude.{◌≡◌, ◌+◌, ◌++◌, ◌∷◌, ℕ, List, IfOk, OnOk};
+ghost use Rattle.mdns_capture.specs.Limits.{second};
 ghost use Rattle.mdns_lives.specs.declared.life.Heard.{Heard};
-ghost use Rattle.mdns_join.specs.Kept.{IsAscending};
+ghost use Rattle.mdns_join.specs.Kept.{IsAscending, IsAscendingAbove};
 ghost use Rattle.mdns_join.specs.Nanos.{nanos_of};
+ghost use Rattle.mdns_cache.specs.LentRecords.{end_of};
 ghost use Rattle.mdns_lives.specs.History.{AreInOrder, AreLivesBy};
-ghost use Rattle.mdns_lives.specs.LifeWalk.{life_after, lives_from, walked};
+ghost use Rattle.mdns_lives.specs.LifeWalk.{GiveSameEnds, life_after, lives_from, walked};
 
 use crate::life::{Heard, Life, Reason};
 use crate::packed::Packed;
-use mdns_cache::lifetime::{end_of, life};
+use mdns_cache::lifetime::life;
 use mdns_capture::Moment;
+use mdns_capture::moment::SECOND;
 use memory::Want;
 use std::alloc::Global;
+
+// How many flushes are looked at one by one before a binary search. Most hearings are flushes of their own set, so few
+// flushes lie between a hearing and the next one.
+const NEAR: usize = 4;
 
 /// Returns the lives of a record, in order, by its hearings in the order of their moments, then TTLs, and the flush
 /// moments of its record set, ascending.
@@ -30,8 +37,9 @@ pub(crate) fn lives_of(
     let Some((first, rest)) = heard.split_first() else {
         return Ok(lives);
     };
-    let life = life_after(flushes, first.heard());
-    push_lives(&mut lives, life, rest, flushes)?;
+    let begun = first.heard();
+    let later = later_than(flushes, begun.moment);
+    push_lives(&mut lives, life_after(later, begun), rest, later)?;
     Ok(lives)
 }
 
@@ -41,29 +49,28 @@ fn push_lives(
     heard: &[Packed],
     flushes: &[Moment],
 ) -> Result<(), Want>
-    requires { IsAscending (nanos_of flushes.now) }
+    requires heard { AreInOrder heard.now }
+    requires flushes { IsAscending (nanos_of flushes.now) }
     ensures { OnOk result (lives.new.items ≡ lives.old.items ++ lives_from (nanos_of flushes.now) life heard.now) }
 {
     let mut life = life;
-    for next in heard {
-        life = take_next(lives, life, next.heard(), flushes)?;
+    let mut later = flushes;
+    for packed in heard {
+        let next = packed.heard();
+        later = later_than(later, next.moment);
+        life = take_next(lives, life, next, later)?;
     }
     lives.push(life)?;
     Ok(())
 }
 
 // Takes the next hearing: it carries the life on, or comes after its end and begins the next one.
-fn take_next(
-    lives: &mut Vec<Life>,
-    life: Life,
-    next: Heard,
-    flushes: &[Moment],
-) -> Result<Life, Want>
-    requires { IsAscending (nanos_of flushes.now) }
-    ensures { IfOk result (λ taken. (hs : List Heard) → lives.new.items ++ lives_from (nanos_of flushes.now) taken hs
-        ≡ lives.old.items ++ lives_from (nanos_of flushes.now) life (next ∷ hs)) }
+fn take_next(lives: &mut Vec<Life>, life: Life, next: Heard, later: &[Moment]) -> Result<Life, Want>
+    requires { IsAscendingAbove (next.moment.nanos + second) (nanos_of later.now) }
+    ensures { IfOk result (λ taken. (hs : List Heard) → lives.new.items ++ lives_from (nanos_of later.now) taken hs
+        ≡ lives.old.items ++ lives_from (nanos_of later.now) life (next ∷ hs)) }
 {
-    let after = life_after(flushes, next);
+    let after = life_after(later, next);
     if next.moment.nanos() <= life.until {
         return Ok(Life {
             from: life.from,
@@ -76,13 +83,13 @@ fn take_next(
     Ok(after)
 }
 
-// Returns the life of a record whose one hearing is this one.
-fn life_after(flushes: &[Moment], heard: Heard) -> Life
-    requires { IsAscending (nanos_of flushes.now) }
-    ensures { result ≡ life_after (nanos_of flushes.now) heard }
+// Returns the life of a record whose one hearing is this one, by the flushes that came late enough to strike it.
+fn life_after(later: &[Moment], heard: Heard) -> Life
+    requires { IsAscendingAbove (heard.moment.nanos + second) (nanos_of later.now) }
+    ensures { result ≡ life_after (nanos_of later.now) heard }
 {
     let out = heard.moment.nanos() + life(heard.ttl);
-    let until = end_of(flushes, heard.moment, heard.ttl);
+    let until = end_by(later, out);
     let reason = if until < out {
         Reason::Flushed
     } else if heard.ttl == 0 {
@@ -96,4 +103,42 @@ fn life_after(flushes: &[Moment], heard: Heard) -> Life
         until,
         reason,
     }
+}
+
+// Returns the end of a record whose life runs out at `out`: of the flushes that came late enough, the first one decides.
+fn end_by(later: &[Moment], out: u64) -> u64
+    ensures { (t : ℕ) → IsAscendingAbove (t + second) (nanos_of later.now) → result ≡ end_of (nanos_of later.now) t out }
+{
+    match later.split_first() {
+        Some((flush, _)) => out.min(flush.nanos() + SECOND),
+        None => out,
+    }
+}
+
+// Leaves out the flushes that are too early to strike a record heard at `heard`. They strike none that is heard later.
+fn later_than(flushes: &[Moment], heard: Moment) -> &[Moment]
+    requires { IsAscending (nanos_of flushes.now) }
+    ensures later { IsAscendingAbove (heard.nanos + second) (nanos_of result.now) }
+    ensures same { GiveSameEnds heard.nanos (nanos_of flushes.now) (nanos_of result.now) }
+{
+    let mut rest = flushes;
+    for _ in 0..NEAR {
+        let Some((first, others)) = rest.split_first() else {
+            return rest;
+        };
+        if first.nanos() > heard.nanos() + SECOND {
+            return rest;
+        }
+        rest = others;
+    }
+    search_later(rest, heard)
+}
+
+// Does the same by binary search.
+fn search_later(flushes: &[Moment], heard: Moment) -> &[Moment]
+    requires { IsAscending (nanos_of flushes.now) }
+    ensures later { IsAscendingAbove (heard.nanos + second) (nanos_of result.now) }
+    ensures same { GiveSameEnds heard.nanos (nanos_of flushes.now) (nanos_of result.now) }
+{
+    &flushes[flushes.partition_point(|flush| flush.nanos() <= heard.nanos() + SECOND)..]
 }

@@ -1,10 +1,15 @@
 use Rattle.std.proofs.Common.{◌≡◌, ◌++◌, drop}
+use Rattle.mdns_join.specs.Kept.{IsAscending}
 use Rattle.mdns_join.specs.Nanos.{nanos_of}
+use Rattle.mdns_lives.specs.History.{AreInOrder}
 use Rattle.mdns_lives.specs.LifeWalk.{lives_from}
 use Rattle.mdns_lives.proofs.life_walk.push_lives.Given as goal
 
 -- the lives so far, with those that the hearings left give, are all
-abbrev pub invariant-loop-next : goal.invariant-loop-next
-invariant-loop-next l =
-    l.lives.items ++ lives_from (nanos_of l.flushes) l.life (drop l.next-index l.heard)
-    ≡ l.fn.lives.items ++ lives_from (nanos_of l.flushes) l.fn.life l.heard
+abbrev pub invariant-loop-packed : goal.invariant-loop-packed
+invariant-loop-packed l = record {
+  lives : l.lives.items ++ lives_from (nanos_of l.later) l.life (drop l.packed-index l.heard)
+      ≡ l.fn.lives.items ++ lives_from (nanos_of l.flushes) l.fn.life l.heard;
+  in_order : AreInOrder (drop l.packed-index l.heard);
+  ascending : IsAscending (nanos_of l.later);
+}

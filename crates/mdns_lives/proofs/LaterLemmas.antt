@@ -1,0 +1,87 @@
+-- The flushes that are too early to strike a record at a hearing strike none at a later hearing.
+use Rattle.std.proofs.Common.{◌≡◌, ℕ, zero, suc, ◌+◌, ◌-◌, ◌<◌, ◌≤◌, true, false, nat_lt, min, List, [], ◌∷◌, length, get_or}
+use Rattle.std.proofs.Common.{take, drop, refl, sym, ap, subst, ◌∙◌, arith, if◌then◌else◌, leb-true, leb-false}
+use Rattle.std.specs.Prelude.{nat_le}
+use Rattle.std.proofs.lemmas.Bool.{ltb-true}
+use Rattle.std.proofs.lemmas.List.{take_rest}
+use Rattle.mdns_capture.specs.declared.moment.Moment.{Moment}
+use Rattle.mdns_capture.specs.Limits.{second}
+use Rattle.mdns_join.specs.Kept.{IsAscending, IsAscendingAbove}
+use Rattle.mdns_join.specs.laws.Kept.{IsAscending-from_above}
+use Rattle.mdns_join.specs.Nanos.{nanos_of}
+use Rattle.mdns_cache.specs.LentRecords.{AreEarlyUpTo, end_of}
+use Rattle.mdns_cache.proofs.FirstLaterLemmas.{first_later}
+use Rattle.mdns_lives.specs.declared.life.Heard.{Heard}
+use Rattle.mdns_lives.specs.declared.life.Life.{Life}
+use Rattle.mdns_lives.specs.History.{AreInOrder}
+use Rattle.mdns_lives.specs.LifeWalk.{GiveSameEnds, out_of, life_after, carried_on, lives_from, walked}
+use Rattle.mdns_lives.proofs.OrderLemmas.{IsUpTo-itself, no_later}
+
+-- ---- the first flush that is late enough decides
+
+pub end-by_first : (t out : ℕ) (m : Moment) (ms : List Moment) → IsAscendingAbove (t + second) (nanos_of (m ∷ ms))
+    → min out (m.nanos + second) ≡ end_of (nanos_of (m ∷ ms)) t out
+end-by_first t out m ms a = grind (arith, first_later t out (m ∷ ms) 0 m)
+
+pub end-by_none : (t out : ℕ) (ms : List Moment) → length ms ≡ 0 → out ≡ end_of (nanos_of ms) t out
+end-by_none t out [] none = refl
+end-by_none t out (m ∷ ms) none = absurd (omega (arith, none))
+
+-- ---- what may be dropped
+
+first_dropped : (low m : ℕ) (ms : List ℕ) → m ≤ low + second → GiveSameEnds low (m ∷ ms) ms
+first_dropped low m ms early t out l = grind (arith, nat_lt, ltb-true)
+
+-- the first of the moments that are left is late enough, and those that were dropped change no end
+all_dropped : (low : ℕ) (ms : List Moment) (count : ℕ) → IsAscending (nanos_of ms)
+    → ((k : ℕ) (d : Moment) → k < count → (get_or ms k d).nanos ≤ low + second)
+    → ((d : Moment) → count < length ms → low + second < (get_or ms count d).nanos)
+    → IsAscendingAbove (low + second) (nanos_of (drop count ms)) × GiveSameEnds low (nanos_of ms) (nanos_of (drop count ms))
+all_dropped low [] zero up early late = (tt, λ t out l. refl)
+all_dropped low [] (suc count) up early late = (tt, λ t out l. refl)
+all_dropped low (m ∷ ms) zero up early late = ((late m (omega arith), up), λ t out l. refl)
+all_dropped low (m ∷ ms) (suc count) up early late =
+    let rest = all_dropped low ms count (IsAscending-from_above m.nanos (nanos_of ms) up) (λ k d l. early (suc k) d (omega (arith, l)))
+    (λ d l. late d (omega (arith, l))) in
+    (rest.0, λ t out l. first_dropped low m.nanos (nanos_of ms) (early 0 m (omega arith)) t out l ∙ rest.1 t out l)
+
+pub early_dropped : (low : ℕ) (ms : List Moment) (count : ℕ) → IsAscending (nanos_of ms) → AreEarlyUpTo low ms count
+    → IsAscendingAbove (low + second) (nanos_of (take (length ms - count) (drop count ms)))
+    × GiveSameEnds low (nanos_of ms) (nanos_of (take (length ms - count) (drop count ms)))
+early_dropped low ms count up point =
+    subst (λ (l : List Moment). IsAscendingAbove (low + second) (nanos_of l) × GiveSameEnds low (nanos_of ms) (nanos_of l))
+    (sym (take_rest ms count))
+    (all_dropped low ms count up (λ k d l. leb-true (get_or ms k d).nanos (low + second) (point.0 k d (omega arith) l))
+    (λ d l. leb-false (get_or ms count d).nanos (low + second) (point.1 count d (omega arith) l)))
+
+-- ---- the same ends give the same lives
+
+module _ (fs gs : List ℕ) where
+  same_life : (h : Heard) → GiveSameEnds h.moment.nanos fs gs → life_after fs h ≡ life_after gs h
+  same_life h same = grind (arith, same h.moment.nanos (out_of h))
+
+  same_after : (p : Heard) (hs : List Heard) (life : Life) → AreInOrder (p ∷ hs) → GiveSameEnds p.moment.nanos fs gs
+      → lives_from fs life hs ≡ lives_from gs life hs
+  unfolding lives_from
+  same_after p [] life o same = refl
+  same_after p (h ∷ hs) life o same =
+      let up = no_later p h o.0 in
+      let later : GiveSameEnds h.moment.nanos fs gs = λ t out l. same t out (omega (arith, up, l)) in
+      let begun = same_life h later in
+      elim (nat_le h.moment.nanos life.until) as (λ b.
+      (if b then lives_from fs (carried_on life (life_after fs h)) hs else life ∷ lives_from fs (life_after fs h) hs)
+      ≡ (if b then lives_from gs (carried_on life (life_after gs h)) hs else life ∷ lives_from gs (life_after gs h) hs)) [
+        | true ↦ same_after h hs (carried_on life (life_after fs h)) o.1 later
+            ∙ ap (λ (a : Life). lives_from gs (carried_on life a) hs) begun
+        | false ↦ ap (λ (ls : List Life). life ∷ ls)
+            (same_after h hs (life_after fs h) o.1 later ∙ ap (λ (a : Life). lives_from gs a hs) begun)
+      ]
+
+  pub same_lives : (h : Heard) (hs : List Heard) (life : Life) → AreInOrder (h ∷ hs) → GiveSameEnds h.moment.nanos fs gs
+      → lives_from fs life (h ∷ hs) ≡ lives_from gs life (h ∷ hs)
+  same_lives h hs life o same = same_after h (h ∷ hs) life (IsUpTo-itself h, o) same
+
+  pub same_walk : (h : Heard) (hs : List Heard) → AreInOrder (h ∷ hs) → GiveSameEnds h.moment.nanos fs gs
+      → walked fs (h ∷ hs) ≡ lives_from gs (life_after gs h) hs
+  same_walk h hs o same =
+      same_after h hs (life_after fs h) o same ∙ ap (λ (a : Life). lives_from gs a hs) (same_life h same)
