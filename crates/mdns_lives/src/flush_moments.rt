@@ -1,6 +1,7 @@
 //! All flush moments of a record set, sorted.
 
-ghost use Rattle.std.specs.Prelude.{◌≡◌, [], option_copied, unwrap_or};
+ghost use Rattle.std.specs.Prelude.{◌≡◌, [], option_copied, unwrap_or, vec_capacity};
+ghost use Rattle.std.specs.List.Sorted.{IsPermutation, IsSorted};
 ghost use Rattle.mdns_join.specs.Kept.{ascending, union, IsAscending};
 ghost use Rattle.mdns_join.specs.Nanos.{nanos_of};
 ghost use Rattle.mdns_lives.specs.laws.Flushes.{union-laws};
@@ -81,6 +82,18 @@ impl Join for FlushMoments {
 pub(crate) fn sort(items: &mut Vec<Moment>)
     ensures { nanos_of items.new.items ≡ ascending (nanos_of items.old.items) }
 {
-    items.sort_unstable();
+    sort_runs(items);
     items.dedup();
+}
+
+/// Sorts a list in place. Most lists here rise in a few runs, one for each message that came again: a stable sort merges
+/// them, by a buffer that is as long as the list. Where that can't be allocated, the list is sorted without.
+pub(crate) fn sort_runs<T: Ord>(items: &mut Vec<T>)
+    ensures permutation { IsPermutation items.old.items items.new.items }
+    ensures sorted { IsSorted T.cmp items.new.items }
+    ensures capacity { vec_capacity items.new ≡ vec_capacity items.old }
+{
+    let Ok(()) = items.sort() else {
+        return items.sort_unstable();
+    };
 }

@@ -12,6 +12,7 @@ ghost use Rattle.mdns_lives.specs.Seconds.{HasRoomAfter, IsRoomFor, IsSeconds, I
 ghost use Rattle.mdns_lives.specs.Seconds.{join_seconds, only, seconds_of};
 ghost use Rattle.mdns_lives.specs.laws.Seconds.{seconds-laws};
 
+use crate::flush_moments::sort_runs;
 use crate::life::Heard;
 use crate::packed::Packed;
 use join_map::{Join, JoinOwn};
@@ -125,7 +126,7 @@ impl History {
         ensures same { IfOk result (λ sorted. seconds_of sorted.items ≡ self.now) }
     {
         let mut sorted = Vec::from_slice(alloc, self.items.as_slice())?;
-        sorted.sort_unstable();
+        sort_runs(&mut sorted);
         Ok(sorted)
     }
 }
@@ -291,7 +292,7 @@ fn thin(items: &mut Vec<Packed>)
     ensures short { length items.new.items ≤ 2 * length (seconds_of items.new.items) }
     ensures capacity { vec_capacity items.new ≡ vec_capacity items.old }
 {
-    items.sort_unstable();
+    sort_runs(items);
     let mut kept = 0;
     for place in 0..items.len() {
         kept = keep(items, kept, place);
