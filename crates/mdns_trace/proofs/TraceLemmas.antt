@@ -77,9 +77,7 @@ part-more {trace} {about} {file} {packets} {outcomes} {old} {now} {waiting} pack
 -- before the first packet
 nothing-taken : {W : Type 0} (sink : SinkGhosts W) (old : Lines W) → string_bytes old.text ≡ [] → LinesTook sink old old [] []
 nothing-taken sink old empty = record {
-  trace = refl;
-  about = refl;
-  file = refl;
+  wanted = refl;
   same = refl;
   prints = record { printed = []; lines = empty; written = Appends-nil (sink.written old.out.now) };
   unfailed = refl;
@@ -99,7 +97,7 @@ pub lines-stop : {R W : Type 0} (source : SourceGhosts R) (sink : SinkGhosts W) 
     → (IsTrue (source.steady reader) → IsNoCaptureRead fault)
     → LeavesConsumer (LinesTook sink) (LinesBroke sink) (source.remaining reader) old new fault
     → (new.out.ghost_name ≡ old.out.ghost_name) × Stops source sink
-    (LeavesLines sink old.trace old.about.now (string_bytes old.file) (source.remaining reader)) reader old.out.now new.out.now
+    (LeavesLines sink old.wanted.trace old.wanted.about.now old.wanted.file.now (source.remaining reader)) reader old.out.now new.out.now
     (trace_fault fault)
 lines-stop {R} {W} source sink reader old new (OfListen (Begin fault)) empty has spares leaves = (
   ap (λ (l : Lines W). l.out.ghost_name) leaves,
@@ -163,7 +161,8 @@ lines-stop source sink reader old new (OfConsumer Write) empty has spares leaves
 lines-whole : {W : Type 0} (sink : SinkGhosts W) (left : Option (List ℕ)) (old new : Lines W) (next : W) (reading : Reading)
     → string_bytes old.text ≡ [] → ReadsCapture (LinesTook sink) left old new reading
     → Appends (sink.written new.out.now) (sink.written next) (string_bytes new.text)
-    → IfSome left (λ bytes. (text : List ℕ) × TracesCapture old.trace old.about.now (string_bytes old.file) bytes reading.summary text
+    → IfSome left (λ bytes. (text : List ℕ)
+    × TracesCapture old.wanted.trace old.wanted.about.now old.wanted.file.now bytes reading.summary text
     × Appends (sink.written old.out.now) (sink.written next) text)
 lines-whole sink None old new next reading empty read written = tt
 lines-whole sink (Some bytes) old new next reading empty read written =
@@ -184,7 +183,7 @@ pub lines-written : {R W : Type 0} (source : SourceGhosts R) (sink : SinkGhosts 
     → IsOver reading.summary.ending → Appends (sink.written new.out.now) (sink.written next) (string_bytes new.text)
     → sink.failures next ≡ sink.failures new.out.now → (IsTrue (sink.steady new.out.now) → IsTrue (sink.steady next))
     → (new.out.ghost_name ≡ old.out.ghost_name) × WritesLines source sink
-    (TracesCapture old.trace old.about.now (string_bytes old.file)) reader old.out.now next reading.summary
+    (TracesCapture old.wanted.trace old.wanted.about.now old.wanted.file.now) reader old.out.now next reading.summary
 lines-written source sink reader old new next reading empty read over written unfailed stays =
     let took = read.took old (nothing-taken sink old empty) in (
       took.same,
@@ -203,7 +202,7 @@ pub lines-cut : {R W : Type 0} (source : SourceGhosts R) (sink : SinkGhosts W) (
     → AppendsPrefix (sink.written new.out.now) (sink.written next) (string_bytes new.text)
     → OneMoreFailed (sink.failures new.out.now) (sink.failures next) → (IsTrue (sink.steady new.out.now) → ⊥)
     → (new.out.ghost_name ≡ old.out.ghost_name) × Stops source sink
-    (LeavesLines sink old.trace old.about.now (string_bytes old.file) (source.remaining reader)) reader old.out.now next Write
+    (LeavesLines sink old.wanted.trace old.wanted.about.now old.wanted.file.now (source.remaining reader)) reader old.out.now next Write
 lines-cut source sink reader old new next reading empty read sound prefix failed unsteady =
     let took = read.took old (nothing-taken sink old empty) in (
       took.same,

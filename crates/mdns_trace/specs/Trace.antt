@@ -111,11 +111,9 @@ AddsLines trace about file packet outcome old new =
 -- A consumer took these packets: of their lines some went out, no write failed, and the others wait.
 pub record LinesTook {W : Type 0} (sink : Ghosts W) (begun now : Lines W) (packets : List PacketAt) (outcomes : List Outcome)
     : Type 0 where
-  pub trace : now.trace ≡ begun.trace
-  pub about : now.about.now ≡ begun.about.now
-  pub file : string_bytes now.file ≡ string_bytes begun.file
+  pub wanted : now.wanted ≡ begun.wanted
   pub same : now.out.ghost_name ≡ begun.out.ghost_name
-  pub prints : PrintsPart begun.trace begun.about.now (string_bytes begun.file) packets outcomes
+  pub prints : PrintsPart begun.wanted.trace begun.wanted.about.now begun.wanted.file.now packets outcomes
       (sink.written begun.out.now) (sink.written now.out.now) (string_bytes now.text)
   pub unfailed : sink.failures now.out.now ≡ sink.failures begun.out.now
   pub stays : IsTrue (sink.steady begun.out.now) → IsTrue (sink.steady now.out.now)
@@ -131,7 +129,7 @@ pub record LinesBroke {W : Type 0} (sink : Ghosts W) (begun now : Lines W) (pack
     (fault : TraceFault) : Type 0 where
   pub same : now.out.ghost_name ≡ begun.out.ghost_name
   pub rest : List ℕ
-  pub prints : PrintsPart begun.trace begun.about.now (string_bytes begun.file) packets outcomes
+  pub prints : PrintsPart begun.wanted.trace begun.wanted.about.now begun.wanted.file.now packets outcomes
       (sink.written begun.out.now) (sink.written now.out.now) rest
   pub fails : FailsLines sink begun.out.now now.out.now fault
 

@@ -17,18 +17,9 @@ use Rattle.mdns_trace.specs.PacketLine.{fault_at, fault_text, packet_line}
 use Rattle.mdns_trace.specs.TraceColumns.{hearing_row, packet_row, span_row}
 use Rattle.mdns_trace.specs.SpanLine.{span_line}
 
--- members that are a string, a number, and a moment, which is a string, so that no reader rounds it
-unfoldable pub text_member : List ℕ → List ℕ → List ℕ
-text_member name text = json_member name (json_string text)
-
-unfoldable pub number_member : List ℕ → ℕ → List ℕ
-number_member name number = json_member name (decimal number)
-
+-- a member that is a moment: a string, so that no reader rounds it
 unfoldable pub moment_member : List ℕ → ℕ → List ℕ
 moment_member name nanos = json_member name (json_string (moment_text nanos))
-
-unfoldable pub value_member : List ℕ → List ℕ → List ℕ
-value_member name value = json_member name value
 
 -- HEARINGS
 
@@ -37,11 +28,11 @@ unfoldable pub hearing_json : List ℕ → SourceAddress → Hearing → List �
 hearing_json file source hearing =
     json_object
     (moment_member (codes "moment") hearing.moment.nanos
-    ∷ text_member (codes "file") file
-    ∷ text_member (codes "source") (address_text source)
+    ∷ json_member (codes "file") (json_string file)
+    ∷ json_member (codes "source") (json_string (address_text source))
     ∷ (resource_members hearing.heard
-    ++ number_member (codes "ttl") hearing.ttl
-    ∷ value_member (codes "flush") (json_bool hearing.flush) ∷ [])) ++ 10 ∷ []
+    ++ json_member (codes "ttl") (decimal hearing.ttl)
+    ∷ json_member (codes "flush") (json_bool hearing.flush) ∷ [])) ++ 10 ∷ []
 
 -- the same in a form
 abbrev pub hearing_text : Form → List ℕ → SourceAddress → Hearing → List ℕ
@@ -54,7 +45,7 @@ hearing_text Json file source hearing = hearing_json file source hearing
 -- what came of a packet, and why
 abbrev pub status_members : List ℕ → List ℕ → List (List ℕ)
 status_members status cause =
-    text_member (codes "status") status ∷ text_member (codes "cause") cause ∷ []
+    json_member (codes "status") (json_string status) ∷ json_member (codes "cause") (json_string cause) ∷ []
 
 abbrev pub silence_members : List (List ℕ)
 silence_members = status_members (codes "heard") (codes "no listed record")
@@ -63,7 +54,7 @@ silence_members = status_members (codes "heard") (codes "no listed record")
 abbrev pub found_members : Found → List (List ℕ)
 found_members (found.Skipped why) = status_members (codes "skipped") (why_text why)
 found_members (found.Refused damage) =
-    status_members (codes "refused") (fault_text damage) ++ number_member (codes "at") (fault_at damage) ∷ []
+    status_members (codes "refused") (fault_text damage) ++ json_member (codes "at") (decimal (fault_at damage)) ∷ []
 found_members (found.Heard source message) = silence_members
 
 -- the line of a packet that told nothing: the moment, the file, the offset of its header there, and these members
@@ -71,8 +62,8 @@ unfoldable pub packet_json : List ℕ → PacketAt → List (List ℕ) → List 
 packet_json file packet members =
     json_object
     (moment_member (codes "moment") packet.moment.nanos
-    ∷ text_member (codes "file") file
-    ∷ number_member (codes "offset") packet.at
+    ∷ json_member (codes "file") (json_string file)
+    ∷ json_member (codes "offset") (decimal packet.at)
     ∷ members) ++ 10 ∷ []
 
 -- the same in a form: with these words, or with these members
@@ -89,14 +80,16 @@ bounds_json None = codes "null"
 bounds_json (Some span) =
     json_object (moment_member (codes "first") span.first.nanos ∷ moment_member (codes "last") span.last.nanos ∷ [])
 
+-- the time spans of a capture, and its snapshot length
+unfoldable pub span_members : Spanned → List (List ℕ)
+span_members spanned =
+    json_member (codes "packets") (bounds_json spanned.reading.span)
+    ∷ json_member (codes "hearings") (bounds_json spanned.hearings)
+    ∷ json_member (codes "snap") (decimal spanned.reading.snap_length) ∷ []
+
 -- the line of a time span
 unfoldable pub span_json : List ℕ → Spanned → List ℕ
-span_json file spanned =
-    json_object
-    (text_member (codes "file") file
-    ∷ value_member (codes "packets") (bounds_json spanned.reading.span)
-    ∷ value_member (codes "hearings") (bounds_json spanned.hearings)
-    ∷ number_member (codes "snap") spanned.reading.snap_length ∷ []) ++ 10 ∷ []
+span_json file spanned = json_object (json_member (codes "file") (json_string file) ∷ span_members spanned) ++ 10 ∷ []
 
 -- the same in a form
 abbrev pub span_text : Form → List ℕ → Spanned → List ℕ

@@ -1,9 +1,9 @@
 -- What each of several files is, as JSON (RFC 8259): one object a line, which says what the lines of words say.
-use Rattle.std.specs.Prelude.{◌≡◌, ℕ, ◌==◌, Bool, if◌then◌else◌, List, [], ◌∷◌, ◌++◌, length, Option, Some, None, codes}
+use Rattle.std.specs.Prelude.{◌≡◌, ℕ, ◌==◌, Bool, if◌then◌else◌, List, [], ◌∷◌, ◌++◌, length, Option, Some, None, codes, decimal}
 use Rattle.std.specs.List.{flat_map}
 use Rattle.mdns_browse.specs.declared.report.Form.{Form}
 use Rattle.mdns_browse.specs.declared.report.Form.TheVariants.{Lines, Json, Pretty}
-use Rattle.mdns_browse.specs.Json.{first_after, json_array, json_object, parted}
+use Rattle.mdns_browse.specs.Json.{first_after, json_array, json_member, json_object, json_string, parted}
 use Rattle.mdns_capture.specs.Text.{ending_text}
 use Rattle.mdns_survey.specs.declared.reading.Reading.{Reading}
 use Rattle.mdns_survey.specs.declared.reading.Span.{Span}
@@ -16,7 +16,7 @@ use Rattle.mdns_trace.specs.declared.verdict.Verdict.TheVariants.{Capture, Other
 use Rattle.mdns_trace.specs.Flaw.{cure_text, link_name}
 use Rattle.mdns_trace.specs.declared.loss.Loss.{Loss}
 use Rattle.mdns_trace.specs.Loss.{cure_of, losses, lost_to, words_of}
-use Rattle.mdns_trace.specs.TraceJson.{moment_member, number_member, text_member, value_member}
+use Rattle.mdns_trace.specs.TraceJson.{moment_member}
 use Rattle.mdns_trace.specs.Verdict.{early_cure, is_silent, silent_cure, unopened_cure, unread_cure, verdict_text}
 
 -- WHAT A FILE IS
@@ -41,26 +41,28 @@ is_word Unopened = codes "unopened"
 
 -- the name of a link type, where it has one
 unfoldable pub name_members : List ℕ → List (List ℕ)
-name_members name = if length name == 0 then [] else text_member (codes "link_name") name ∷ []
+name_members name = if length name == 0 then [] else json_member (codes "link_name") (json_string name) ∷ []
 
 -- the number and the name of a link type; nothing of a file that isn't a capture for another reason
 abbrev pub link_members : Flaw → List (List ℕ)
-link_members (flaw.Link number) = number_member (codes "link_type") number ∷ name_members (link_name number)
+link_members (flaw.Link number) = json_member (codes "link_type") (decimal number) ∷ name_members (link_name number)
 link_members other = []
 
 -- the same, and what to do about a file that isn't a capture
 unfoldable pub flaw_members : Flaw → List (List ℕ)
-flaw_members flaw = link_members flaw ++ text_member (codes "do") (cure_text flaw) ∷ []
+flaw_members flaw = link_members flaw ++ json_member (codes "do") (json_string (cure_text flaw)) ∷ []
 
 -- WHAT A CAPTURE LOST
 
--- the packets that were lost to it, and what to do about it; nothing where there are none
+-- so many packets that were lost to it, and what to do about it
+unfoldable pub loss_members : ℕ → Loss → List (List ℕ)
+loss_members count loss =
+    json_member (codes "cause") (json_string (words_of loss)) ∷ json_member (codes "packets") (decimal count)
+    ∷ json_member (codes "do") (json_string (cure_of loss)) ∷ []
+
+-- the object of them; nothing where there are none
 unfoldable pub loss_objects : Reading → Loss → List (List ℕ)
-loss_objects reading loss =
-    if lost_to loss reading == 0 then []
-    else json_object (text_member (codes "cause") (words_of loss)
-    ∷ number_member (codes "packets") (lost_to loss reading)
-    ∷ text_member (codes "do") (cure_of loss) ∷ []) ∷ []
+loss_objects reading loss = if lost_to loss reading == 0 then [] else json_object (loss_members (lost_to loss reading) loss) ∷ []
 
 -- an array of them
 unfoldable pub lost_json : Reading → List ℕ
@@ -75,7 +77,7 @@ pub record AddsObjects (first : Bool) (old : List ℕ) (objects : List (List ℕ
 
 -- what to do about a capture that has packets, but no hearings
 unfoldable pub silent_members : Tally → List (List ℕ)
-silent_members tally = if is_silent tally then text_member (codes "do") silent_cure ∷ [] else []
+silent_members tally = if is_silent tally then json_member (codes "do") (json_string silent_cure) ∷ [] else []
 
 -- the same cure after another one
 unfoldable pub silent_after : Tally → List ℕ
@@ -85,7 +87,7 @@ silent_after tally = if is_silent tally then codes "; " ++ silent_cure else []
 unfoldable pub do_members : Reading → List (List ℕ)
 do_members reading =
     if is_whole reading.summary.ending then silent_members reading.summary.tally
-    else text_member (codes "do") (early_cure reading.span ++ silent_after reading.summary.tally) ∷ []
+    else json_member (codes "do") (json_string (early_cure reading.span ++ silent_after reading.summary.tally)) ∷ []
 
 -- the earliest and the latest moment of its packets, where it has packets
 unfoldable pub bounds_members : Option Span → List (List ℕ)
@@ -95,18 +97,18 @@ bounds_members (Some span) = moment_member (codes "first") span.first.nanos ∷ 
 -- its counts
 unfoldable pub tally_members : Tally → List (List ℕ)
 tally_members tally =
-    number_member (codes "packets") tally.packets
-    ∷ number_member (codes "skipped") tally.skipped
-    ∷ number_member (codes "refused") tally.refused
-    ∷ number_member (codes "messages") tally.messages
-    ∷ number_member (codes "hearings") tally.hearings ∷ []
+    json_member (codes "packets") (decimal tally.packets)
+    ∷ json_member (codes "skipped") (decimal tally.skipped)
+    ∷ json_member (codes "refused") (decimal tally.refused)
+    ∷ json_member (codes "messages") (decimal tally.messages)
+    ∷ json_member (codes "hearings") (decimal tally.hearings) ∷ []
 
 -- these, how it ends, and what it lost
 unfoldable pub capture_members : Reading → List (List ℕ)
 capture_members reading =
     do_members reading ++ bounds_members reading.span ++ tally_members reading.summary.tally
-    ++ text_member (codes "ending") (ending_text reading.summary.ending)
-    ∷ value_member (codes "lost") (lost_json reading) ∷ []
+    ++ json_member (codes "ending") (json_string (ending_text reading.summary.ending))
+    ∷ json_member (codes "lost") (lost_json reading) ∷ []
 
 -- THE LINE
 
@@ -114,14 +116,16 @@ capture_members reading =
 abbrev pub verdict_members : Verdict → List (List ℕ)
 verdict_members (Capture reading) = capture_members reading
 verdict_members (Other flaw) = flaw_members flaw
-verdict_members Unread = text_member (codes "do") unread_cure ∷ []
-verdict_members Unopened = text_member (codes "do") unopened_cure ∷ []
+verdict_members Unread = json_member (codes "do") (json_string unread_cure) ∷ []
+verdict_members Unopened = json_member (codes "do") (json_string unopened_cure) ∷ []
 
 -- the line of a file of that name
 unfoldable pub verdict_json : List ℕ → Verdict → List ℕ
 verdict_json file verdict =
     json_object
-    (text_member (codes "file") file ∷ text_member (codes "is") (is_word verdict) ∷ verdict_members verdict) ++ 10 ∷ []
+    (json_member (codes "file") (json_string file)
+    ∷ json_member (codes "is") (json_string (is_word verdict))
+    ∷ verdict_members verdict) ++ 10 ∷ []
 
 -- the lines of a file of that name in a form
 abbrev pub file_text : Form → List ℕ → Verdict → List ℕ

@@ -4,9 +4,8 @@ ghost use Rattle.std.specs.Prelude.{◌≡◌, ℕ, IfErr, IfOk, List, length, m
 ghost use Rattle.mdns_trace.specs.EachFile.{NamesFile, StopsAmong, WritesEach};
 ghost use Rattle.mdns_trace.specs.Inquiry.{StopsTrace, WritesTrace};
 
-use crate::inquiry::Trace;
+use crate::inquiry::Tracer;
 use crate::trace::{TraceFault, write_trace};
-use mdns_browse::about::Subject;
 use mdns_capture::{Sink, Source};
 use mdns_survey::summary::Summary;
 use std::alloc::Global;
@@ -81,13 +80,6 @@ pub(crate) fn write_each<R: Drop, W, S: Scribe<R, W>>(
     Ok(all)
 }
 
-// Writes the lines of captures.
-#[derive(Clone, Copy)]
-struct Tracer<'a> {
-    trace: Trace,
-    about: &'a [Subject],
-}
-
 impl<R: Source + Drop, W: Sink> Scribe<R, W> for Tracer<'_> {
     ghost use Rattle.mdns_trace.specs.Inquiry.{StopsTrace, WritesTrace};
 
@@ -109,25 +101,24 @@ impl<R: Source + Drop, W: Sink> Scribe<R, W> for Tracer<'_> {
 }
 
 /// Writes to `out` the lines of each capture in order, as `write_trace` does for one, and gives one summary for each.
-/// `names` are the files' names; `about` is what the records are about whose hearings are written.
+/// `names` are the files' names.
 ///
 /// # Errors
 ///
 /// `File` names the capture at which the writing broke off. The lines of those before it have gone out.
 pub fn write_traces<R: Source + Drop, W: Sink>(
     alloc: Global,
-    trace: Trace,
-    about: &[Subject],
+    tracer: Tracer<'_>,
     names: &[String],
     readers: Vec<R>,
     out: &mut W,
 ) -> Result<Vec<Summary>, FilesFault>
     requires { length names.now ≡ length readers.items }
-    ensures written { IfOk result (λ summaries. WritesEach (WritesTrace R.Source W.Sink trace about.now) out.old
+    ensures written { IfOk result (λ summaries. WritesEach (WritesTrace R.Source W.Sink tracer.entry.trace tracer.entry.about.now) out.old
         (map string_bytes names.now) readers.items out.new summaries.items) }
-    ensures stops { IfErr result (StopsAmong (WritesTrace R.Source W.Sink trace about.now)
-        (StopsTrace R.Source W.Sink trace about.now) (map string_bytes names.now) readers.items out.old out.new) }
+    ensures stops { IfErr result (StopsAmong (WritesTrace R.Source W.Sink tracer.entry.trace tracer.entry.about.now)
+        (StopsTrace R.Source W.Sink tracer.entry.trace tracer.entry.about.now) (map string_bytes names.now) readers.items out.old out.new) }
     ensures within { IfErr result (NamesFile (length names.now)) }
 {
-    write_each(alloc, &Tracer { trace, about }, names, readers, out)
+    write_each(alloc, &tracer, names, readers, out)
 }

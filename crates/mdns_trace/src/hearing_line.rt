@@ -7,9 +7,10 @@ ghost use Rattle.mdns_message.specs.Borrowed.{hearing_lent};
 ghost use Rattle.mdns_trace.specs.HearingLine.{address_text, hearing_line, life_text};
 ghost use Rattle.mdns_trace.specs.TraceJson.{hearing_text};
 
+use crate::inquiry::Wanted;
 use crate::trace_columns::push_hearing_row;
 use crate::trace_json::push_hearing_json;
-use mdns_browse::about::{Subject, keeps_record};
+use mdns_browse::about::keeps_record;
 use mdns_browse::format::{push_ipv4, push_ipv6, push_nanos, push_resource};
 use mdns_browse::report::Form;
 use mdns_capture::SourceAddress;
@@ -72,22 +73,20 @@ pub fn push_hearing_line(
 /// Appends the line of each hearing of a message whose record is about one of the subjects, in order; of each hearing
 /// where there are no subjects.
 pub(crate) fn push_hearing_lines(
-    alloc: Global,
+    wanted: Wanted<'_>,
     form: Form,
-    about: &[Subject],
     to: &mut String,
-    file: &str,
     source: &SourceAddress,
     message: &MessageReader,
 ) -> Result<(), Want>
     ensures { OnOk result (string_bytes to.new
-        ≡ string_bytes to.old ++ flat_map (hearing_text form file.now source.now)
-        (filter (λ hearing. keeps_record about.now hearing.heard) message.now)) }
+        ≡ string_bytes to.old ++ flat_map (hearing_text form wanted.entry.file.now source.now)
+        (filter (λ hearing. keeps_record wanted.entry.about.now hearing.heard) message.now)) }
 {
-    let mut scratch = String::new(alloc);
+    let mut scratch = String::new(wanted.alloc);
     for hearing in message {
-        if keeps_record(about, &hearing.heard, &mut scratch)? {
-            push_hearing(alloc, form, to, file, source, &hearing)?;
+        if keeps_record(wanted.about, &hearing.heard, &mut scratch)? {
+            push_hearing(wanted.alloc, form, to, wanted.file, source, &hearing)?;
         }
     }
     Ok(())

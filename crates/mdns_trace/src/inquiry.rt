@@ -1,6 +1,8 @@
 //! What is written of captures and other files.
 
+use mdns_browse::about::Subject;
 use mdns_browse::report::Form;
+use std::alloc::Global;
 
 /// What is written of captures, and in which form: one JSON object a line (RFC 8259), or else lines of words.
 #[derive(Clone, Copy)]
@@ -11,6 +13,23 @@ pub enum Trace {
     Packets(Form),
     /// A line for each file: the time span of its packets and of its hearings, and its snapshot length.
     Spans(Form),
+}
+
+/// What is written of captures, and of hearings what the records are about: one of the subjects, or anything where there are
+/// none.
+#[derive(Clone, Copy)]
+pub struct Tracer<'a> {
+    pub trace: Trace,
+    pub about: &'a [Subject],
+}
+
+/// What is written of one capture, whose file's name is written as it is.
+#[derive(Clone, Copy)]
+pub(crate) struct Wanted<'a> {
+    pub(crate) alloc: Global,
+    pub(crate) trace: Trace,
+    pub(crate) about: &'a [Subject],
+    pub(crate) file: &'a str,
 }
 
 /// What is asked of files.

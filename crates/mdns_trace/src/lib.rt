@@ -22,7 +22,7 @@ pub mod verdicts;
 pub use each_file::{FilesFault, write_traces};
 pub use flaw::Flaw;
 pub use hearing_line::push_hearing_line;
-pub use inquiry::{Inquiry, Trace};
+pub use inquiry::{Inquiry, Trace, Tracer};
 pub use trace::{TraceFault, write_trace};
 pub use trace_answer::answer_traces;
 pub use verdict::Verdict;

@@ -14,7 +14,7 @@ ghost use Rattle.mdns_trace.specs.Inquiry.{StopsTrace, WritesTrace};
 ghost use Rattle.mdns_trace.specs.Trace.{AddsLines, IsPacketLine, LeavesLines, TracesCapture, trace_fault};
 
 use crate::hearing_line::push_hearing_lines;
-use crate::inquiry::Trace;
+use crate::inquiry::{Trace, Wanted};
 use crate::packet_line::push_packet;
 use crate::span_line::write_span;
 use mdns_browse::about::Subject;
@@ -93,19 +93,18 @@ fn write_lines<R: Source + Drop, W: Sink>(
         Err(Want) => return Err(TraceFault::Listen(ListenFault::Begin(BeginFault::Memory))),
     };
     let mut lines = Lines {
-        alloc,
-        trace,
-        about,
-        file,
+        wanted: Wanted {
+            alloc,
+            trace,
+            about,
+            file: file.as_str(),
+        },
         text: String::new(alloc),
         out,
     };
     let printed = print_lines(alloc, reader, &mut lines);
     let Lines {
-        alloc: _alloc,
-        trace: _trace,
-        about: _about,
-        file: _file,
+        wanted: _wanted,
         text: _text,
         out: _out,
     } = lines;
@@ -121,10 +120,10 @@ fn print_lines<R: Source + Drop, W: Sink>(
     requires empty { string_bytes lines.old.text ≡ [] }
     ensures same { lines.new.out.ghost_name ≡ lines.old.out.ghost_name }
     ensures written { IfOk result (WritesLines R.Source W.Sink
-        (TracesCapture lines.old.trace lines.old.about.now (string_bytes lines.old.file)) reader
+        (TracesCapture lines.old.wanted.trace lines.old.wanted.about.now lines.old.wanted.file.now) reader
         lines.old.out.now lines.new.out.now) }
     ensures stops { IfErr result (Stops R.Source W.Sink
-        (LeavesLines W.Sink lines.old.trace lines.old.about.now (string_bytes lines.old.file) (R.remaining reader))
+        (LeavesLines W.Sink lines.old.wanted.trace lines.old.wanted.about.now lines.old.wanted.file.now (R.remaining reader))
         reader lines.old.out.now lines.new.out.now) }
 {
     let summary = match read_capture(alloc, reader, lines) {
@@ -150,12 +149,7 @@ fn trace_fault(fault: ReadingFault<TraceFault>) -> TraceFault
 // The lines of packets, on their way to a writer.
 #[derive(Drop)]
 struct Lines<'a, W: Sink> {
-    alloc: Global,
-    trace: Trace,
-    // What the records are about whose hearings are written.
-    about: &'a [Subject],
-    // The file's name, as one word.
-    file: String,
+    wanted: Wanted<'a>,
     // The lines that wait until a piece is full.
     text: String,
     out: &'a mut W,
@@ -180,15 +174,7 @@ impl<W: Sink> Consumer for Lines<'_, W> {
             Ok(()) => {}
             Err(Broken) => return Err(TraceFault::Write),
         }
-        match print_packet(
-            self.alloc,
-            self.trace,
-            self.about,
-            found,
-            packet,
-            self.file.as_str(),
-            &mut self.text,
-        ) {
+        match print_packet(self.wanted, found, packet, &mut self.text) {
             Ok(()) => Ok(()),
             Err(Want) => Err(TraceFault::Listen(ListenFault::Memory)),
         }
@@ -206,21 +192,18 @@ pub(crate) fn word_of(alloc: Global, name: &str) -> Result<String, Want>
 
 // Appends the lines of a packet.
 fn print_packet(
-    alloc: Global,
-    trace: Trace,
-    about: &[Subject],
+    wanted: Wanted<'_>,
     found: &Found,
     packet: &Packet<'_>,
-    file: &str,
     text: &mut String,
 ) -> Result<(), Want>
     requires { SaysWhy packet.now.frame.now found.now }
-    ensures { OnOk result (AddsLines trace about.now file.now (packet_lent packet.now) (outcome_of found.now)
-        (string_bytes text.old) (string_bytes text.new)) }
+    ensures { OnOk result (AddsLines wanted.entry.trace wanted.entry.about.now wanted.entry.file.now (packet_lent packet.now)
+        (outcome_of found.now) (string_bytes text.old) (string_bytes text.new)) }
 {
-    match trace {
-        Trace::Hearings(form) => print_hearings(alloc, form, about, found, packet, file, text),
-        Trace::Packets(form) => print_why(alloc, form, found, packet, file, text),
+    match wanted.trace {
+        Trace::Hearings(form) => print_hearings(wanted, form, found, packet, text),
+        Trace::Packets(form) => print_why(wanted, form, found, packet, text),
         // The line of a span is written by `write_span`.
         Trace::Spans(_) => Ok(()),
     }
@@ -228,47 +211,47 @@ fn print_packet(
 
 // Appends the lines of the hearings of a packet.
 fn print_hearings(
-    alloc: Global,
+    wanted: Wanted<'_>,
     form: Form,
-    about: &[Subject],
     found: &Found,
     packet: &Packet<'_>,
-    file: &str,
     text: &mut String,
 ) -> Result<(), Want>
     requires { SaysWhy packet.now.frame.now found.now }
-    ensures { OnOk result (AddsLines (Hearings form) about.now file.now (packet_lent packet.now) (outcome_of found.now)
-        (string_bytes text.old) (string_bytes text.new)) }
+    ensures { OnOk result (AddsLines (Hearings form) wanted.entry.about.now wanted.entry.file.now (packet_lent packet.now)
+        (outcome_of found.now) (string_bytes text.old) (string_bytes text.new)) }
 {
     match found {
-        Found::Heard { source, message } => push_hearing_lines(
-            alloc, form, about, text, file, source, message,
-        ),
+        Found::Heard { source, message } => push_hearing_lines(wanted, form, text, source, message),
         Found::Skipped(_) | Found::Refused(_) => Ok(()),
     }
 }
 
 // Appends the line of a packet, if it told nothing.
 fn print_why(
-    alloc: Global,
+    wanted: Wanted<'_>,
     form: Form,
     found: &Found,
     packet: &Packet<'_>,
-    file: &str,
     text: &mut String,
 ) -> Result<(), Want>
     requires { SaysWhy packet.now.frame.now found.now }
     ensures { OnOk result ((lines : List ℕ)
-        × IsPacketLine form file.now (packet_lent packet.now) (outcome_of found.now) lines
+        × IsPacketLine form wanted.entry.file.now (packet_lent packet.now) (outcome_of found.now) lines
         × (string_bytes text.new ≡ string_bytes text.old ++ lines)) }
 {
     match found {
         Found::Skipped(_) | Found::Refused(_) => push_packet(
-            alloc, form, text, file, packet, found,
+            wanted.alloc,
+            form,
+            text,
+            wanted.file,
+            packet,
+            found,
         ),
         Found::Heard { message, .. } => {
             if message.is_empty() {
-                push_packet(alloc, form, text, file, packet, found)
+                push_packet(wanted.alloc, form, text, wanted.file, packet, found)
             } else {
                 Ok(())
             }

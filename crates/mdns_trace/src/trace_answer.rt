@@ -5,24 +5,21 @@ ghost use Rattle.mdns_capture.specs.Output.{writing};
 ghost use Rattle.mdns_trace.specs.TraceAnswer.{IsTraceRefused, IsTraced, survey_fault};
 
 use crate::each_file::{FilesFault, write_traces};
-use crate::inquiry::Trace;
+use crate::inquiry::Tracer;
 use crate::trace::TraceFault;
-use mdns_browse::about::Subject;
 use mdns_capture::{Sink, Source};
 use mdns_survey::error_lines::{refuse, say_endings};
 use mdns_survey::status::{REFUSED, status_of};
 use mdns_survey::survey::SurveyFault;
 use std::alloc::Global;
 
-/// Writes the lines of the captures `names`, read by `readers`, to `out` as `write_traces` does, of hearings those of
-/// records about one of the subjects, and error lines to `err`. Returns the exit status: `WHOLE`, `DAMAGED` or
-/// `REFUSED` of `mdns_survey::status`.
+/// Writes the lines of the captures `names`, read by `readers`, to `out` as `write_traces` does, and error lines
+/// to `err`. Returns the exit status: `WHOLE`, `DAMAGED` or `REFUSED` of `mdns_survey::status`.
 ///
 /// After a failed write to `err` nothing more is written there; the status stays the same.
 pub fn answer_traces<R: Source + Drop, O: Sink, E: Sink>(
     alloc: Global,
-    trace: Trace,
-    about: &[Subject],
+    tracer: Tracer<'_>,
     names: &[String],
     readers: Vec<R>,
     out: &mut O,
@@ -32,12 +29,12 @@ pub fn answer_traces<R: Source + Drop, O: Sink, E: Sink>(
     ensures status { result ≤ 2 }
     // The lines of all captures were written on `out`; on `err` a line for each capture that isn't whole, or where it
     // failed a prefix of that.
-    ensures answers { result ≢ REFUSED → IsTraced R.Source O.Sink trace about.now (map string_bytes names.now)
-        readers.items out.old out.new (writing E.Sink err.old err.new) result }
-    ensures refused { result ≡ REFUSED → IsTraceRefused R.Source O.Sink trace about.now (map string_bytes names.now)
-        readers.items out.old out.new (writing E.Sink err.old err.new) }
+    ensures answers { result ≢ REFUSED → IsTraced R.Source O.Sink tracer.entry.trace tracer.entry.about.now
+        (map string_bytes names.now) readers.items out.old out.new (writing E.Sink err.old err.new) result }
+    ensures refused { result ≡ REFUSED → IsTraceRefused R.Source O.Sink tracer.entry.trace tracer.entry.about.now
+        (map string_bytes names.now) readers.items out.old out.new (writing E.Sink err.old err.new) }
 {
-    match write_traces(alloc, trace, about, names, readers, out) {
+    match write_traces(alloc, tracer, names, readers, out) {
         Ok(summaries) => {
             say_endings(alloc, "mdnswhy", names, summaries.as_slice(), err);
             status_of(summaries.as_slice())

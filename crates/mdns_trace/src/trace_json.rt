@@ -1,13 +1,12 @@
 //! Hearings, packets and time spans as JSON (RFC 8259): one object a line.
 
 ghost use Rattle.std.specs.Prelude.{◌≡◌, ◌++◌, OnOk, codes, false, string_bytes};
-ghost use Rattle.mdns_browse.specs.Json.{comma_unless, json_bool, parted};
+ghost use Rattle.mdns_browse.specs.Json.{comma_unless, json_bool, json_member, json_string, parted};
 ghost use Rattle.mdns_capture.specs.Capture.{packet_lent};
 ghost use Rattle.mdns_message.specs.Borrowed.{hearing_lent};
 ghost use Rattle.mdns_trace.specs.HearingLine.{address_text};
 ghost use Rattle.mdns_trace.specs.TraceJson.{bounds_json, found_members, hearing_json};
-ghost use Rattle.mdns_trace.specs.TraceJson.{moment_member, number_member, packet_json, span_json};
-ghost use Rattle.mdns_trace.specs.TraceJson.{status_members, text_member, value_member};
+ghost use Rattle.mdns_trace.specs.TraceJson.{moment_member, packet_json, span_json, span_members, status_members};
 
 use crate::hearing_line::push_address;
 use crate::packet_line::{fault_at, fault_words};
@@ -34,31 +33,13 @@ pub(crate) fn push_hearing_json(
 {
     to.push('{')?;
     push_moment_member(alloc, to, true, "moment", hearing.moment)?;
-    push_text(to, false, "file", file)?;
+    push_text_member(to, false, "file", file)?;
     push_source_member(alloc, to, source)?;
     push_resource_members(alloc, to, &hearing.heard)?;
-    push_number(to, "ttl", hearing.ttl as u64)?;
+    push_number_member(to, false, "ttl", hearing.ttl as u64)?;
     push_flush_member(to, hearing.flush)?;
     to.push_str("}\n")?;
     Ok(())
-}
-
-/// Appends a member that is a string.
-#[tactic(auto, unfolding(crate::specs::TraceJson::text_member))]
-pub(crate) fn push_text(to: &mut String, first: bool, name: &str, text: &str) -> Result<(), Want>
-    ensures { OnOk result (string_bytes to.new
-        ≡ string_bytes to.old ++ (comma_unless first ++ text_member name.now text.now)) }
-{
-    push_text_member(to, first, name, text)
-}
-
-/// Appends a member that is a number, after a comma.
-#[tactic(auto, unfolding(crate::specs::TraceJson::number_member))]
-pub(crate) fn push_number(to: &mut String, name: &str, number: u64) -> Result<(), Want>
-    ensures { OnOk result (string_bytes to.new
-        ≡ string_bytes to.old ++ (comma_unless false ++ number_member name.now number)) }
-{
-    push_number_member(to, false, name, number)
 }
 
 /// Appends a member that is a moment.
@@ -80,28 +61,20 @@ pub(crate) fn push_moment_member(
 
 fn push_source_member(alloc: Global, to: &mut String, source: &SourceAddress) -> Result<(), Want>
     ensures { OnOk result (string_bytes to.new ≡ string_bytes to.old
-        ++ (comma_unless false ++ text_member (codes "source") (address_text source.now))) }
+        ++ (comma_unless false ++ json_member (codes "source") (json_string (address_text source.now)))) }
 {
     let mut text = String::new(alloc);
     push_address(&mut text, source)?;
-    push_text(to, false, "source", text.as_str())
+    push_text_member(to, false, "source", text.as_str())
 }
 
-#[tactic(auto, unfolding(crate::specs::TraceJson::value_member))]
 fn push_flush_member(to: &mut String, flush: bool) -> Result<(), Want>
     ensures { OnOk result (string_bytes to.new ≡ string_bytes to.old
-        ++ (comma_unless false ++ value_member (codes "flush") (json_bool flush))) }
+        ++ (comma_unless false ++ json_member (codes "flush") (json_bool flush))) }
 {
     push_json_name(to, false, "flush")?;
-    to.push_str(bool_word(flush))?;
+    to.push_str(if flush { "true" } else { "false" })?;
     Ok(())
-}
-
-// Returns a truth value as JSON has it.
-fn bool_word(value: bool) -> &'static str
-    ensures { result.now ≡ json_bool value }
-{
-    if value { "true" } else { "false" }
 }
 
 /// Appends the object of a packet that told nothing, and ends the line.
@@ -118,8 +91,8 @@ pub(crate) fn push_packet_json(
 {
     to.push('{')?;
     push_moment_member(alloc, to, true, "moment", packet.moment)?;
-    push_text(to, false, "file", file)?;
-    push_number(to, "offset", packet.at)?;
+    push_text_member(to, false, "file", file)?;
+    push_number_member(to, false, "offset", packet.at)?;
     push_found_members(to, found)?;
     to.push_str("}\n")?;
     Ok(())
@@ -133,7 +106,7 @@ fn push_found_members(to: &mut String, found: &Found) -> Result<(), Want>
         Found::Skipped(why) => push_status(to, "skipped", why.words()),
         Found::Refused(fault) => {
             push_status(to, "refused", fault_words(fault))?;
-            push_number(to, "at", fault_at(fault) as u64)
+            push_number_member(to, false, "at", fault_at(fault) as u64)
         }
         Found::Heard { .. } => push_status(to, "heard", "no listed record"),
     }
@@ -144,8 +117,8 @@ fn push_status(to: &mut String, status: &str, cause: &str) -> Result<(), Want>
     ensures { OnOk result (string_bytes to.new
         ≡ string_bytes to.old ++ parted false (status_members status.now cause.now)) }
 {
-    push_text(to, false, "status", status)?;
-    push_text(to, false, "cause", cause)
+    push_text_member(to, false, "status", status)?;
+    push_text_member(to, false, "cause", cause)
 }
 
 /// Appends the object of a time span, and ends the line.
@@ -159,15 +132,21 @@ pub(crate) fn push_span_json(
     ensures { OnOk result (string_bytes to.new ≡ string_bytes to.old ++ span_json file.now spanned.now) }
 {
     to.push('{')?;
-    push_text(to, true, "file", file)?;
-    push_bounds_member(alloc, to, "packets", spanned.reading.span)?;
-    push_bounds_member(alloc, to, "hearings", spanned.hearings)?;
-    push_number(to, "snap", spanned.reading.snap_length as u64)?;
+    push_text_member(to, true, "file", file)?;
+    push_span_members(alloc, to, spanned)?;
     to.push_str("}\n")?;
     Ok(())
 }
 
-#[tactic(auto, unfolding(crate::specs::TraceJson::value_member))]
+#[tactic(auto, unfolding(crate::specs::TraceJson::span_members, mdns_browse::specs::Json::parted))]
+fn push_span_members(alloc: Global, to: &mut String, spanned: &Spanned) -> Result<(), Want>
+    ensures { OnOk result (string_bytes to.new ≡ string_bytes to.old ++ parted false (span_members spanned.now)) }
+{
+    push_bounds_member(alloc, to, "packets", spanned.reading.span)?;
+    push_bounds_member(alloc, to, "hearings", spanned.hearings)?;
+    push_number_member(to, false, "snap", spanned.reading.snap_length as u64)
+}
+
 fn push_bounds_member(
     alloc: Global,
     to: &mut String,
@@ -175,7 +154,7 @@ fn push_bounds_member(
     span: Option<Span>,
 ) -> Result<(), Want>
     ensures { OnOk result (string_bytes to.new
-        ≡ string_bytes to.old ++ (comma_unless false ++ value_member name.now (bounds_json span))) }
+        ≡ string_bytes to.old ++ (comma_unless false ++ json_member name.now (bounds_json span))) }
 {
     push_json_name(to, false, name)?;
     push_bounds_json(alloc, to, span)

@@ -1,21 +1,20 @@
 //! What each of several files is, as JSON (RFC 8259): one object a line.
 
-ghost use Rattle.std.specs.Prelude.{◌≡◌, ◌∷◌, ◌++◌, [], IfOk, OnOk, codes, false, string_bytes, true};
+ghost use Rattle.std.specs.Prelude.{◌≡◌, ◌∷◌, ◌++◌, [], if◌then◌else◌, IfOk, OnOk, codes, false, string_bytes, true};
 ghost use Rattle.std.specs.List.{flat_map};
-ghost use Rattle.mdns_browse.specs.Json.{comma_unless, parted};
+ghost use Rattle.mdns_browse.specs.Json.{comma_unless, json_member, json_string, parted};
 ghost use Rattle.mdns_capture.specs.Text.{ending_text};
-ghost use Rattle.mdns_trace.specs.TraceJson.{text_member, value_member};
 ghost use Rattle.mdns_trace.specs.VerdictJson.{AddsObjects, bounds_members, capture_members, do_members, flaw_members};
-ghost use Rattle.mdns_trace.specs.VerdictJson.{is_word, kind_word, link_members, loss_objects, lost_json, name_members};
+ghost use Rattle.mdns_trace.specs.VerdictJson.{is_word, kind_word, link_members, loss_members, loss_objects, lost_json, name_members};
 ghost use Rattle.mdns_trace.specs.VerdictJson.{silent_after, silent_members, tally_members, verdict_json, verdict_members};
 
 use crate::flaw::{Flaw, cure_words, link_name};
 use crate::loss::{LOSSES, Loss};
-use crate::trace_json::{push_moment_member, push_number, push_text};
+use crate::trace_json::push_moment_member;
 use crate::verdict::{
     SILENT_CURE, UNOPENED_CURE, UNREAD_CURE, Verdict, is_silent, is_whole, push_early_cure,
 };
-use mdns_browse::json::push_json_name;
+use mdns_browse::json::{push_json_name, push_number_member, push_text_member};
 use mdns_capture::Ending;
 use mdns_message::Want;
 use mdns_survey::reading::{Reading, Span};
@@ -33,8 +32,8 @@ pub(crate) fn push_verdict_json(
     ensures { OnOk result (string_bytes to.new ≡ string_bytes to.old ++ verdict_json file.now verdict.now) }
 {
     to.push('{')?;
-    push_text(to, true, "file", file)?;
-    push_text(to, false, "is", is_word(verdict))?;
+    push_text_member(to, true, "file", file)?;
+    push_text_member(to, false, "is", is_word(verdict))?;
     push_verdict_members(alloc, to, verdict)?;
     to.push_str("}\n")?;
     Ok(())
@@ -74,24 +73,28 @@ fn push_verdict_members(alloc: Global, to: &mut String, verdict: &Verdict) -> Re
     match *verdict {
         Verdict::Capture(reading) => push_capture_members(alloc, to, &reading),
         Verdict::Other(flaw) => push_flaw_members(to, flaw),
-        Verdict::Unread => push_do(to, UNREAD_CURE),
-        Verdict::Unopened => push_do(to, UNOPENED_CURE),
+        Verdict::Unread => push_do(to, true, UNREAD_CURE),
+        Verdict::Unopened => push_do(to, true, UNOPENED_CURE),
     }
 }
 
+// Appends what to do, if there is something to do.
 #[tactic(auto, unfolding(mdns_browse::specs::Json::parted))]
-fn push_do(to: &mut String, cure: &str) -> Result<(), Want>
-    ensures { OnOk result (string_bytes to.new
-        ≡ string_bytes to.old ++ parted false (text_member (codes "do") cure.now ∷ [])) }
+fn push_do(to: &mut String, is_needed: bool, cure: &str) -> Result<(), Want>
+    ensures { OnOk result (string_bytes to.new ≡ string_bytes to.old
+        ++ parted false (if is_needed then json_member (codes "do") (json_string cure.now) ∷ [] else [])) }
 {
-    push_text(to, false, "do", cure)
+    if !is_needed {
+        return Ok(());
+    }
+    push_text_member(to, false, "do", cure)
 }
 
 fn push_flaw_members(to: &mut String, flaw: Flaw) -> Result<(), Want>
     ensures { OnOk result (string_bytes to.new ≡ string_bytes to.old ++ parted false (flaw_members flaw)) }
 {
     push_link_members(to, flaw)?;
-    push_text(to, false, "do", cure_words(flaw))
+    push_text_member(to, false, "do", cure_words(flaw))
 }
 
 // Appends the number and the name of a link type; nothing of a file that isn't a capture for another reason.
@@ -101,7 +104,7 @@ fn push_link_members(to: &mut String, flaw: Flaw) -> Result<(), Want>
 {
     match flaw {
         Flaw::Link { number } => {
-            push_number(to, "link_type", number as u64)?;
+            push_number_member(to, false, "link_type", number as u64)?;
             push_link_name(to, link_name(number))
         }
         _ => Ok(()),
@@ -115,7 +118,7 @@ fn push_link_name(to: &mut String, name: &str) -> Result<(), Want>
     if name.is_empty() {
         return Ok(());
     }
-    push_text(to, false, "link_name", name)
+    push_text_member(to, false, "link_name", name)
 }
 
 fn push_capture_members(alloc: Global, to: &mut String, reading: &Reading) -> Result<(), Want>
@@ -141,7 +144,7 @@ fn push_do_members(alloc: Global, to: &mut String, reading: &Reading) -> Result<
     let mut cure = String::new(alloc);
     push_early_cure(&mut cure, reading.span)?;
     push_silent_after(&mut cure, &summary.tally)?;
-    push_text(to, false, "do", cure.as_str())
+    push_text_member(to, false, "do", cure.as_str())
 }
 
 #[tactic(auto, unfolding(crate::specs::VerdictJson::silent_after))]
@@ -154,14 +157,11 @@ fn push_silent_after(to: &mut String, tally: &Tally) -> Result<(), Want>
     Ok(())
 }
 
-#[tactic(auto, unfolding(crate::specs::VerdictJson::silent_members, mdns_browse::specs::Json::parted))]
+#[tactic(auto, unfolding(crate::specs::VerdictJson::silent_members))]
 fn push_silent_members(to: &mut String, tally: &Tally) -> Result<(), Want>
     ensures { OnOk result (string_bytes to.new ≡ string_bytes to.old ++ parted false (silent_members tally.now)) }
 {
-    if is_silent(tally) {
-        push_text(to, false, "do", SILENT_CURE)?;
-    }
-    Ok(())
+    push_do(to, is_silent(tally), SILENT_CURE)
 }
 
 #[tactic(auto, unfolding(crate::specs::VerdictJson::bounds_members, mdns_browse::specs::Json::parted))]
@@ -179,26 +179,25 @@ fn push_bounds_members(alloc: Global, to: &mut String, span: Option<Span>) -> Re
 fn push_tally_members(to: &mut String, tally: &Tally) -> Result<(), Want>
     ensures { OnOk result (string_bytes to.new ≡ string_bytes to.old ++ parted false (tally_members tally.now)) }
 {
-    push_number(to, "packets", tally.packets as u64)?;
-    push_number(to, "skipped", tally.skipped as u64)?;
-    push_number(to, "refused", tally.refused as u64)?;
-    push_number(to, "messages", tally.messages as u64)?;
-    push_number(to, "hearings", tally.hearings)
+    push_number_member(to, false, "packets", tally.packets as u64)?;
+    push_number_member(to, false, "skipped", tally.skipped as u64)?;
+    push_number_member(to, false, "refused", tally.refused as u64)?;
+    push_number_member(to, false, "messages", tally.messages as u64)?;
+    push_number_member(to, false, "hearings", tally.hearings)
 }
 
 fn push_ending_member(alloc: Global, to: &mut String, ending: Ending) -> Result<(), Want>
     ensures { OnOk result (string_bytes to.new ≡ string_bytes to.old
-        ++ (comma_unless false ++ text_member (codes "ending") (ending_text ending))) }
+        ++ (comma_unless false ++ json_member (codes "ending") (json_string (ending_text ending)))) }
 {
     let mut text = String::new(alloc);
     write!(text, "{ending}")?;
-    push_text(to, false, "ending", text.as_str())
+    push_text_member(to, false, "ending", text.as_str())
 }
 
-#[tactic(auto, unfolding(crate::specs::TraceJson::value_member))]
 fn push_lost_member(to: &mut String, reading: &Reading) -> Result<(), Want>
     ensures { OnOk result (string_bytes to.new ≡ string_bytes to.old
-        ++ (comma_unless false ++ value_member (codes "lost") (lost_json reading.now))) }
+        ++ (comma_unless false ++ json_member (codes "lost") (lost_json reading.now))) }
 {
     push_json_name(to, false, "lost")?;
     push_lost_json(to, reading)
@@ -244,9 +243,16 @@ fn push_loss_object(
         to.push(',')?;
     }
     to.push('{')?;
-    push_text(to, true, "cause", loss.words())?;
-    push_number(to, "packets", count as u64)?;
-    push_text(to, false, "do", loss.cure())?;
+    push_loss_members(to, count, loss)?;
     to.push('}')?;
     Ok(false)
+}
+
+#[tactic(auto, unfolding(crate::specs::VerdictJson::loss_members, mdns_browse::specs::Json::parted))]
+fn push_loss_members(to: &mut String, count: u32, loss: Loss) -> Result<(), Want>
+    ensures { OnOk result (string_bytes to.new ≡ string_bytes to.old ++ parted true (loss_members count loss)) }
+{
+    push_text_member(to, true, "cause", loss.words())?;
+    push_number_member(to, false, "packets", count as u64)?;
+    push_text_member(to, false, "do", loss.cure())
 }

@@ -13,7 +13,7 @@ use mdns_message::Want;
 use mdns_survey::program_lines::open_line_of;
 use mdns_survey::request::Subjects;
 use mdns_survey::status::REFUSED;
-use mdns_trace::inquiry::{Inquiry, Trace};
+use mdns_trace::inquiry::{Inquiry, Trace, Tracer};
 use mdns_trace::trace_answer::answer_traces;
 use mdns_trace::verdicts::answer_files;
 use std::process::ExitCode;
@@ -55,8 +55,7 @@ fn trace_files(rt: &HostRuntime, trace: Trace, about: &[Subject], names: &[Strin
     match open_files(rt, names) {
         Ok(readers) => answer_traces(
             rt.alloc(),
-            trace,
-            about,
+            Tracer { trace, about },
             names,
             readers,
             &mut Through(rt.stdout()),

@@ -8,7 +8,7 @@ use mdns_page::page::Page;
 use mdns_survey::answer::{answer_request, answer_with};
 use mdns_survey::status::REFUSED;
 use mdns_survey::{AsOf, LivesQuery, Query, Request, Subjects, Which};
-use mdns_trace::{Trace, answer_files, answer_traces};
+use mdns_trace::{Trace, Tracer, answer_files, answer_traces};
 use std::alloc::Global;
 use test_values::streams::{SlowReader, SlowWriter, slow_writer};
 
@@ -80,7 +80,14 @@ fn status_of(
     }
     match run {
         Run::Files(form) => files_status(alloc, form, names, readers, out, err),
-        Run::Trace(trace) => Some(answer_traces(alloc, trace, &[], names, readers, out, err)),
+        Run::Trace(trace) => Some(answer_traces(
+            alloc,
+            Tracer { trace, about: &[] },
+            names,
+            readers,
+            out,
+            err,
+        )),
         Run::Page => {
             let page = page_of(alloc, names);
             Some(answer_with(page, true, names, readers, out, err))

@@ -9,6 +9,8 @@ use Rattle.mdns_trace.proofs.hearing_line.push_hearing_lines.Given as goal
 abbrev pub invariant-loop-hearing : goal.invariant-loop-hearing
 invariant-loop-hearing l =
     string_bytes l.to
-    ++ flat_map (hearing_text l.form l.file l.source) (filter (λ hearing. keeps_record l.about hearing.heard) l.hearing-iterator)
+    ++ flat_map (hearing_text l.form l.wanted.file.now l.source)
+    (filter (λ hearing. keeps_record l.wanted.about.now hearing.heard) l.hearing-iterator)
     ≡ string_bytes l.initial.to
-    ++ flat_map (hearing_text l.form l.file l.source) (filter (λ hearing. keeps_record l.about hearing.heard) l.message)
+    ++ flat_map (hearing_text l.form l.wanted.file.now l.source)
+    (filter (λ hearing. keeps_record l.wanted.about.now hearing.heard) l.message)

@@ -6,5 +6,5 @@ pub returns : goal.returns
 unfolding hearing_json lib.Utf8.encode
 returns c =
     object-after _ _ _ _ _ _ _ _ _ _ _ _ _ _ _ c.in_ok-push.ensures.bytes c.in_ok-push_moment_member.ensures
-    c.in_ok-push_text.ensures c.in_ok-push_source_member.ensures c.in_ok-push_resource_members.ensures
-    c.in_ok-push_number.ensures c.in_ok-push_flush_member.ensures c.in_ok-push_str.ensures.bytes
+    c.in_ok-push_text_member.ensures c.in_ok-push_source_member.ensures c.in_ok-push_resource_members.ensures
+    c.in_ok-push_number_member.ensures c.in_ok-push_flush_member.ensures c.in_ok-push_str.ensures.bytes

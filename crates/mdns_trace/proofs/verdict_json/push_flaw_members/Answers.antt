@@ -6,5 +6,5 @@ use Rattle.mdns_trace.proofs.verdict_json.push_flaw_members.Goals as goal
 pub returns : goal.returns
 unfolding flaw_members
 returns c =
-    IfOk-weaker c.push_text.result _ _
-    (λ _ written. one-after _ _ _ _ _ c.in_ok-push_link_members.ensures (rw c.cure_words.ensures at written)) c.push_text.ensures
+    IfOk-weaker c.push_text_member.result _ _
+    (λ _ written. one-after _ _ _ _ _ c.in_ok-push_link_members.ensures (rw c.cure_words.ensures at written)) c.push_text_member.ensures

@@ -1,10 +1,9 @@
-use Rattle.std.proofs.Common.{◌∙◌, List, ℕ, Option, subst, string_bytes}
+use Rattle.std.proofs.Common.{◌∙◌, ℕ, Option, subst, string_bytes}
 use Rattle.std.proofs.lemmas.Bool.{false≢true}
-use Rattle.mdns_browse.specs.declared.about.Subject.{Subject}
 use Rattle.mdns_capture.specs.Capture.{packet_lent}
 use Rattle.mdns_capture.specs.Stream.{OneMoreFailed}
 use Rattle.mdns_survey.specs.Listen.{outcome_of}
-use Rattle.mdns_trace.specs.declared.inquiry.Trace.{Trace}
+use Rattle.mdns_trace.specs.declared.inquiry.Wanted.{Wanted}
 use Rattle.mdns_trace.specs.Trace.{AddsLines}
 use Rattle.mdns_trace.proofs.TraceLemmas.{part-more, part-on}
 use Rattle.mdns_trace.proofs.trace.LinesConsumer.take.Goals as goal
@@ -14,19 +13,12 @@ returns-in-Ok-print_packet-clause-took g c = λ begun packets outcomes taken.
     let packet = packet_lent c.args.packet.now in
     let outcome = outcome_of c.args.found.now in
     let written = c.in-Ok.ensures in
-    let adds : AddsLines begun.trace begun.about.now (string_bytes begun.file) packet outcome
+    let adds : AddsLines begun.wanted.trace begun.wanted.about.now begun.wanted.file.now packet outcome
     (string_bytes c.write_piece.new.text) (string_bytes c.print_packet.new.text) =
-    subst (λ (trace : Trace). AddsLines trace begun.about.now (string_bytes begun.file) packet outcome
-    (string_bytes c.write_piece.new.text) (string_bytes c.print_packet.new.text)) taken.trace
-    (subst (λ (about : List Subject). AddsLines c.args.self.now.trace about (string_bytes begun.file) packet outcome
-    (string_bytes c.write_piece.new.text) (string_bytes c.print_packet.new.text)) taken.about
-    (subst (λ (file : List ℕ). AddsLines c.args.self.now.trace c.args.self.now.about.now file packet outcome
-    (string_bytes c.write_piece.new.text) (string_bytes c.print_packet.new.text)) (c.as_str.ensures.value ∙ taken.file)
-    c.in-Ok-print_packet.ensures)) in
+    subst (λ (wanted : Wanted). AddsLines wanted.trace wanted.about.now wanted.file.now packet outcome
+    (string_bytes c.write_piece.new.text) (string_bytes c.print_packet.new.text)) taken.wanted c.in-Ok-print_packet.ensures in
     record {
-      trace = taken.trace;
-      about = taken.about;
-      file = taken.file;
+      wanted = taken.wanted;
       same = taken.same;
       prints = part-more packet outcome (string_bytes c.print_packet.new.text)
           (part-on (g.W.Sink.written c.write_piece.new.out) written.whole.0 (string_bytes c.write_piece.new.text)
