@@ -20,7 +20,7 @@ ALLOCATES = {"vec!", "with_capacity", "push", "from_str"}
 
 # Places with another reason: the file, the line that opens the block, and why.
 OTHERS = {
-    ("fault.rt", "ErrorKind::OutOfMemory => AskFault::Words(WordsFault::Memory),"): "`clap` says that memory is wanted",
+    ("clap_fault.rt", "ErrorKind::OutOfMemory => AskFault::Words(WordsFault::Memory),"): "`clap` says that memory is wanted",
     ("history.rt", "if key.is_of(&hearing.heard) {"): "it is asked only where `push` failed",
     ("life_text.rt", "let Some(count) = self.count.checked_add(lives.len()) else {"): "as many lives as a `usize` counts lie in memory",
     ("listening.rt", "let Some(newest) = moments.newest() else {"): "a message that is remembered came at some moment",

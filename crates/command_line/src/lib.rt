@@ -1,7 +1,7 @@
 //! The command lines of `mdnsmerge` and `mdnswhy`.
 #![tactic(auto)]
 
-mod fault;
+mod clap_fault;
 mod files;
 mod flags;
 mod help;

@@ -6,7 +6,7 @@ ghost use Rattle.command_line.specs.Line.{AsksAbout, AsksIn, AsksWith, IsAsked, 
 ghost use Rattle.command_line.specs.Faults.{IsUnasked};
 ghost use Rattle.command_line.specs.declared.options.Options.{Options};
 
-use crate::fault::fault_of;
+use crate::clap_fault::fault_of;
 use crate::files::{names_of, subjects_of};
 use crate::flags::ABOUT;
 use crate::line::{Line, Subcommand, command_of};

@@ -3,7 +3,7 @@ use Rattle.clap.proofs.WalkLemmas.{both}
 use Rattle.clap.specs.Kinds.{HasKind}
 use Rattle.clap.specs.Words.{App, Kinds, Row, Text, app_of, fault_of, is_simple, is_simple_and_free, subcommand_of}
 use Rattle.command_line.proofs.LineLemmas.{unasked-by-kind}
-use Rattle.command_line.proofs.MergeLemmas.{asks-also}
+use Rattle.command_line.proofs.TableLemmas.{asks-also}
 use Rattle.command_line.proofs.ReadLemmas.{faultless, good-asks, good-files}
 use Rattle.command_line.specs.Line.{AsksAbout, AsksIn, AsksWith, Matches, app_of_line, texts_of}
 use Rattle.command_line.proofs.read.read.Goals as goal
