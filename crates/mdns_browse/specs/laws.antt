@@ -1,3 +1,3 @@
-pub mod Objects
-pub mod Page
+pub mod JsonPieces
+pub mod ColumnPieces
 pub mod Sheet

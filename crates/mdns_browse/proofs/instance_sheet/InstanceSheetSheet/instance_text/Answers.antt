@@ -1,7 +1,7 @@
 use Rattle.std.proofs.Common.{arith}
 use Rattle.std.proofs.lemmas.Result.{on_ok_weaker}
 use Rattle.mdns_browse.proofs.PageLemmas.{text_line-some}
-use Rattle.mdns_browse.proofs.instance_sheet.InstancePageSheet.instance_text.Goals as goal
+use Rattle.mdns_browse.proofs.instance_sheet.InstanceSheetSheet.instance_text.Goals as goal
 
 pub returns : goal.returns
 returns c = grind (arith, on_ok_weaker, text_line-some)
