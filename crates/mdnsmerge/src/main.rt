@@ -11,7 +11,7 @@ use command_line::program::{
 use command_line::{Asked, Task, asked};
 use mdns_capture::{Sink, Source, Through};
 use mdns_page::page::Page;
-use mdns_survey::answer::{answer_request, answer_with};
+use mdns_survey::answers::{answer_request, answer_with};
 use mdns_survey::program_lines::open_line;
 use mdns_survey::status::REFUSED;
 use std::alloc::Global;

@@ -5,7 +5,7 @@ use crate::slow::{Trial, passes_at_each_call, two_names};
 use crate::traces::{FIRST_UNREAD, FIRST_UNREAD_JSON, HEARING, SECOND_UNREAD, SPAN, files_of};
 use mdns_browse::report::{Ask, Form};
 use mdns_page::page::Page;
-use mdns_survey::answer::{answer_request, answer_with};
+use mdns_survey::answers::{answer_request, answer_with};
 use mdns_survey::status::REFUSED;
 use mdns_survey::{AsOf, LivesQuery, Query, Request, Subjects, Which};
 use mdns_trace::{Trace, Tracer, answer_files, answer_traces};

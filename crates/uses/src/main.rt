@@ -23,7 +23,7 @@ ghost use Rattle.std.specs.Prelude.{◌≡◌, IfOk, length};
 
 use mdns_browse::{Ask, Form};
 use mdns_capture::{ReadAhead, Through};
-use mdns_survey::answer::answer_request;
+use mdns_survey::answers::answer_request;
 use mdns_survey::open_line;
 use mdns_survey::request::{AsOf, Query, Request, Subjects};
 use mdns_survey::status::REFUSED;

@@ -17,7 +17,7 @@ ghost use Rattle.mdns_survey.specs.declared.request.AsOf.TheVariants.{Newest};
 
 use mdns_browse::Ask;
 use mdns_capture::{Moment, Sink, Source, Through};
-use mdns_survey::answer::answer;
+use mdns_survey::answers::answer;
 use mdns_survey::laws::{plain_survey, same_text};
 use mdns_survey::listen::{ListenFault, listen};
 use mdns_survey::request::What;

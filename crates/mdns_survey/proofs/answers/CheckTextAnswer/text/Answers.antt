@@ -1,5 +1,5 @@
 use Rattle.mdns_survey.proofs.SurveyLemmas.{told-heard}
-use Rattle.mdns_survey.proofs.answer.CheckTextAnswer.text.Goals as goal
+use Rattle.mdns_survey.proofs.answers.CheckTextAnswer.text.Goals as goal
 
 pub returns-in-Ok-clause-right : goal.returns-in-Ok-clause-right
 returns-in-Ok-clause-right c = λ lefts hears captures known. record {

@@ -1,6 +1,6 @@
 use Rattle.std.proofs.Common.{arith}
 use Rattle.mdns_survey.proofs.SaidLemmas.{leaves-written}
-use Rattle.mdns_survey.proofs.answer.answer_with.Goals as goal
+use Rattle.mdns_survey.proofs.answers.answer_with.Goals as goal
 
 pub returns-in-Err-clause-refused : goal.returns-in-Err-clause-refused
 returns-in-Err-clause-refused g c = grind (arith, leaves-written)

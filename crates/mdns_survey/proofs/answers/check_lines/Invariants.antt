@@ -1,7 +1,7 @@
 use Rattle.std.proofs.Common.{◌≡◌, ◌++◌, map, length, string_bytes}
 use Rattle.mdns_survey.specs.ProgramLines.{check_lines_text}
 use Rattle.mdns_survey.specs.Readings.{summaries_of}
-use Rattle.mdns_survey.proofs.answer.check_lines.Given as goal
+use Rattle.mdns_survey.proofs.answers.check_lines.Given as goal
 
 -- the lines written so far and those that are left are all lines
 abbrev pub invariant-loop-name : goal.invariant-loop-name
