@@ -46,13 +46,13 @@ $(PROVED): out/%.proved:
 below = $(filter $(CRATES),$(shell sed -n 's/^$(1)://p' crates.txt))
 $(foreach crate,$(CRATES),$(eval out/$(crate).proved: $$(patsubst %,out/%.proved,$$(call below,$(crate)))))
 
-# What services two listeners of one link heard together: at once, by the program of `uses`, which is made sooner than
-# mdnsmerge since it has neither its command line nor its pages, and without proofs; and by mdnsmerge, proved.
+# Lists the services that the two examples give together. `try` compiles mdnsmerge without proofs and keeps no program, and
+# takes about two minutes; `run` proves it first.
 try:
 	$(NEED_RT)
-	@echo "mdnsmerge: a smaller program answers, unproved: it is made from the sources, without proofs, within a minute" >&2
-	@cd crates/uses && rt try --data "west.pcap=$(CURDIR)/examples/west.pcap" \
-		--data "east.pcap=$(CURDIR)/examples/east.pcap" -- west.pcap east.pcap < /dev/null
+	@echo "mdnsmerge is compiled without proofs, which takes about two minutes; make run proves it" >&2
+	@cd crates/mdnsmerge && rt try --data "west.pcap=$(CURDIR)/examples/west.pcap" \
+		--data "east.pcap=$(CURDIR)/examples/east.pcap" -- instances --pretty west.pcap east.pcap < /dev/null
 
 run: mdnsmerge
 	./mdnsmerge instances --pretty examples/west.pcap examples/east.pcap
