@@ -75,7 +75,7 @@ trials: $(PROGRAMS)
 bench: mdnsmerge
 	bench/run
 
-# Runs the program on damaged captures, and looks whether its answers are what they must be (fuzz/README.md).
+# Runs the program on damaged captures, and looks whether its answers are what they must be (trials/README.md).
 fuzz: mdnsmerge
 	fuzz/run --shapes
 	fuzz/run $(FUZZ)
