@@ -1,5 +1,5 @@
 #!/usr/bin/env python3
-"""Prints docs/theorem.md, the theorem on one page, out of the sources and the texts of docs/theorem.txt.
+"""Prints docs/theorem.md, the page of the theorem, out of the sources and the texts of docs/theorem.txt.
 
 From the clauses of `survey` it gathers all definitions that they rest on, through the `use` lines of the sources, and prints
 each once, with its comment, in the sections of theorem.txt. It stops with a message where a definition has no section there,
