@@ -8,7 +8,7 @@ use Rattle.mdns_message.specs.declared.record_type.RecordType.{RecordType}
 use Rattle.mdns_message.specs.declared.record_type.RecordType.TheVariants as kind
 use Rattle.mdns_message.specs.Resource.{type_name, type_of}
 use Rattle.mdns_join.specs.declared.latest.Latest.{Latest}
-use Rattle.people_text.specs.MomentText.{clock_text, date_text, date_written, day_text, hours_text, seconds_text, to_second}
+use Rattle.people_text.specs.MomentText.{clock_text, date_text, date_written, hours_text, seconds_text}
 use Rattle.mdns_browse.specs.Columns.{heading, heard_text, kind_text, left_text, padded, record_heads, record_row, record_table}
 use Rattle.mdns_browse.specs.Columns.{spaces, unless_none, widest}
 use Rattle.mdns_browse.specs.RecordShown.{shown_record}
@@ -62,7 +62,7 @@ lent_width-more text f rows i row width len new within at before own is = grind 
 
 -- a moment has twenty letters
 seconds-len : (nanos : ℕ) → length (seconds_text nanos) ≡ 20
-unfolding seconds_text to_second date_text day_text date_written clock_text hours_text
+unfolding seconds_text date_text date_written clock_text hours_text
 seconds-len nanos = refl
 
 widest_heard-most : (rows : List (Latest × ℕ)) → widest (map heard_text rows) ≤ 20

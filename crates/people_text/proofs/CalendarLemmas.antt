@@ -1,11 +1,14 @@
 -- The sums of the calendar in closed form, and the one date with so many days before it.
 use Rattle.std.proofs.Common.{◌≡◌, refl, ◌∙◌, ap, ℕ, zero, suc, ◌+◌, ◌-◌, ◌*◌, ◌/◌, ◌<◌, ◌≤◌, nat_le}
-use Rattle.std.proofs.Common.{Bool, true, false, arith, ◌⊎◌, inl, inr}
+use Rattle.std.proofs.Common.{Bool, true, false, if◌then◌else◌, arith, ◌⊎◌, inl, inr}
 use Rattle.std.proofs.lemmas.Bool.Decides.{nat_tests}
 use Rattle.people_text.specs.Calendar.{IsDate, day_of, days_of_months, days_of_years, last_begun}
-use Rattle.people_text.specs.Calendar.{month_length, month_of, year_length, year_of}
+use Rattle.people_text.specs.Calendar.{is_leap, month_length, month_of, year_of}
 
 -- ---- years
+
+abbrev year_length : ℕ → ℕ
+year_length year = if is_leap year then 366 else 365
 
 abbrev pub closed : ℕ → ℕ
 closed count = count * 365 + (count + 3) / 4 - (count + 99) / 100 + (count + 399) / 400

@@ -2,7 +2,8 @@
 use Rattle.std.proofs.Common.{◌≡◌, refl, ℕ, zero, suc, ◌+◌, ◌*◌, ◌/◌, ◌≤◌, Bool, true, false, inl, inr}
 use Rattle.std.proofs.Common.{◌&&◌, ◌||◌, nat_le, nat_lt, List, [], ◌∷◌, arith}
 use Rattle.std.proofs.lemmas.Bool.Decides.{nat_tests}
-use Rattle.people_text.specs.Shown.{IsNoncharacter, hidden_ranges, in_ranges, is_hidden}
+use Rattle.people_text.specs.Shown.{IsNoncharacter, hidden_ranges, is_hidden}
+use Rattle.people_text.proofs.ShownLemmas.{in_ranges}
 
 -- one of the ranges has all numbers from `low` to `high`
 covers : ℕ → ℕ → List (ℕ × ℕ) → Bool

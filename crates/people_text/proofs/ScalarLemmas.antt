@@ -1,5 +1,5 @@
 -- Bytes as text, one scalar, byte or chunk at a time.
-use Rattle.std.proofs.Common.{◌≡◌, refl, sym, ◌∙◌, ap, subst, ℕ, zero, suc, ◌+◌, ◌-◌, ◌<◌, ◌≤◌, Bool, true, false, inl, inr}
+use Rattle.std.proofs.Common.{◌≡◌, refl, sym, ◌∙◌, ap, subst, ℕ, zero, suc, ◌+◌, ◌-◌, ◌<◌, ◌≤◌, ◌==◌, Bool, true, false, inl, inr}
 use Rattle.std.proofs.Common.{List, [], ◌∷◌, ◌++◌, length, take, drop, get_or, arith, append_assoc, flat_map}
 use Rattle.std.proofs.lemmas.Bool.{and_parts, cases_eq, cond_both}
 use Rattle.std.proofs.lemmas.Bool.Decides.{nat_tests}
@@ -13,7 +13,7 @@ use Rattle.std.specs.Int.{IsInRange}
 use Rattle.std.specs.Prelude.{unwrap_or}
 use Rattle.std.specs.Str.{IsUtf8, StartsWithNoChar, all_scalars, chars, encode_utf8_all, is_utf8}
 use Rattle.std.specs.Str.Lossy.{error_len_after_two, utf8_error_len, utf8_invalid_len, utf8_valid_len, valid_len_up_to}
-use Rattle.people_text.specs.Shown.{begins_none, bytes_shown, escaped, escaped_byte, scalar_text, text_after}
+use Rattle.people_text.specs.Shown.{bytes_shown, escaped_byte, scalar_text, text_after}
 
 -- ---- the longest front that is UTF-8
 
@@ -87,7 +87,7 @@ scalar-shown dots c rest is = go (encode_utf8 c ++ rest) refl
     go [] same = absurd (omega (arith, encode-some c, length-append (encode_utf8 c) rest, ap length same))
     go (b ∷ bytes) same =
         let valid = valid-scalar c rest is in
-        let test : begins_none (b ∷ bytes) ≡ false = rw same (grind (arith, nat_tests)) in
+        let test : (utf8_valid_len (b ∷ bytes) == 0) ≡ false = rw same (grind (arith, nat_tests)) in
         let first : get_or (chars (b ∷ bytes)) 0 0 ≡ c = rw same (first-char c rest is) in
         let back : suc (len_utf8 c - 1) ≡ 0 + len_utf8 c = omega (arith, (len_utf8_bounds c).0) in
         let after : drop (len_utf8 c - 1) bytes ≡ rest = ap (λ n. drop n (b ∷ bytes)) back ∙ drop_past_char (b ∷ bytes) rest 0 c same in
@@ -120,7 +120,7 @@ goes_on-none : (bs : List ℕ) → IsInRange 0x80 0xBF (get_or bs 0 0) → Start
 goes_on-none bs on c rest is same = grind (arith, get_or_append_left, encode-some, IsCharBoundary-start, IsUtf8-encode)
 
 run-shown : (dots : Bool) (run rest : List ℕ) → ((k : ℕ) → k < length run → IsInRange 0x80 0xBF (get_or (run ++ rest) k 0))
-    → bytes_shown dots (run ++ rest) ≡ escaped run ++ bytes_shown dots rest
+    → bytes_shown dots (run ++ rest) ≡ flat_map escaped_byte run ++ bytes_shown dots rest
 run-shown dots [] rest on = refl
 run-shown dots (b ∷ run) rest on =
     byte-shown dots b (run ++ rest) (goes_on-none (b ∷ run ++ rest) (on 0 (omega arith)))
@@ -144,7 +144,7 @@ invalid_few bs = grind (arith, common_steps, nat_tests)
 
 -- bytes that could begin a scalar's UTF-8 and don't
 invalid-shown : (dots : Bool) (invalid rest : List ℕ) → length invalid ≡ utf8_invalid_len (invalid ++ rest)
-    → StartsWithNoChar (invalid ++ rest) → bytes_shown dots (invalid ++ rest) ≡ escaped invalid ++ bytes_shown dots rest
+    → StartsWithNoChar (invalid ++ rest) → bytes_shown dots (invalid ++ rest) ≡ flat_map escaped_byte invalid ++ bytes_shown dots rest
 invalid-shown dots [] rest size none = refl
 invalid-shown dots (b ∷ run) rest size none =
     byte-shown dots b (run ++ rest) none ∙ ap (λ text. escaped_byte b ++ text) (run-shown dots run rest on)
@@ -156,7 +156,7 @@ invalid-shown dots (b ∷ run) rest size none =
 
 pub chunk-shown : (dots : Bool) (bs valid invalid rest : List ℕ) → IsUtf8 valid → bs ≡ valid ++ (invalid ++ rest)
     → length valid ≡ utf8_valid_len bs → length invalid ≡ utf8_invalid_len (drop (utf8_valid_len bs) bs)
-    → bytes_shown dots bs ≡ flat_map (scalar_text dots) (chars valid) ++ (escaped invalid ++ bytes_shown dots rest)
+    → bytes_shown dots bs ≡ flat_map (scalar_text dots) (chars valid) ++ (flat_map escaped_byte invalid ++ bytes_shown dots rest)
 chunk-shown dots bs valid invalid rest text whole size after_size =
     let more : List ℕ = invalid ++ rest in
     let after : drop (utf8_valid_len bs) bs ≡ more = ap (drop (utf8_valid_len bs)) whole ∙ drop_at valid more (utf8_valid_len bs) size in

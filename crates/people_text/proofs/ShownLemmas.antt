@@ -5,13 +5,16 @@ use Rattle.std.proofs.lemmas.Bool.{cond_both}
 use Rattle.std.proofs.lemmas.Bool.Decides.{nat_tests}
 use Rattle.std.proofs.lemmas.Str.{IsUtf8-append, IsUtf8-encode, IsUtf8-nil, encode_ascii}
 use Rattle.std.specs.Char.{IsScalar, encode_utf8}
-use Rattle.std.specs.List.{prefix_len}
+use Rattle.std.specs.List.{flat_map, list_any, prefix_len}
 use Rattle.std.specs.Str.{IsUtf8}
-use Rattle.people_text.specs.Shown.{bytes_shown, further_shown, hidden_ranges, in_ranges}
-use Rattle.people_text.specs.Shown.{is_hidden, is_marked, is_plain_byte, label_shown, scalar_text}
+use Rattle.people_text.specs.Shown.{bytes_shown, hidden_ranges, is_hidden, is_marked, is_plain_byte, scalar_text}
 use Rattle.people_text.proofs.ScalarLemmas.{scalar-shown}
 
 -- ---- printing ASCII is not hidden
+
+-- the number is in one of the ranges
+abbrev pub in_ranges : List (ℕ × ℕ) → ℕ → Bool
+in_ranges ranges n = list_any (λ (range : ℕ × ℕ). nat_le range.0 n && nat_le n range.1) ranges
 
 -- no range has a printing ASCII scalar
 apart : List (ℕ × ℕ) → Bool
@@ -38,10 +41,14 @@ ascii-shown c low high = in_ranges-apart hidden_ranges c refl low high
 
 -- ---- labels, one after another
 
+-- the labels that follow another one, each after a `.`
+abbrev pub further : List (List ℕ) → List ℕ
+further labels = flat_map (λ label. 46 ∷ bytes_shown true label) labels
+
 -- one label more, after its dot
-pub label-moved : (old dotted new label whole : List ℕ) (labels : List (List ℕ)) → old ++ further_shown labels ≡ whole
-    → (after : List (List ℕ)) → labels ≡ label ∷ after → dotted ≡ old ++ 46 ∷ [] → new ≡ dotted ++ label_shown label
-    → new ++ further_shown after ≡ whole
+pub label-moved : (old dotted new label whole : List ℕ) (labels : List (List ℕ)) → old ++ further labels ≡ whole
+    → (after : List (List ℕ)) → labels ≡ label ∷ after → dotted ≡ old ++ 46 ∷ [] → new ≡ dotted ++ bytes_shown true label
+    → new ++ further after ≡ whole
 label-moved old dotted new label whole labels at after first dot more = grind (arith, append_assoc)
 
 -- ---- plain ASCII

@@ -1,6 +1,6 @@
 -- Shown text has visible scalars alone.
 use Rattle.std.proofs.Common.{◌≡◌, ◌≢◌, refl, ◌∙◌, ap, subst, ℕ, zero, suc, ◌+◌, ◌-◌, ◌/◌, ◌%◌, ◌<◌, ◌≤◌, Bool, true, false, cond}
-use Rattle.std.proofs.Common.{◌||◌, List, [], ◌∷◌, ◌++◌, get_or, length, take, arith, append-nil, inl, inr}
+use Rattle.std.proofs.Common.{◌==◌, ◌||◌, List, [], ◌∷◌, ◌++◌, flat_map, get_or, length, take, arith, append-nil, inl, inr}
 use Rattle.std.proofs.lemmas.Bool.{cases_lt, cond_both}
 use Rattle.std.proofs.lemmas.Bool.Decides.{nat_tests}
 use Rattle.std.proofs.lemmas.List.{take_at}
@@ -11,11 +11,11 @@ use Rattle.std.specs.List.{All}
 use Rattle.std.specs.Str.{IsUtf8, NoCharPasses, NonePass, all_scalars, chars, encode_utf8_all}
 use Rattle.std.specs.Str.Lossy.{utf8_valid_len}
 use Rattle.dns_name.specs.Name.{labels_of, pieces_of}
-use Rattle.people_text.specs.Shown.{AreBytes, IsPrinted, IsVisible, IsVisibleText, begins_none, bytes_shown, escaped, escaped_byte}
-use Rattle.people_text.specs.Shown.{further_shown, hidden_ranges, is_hidden, is_marked, label_shown, labels_shown, name_shown}
+use Rattle.people_text.specs.Shown.{AreBytes, IsPrinted, IsVisible, IsVisibleText, bytes_shown, escaped_byte}
+use Rattle.people_text.specs.Shown.{dotted, hidden_ranges, is_hidden, is_marked, name_shown}
 use Rattle.people_text.specs.Shown.{scalar_text, text_after}
 use Rattle.people_text.proofs.ScalarLemmas.{first-char, first-scalar, scalar-shown}
-use Rattle.people_text.proofs.ShownLemmas.{ascii-shown}
+use Rattle.people_text.proofs.ShownLemmas.{ascii-shown, further}
 
 -- ---- texts that are appended
 
@@ -44,10 +44,10 @@ escaped_byte-visible b small =
     (text-append ((48 + b / 10 % 10) ∷ []) _ (text-ascii (48 + b / 10 % 10) (omega arith) (omega arith))
     (text-ascii (48 + b % 10) (omega arith) (omega arith))))
 
-escaped-visible : (bytes : List ℕ) → AreBytes bytes → IsVisibleText (escaped bytes)
+escaped-visible : (bytes : List ℕ) → AreBytes bytes → IsVisibleText (flat_map escaped_byte bytes)
 escaped-visible [] are = text-nil
 escaped-visible (b ∷ bytes) are =
-    text-append (escaped_byte b) (escaped bytes) (escaped_byte-visible b (All-head (λ byte. byte < 256) b bytes are))
+    text-append (escaped_byte b) (flat_map escaped_byte bytes) (escaped_byte-visible b (All-head (λ byte. byte < 256) b bytes are))
     (escaped-visible bytes (All-tail (λ byte. byte < 256) b bytes are))
 
 -- ---- scalars
@@ -63,7 +63,7 @@ scalar-visible dots c scalar are = go (is_hidden c) refl
     text : List ℕ
     text = encode_utf8 c
 
-    go : (t : Bool) → is_hidden c ≡ t → IsVisibleText (cond t (escaped text) (cond (is_marked dots c) (92 ∷ text) text))
+    go : (t : Bool) → is_hidden c ≡ t → IsVisibleText (cond t (flat_map escaped_byte text) (cond (is_marked dots c) (92 ∷ text) text))
     go true is = escaped-visible text are
     go false is = marked-visible (is_marked dots c) text (record {
       scalars = c ∷ [];
@@ -85,7 +85,7 @@ after-visible dots taken [] are = text-nil
 after-visible dots zero (b ∷ bytes) are =
     let more = All-tail (λ byte. byte < 256) b bytes are in
     let scalar : ℕ = get_or (chars (b ∷ bytes)) 0 0 in
-    cond_both (begins_none (b ∷ bytes)) _ _ IsVisibleText
+    cond_both (utf8_valid_len (b ∷ bytes) == 0) _ _ IsVisibleText
     (λ _. text-append (escaped_byte b) _ (escaped_byte-visible b (All-head (λ byte. byte < 256) b bytes are))
     (after-visible dots 0 bytes more))
     (λ some. text-append (scalar_text dots scalar) _ (first-visible dots (b ∷ bytes) (grind (arith, nat_tests)) are)
@@ -114,19 +114,19 @@ pieces-bytes (suc left) (b ∷ bytes) are =
     let more = pieces-bytes left bytes (All-tail (λ byte. byte < 256) b bytes are) in
     (All-cons (λ byte. byte < 256) b _ (All-head (λ byte. byte < 256) b bytes are) more.0, more.1)
 
-further-visible : (labels : List (List ℕ)) → AreLabelBytes labels → IsVisibleText (further_shown labels)
+further-visible : (labels : List (List ℕ)) → AreLabelBytes labels → IsVisibleText (further labels)
 unfolding AreLabelBytes
 further-visible [] are = text-nil
 further-visible (label ∷ labels) are =
-    text-append (46 ∷ label_shown label) (further_shown labels)
-    (text-append (46 ∷ []) (label_shown label) (text-ascii 46 (omega arith) (omega arith)) (shown-visible true label are.0))
+    text-append (46 ∷ bytes_shown true label) (further labels)
+    (text-append (46 ∷ []) (bytes_shown true label) (text-ascii 46 (omega arith) (omega arith)) (shown-visible true label are.0))
     (further-visible labels are.1)
 
-labels-visible : (labels : List (List ℕ)) → AreLabelBytes labels → IsVisibleText (labels_shown labels)
+labels-visible : (labels : List (List ℕ)) → AreLabelBytes labels → IsVisibleText (dotted (bytes_shown true) labels)
 unfolding AreLabelBytes
 labels-visible [] are = text-ascii 46 (omega arith) (omega arith)
 labels-visible (label ∷ labels) are =
-    text-append (label_shown label) (further_shown labels) (shown-visible true label are.0) (further-visible labels are.1)
+    text-append (bytes_shown true label) (further labels) (shown-visible true label are.0) (further-visible labels are.1)
 
 pub name-visible : (name : List ℕ) → AreBytes name → IsVisibleText (name_shown name)
 name-visible name are = labels-visible (labels_of name) (pieces-bytes 0 name are).1

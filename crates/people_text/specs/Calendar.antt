@@ -7,9 +7,6 @@ use Rattle.std.specs.Int.{IsInRange}
 abbrev pub is_leap : ℕ → Bool
 is_leap year = (year % 4 == 0) && (not (year % 100 == 0) || (year % 400 == 0))
 
-abbrev pub year_length : ℕ → ℕ
-year_length year = if is_leap year then 366 else 365
-
 -- RFC 3339, section 5.7
 abbrev pub month_length : ℕ → ℕ → ℕ
 month_length year month =
@@ -19,7 +16,7 @@ month_length year month =
 -- the days of so many years, of which the first is the year 0
 unfoldable pub days_of_years : ℕ → ℕ
 days_of_years zero = 0
-days_of_years (suc year) = days_of_years year + year_length year
+days_of_years (suc year) = days_of_years year + (if is_leap year then 366 else 365)
 
 -- the days of so many months of a year
 unfoldable pub days_of_months : ℕ → ℕ → ℕ

@@ -27,20 +27,13 @@ year_at nanos = year_of (days_to nanos)
 unfoldable pub date_written : ℕ → ℕ → ℕ → List ℕ
 date_written year month day = four_digits year ++ 45 ∷ two_digits month ++ 45 ∷ two_digits day
 
--- the date with so many days before it
-unfoldable pub day_text : ℕ → List ℕ
-day_text days = date_written (year_of days) (month_of days) (day_of days)
-
 -- `2026-11-22`
 unfoldable pub date_text : ℕ → List ℕ
-date_text nanos = day_text (days_to nanos)
+date_text nanos = date_written (year_at nanos) (month_of (days_to nanos)) (day_of (days_to nanos))
 
 -- `11-22`
-unfoldable pub month_day_written : ℕ → ℕ → List ℕ
-month_day_written month day = two_digits month ++ 45 ∷ two_digits day
-
 unfoldable pub month_day_text : ℕ → List ℕ
-month_day_text nanos = month_day_written (month_of (days_to nanos)) (day_of (days_to nanos))
+month_day_text nanos = two_digits (month_of (days_to nanos)) ++ 45 ∷ two_digits (day_of (days_to nanos))
 
 -- `07:28`
 unfoldable pub hours_text : ℕ → List ℕ
@@ -50,22 +43,17 @@ hours_text nanos = two_digits (seconds_of nanos / 3600 % 24) ++ 58 ∷ two_digit
 unfoldable pub clock_text : ℕ → List ℕ
 clock_text nanos = hours_text nanos ++ 58 ∷ two_digits (seconds_of nanos % 60)
 
--- the date and the clock with `T` between them
-unfoldable pub to_second : ℕ → List ℕ
-to_second nanos = date_text nanos ++ 84 ∷ clock_text nanos
-
 -- `2026-11-22T07:28:19Z`
 unfoldable pub seconds_text : ℕ → List ℕ
-seconds_text nanos = to_second nanos ++ 90 ∷ []
+seconds_text nanos = date_text nanos ++ 84 ∷ clock_text nanos ++ 90 ∷ []
 
 -- `2026-11-22T07:28:19.196Z`
 unfoldable pub millis_text : ℕ → List ℕ
-millis_text nanos = to_second nanos ++ 46 ∷ three_digits (nanos / 1000000 % 1000) ++ 90 ∷ []
+millis_text nanos = date_text nanos ++ 84 ∷ clock_text nanos ++ 46 ∷ three_digits (nanos / 1000000 % 1000) ++ 90 ∷ []
 
 -- so many of a unit, and so many of the next one, unless there are none of it: `3 d 4 h`, `2 min`
 unfoldable pub two_units : ℕ → List ℕ → ℕ → List ℕ → List ℕ
-two_units count unit below next =
-    decimal count ++ 32 ∷ unit ++ (if below == 0 then [] else 32 ∷ decimal below ++ 32 ∷ next)
+two_units count unit below next = decimal count ++ 32 ∷ unit ++ (if below == 0 then [] else 32 ∷ decimal below ++ 32 ∷ next)
 
 -- the greatest of the units that fits, and the next one
 unfoldable pub duration_text : ℕ → List ℕ
@@ -74,5 +62,4 @@ duration_text nanos =
     if s == 0 then codes "under 1 s"
     else (if nat_le 86400 s then two_units (s / 86400) (codes "d") (s / 3600 % 24) (codes "h")
     else (if nat_le 3600 s then two_units (s / 3600) (codes "h") (s / 60 % 60) (codes "min")
-    else (if nat_le 60 s then two_units (s / 60) (codes "min") (s % 60) (codes "s")
-    else decimal s ++ codes " s")))
+    else (if nat_le 60 s then two_units (s / 60) (codes "min") (s % 60) (codes "s") else decimal s ++ codes " s")))

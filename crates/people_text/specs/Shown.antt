@@ -19,16 +19,8 @@ hidden_ranges =
     ∷ (0x5FFFE, 0x5FFFF) ∷ (0x6FFFE, 0x6FFFF) ∷ (0x7FFFE, 0x7FFFF) ∷ (0x8FFFE, 0x8FFFF) ∷ (0x9FFFE, 0x9FFFF)
     ∷ (0xAFFFE, 0xAFFFF) ∷ (0xBFFFE, 0xBFFFF) ∷ (0xCFFFE, 0xCFFFF) ∷ (0xDFFFE, 0xDFFFF) ∷ (0xE0000, 0x10FFFF) ∷ []
 
--- the number is in the range
-abbrev pub in_range : ℕ × ℕ → ℕ → Bool
-in_range range n = nat_le range.0 n && nat_le n range.1
-
--- the number is in one of the ranges
-abbrev pub in_ranges : List (ℕ × ℕ) → ℕ → Bool
-in_ranges ranges n = list_any (λ range. in_range range n) ranges
-
 unfoldable pub is_hidden : ℕ → Bool
-is_hidden scalar = in_ranges hidden_ranges scalar
+is_hidden scalar = list_any (λ (range : ℕ × ℕ). nat_le range.0 scalar && nat_le scalar range.1) hidden_ranges
 
 -- a noncharacter (the Unicode Standard, section 23.7): one of the 32 code points from U+FDD0 on, or one of the last two of a plane
 abbrev pub IsNoncharacter : ℕ → Type 0
@@ -37,9 +29,6 @@ IsNoncharacter code = (code ≤ 0x10FFFF) × (((0xFDD0 ≤ code) × (code ≤ 0x
 -- a byte as `\DDD`
 abbrev pub escaped_byte : ℕ → List ℕ
 escaped_byte byte = 92 ∷ three_digits byte
-
-abbrev pub escaped : List ℕ → List ℕ
-escaped bytes = flat_map escaped_byte bytes
 
 -- the scalar is written after a `\`: `\`, and with `dots` also `.`
 abbrev pub is_marked : Bool → ℕ → Bool
@@ -52,18 +41,14 @@ is_plain_byte dots byte = (nat_le 32 byte && nat_lt byte 127) && not (is_marked 
 -- a scalar as text; where it is hidden, each byte of its UTF-8 as `\DDD`
 unfoldable pub scalar_text : Bool → ℕ → List ℕ
 scalar_text dots scalar =
-    if is_hidden scalar then escaped (encode_utf8 scalar)
+    if is_hidden scalar then flat_map escaped_byte (encode_utf8 scalar)
     else (if is_marked dots scalar then 92 ∷ encode_utf8 scalar else encode_utf8 scalar)
-
--- no scalar's UTF-8 begins the bytes
-abbrev pub begins_none : List ℕ → Bool
-begins_none bytes = utf8_valid_len bytes == 0
 
 -- the text of the bytes after the first `taken`, which belong to a scalar before
 abbrev pub text_after : Bool → ℕ → List ℕ → List ℕ
 text_after dots taken [] = []
 text_after dots zero (b ∷ bytes) =
-    if begins_none (b ∷ bytes) then escaped_byte b ++ text_after dots 0 bytes
+    if utf8_valid_len (b ∷ bytes) == 0 then escaped_byte b ++ text_after dots 0 bytes
     else (let scalar = slice_index (chars (b ∷ bytes)) 0 in scalar_text dots scalar ++ text_after dots (len_utf8 scalar - 1) bytes)
 text_after dots (suc taken) (b ∷ bytes) = text_after dots taken bytes
 
@@ -75,22 +60,14 @@ bytes_shown dots bytes = text_after dots 0 bytes
 abbrev pub shown : List ℕ → List ℕ
 shown bytes = bytes_shown false bytes
 
--- a label, in which `.` is escaped, since dots separate labels
-abbrev pub label_shown : List ℕ → List ℕ
-label_shown label = bytes_shown true label
+-- the texts of labels with `.` between them and no final dot, and the root as `.`
+abbrev pub dotted : (List ℕ → List ℕ) → List (List ℕ) → List ℕ
+dotted text_of [] = 46 ∷ []
+dotted text_of (label ∷ labels) = text_of label ++ flat_map (λ label. 46 ∷ text_of label) labels
 
--- the labels that follow another one, each after a `.`
-abbrev pub further_shown : List (List ℕ) → List ℕ
-further_shown [] = []
-further_shown (label ∷ labels) = (46 ∷ label_shown label) ++ further_shown labels
-
-abbrev pub labels_shown : List (List ℕ) → List ℕ
-labels_shown [] = 46 ∷ []
-labels_shown (label ∷ labels) = label_shown label ++ further_shown labels
-
--- a name as text: its labels with `.` between them and no final dot, and the root as `.`
+-- a name as text, with `.` in a label as `\.`, since dots separate labels
 abbrev pub name_shown : List ℕ → List ℕ
-name_shown bytes = labels_shown (labels_of bytes)
+name_shown bytes = dotted (bytes_shown true) (labels_of bytes)
 
 -- a scalar value that isn't hidden
 abbrev pub IsVisible : ℕ → Type 0

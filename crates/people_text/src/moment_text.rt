@@ -3,9 +3,8 @@
 ghost use Rattle.std.specs.Prelude.{◌≡◌, ◌<◌, ◌≤◌, ◌+◌, ◌∷◌, [], ◌++◌, OnOk};
 ghost use Rattle.std.specs.String.{string_bytes};
 ghost use Rattle.dns_name.specs.Name.{three_digits};
-ghost use Rattle.people_text.specs.MomentText.{clock_text, date_text, date_written, day_text, days_to};
-ghost use Rattle.people_text.specs.MomentText.{hours_text, millis_text, month_day_text, month_day_written};
-ghost use Rattle.people_text.specs.MomentText.{seconds_text, to_second, two_digits, year_at};
+ghost use Rattle.people_text.specs.MomentText.{clock_text, date_text, date_written, days_to, hours_text, millis_text};
+ghost use Rattle.people_text.specs.MomentText.{month_day_text, seconds_text, two_digits, year_at};
 
 use crate::calendar::{Date, date_of};
 use mdns_capture::moment::SECOND;
@@ -22,11 +21,10 @@ pub fn year_at(nanos: u64) -> u32
 }
 
 /// Appends the date, as `2026-11-22`.
-#[tactic(auto, unfolding(crate::specs::MomentText::date_text))]
 pub fn push_date(to: &mut String, nanos: u64) -> Result<(), Want>
     ensures { OnOk result (string_bytes to.new ≡ string_bytes to.old ++ date_text nanos) }
 {
-    push_day(to, day_of(nanos))
+    push_written(to, date_of(day_of(nanos)))
 }
 
 /// Appends the month and the day of the month, as `11-22`.
@@ -79,9 +77,8 @@ pub fn push_millis(to: &mut String, nanos: u64) -> Result<(), Want>
 }
 
 // Appends the date and the clock with `T` between them.
-#[tactic(auto, unfolding(crate::specs::MomentText::to_second))]
 fn push_to_second(to: &mut String, nanos: u64) -> Result<(), Want>
-    ensures { OnOk result (string_bytes to.new ≡ string_bytes to.old ++ to_second nanos) }
+    ensures { OnOk result (string_bytes to.new ≡ string_bytes to.old ++ (date_text nanos ++ 84 ∷ clock_text nanos)) }
 {
     push_date(to, nanos)?;
     to.push('T')?;
@@ -97,17 +94,8 @@ fn day_of(nanos: u64) -> u32
     DAYS_TO_1970 + (nanos / SECOND / 86_400) as u32
 }
 
-// Appends the date that has so many days before it, from the first day of the year 0 on.
-fn push_day(to: &mut String, days: u32) -> Result<(), Want>
-    requires low { 2 ≤ days }
-    requires high { days < 1_000_000 }
-    ensures { OnOk result (string_bytes to.new ≡ string_bytes to.old ++ day_text days) }
-{
-    push_written(to, date_of(days))
-}
-
 // Appends a date.
-#[tactic(auto, unfolding(crate::specs::MomentText::date_written, crate::specs::MomentText::month_day_written))]
+#[tactic(auto, unfolding(crate::specs::MomentText::date_written))]
 fn push_written(to: &mut String, date: Date) -> Result<(), Want>
     requires year { date.year < 10000 }
     requires month { date.month < 100 }
@@ -121,11 +109,10 @@ fn push_written(to: &mut String, date: Date) -> Result<(), Want>
 }
 
 // Appends the month and the day of a date.
-#[tactic(auto, unfolding(crate::specs::MomentText::month_day_written))]
 fn push_month_day_written(to: &mut String, date: Date) -> Result<(), Want>
     requires month { date.month < 100 }
     requires day { date.day < 100 }
-    ensures { OnOk result (string_bytes to.new ≡ string_bytes to.old ++ month_day_written date.month date.day) }
+    ensures { OnOk result (string_bytes to.new ≡ string_bytes to.old ++ (two_digits date.month ++ 45 ∷ two_digits date.day)) }
 {
     push_two_digits(to, date.month)?;
     to.push('-')?;

@@ -4,7 +4,7 @@ ghost use Rattle.std.specs.Prelude.{◌≡◌, ◌≤◌, ◌++◌, length, OnOk
 ghost use Rattle.std.specs.List.{flat_map, prefix_len};
 ghost use Rattle.std.specs.Str.{IsUtf8, chars};
 ghost use Rattle.std.specs.String.{string_bytes};
-ghost use Rattle.people_text.specs.Shown.{bytes_shown, escaped, escaped_byte, is_marked, is_plain_byte, scalar_text, shown};
+ghost use Rattle.people_text.specs.Shown.{bytes_shown, escaped_byte, is_marked, is_plain_byte, scalar_text, shown};
 
 use crate::hidden::is_hidden;
 use memory::Want;
@@ -100,7 +100,7 @@ fn is_marked(scalar: u32, dots: bool) -> bool
 
 // Appends each byte as `\DDD`.
 fn push_escaped(to: &mut String, bytes: &[u8]) -> Result<(), Want>
-    ensures { OnOk result (string_bytes to.new ≡ string_bytes to.old ++ escaped bytes.now) }
+    ensures { OnOk result (string_bytes to.new ≡ string_bytes to.old ++ flat_map escaped_byte bytes.now) }
 {
     for byte in bytes {
         push_escaped_byte(to, *byte)?;

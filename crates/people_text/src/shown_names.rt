@@ -1,9 +1,10 @@
 //! Names as text.
 
-ghost use Rattle.std.specs.Prelude.{◌≡◌, ◌∷◌, [], ◌++◌, OnOk};
+ghost use Rattle.std.specs.Prelude.{◌≡◌, true, ◌∷◌, [], ◌++◌, OnOk};
+ghost use Rattle.std.specs.List.{flat_map};
 ghost use Rattle.std.specs.String.{string_bytes};
 ghost use Rattle.dns_name.specs.Name.{IsForm, labels_of};
-ghost use Rattle.people_text.specs.Shown.{further_shown, name_shown};
+ghost use Rattle.people_text.specs.Shown.{bytes_shown, name_shown};
 
 use crate::shown::push_bytes;
 use dns_name::name::split_label;
@@ -26,7 +27,8 @@ pub fn push_shown_name(to: &mut String, name: &BorrowedName<'_>) -> Result<(), W
 // Appends the labels of a form, each after a `.`.
 fn push_further(to: &mut String, form: &[u8]) -> Result<(), Want>
     requires { IsForm form.now }
-    ensures { OnOk result (string_bytes to.new ≡ string_bytes to.old ++ further_shown (labels_of form.now)) }
+    ensures { OnOk result (string_bytes to.new
+        ≡ string_bytes to.old ++ flat_map (λ label. 46 ∷ bytes_shown true label) (labels_of form.now)) }
 {
     let mut rest = form;
     while let Some((label, after)) = split_label(rest) {

@@ -1,12 +1,12 @@
-use Rattle.std.proofs.Common.{◌≡◌, ℕ, refl, string_bytes, arith}
+use Rattle.std.proofs.Common.{◌≡◌, ℕ, ◌∷◌, ◌++◌, refl, string_bytes, arith}
 use Rattle.std.proofs.lemmas.Result.{IfOk-equal}
 use Rattle.people_text.specs.Calendar.{IsDate}
-use Rattle.people_text.specs.MomentText.{days_to, month_day_text, month_day_written}
+use Rattle.people_text.specs.MomentText.{days_to, month_day_text, two_digits}
 use Rattle.people_text.proofs.CalendarLemmas.{day_of-date, month_length-few, month_of-date}
 use Rattle.people_text.proofs.moment_text.push_month_day.Goals as goal
 
 written : (nanos days year month day : ℕ) → days ≡ days_to nanos → IsDate days year month day
-    → month_day_written month day ≡ month_day_text nanos
+    → two_digits month ++ 45 ∷ two_digits day ≡ month_day_text nanos
 unfolding month_day_text
 written nanos days year month day at is =
     rw (← at, month_of-date days year month day is, day_of-date days year month day is) refl

@@ -1,12 +1,12 @@
 use Rattle.std.proofs.Common.{◌≡◌, ◌++◌, length, string_bytes}
 use Rattle.dns_name.specs.Name.{IsForm, labels_of}
-use Rattle.people_text.specs.Shown.{further_shown}
+use Rattle.people_text.proofs.ShownLemmas.{further}
 use Rattle.people_text.proofs.shown_names.push_further.Given as goal
 
 abbrev pub invariant-loop-label : goal.invariant-loop-label
 invariant-loop-label l = record {
   form : IsForm l.rest;
-  pushed : string_bytes l.to ++ further_shown (labels_of l.rest) ≡ string_bytes l.fn.to ++ further_shown (labels_of l.form);
+  pushed : string_bytes l.to ++ further (labels_of l.rest) ≡ string_bytes l.fn.to ++ further (labels_of l.form);
 }
 
 abbrev pub decreases-loop-label : goal.decreases-loop-label

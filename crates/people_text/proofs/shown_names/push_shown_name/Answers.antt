@@ -1,19 +1,20 @@
 use Rattle.std.proofs.Common.{arith}
-use Rattle.std.proofs.Common.{◌≡◌, List, ℕ, ◌∷◌, ◌++◌, ap, append_assoc, sym, string_bytes}
+use Rattle.std.proofs.Common.{◌≡◌, List, ℕ, true, ◌∷◌, ◌++◌, ap, append_assoc, sym, string_bytes}
 use Rattle.std.proofs.lemmas.Result.{IfOk-equal}
 use Rattle.dns_name.specs.Name.{labels_of}
 use Rattle.dns_name.proofs.FormLemmas.{IsForm-after, IsForm-last, labels_of-after}
-use Rattle.people_text.specs.Shown.{further_shown, label_shown, labels_shown, name_shown}
+use Rattle.people_text.specs.Shown.{bytes_shown, dotted, name_shown}
+use Rattle.people_text.proofs.ShownLemmas.{further}
 use Rattle.people_text.proofs.shown_names.push_shown_name.Goals as goal
 
 pub push_further-requires : goal.push_further-requires
 push_further-requires c = IsForm-after _ _ _ c.in-Some.ensures.label c.wire.ensures.form.form
 
 -- the first label, and the others after it
-whole : (old mid bytes label : List ℕ) (after : List (List ℕ)) → mid ≡ old ++ label_shown label → labels_of bytes ≡ label ∷ after
-    → mid ++ further_shown after ≡ old ++ name_shown bytes
+whole : (old mid bytes label : List ℕ) (after : List (List ℕ)) → mid ≡ old ++ bytes_shown true label → labels_of bytes ≡ label ∷ after
+    → mid ++ further after ≡ old ++ name_shown bytes
 whole old mid bytes label after first are =
-    rw (first, append_assoc) (ap (λ labels. old ++ labels_shown labels) (sym are))
+    rw (first, append_assoc) (ap (λ labels. old ++ dotted (bytes_shown true) labels) (sym are))
 
 pub returns-in_ok-push_bytes-in-Some : goal.returns-in_ok-push_bytes-in-Some
 returns-in_ok-push_bytes-in-Some c = grind (arith, labels_of-after, whole, string_bytes, IfOk-equal)
