@@ -14,8 +14,8 @@ use Rattle.mdns_message.specs.declared.parts.Content.TheVariants as content
 use Rattle.mdns_message.specs.declared.parts.Service.{Service}
 use Rattle.mdns_message.specs.declared.resource.Resource.{Resource}
 use Rattle.people_text.specs.Shown.{name_shown, shown}
-use Rattle.mdns_browse.specs.About.{is_first_label, is_in_content, is_in_data, is_name, is_one_of, is_record_about, is_rest, is_said}
-use Rattle.mdns_browse.specs.About.{is_text_about, is_text_in_local, is_type_about, keeps}
+use Rattle.mdns_browse.specs.About.{is_first_label, is_in_content, is_in_data, is_name, is_name_about, is_one_of, is_rest, is_said}
+use Rattle.mdns_browse.specs.About.{is_text_about, is_text_in_local, keeps}
 use Rattle.mdns_browse.specs.NameSaid.{front, labels_said}
 use Rattle.mdns_browse.specs.RecordShown.{shown_string, shown_strings}
 use Rattle.mdns_browse.specs.RecordText.{string_words, text_words}
@@ -138,7 +138,7 @@ any_label about labels = list_any (λ subject. is_first_label (string_bytes subj
 abbrev pub any_said : List Subject → List (List ℕ) → Bool
 any_said about labels = list_any (λ subject. is_said (string_bytes subject.text) labels) about
 
-pub name-parts : (about : List Subject) (name : List ℕ) → list_any (is_type_about name) about
+pub name-parts : (about : List Subject) (name : List ℕ) → list_any (is_name_about name) about
     ≡ (list_any (λ subject. is_text_in_local (string_bytes subject.text) (name_text name)) about
     || (list_any (λ subject. is_text_in_local (string_bytes subject.text) (name_shown name)) about
     || (any_said about (labels_of name) || any_label about (labels_of name))))
@@ -187,7 +187,7 @@ abbrev pub any_rest : List Subject → List (List ℕ) → Bool
 any_rest about labels = list_any (λ subject. is_rest (string_bytes subject.text) labels) about
 
 pub rest-name : (about : List Subject) (name wire label rest held : List ℕ) → wire ≡ name → Begins label rest wire → IsWire wire
-    → held ≡ rest → list_any (is_type_about held) about ≡ any_rest about (labels_of name)
+    → held ≡ rest → list_any (is_name_about held) about ≡ any_rest about (labels_of name)
 rest-name about name wire label rest held same head is kept =
     grind (arith, rest-wire label rest wire head is, labels_of-form, labels_of-after label rest wire head)
 
@@ -260,7 +260,7 @@ any_text about text = list_any (is_text_about text) about
 
 pub service-parts : (about : List Subject) (service : Service (List ℕ))
     → list_any (λ subject. is_in_content subject (content.Service service)) about
-    ≡ (list_any (is_type_about service.target) about || (any_text about (decimal service.priority)
+    ≡ (list_any (is_name_about service.target) about || (any_text about (decimal service.priority)
     || (any_text about (decimal service.weight) || (any_text about (decimal service.port)
     || any_text about (name_shown service.target ++ 58 ∷ decimal service.port)))))
 unfolding is_in_content
@@ -271,10 +271,10 @@ service-parts about service =
     let weight = service.weight in
     let port = service.port in
     let place = name_shown target ++ 58 ∷ decimal port in
-    any-or (is_type_about target)
+    any-or (is_name_about target)
     (λ subject. is (decimal priority) subject || (is (decimal weight) subject
     || (is (decimal port) subject || (is place subject || false)))) about
-    ∙ ap (λ b. list_any (is_type_about target) about || b)
+    ∙ ap (λ b. list_any (is_name_about target) about || b)
     (any-or (is (decimal priority))
     (λ subject. is (decimal weight) subject || (is (decimal port) subject || (is place subject || false))) about
     ∙ ap (λ b. any_text about (decimal priority) || b)
@@ -285,17 +285,15 @@ service-parts about service =
     (any-same (λ subject. is place subject || false) (is place) (λ subject. or_false (is place subject)) about))))
 
 -- with subjects, one of them decides
-pub keeps-some : {X : Type 0} (is_about : X → Subject → Bool) (about : List Subject) (x : X) → (length about == 0) ≡ false
-    → list_any (is_about x) about ≡ keeps is_about about x
-keeps-some is_about [] x some = absurd (false≢true (sym some))
-keeps-some is_about (subject ∷ subjects) x some = refl
+pub keeps-some : (is_about : Subject → Bool) (about : List Subject) → (length about == 0) ≡ false
+    → list_any is_about about ≡ keeps is_about about
+keeps-some is_about about some = sym (ap (λ none. none || list_any is_about about) some ∙ false_or (list_any is_about about))
 
 -- and without subjects all is kept
-pub keeps-all : {X : Type 0} (is_about : X → Subject → Bool) (about : List Subject) (x : X) → (length about == 0) ≡ true
-    → true ≡ keeps is_about about x
-keeps-all is_about [] x none = refl
-keeps-all is_about (subject ∷ subjects) x none = let is = eqb-true _ _ none in absurd (omega (arith, is))
+pub keeps-all : (is_about : Subject → Bool) (about : List Subject) → (length about == 0) ≡ true → true ≡ keeps is_about about
+keeps-all is_about about none = sym (ap (λ none. none || list_any is_about about) none)
 
-pub record-parts : (about : List Subject) (resource : Resource) → list_any (is_record_about resource) about
-    ≡ (list_any (is_type_about resource.owner) about || list_any (λ subject. is_in_data subject resource.body) about)
-record-parts about resource = any-or (is_type_about resource.owner) (λ subject. is_in_data subject resource.body) about
+pub record-parts : (about : List Subject) (resource : Resource)
+    → list_any (λ subject. is_name_about resource.owner subject || is_in_data subject resource.body) about
+    ≡ (list_any (is_name_about resource.owner) about || list_any (λ subject. is_in_data subject resource.body) about)
+record-parts about resource = any-or (is_name_about resource.owner) (λ subject. is_in_data subject resource.body) about

@@ -6,16 +6,17 @@ use Rattle.std.proofs.lemmas.Bool.{or_from}
 use Rattle.std.proofs.lemmas.List.{take_all}
 use Rattle.std.proofs.lemmas.List.Folds.{list_any-append, list_any_at, list_any_more}
 use Rattle.std.specs.List.{cons_option, filter_map, list_any}
+use Rattle.std.specs.Option.{option_map_or}
 use Rattle.dns_name.specs.Name.{labels_of}
 use Rattle.mdns_message.specs.Resource.{Body}
 use Rattle.mdns_message.specs.Parts.{service_of}
 use Rattle.mdns_message.specs.declared.parts.Service.{Service}
 use Rattle.mdns_join.specs.declared.latest.Latest.{Latest}
-use Rattle.mdns_browse.specs.About.{is_heard_about, is_heard_server_about, is_heard_service_about, is_in_data, is_name}
-use Rattle.mdns_browse.specs.About.{is_rest, is_server_about, is_type_about, keeps_heard, keeps_instance}
-use Rattle.mdns_browse.specs.Services.{body_of, data_of_set, instance_in, rows_of_set, server_at, server_in}
+use Rattle.mdns_browse.specs.About.{is_in_data, is_instance_about, is_name_about, is_rest, is_served_about, is_server_about}
+use Rattle.mdns_browse.specs.Services.{body_of, data_of_set, instance_in, rows_of_set, server_at, servers_in}
+use Rattle.mdns_browse.specs.declared.instance.Server.{Server}
 use Rattle.mdns_browse.specs.declared.about.Subject.{Subject}
-use Rattle.mdns_browse.proofs.AboutLemmas.{any-map, any-none, any-or, any-same, any-swap, any_rest, false_or}
+use Rattle.mdns_browse.proofs.AboutLemmas.{any-map, any-none, any-or, any-same, any-swap, any_rest, false_or, or-first, or-rest}
 
 -- one of the values so far, and one more
 module _ {X : Type 0} (p : X → Bool) where
@@ -56,69 +57,85 @@ any_in_rows about rows = list_any (λ subject. list_any (is_in_data subject) (ma
 
 -- SRV data is about a subject by the rows
 abbrev pub any_in_server : List Subject → List Latest → Body → Bool
-any_in_server about rows body = list_any (is_heard_server_about rows body) about
+any_in_server about rows body = list_any (is_served_about rows body) about
 
 abbrev pub any_in_servers : List Subject → List Latest → List Body → Bool
-any_in_servers about rows bodies = list_any (λ subject. list_any (λ body. is_heard_server_about rows body subject) bodies) about
+any_in_servers about rows bodies = list_any (λ subject. list_any (λ body. is_served_about rows body subject) bodies) about
+
+-- the same of a service, if there is one
+abbrev is_service_about : List Latest → Option (Service (List ℕ)) → Subject → Bool
+is_service_about rows o subject = option_map_or (λ service. is_server_about (server_at rows service) subject) o false
 
 -- other data never is
 pub no-server : (about : List Subject) (rows : List Latest) (body : Body) → None ≡ service_of body → false ≡ any_in_server about rows body
 no-server about rows body none =
-    sym (any-none (is_heard_service_about rows None) (λ subject. refl) about)
-    ∙ ap (λ o. list_any (is_heard_service_about rows o) about) none
+    sym (any-none (is_service_about rows None) (λ subject. refl) about)
+    ∙ ap (λ o. list_any (is_service_about rows o) about) none
 
 -- the target of a server, and its addresses among the rows
 pub server-parts : (about : List Subject) (rows : List Latest) (body : Body) (service : Service (List ℕ)) (fours sixes : List Latest)
     → Some service ≡ service_of body → fours ≡ rows_of_set rows service.target 1 → sixes ≡ rows_of_set rows service.target 28
     → any_in_server about rows body
-    ≡ (list_any (is_type_about service.target) about || (any_in_rows about fours || any_in_rows about sixes))
+    ≡ (list_any (is_name_about service.target) about || (any_in_rows about fours || any_in_rows about sixes))
 server-parts about rows body service fours sixes said four six =
-    let in_fours = λ (subject : Subject). list_any (is_in_data subject) (data_of_set rows service.target 1) in
-    let in_sixes = λ (subject : Subject). list_any (is_in_data subject) (data_of_set rows service.target 28) in
-    let named = list_any (is_type_about service.target) about in
-    ap (λ o. list_any (is_heard_service_about rows o) about) (sym said)
-    ∙ any-or (is_type_about service.target) (λ subject. in_fours subject || in_sixes subject) about
-    ∙ ap (λ b. named || b) (any-or in_fours in_sixes about)
+    let of_fours = data_of_set rows service.target 1 in
+    let of_sixes = data_of_set rows service.target 28 in
+    let in_both = λ (subject : Subject). list_any (is_in_data subject) (of_fours ++ of_sixes) in
+    let in_fours = λ (subject : Subject). list_any (is_in_data subject) of_fours in
+    let in_sixes = λ (subject : Subject). list_any (is_in_data subject) of_sixes in
+    let named = list_any (is_name_about service.target) about in
+    ap (λ o. list_any (is_service_about rows o) about) (sym said)
+    ∙ any-or (is_name_about service.target) in_both about
+    ∙ ap (λ b. named || b)
+    (any-same in_both (λ subject. in_fours subject || in_sixes subject)
+    (λ subject. list_any-append (is_in_data subject) of_fours of_sixes) about
+    ∙ any-or in_fours in_sixes about)
     ∙ ap (λ found. named || (any_in_rows about found || any_in_rows about (rows_of_set rows service.target 28))) (sym four)
     ∙ ap (λ found. named || (any_in_rows about fours || any_in_rows about found)) (sym six)
+
+-- the servers that SRV data gives
+abbrev given_servers : List Latest → List Body → List Server
+given_servers rows bodies = filter_map (λ b. option_map (server_at rows) (service_of b)) bodies
+
+servers-in : (rows : List Latest) (subject : Subject) (bodies : List Body)
+    → list_any (λ server. is_server_about server subject) (given_servers rows bodies)
+    ≡ list_any (λ body. is_served_about rows body subject) bodies
+servers-in rows subject [] = refl
+servers-in rows subject (body ∷ bodies) = by (service_of body) (servers-in rows subject bodies)
+  where
+    by : (o : Option (Service (List ℕ)))
+        → list_any (λ server. is_server_about server subject) (given_servers rows bodies)
+        ≡ list_any (λ body. is_served_about rows body subject) bodies
+        → list_any (λ server. is_server_about server subject) (cons_option (option_map (server_at rows) o) (given_servers rows bodies))
+        ≡ (is_service_about rows o subject || list_any (λ body. is_served_about rows body subject) bodies)
+    by None rest = rest ∙ sym (false_or _)
+    by (Some service) rest = ap (λ b. is_server_about (server_at rows service) subject || b) rest
 
 -- INSTANCES
 
 pub instance-parts : (about : List Subject) (rows : List Latest) (name : List ℕ)
-    → list_any (is_heard_about rows name) about
-    ≡ (list_any (is_type_about name) about || (any_rest about (labels_of name) || any_in_servers about rows (data_of_set rows name 33)))
+    → list_any (is_instance_about (instance_in rows name)) about
+    ≡ (list_any (is_name_about name) about || (any_rest about (labels_of name) || any_in_servers about rows (data_of_set rows name 33)))
 instance-parts about rows name =
     let rest = λ (subject : Subject). is_rest (string_bytes subject.text) (labels_of name) in
-    let served = λ (subject : Subject). list_any (λ body. is_heard_server_about rows body subject) (data_of_set rows name 33) in
-    any-or (is_type_about name) (λ subject. rest subject || served subject) about
-    ∙ ap (λ b. list_any (is_type_about name) about || b) (any-or rest served about)
+    let served = λ (subject : Subject). list_any (λ server. is_server_about server subject) (servers_in rows name) in
+    let named = list_any (is_name_about name) about in
+    any-or (is_name_about name) (λ subject. rest subject || served subject) about
+    ∙ ap (λ b. named || b)
+    (any-or rest served about
+    ∙ ap (λ b. any_rest about (labels_of name) || b)
+    (any-same served (λ subject. list_any (λ body. is_served_about rows body subject) (data_of_set rows name 33))
+    (λ subject. servers-in rows subject (data_of_set rows name 33)) about))
 
--- AMONG ROWS
+-- the name decides, or else the type, or else the servers
+module _ (about : List Subject) (rows : List Latest) (name : List ℕ) where
+  pub by-name : list_any (is_name_about name) about ≡ true → true ≡ list_any (is_instance_about (instance_in rows name)) about
+  by-name is = or-first _ (instance-parts about rows name) is
 
-module _ (rows : List Latest) where
-  -- a server by its target and its addresses
-  servers-in : (subject : Subject) (bodies : List Body) → list_any (λ body. is_heard_server_about rows body subject) bodies
-      ≡ list_any (λ server. is_server_about server subject) (filter_map (server_in rows) bodies)
-  servers-in subject [] = refl
-  servers-in subject (body ∷ bodies) = by (service_of body) (servers-in subject bodies)
-    where
-      by : (o : Option (Service (List ℕ)))
-          → list_any (λ body. is_heard_server_about rows body subject) bodies
-          ≡ list_any (λ server. is_server_about server subject) (filter_map (server_in rows) bodies)
-          → (is_heard_service_about rows o subject || list_any (λ body. is_heard_server_about rows body subject) bodies)
-          ≡ list_any (λ server. is_server_about server subject)
-          (cons_option (option_map (server_at rows) o) (filter_map (server_in rows) bodies))
-      by None rest = false_or _ ∙ rest
-      by (Some service) rest =
-          let named = is_name (string_bytes subject.text) service.target in
-          let fours = data_of_set rows service.target 1 in
-          let sixes = data_of_set rows service.target 28 in
-          ap (λ b. (named || b) || list_any (λ body. is_heard_server_about rows body subject) bodies)
-          (sym (list_any-append (is_in_data subject) fours sixes))
-          ∙ ap (λ b. (named || list_any (is_in_data subject) (fours ++ sixes)) || b) rest
+  pub by-type : list_any (is_name_about name) about ≡ false → any_rest about (labels_of name) ≡ true
+      → true ≡ list_any (is_instance_about (instance_in rows name)) about
+  by-type not is = or-first _ (sym (or-rest (instance-parts about rows name) not)) is
 
-  -- an instance is about the subjects by rows where its servers among the rows are
-  pub keeps-in : (about : List Subject) (name : List ℕ) → keeps_heard about rows name ≡ keeps_instance about (instance_in rows name)
-  unfolding keeps_heard keeps_instance
-  keeps-in [] name = refl
-  keeps-in (subject ∷ subjects) name = grind (arith, any-same, string_bytes, servers-in)
+  pub by-servers : list_any (is_name_about name) about ≡ false → any_rest about (labels_of name) ≡ false
+      → any_in_servers about rows (data_of_set rows name 33) ≡ list_any (is_instance_about (instance_in rows name)) about
+  by-servers not other = or-rest (sym (or-rest (instance-parts about rows name) not)) other

@@ -7,7 +7,7 @@ use Rattle.std.proofs.lemmas.List.{map-append}
 use Rattle.std.proofs.lemmas.List.Elements.{filter-append, filter_map-append}
 use Rattle.std.proofs.lemmas.Option.{cond_some, none-some}
 use Rattle.std.specs.List.{cons_option, filter, filter_map}
-use Rattle.mdns_message.specs.Parts.{pointer_of, text_of}
+use Rattle.mdns_message.specs.Parts.{pointer_of, service_of, text_of}
 use Rattle.mdns_message.specs.Resource.{Body, number_of}
 use Rattle.mdns_message.specs.declared.body.RecordData.TheVariants as body
 use Rattle.mdns_message.specs.laws.Resource.{set_key_cmp-exact}
@@ -19,7 +19,7 @@ use Rattle.mdns_browse.specs.declared.instance.Instance.{Instance}
 use Rattle.mdns_browse.specs.declared.instance.Server.{Server}
 use Rattle.mdns_browse.specs.Services.{GivenRow, InstanceRow, body_of, given_of, gives_instance, instance_given, instance_in}
 use Rattle.mdns_browse.specs.Services.{instance_row_in, instance_rows_in, lasts_in, name_if, rows_of_set}
-use Rattle.mdns_browse.specs.Services.{server_in}
+use Rattle.mdns_browse.specs.Services.{server_at}
 use Rattle.mdns_browse.proofs.KeptLemmas.{filter-all}
 use Rattle.mdns_browse.proofs.ListLemmas.{through-append}
 use Rattle.mdns_browse.proofs.SearchLemmas.{eq_is}
@@ -126,6 +126,10 @@ module _ (rows : List Latest) where
   instances-shown (row ∷ live) = grind (arith, is_some, shows, instances-shown live)
 
 -- ---- servers and texts
+
+-- the server of SRV data
+abbrev pub server_in : List Latest → Body → Option Server
+server_in rows b = option_map (server_at rows) (service_of b)
 
 -- the servers and the texts of these records
 abbrev pub servers_of : List Latest → List Latest → List Server

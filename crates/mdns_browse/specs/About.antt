@@ -1,5 +1,6 @@
 -- What is about a subject: a name, a word of data or an address for which somebody asks.
-use Rattle.std.specs.Prelude.{ℕ, Bool, true, false, ◌||◌, List, [], ◌∷◌, ◌++◌, Option, Some, None, codes, string_bytes}
+use Rattle.std.specs.Prelude.{ℕ, ◌==◌, Bool, false, ◌||◌, List, [], ◌∷◌, ◌++◌, length, Option, Some, None, codes, string_bytes}
+use Rattle.std.specs.Option.{option_map_or}
 use Rattle.std.specs.Cmp.Lexicographic.{slice_cmp}
 use Rattle.std.specs.Fmt.{decimal}
 use Rattle.std.specs.List.{list_any}
@@ -8,14 +9,11 @@ use Rattle.std.specs.Ordering.{is_eq, nat_cmp}
 use Rattle.std.specs.declared.net.ip_addr.IpAddr.{IpAddr}
 use Rattle.std.specs.declared.net.ip_addr.IpAddr.TheVariants.{V4, V6}
 use Rattle.dns_name.specs.Name.{labels_of, label_text, name_text, wire_of}
-use Rattle.mdns_message.specs.Resource.{Body, type_number}
+use Rattle.mdns_message.specs.Resource.{Body}
 use Rattle.mdns_message.specs.Parts.{content_of, service_of}
-use Rattle.mdns_message.specs.declared.parts.Address.{Address}
 use Rattle.mdns_message.specs.declared.parts.Address.TheVariants as address
 use Rattle.mdns_message.specs.declared.parts.Content.{Content}
 use Rattle.mdns_message.specs.declared.parts.Content.TheVariants as content
-use Rattle.mdns_message.specs.declared.parts.Service.{Service}
-use Rattle.mdns_message.specs.declared.record_type.RecordType.TheVariants as kind
 use Rattle.mdns_message.specs.declared.resource.Resource.{Resource}
 use Rattle.mdns_join.specs.declared.latest.Latest.{Latest}
 use Rattle.people_text.specs.Shown.{name_shown, shown}
@@ -23,7 +21,7 @@ use Rattle.mdns_browse.specs.declared.about.Subject.{Subject}
 use Rattle.mdns_browse.specs.declared.instance.Instance.{Instance}
 use Rattle.mdns_browse.specs.declared.instance.Server.{Server}
 use Rattle.mdns_browse.specs.NameSaid.{front, labels_said}
-use Rattle.mdns_browse.specs.Services.{data_of_set, same_text}
+use Rattle.mdns_browse.specs.Services.{instance_in, same_text, server_at}
 use Rattle.mdns_browse.specs.RecordShown.{shown_strings}
 use Rattle.mdns_browse.specs.RecordText.{text_words}
 
@@ -57,15 +55,11 @@ is_address None octets = false
 is_address (Some (V4 address)) octets = is_eq (slice_cmp nat_cmp (ipv4_octets address) octets)
 is_address (Some (V6 address)) octets = is_eq (slice_cmp nat_cmp (ipv6_octets address) octets)
 
--- the subject is the address of a host
-abbrev pub is_host_address : Subject → Address → Bool
-is_host_address subject (address.V4 octets) = is_address subject.address octets
-is_host_address subject (address.V6 octets) = is_address subject.address octets
-
 -- the subject is a word of what data says: an address in any of its forms; a name; a string, as lines write it or as people
 -- read it; of a service the priority, the weight, the port, or `TARGET:PORT`
 unfoldable pub is_in_content : Subject → Content (List ℕ) (List ℕ) → Bool
-is_in_content subject (content.Address one) = is_host_address subject one
+is_in_content subject (content.Address (address.V4 octets)) = is_address subject.address octets
+is_in_content subject (content.Address (address.V6 octets)) = is_address subject.address octets
 is_in_content subject (content.Name name) = is_name (string_bytes subject.text) name
 is_in_content subject (content.Strings bytes) =
     is_one_of (string_bytes subject.text) (text_words bytes) || is_one_of (string_bytes subject.text) (shown_strings bytes)
@@ -83,14 +77,9 @@ is_in_data subject b = is_in_content subject (content_of b)
 abbrev pub is_text_about : List ℕ → Subject → Bool
 is_text_about text subject = same_text (string_bytes subject.text) text
 
--- the record is about the subject: it is the owner, or a word of the data
-abbrev pub is_record_about : Resource → Subject → Bool
-is_record_about resource subject =
-    is_name (string_bytes subject.text) resource.owner || is_in_data subject resource.body
-
--- the instance's type, or the name of a host, is the subject
-abbrev pub is_type_about : List ℕ → Subject → Bool
-is_type_about name subject = is_name (string_bytes subject.text) name
+-- the subject is the name
+abbrev pub is_name_about : List ℕ → Subject → Bool
+is_name_about name subject = is_name (string_bytes subject.text) name
 
 -- the word is the name after the first of the labels: of an instance's name, its type (RFC 6763, section 4.1)
 abbrev pub is_rest : List ℕ → List (List ℕ) → Bool
@@ -99,51 +88,33 @@ is_rest word (label ∷ labels) = is_name word (wire_of labels)
 
 -- the server is about the subject: it is the target, or one of its addresses
 abbrev pub is_server_about : Server → Subject → Bool
-is_server_about server subject =
-    is_name (string_bytes subject.text) server.target || list_any (is_in_data subject) server.addresses
+is_server_about server subject = is_name_about server.target subject || list_any (is_in_data subject) server.addresses
 
 -- the instance is about the subject: it is its name, its type, a server or an address of one
 abbrev pub is_instance_about : Instance → Subject → Bool
 is_instance_about instance subject =
-    is_name (string_bytes subject.text) instance.name
+    is_name_about instance.name subject
     || (is_rest (string_bytes subject.text) (labels_of instance.name)
     || list_any (λ server. is_server_about server subject) instance.servers)
 
--- a service, if there is one, is about the subject by rows that were heard: its target is the subject, or an address of the
--- target in the rows
-abbrev pub is_heard_service_about : List Latest → Option (Service (List ℕ)) → Subject → Bool
-is_heard_service_about rows None subject = false
-is_heard_service_about rows (Some service) subject =
-    is_name (string_bytes subject.text) service.target
-    || (list_any (is_in_data subject) (data_of_set rows service.target (type_number kind.A))
-    || list_any (is_in_data subject) (data_of_set rows service.target (type_number kind.Aaaa)))
-
--- SRV data is about the subject by rows that were heard
-abbrev pub is_heard_server_about : List Latest → Body → Subject → Bool
-is_heard_server_about rows b subject = is_heard_service_about rows (service_of b) subject
-
--- The instance of that name is about the subject by rows that were heard, live or not: its name is the subject, its type, the
--- target of an SRV record of its name in the rows, or an address of the target.
-abbrev pub is_heard_about : List Latest → List ℕ → Subject → Bool
-is_heard_about rows name subject =
-    is_name (string_bytes subject.text) name
-    || (is_rest (string_bytes subject.text) (labels_of name)
-    || list_any (λ served. is_heard_server_about rows served subject) (data_of_set rows name (type_number kind.Srv)))
+-- SRV data gives a server among rows that is about the subject
+abbrev pub is_served_about : List Latest → Body → Subject → Bool
+is_served_about rows b subject = option_map_or (λ service. is_server_about (server_at rows service) subject) (service_of b) false
 
 -- a value is kept where it is about one of the subjects, or where there are no subjects
-abbrev pub keeps : {X : Type 0} → (X → Subject → Bool) → List Subject → X → Bool
-keeps is_about [] x = true
-keeps is_about (subject ∷ subjects) x = list_any (is_about x) (subject ∷ subjects)
+abbrev pub keeps : (Subject → Bool) → List Subject → Bool
+keeps is_about subjects = (length subjects == 0) || list_any is_about subjects
 
+-- a record is about the subject that is its owner, or a word of its data
 unfoldable pub keeps_record : List Subject → Resource → Bool
-keeps_record about resource = keeps is_record_about about resource
+keeps_record about resource = keeps (λ subject. is_name_about resource.owner subject || is_in_data subject resource.body) about
 
 unfoldable pub keeps_type : List Subject → List ℕ → Bool
-keeps_type about name = keeps is_type_about about name
+keeps_type about name = keeps (is_name_about name) about
 
 unfoldable pub keeps_instance : List Subject → Instance → Bool
-keeps_instance about instance = keeps is_instance_about about instance
+keeps_instance about instance = keeps (is_instance_about instance) about
 
--- by rows that were heard
-unfoldable pub keeps_heard : List Subject → List Latest → List ℕ → Bool
-keeps_heard about rows name = keeps (is_heard_about rows) about name
+-- the instance of that name among rows that were heard, live or not
+abbrev pub keeps_heard : List Subject → List Latest → List ℕ → Bool
+keeps_heard about rows name = keeps_instance about (instance_in rows name)

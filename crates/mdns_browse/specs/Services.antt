@@ -132,13 +132,9 @@ server_at rows service =
       addresses = addresses_in rows service.target;
     }
 
--- the server of SRV data
-abbrev pub server_in : List Latest → Body → Option Server
-server_in rows b = option_map (server_at rows) (service_of b)
-
 -- the servers of a name, by its SRV records: where an instance is served (section 5)
 abbrev pub servers_in : List Latest → List ℕ → List Server
-servers_in rows name = filter_map (server_in rows) (data_of_set rows name (type_number kind.Srv))
+servers_in rows name = filter_map (λ b. option_map (server_at rows) (service_of b)) (data_of_set rows name (type_number kind.Srv))
 
 -- the data of the TXT records of a name: an instance's attributes (section 6)
 abbrev pub texts_in : List Latest → List ℕ → List (List ℕ)

@@ -6,8 +6,7 @@ ghost use Rattle.std.specs.List.{list_any};
 ghost use Rattle.mdns_message.specs.Borrowed.{body_lent};
 ghost use Rattle.mdns_message.specs.Parts.{content_lent, service_lent};
 ghost use Rattle.people_text.specs.Shown.{name_shown};
-ghost use Rattle.mdns_browse.specs.About.{is_address, is_host_address, is_in_content, is_in_data, is_one_of};
-ghost use Rattle.mdns_browse.specs.About.{is_text_about};
+ghost use Rattle.mdns_browse.specs.About.{is_address, is_in_content, is_in_data, is_one_of, is_text_about};
 ghost use Rattle.mdns_browse.specs.RecordShown.{shown_string};
 ghost use Rattle.mdns_browse.specs.RecordText.{string_words};
 
@@ -69,8 +68,9 @@ fn is_in_service(
 }
 
 // Checks that one of the subjects is the address of a host.
+#[tactic(auto, unfolding(crate::specs::About::is_in_content))]
 fn is_host_address(about: &[Subject], address: Address) -> bool
-    ensures { result ≡ list_any (λ subject. is_host_address subject address) about.now }
+    ensures { result ≡ list_any (λ subject. is_in_content subject (Content.Address address)) about.now }
 {
     match address {
         Address::V4(octets) => is_address(about, octets.as_slice()),

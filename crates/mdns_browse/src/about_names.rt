@@ -5,7 +5,7 @@ ghost use Rattle.std.specs.Fmt.{decimal};
 ghost use Rattle.std.specs.List.{list_any};
 ghost use Rattle.dns_name.specs.Name.{bytes_text, labels_of};
 ghost use Rattle.people_text.specs.Shown.{shown};
-ghost use Rattle.mdns_browse.specs.About.{is_rest, is_said, is_text_about, is_text_in_local, is_type_about};
+ghost use Rattle.mdns_browse.specs.About.{is_rest, is_said, is_text_about, is_text_in_local, is_name_about};
 ghost use Rattle.mdns_browse.specs.Services.{same_text};
 
 use crate::about::Subject;
@@ -64,7 +64,7 @@ pub(crate) fn is_name(
     name: &BorrowedName<'_>,
     scratch: &mut String,
 ) -> Result<bool, Want>
-    ensures { IfOk result (λ is. is ≡ list_any (is_type_about name.now) about.now) }
+    ensures { IfOk result (λ is. is ≡ list_any (is_name_about name.now) about.now) }
 {
     scratch.clear();
     name.push_text(scratch)?;

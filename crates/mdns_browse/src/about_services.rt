@@ -4,8 +4,8 @@ ghost use Rattle.std.specs.Prelude.{◌≡◌, IfOk, map};
 ghost use Rattle.std.specs.List.{list_any};
 ghost use Rattle.mdns_message.specs.Resource.{type_number};
 ghost use Rattle.mdns_cache.specs.LentRecords.{last_lent};
-ghost use Rattle.mdns_browse.specs.About.{is_heard_about, is_heard_server_about, is_in_data};
-ghost use Rattle.mdns_browse.specs.Services.{AreAscending, body_of, data_of_set};
+ghost use Rattle.mdns_browse.specs.About.{is_in_data, is_instance_about, is_served_about};
+ghost use Rattle.mdns_browse.specs.Services.{AreAscending, body_of, data_of_set, instance_in};
 
 use crate::about::Subject;
 use crate::about_data::is_in_data;
@@ -23,7 +23,7 @@ pub(crate) fn is_in_instance(
     scratch: &mut String,
 ) -> Result<bool, Want>
     ensures { IfOk result (λ is. AreAscending (map last_lent rows.now)
-        → is ≡ list_any (is_heard_about (map last_lent rows.now) name.now) about.now) }
+        → is ≡ list_any (is_instance_about (instance_in (map last_lent rows.now) name.now)) about.now) }
 {
     let whole = name.borrowed();
     if is_name(about, &whole, scratch)? {
@@ -43,7 +43,7 @@ fn is_in_servers(
     scratch: &mut String,
 ) -> Result<bool, Want>
     ensures { IfOk result (λ is. AreAscending (map last_lent rows.now)
-        → is ≡ list_any (λ subject. list_any (λ served. is_heard_server_about (map last_lent rows.now) served subject)
+        → is ≡ list_any (λ subject. list_any (λ served. is_served_about (map last_lent rows.now) served subject)
         (data_of_set (map last_lent rows.now) name.now (type_number RecordType.Srv))) about.now) }
 {
     for row in of_set(rows, name, RecordType::Srv) {
@@ -62,7 +62,7 @@ fn is_in_server(
     scratch: &mut String,
 ) -> Result<bool, Want>
     ensures { IfOk result (λ is. AreAscending (map last_lent rows.now)
-        → is ≡ list_any (is_heard_server_about (map last_lent rows.now) (body_of (last_lent row.now))) about.now) }
+        → is ≡ list_any (is_served_about (map last_lent rows.now) (body_of (last_lent row.now))) about.now) }
 {
     let Some(service) = row.resource.body.service() else {
         return Ok(false);

@@ -2,6 +2,7 @@
 
 ghost use Rattle.std.specs.Prelude.{◌∷◌, [], List, map, OnOk};
 ghost use Rattle.std.specs.List.{filter, filter_map, flat_map};
+ghost use Rattle.mdns_message.specs.Parts.{service_of};
 ghost use Rattle.mdns_message.specs.declared.hearing.Hearing.{Hearing};
 ghost use Rattle.mdns_cache.specs.Contents.{StandsFor};
 ghost use Rattle.mdns_cache.specs.Live.{NoneLater, AreLiveRecords};
@@ -9,7 +10,7 @@ ghost use Rattle.mdns_cache.specs.LentRecords.{last_lent, live_record_lent};
 ghost use Rattle.mdns_browse.specs.About.{keeps_type};
 ghost use Rattle.mdns_browse.specs.Given.{given_lent};
 ghost use Rattle.mdns_browse.specs.Report.{instances_about, records_about, types_about};
-ghost use Rattle.mdns_browse.specs.Services.{AreAscending, body_of, instance_in, instance_row_in, lasts_in, server_in, servers_in};
+ghost use Rattle.mdns_browse.specs.Services.{AreAscending, body_of, instance_in, instance_row_in, lasts_in, server_at, servers_in};
 ghost use Rattle.mdns_browse.specs.Services.{texts_in};
 ghost use Rattle.mdns_browse.specs.Sheet.{AddsPieces, instance_pieces, instance_text, live_record, report_pieces, server_address};
 ghost use Rattle.mdns_browse.specs.Sheet.{server_pieces, servers_pieces, service_type};
@@ -177,7 +178,8 @@ fn walk_servers<S: Sheet>(sheet: &mut S, rows: &[Last<'_>], name: &Name) -> Resu
 // Hands over an SRV record's server, and the addresses of its target, which are looked up in the rows.
 fn walk_server<S: Sheet>(sheet: &mut S, rows: &[Last<'_>], row: &Last<'_>) -> Result<(), Want>
     ensures { OnOk result (AreAscending (map last_lent rows.now) → S.takes sheet.old
-        (flat_map server_pieces (filter_map (server_in (map last_lent rows.now)) (body_of (last_lent row.now) ∷ []))) sheet.new) }
+        (flat_map server_pieces (filter_map (λ b. option_map (server_at (map last_lent rows.now)) (service_of b))
+        (body_of (last_lent row.now) ∷ []))) sheet.new) }
 {
     // Each is an SRV record: no other data has its number.
     let Some(service) = row.resource.body.service() else {

@@ -1,14 +1,13 @@
 use Rattle.std.proofs.Common.{arith}
 use Rattle.std.proofs.Common.{sym, ◌∙◌}
-use Rattle.mdns_message.specs.Borrowed.{resource_lent}
-use Rattle.mdns_browse.specs.About.{is_record_about, keeps_record}
+use Rattle.mdns_browse.specs.About.{keeps_record}
 use Rattle.mdns_browse.proofs.AboutLemmas.{keeps-all, keeps-some, or-first, or-rest, record-parts}
 use Rattle.mdns_browse.proofs.keeps.keeps_record.Goals as goal
 
 pub returns-then-is_empty : goal.returns-then-is_empty
 unfolding keeps_record
 returns-then-is_empty c =
-    keeps-all is_record_about c.args.about.now (resource_lent c.args.resource.now) (sym c.is_empty.ensures ∙ c.if-is_empty.true)
+    keeps-all _ c.args.about.now (sym c.is_empty.ensures ∙ c.if-is_empty.true)
 
 pub returns-then-branch : goal.returns-then-branch
 unfolding keeps_record

@@ -1,13 +1,13 @@
 use Rattle.std.proofs.Common.{arith}
 use Rattle.std.proofs.Common.{sym, ◌∙◌}
 use Rattle.std.proofs.lemmas.Result.{IfOk-weaker}
-use Rattle.mdns_browse.specs.About.{is_type_about, keeps_type}
+use Rattle.mdns_browse.specs.About.{keeps_type}
 use Rattle.mdns_browse.proofs.AboutLemmas.{keeps-all, keeps-some}
 use Rattle.mdns_browse.proofs.keeps.keeps_type.Goals as goal
 
 pub returns-then-is_empty : goal.returns-then-is_empty
 unfolding keeps_type
-returns-then-is_empty c = keeps-all is_type_about c.args.about.now c.args.name.now (sym c.is_empty.ensures ∙ c.if-is_empty.true)
+returns-then-is_empty c = keeps-all _ c.args.about.now (sym c.is_empty.ensures ∙ c.if-is_empty.true)
 
 pub returns : goal.returns
 unfolding keeps_type

@@ -1,7 +1,8 @@
 use Rattle.std.proofs.Common.{◌≡◌, map, take}
 use Rattle.std.specs.List.{filter_map}
 use Rattle.mdns_cache.specs.LentRecords.{last_lent}
-use Rattle.mdns_browse.specs.Services.{AreAscending, body_of, server_in}
+use Rattle.mdns_browse.specs.Services.{AreAscending, body_of}
+use Rattle.mdns_browse.proofs.InstanceLemmas.{server_in}
 use Rattle.mdns_browse.proofs.services.servers.Given as goal
 
 abbrev pub invariant-loop-row : goal.invariant-loop-row
