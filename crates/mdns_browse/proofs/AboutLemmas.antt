@@ -2,7 +2,7 @@
 use Rattle.std.proofs.Common.{◌≡◌, refl, sym, ◌∙◌, ap, ℕ, ◌<◌, ◌≤◌, ◌==◌, Bool, true, false, ◌||◌}
 use Rattle.std.proofs.Common.{List, [], ◌∷◌, ◌++◌, length, map, take, drop, length-append, codes, string_bytes, arith}
 use Rattle.std.proofs.Math.Seq.{drop-append_seam, take-append_seam}
-use Rattle.std.proofs.lemmas.Bool.{cases_lt, eqb-true, false_from_ne_true, false≢true, or_left}
+use Rattle.std.proofs.lemmas.Bool.{cases_lt, false_from_ne_true, or_left}
 use Rattle.std.proofs.lemmas.Bool.Decides.{same_from_decides}
 use Rattle.std.proofs.lemmas.List.Folds.{list_any-append}
 use Rattle.std.specs.Fmt.{decimal}
@@ -16,12 +16,13 @@ use Rattle.mdns_message.specs.declared.resource.Resource.{Resource}
 use Rattle.people_text.specs.Shown.{name_shown, shown}
 use Rattle.mdns_browse.specs.About.{is_first_label, is_in_content, is_in_data, is_name, is_name_about, is_one_of, is_rest, is_said}
 use Rattle.mdns_browse.specs.About.{is_text_about, is_text_in_local, keeps}
-use Rattle.mdns_browse.specs.NameSaid.{front, labels_said}
+use Rattle.mdns_browse.specs.NameSaid.{front}
 use Rattle.mdns_browse.specs.RecordShown.{shown_string, shown_strings}
 use Rattle.mdns_browse.specs.RecordText.{string_words, text_words}
 use Rattle.mdns_browse.specs.declared.about.Subject.{Subject}
 use Rattle.mdns_browse.specs.Services.{same_text}
 use Rattle.mdns_browse.proofs.NameLemmas.{folded-append, length-folded, same_text-decides}
+use Rattle.mdns_browse.proofs.SaidLemmas.{labels_said}
 use Rattle.mdns_browse.proofs.ShownLemmas.{strings-cons}
 use Rattle.mdns_browse.proofs.TextLemmas.{text_words-cons}
 

@@ -9,7 +9,7 @@ use Rattle.mdns_message.specs.declared.record_type.RecordType.TheVariants as kin
 use Rattle.mdns_message.specs.Resource.{type_name, type_of}
 use Rattle.mdns_join.specs.declared.latest.Latest.{Latest}
 use Rattle.people_text.specs.MomentText.{clock_text, date_text, date_written, hours_text, seconds_text}
-use Rattle.mdns_browse.specs.Columns.{heading, heard_text, kind_text, left_text, padded, record_heads, record_row, record_table}
+use Rattle.mdns_browse.specs.Columns.{heading, left_text, padded, record_heads, record_row, record_table}
 use Rattle.mdns_browse.specs.Columns.{spaces, unless_none, widest}
 use Rattle.mdns_browse.specs.RecordShown.{shown_record}
 use Rattle.mdns_browse.proofs.ListLemmas.{map_more}
@@ -59,6 +59,13 @@ pub lent_width-more : {R Y : Type 0} (text : Y → List ℕ) (f : R → Y) (rows
     → i < length rows → row ≡ get_or rows i row → width ≡ widest (map text (map f (take i rows))) → len ≡ length (text (f row))
     → new ≡ max width len → new ≡ widest (map text (map f (take (i + 1) rows)))
 lent_width-more text f rows i row width len new within at before own is = grind (arith, map-map, width-more)
+
+-- when a live record was last heard, and its type
+abbrev pub heard_text : Latest × ℕ → List ℕ
+heard_text row = seconds_text row.0.moment.nanos
+
+abbrev pub kind_text : Latest × ℕ → List ℕ
+kind_text row = type_name (type_of row.0.resource.body)
 
 -- a moment has twenty letters
 seconds-len : (nanos : ℕ) → length (seconds_text nanos) ≡ 20

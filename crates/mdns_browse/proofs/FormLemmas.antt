@@ -6,7 +6,8 @@ use Rattle.mdns_browse.specs.declared.about.Subject.{Subject}
 use Rattle.mdns_browse.specs.declared.report_json.Objects.{Objects}
 use Rattle.mdns_browse.specs.declared.report.Ask.{Ask}
 use Rattle.mdns_browse.specs.declared.report.Ask.TheVariants.{Records, Types, Instances}
-use Rattle.mdns_browse.specs.Report.{instances_about, json_about, lines_about, records_about, types_about}
+use Rattle.mdns_browse.specs.declared.report.Form.TheVariants.{Json, Lines}
+use Rattle.mdns_browse.specs.Report.{instances_about, records_about, text_about, types_about}
 use Rattle.mdns_browse.specs.Sheet.{live_record, report_pieces, service_type, writes}
 use Rattle.mdns_browse.specs.LinePieces.{piece_lines}
 use Rattle.mdns_browse.specs.JsonPieces.{Grows, pieces_json, pieces_next}
@@ -17,20 +18,22 @@ use Rattle.mdns_browse.proofs.ObjectLemmas.{records_json, types_json, instances_
 begun : {old text new whole : List ℕ} → old ≡ [] → new ≡ old ++ text → text ≡ whole → new ≡ whole
 begun {text = text} none written same = written ∙ ap (λ front. front ++ text) none ∙ same
 
-pub lines_written : {A : Type 0} (about : List Subject) (ask : Ask) (rows : List (Latest × ℕ)) (old new : String A) → string_bytes old ≡ []
-    → writes piece_lines old (report_pieces about ask rows) new → string_bytes new ≡ lines_about about ask rows
-lines_written about Records rows old new none written =
+pub lines_written : {A : Type 0} (about : List Subject) (ask : Ask) (now : ℕ) (rows : List (Latest × ℕ)) (old new : String A)
+    → string_bytes old ≡ [] → writes piece_lines old (report_pieces about ask rows) new
+    → string_bytes new ≡ text_about about Lines now ask rows
+lines_written about Records now rows old new none written =
     begun none written (flat_map-map piece_lines live_record (records_about about rows))
-lines_written about Types rows old new none written =
+lines_written about Types now rows old new none written =
     begun none written (flat_map-map piece_lines service_type (types_about about rows))
-lines_written about Instances rows old new none written =
+lines_written about Instances now rows old new none written =
     begun none written (instances_text (instances_about about rows))
 
-pub json_written : (about : List Subject) (ask : Ask) (rows : List (Latest × ℕ)) (old new : Objects) → string_bytes old.text ≡ []
-    → Grows pieces_json pieces_next old (report_pieces about ask rows) new → string_bytes new.text ≡ json_about about ask rows
-json_written about Records rows old new none grown =
+pub json_written : (about : List Subject) (ask : Ask) (now : ℕ) (rows : List (Latest × ℕ)) (old new : Objects)
+    → string_bytes old.text ≡ [] → Grows pieces_json pieces_next old (report_pieces about ask rows) new
+    → string_bytes new.text ≡ text_about about Json now ask rows
+json_written about Records now rows old new none grown =
     begun none grown.written (records_json (records_about about rows) old.first)
-json_written about Types rows old new none grown =
+json_written about Types now rows old new none grown =
     begun none grown.written (types_json old.first (types_about about rows))
-json_written about Instances rows old new none grown =
+json_written about Instances now rows old new none grown =
     begun none grown.written (instances_json old.first (instances_about about rows))

@@ -1,12 +1,16 @@
 -- Texts within strings, one character at a time.
 use Rattle.std.proofs.Common.{◌≡◌, sym, ◌∙◌, ap, ℕ, ◌≤◌, ◌==◌, ◌||◌, Bool, true}
-use Rattle.std.proofs.Common.{false, cond, List, [], ◌∷◌, ◌++◌, length, nat_lt, arith}
+use Rattle.std.proofs.Common.{false, cond, if◌then◌else◌, List, [], ◌∷◌, ◌++◌, length, nat_lt, arith}
 use Rattle.std.proofs.lemmas.Bool.Decides.{nat_tests}
 use Rattle.std.proofs.lemmas.List.{append-nil, append_assoc}
 use Rattle.std.proofs.lemmas.Grind.{flat_map-append}
 use Rattle.std.proofs.lemmas.Str.{encode_ascii}
 use Rattle.std.specs.Char.{encode_utf8}
-use Rattle.mdns_browse.specs.Json.{escaped, escaped_byte}
+use Rattle.mdns_browse.specs.Json.{escaped}
+
+-- a byte of a text within a string
+abbrev escaped_byte : ℕ → List ℕ
+escaped_byte b = if (b == 34) || (b == 92) then 92 ∷ b ∷ [] else b ∷ []
 
 plain_byte : (b : ℕ) → 128 ≤ b → escaped_byte b ≡ b ∷ []
 plain_byte b big = grind (arith, nat_tests)

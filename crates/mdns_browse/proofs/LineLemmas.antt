@@ -1,13 +1,12 @@
 -- Lines by the pieces that are written of them.
-use Rattle.std.proofs.Common.{◌≡◌, refl, ◌∙◌, ap, ℕ, ◌==◌, false, List, [], ◌∷◌, ◌++◌, length, map, arith, codes}
-use Rattle.std.proofs.lemmas.Bool.Decides.{nat_tests}
+use Rattle.std.proofs.Common.{◌≡◌, refl, ◌∙◌, ap, ℕ, ◌==◌, if◌then◌else◌, List, [], ◌∷◌, ◌++◌, length, map, arith, codes}
 use Rattle.std.proofs.lemmas.List.{append-nil, append_assoc}
 use Rattle.std.proofs.lemmas.Grind.{flat_map-append}
 use Rattle.std.specs.Fmt.{decimal}
 use Rattle.std.specs.List.{flat_map}
 use Rattle.dns_name.specs.Name.{name_text}
 use Rattle.mdns_browse.specs.declared.instance.Server.{Server}
-use Rattle.mdns_browse.specs.RecordText.{address_line, server_lines, servers_lines, instance_lines}
+use Rattle.mdns_browse.specs.RecordText.{data_words, instance_lines, server_lines, spaced}
 use Rattle.mdns_browse.specs.Sheet.{server_address, server_end, servers_end}
 use Rattle.mdns_browse.specs.Sheet.{server_pieces, servers_pieces, instance_pieces}
 use Rattle.mdns_browse.specs.LinePieces.{piece_lines}
@@ -41,22 +40,26 @@ server_text server = grind (
   arith,
   flat_map-append piece_lines (map server_address server.addresses) (server_end ∷ []),
   flat_map-map piece_lines server_address server.addresses,
-  server_by_parts (codes " server ") (name_text server.target) (32 ∷ decimal server.port) (codes " priority ") (decimal server.priority) (codes " weight ") (decimal server.weight) (flat_map address_line server.addresses),
+  server_by_parts (codes " server ") (name_text server.target) (32 ∷ decimal server.port) (codes " priority ") (decimal server.priority) (codes " weight ") (decimal server.weight) (flat_map (λ address. codes "    address" ++ spaced (data_words address) ++ 10 ∷ []) server.addresses),
 )
 
-servers_text : (servers : List Server) → flat_map piece_lines (servers_pieces servers) ≡ servers_lines servers
-unfolding servers_lines
-servers_text [] = append-nil (codes "  unresolved" ++ 10 ∷ [])
-servers_text (server ∷ servers) =
-    let some : (length (server ∷ servers) == 0) ≡ false = grind (arith, nat_tests) in
-    flat_map-append piece_lines (flat_map server_pieces (server ∷ servers)) (servers_end (length (server ∷ servers) == 0) ∷ [])
-    ∙ ap (λ none. flat_map piece_lines (flat_map server_pieces (server ∷ servers)) ++ flat_map piece_lines (servers_end none ∷ [])) some
-    ∙ append-nil _
-    ∙ flat_map-pieces piece_lines server_pieces server_lines server_text (server ∷ servers)
+-- the line of an instance that has no servers
+abbrev unresolved : List Server → List ℕ
+unresolved servers = if length servers == 0 then codes "  unresolved\n" else []
+
+servers_text : (servers : List Server) → flat_map piece_lines (servers_pieces servers) ≡ flat_map server_lines servers ++ unresolved servers
+servers_text servers =
+    flat_map-append piece_lines (flat_map server_pieces servers) (servers_end (length servers == 0) ∷ [])
+    ∙ ap (λ text. text ++ (unresolved servers ++ [])) (flat_map-pieces piece_lines server_pieces server_lines server_text servers)
+    ∙ ap (λ text. flat_map server_lines servers ++ text) (append-nil (unresolved servers))
+
+instance_by_parts : (name servers none texts : List ℕ)
+    → (name ++ 10 ∷ []) ++ ((servers ++ none) ++ (texts ++ [])) ≡ name ++ 10 ∷ servers ++ none ++ texts
+instance_by_parts name servers none texts = simp (append_assoc, append-nil)
 
 instance_text_lines : (row : InstanceRow) → flat_map piece_lines (instance_pieces row) ≡ instance_lines row.instance
 unfolding instance_lines
-instance_text_lines row = grind (arith, append_assoc, flat_map-append, servers_text, append-nil, flat_map-map)
+instance_text_lines row = grind (arith, append_assoc, flat_map-append, servers_text, append-nil, flat_map-map, instance_by_parts)
 
 pub instances_text : (rows : List InstanceRow) → flat_map piece_lines (flat_map instance_pieces rows)
     ≡ flat_map (λ (row : InstanceRow). instance_lines row.instance) rows

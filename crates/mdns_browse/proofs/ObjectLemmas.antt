@@ -14,9 +14,9 @@ use Rattle.mdns_lives.specs.declared.life.Life.{Life}
 use Rattle.mdns_browse.specs.declared.instance.Server.{Server}
 use Rattle.mdns_browse.specs.declared.report_json.Objects.{Objects}
 use Rattle.mdns_browse.specs.RecordShown.{shown_record}
-use Rattle.mdns_browse.specs.RecordText.{data_words}
+use Rattle.mdns_browse.specs.RecordText.{data_words, text_words}
 use Rattle.mdns_browse.specs.Json.{escaped, parted, comma_unless, first_after, json_string, json_words, json_member, json_object}
-use Rattle.mdns_browse.specs.Json.{record_json, type_json, server_json, text_json, instance_json}
+use Rattle.mdns_browse.specs.Json.{record_json, type_json, server_json, instance_json}
 use Rattle.mdns_browse.specs.Services.{InstanceRow}
 use Rattle.mdns_browse.specs.Sheet.{Piece, live_record, service_type, server_address}
 use Rattle.mdns_browse.specs.Sheet.{instance_text, server_pieces, instance_pieces}
@@ -151,11 +151,12 @@ addresses_json first [] = refl
 addresses_json first (address ∷ addresses) =
     grind (arith, strings-append, addresses_json (first_after first (data_words address)) addresses)
 
-texts_json : (first : Bool) (texts : List (List ℕ)) → pieces_json first (map instance_text texts) ≡ parted first (map text_json texts)
+texts_json : (first : Bool) (texts : List (List ℕ))
+    → pieces_json first (map instance_text texts) ≡ parted first (map (λ text. json_words (text_words text)) texts)
 unfolding parted
 texts_json first [] = refl
 texts_json first (text ∷ texts) =
-    ap (λ rest. (comma_unless first ++ text_json text) ++ rest) (texts_json false texts)
+    ap (λ rest. (comma_unless first ++ json_words (text_words text)) ++ rest) (texts_json false texts)
 
 server_text : (first : Bool) (server : Server) → pieces_json first (server_pieces server) ≡ comma_unless first ++ server_json server
 unfolding server_json

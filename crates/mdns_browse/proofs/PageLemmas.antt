@@ -1,7 +1,6 @@
 -- Instances in readable columns: their lines by the pieces that are written of them.
-use Rattle.std.proofs.Common.{◌≡◌, refl, sym, ◌∙◌, ap, subst, ℕ, ◌==◌, false, true}
+use Rattle.std.proofs.Common.{◌≡◌, refl, sym, ◌∙◌, ap, subst, ℕ, ◌==◌, false, true, if◌then◌else◌}
 use Rattle.std.proofs.Common.{List, [], ◌∷◌, ◌++◌, length, map, max, arith, codes}
-use Rattle.std.proofs.lemmas.Bool.Decides.{nat_tests}
 use Rattle.std.proofs.lemmas.List.{append-nil, append_assoc, length-map}
 use Rattle.std.proofs.lemmas.Simd.{map-map}
 use Rattle.std.proofs.lemmas.Grind.{flat_map-append}
@@ -10,9 +9,9 @@ use Rattle.mdns_join.specs.declared.latest.Latest.{Latest}
 use Rattle.mdns_browse.specs.declared.instance.Server.{Server}
 use Rattle.mdns_browse.specs.declared.instance_sheet.InstanceSheet.{InstanceSheet}
 use Rattle.mdns_browse.specs.ColumnPieces.{Writes, piece_columns, row_pieces, rows_pieces, type_pieces}
-use Rattle.mdns_browse.specs.Columns.{given_left, heading, instance_rows, instances_pretty, left_text, line_of_some}
+use Rattle.mdns_browse.specs.Columns.{heading, instance_rows, instances_pretty, left_text, line_of_some}
 use Rattle.mdns_browse.specs.Columns.{other_row, others_pretty, rows_by_type}
-use Rattle.mdns_browse.specs.Columns.{server_line, servers_rows, spaces, type_begin, widest, words_line}
+use Rattle.mdns_browse.specs.Columns.{server_line, spaces, type_begin, widest, words_line}
 use Rattle.mdns_browse.specs.Services.{GivenRow, InstanceRow}
 use Rattle.mdns_browse.specs.Sheet.{server_pieces, servers_end, servers_pieces}
 use Rattle.mdns_browse.specs.Sheet.{instance_pieces}
@@ -72,15 +71,17 @@ module _ (width now : ℕ) where
   unfolding words_line
   server_text server = grind (arith, flat_map-append, flat_map-map, append_assoc, flat_map-pieces)
 
-  servers_text : (servers : List Server) → flat_map (piece_columns width now) (servers_pieces servers) ≡ servers_rows width servers
-  servers_text [] = append-nil (words_line width (codes "unresolved" ∷ []))
-  servers_text (server ∷ servers) =
-      let some : (length (server ∷ servers) == 0) ≡ false = grind (arith, nat_tests) in
-      flat_map-append (piece_columns width now) (flat_map server_pieces (server ∷ servers)) (servers_end (length (server ∷ servers) == 0) ∷ [])
-      ∙ ap (λ none. flat_map (piece_columns width now) (flat_map server_pieces (server ∷ servers))
-      ++ flat_map (piece_columns width now) (servers_end none ∷ [])) some
-      ∙ append-nil _
-      ∙ flat_map-pieces (piece_columns width now) server_pieces (server_line width) server_text (server ∷ servers)
+  -- the line of an instance that has no servers
+  abbrev unresolved : List Server → List ℕ
+  unresolved servers = if length servers == 0 then words_line width (codes "unresolved" ∷ []) else []
+
+  servers_text : (servers : List Server) → flat_map (piece_columns width now) (servers_pieces servers)
+      ≡ flat_map (server_line width) servers ++ unresolved servers
+  servers_text servers =
+      flat_map-append (piece_columns width now) (flat_map server_pieces servers) (servers_end (length servers == 0) ∷ [])
+      ∙ ap (λ text. text ++ (unresolved servers ++ []))
+      (flat_map-pieces (piece_columns width now) server_pieces (server_line width) server_text servers)
+      ∙ ap (λ text. flat_map (server_line width) servers ++ text) (append-nil (unresolved servers))
 
   row_text : (row : InstanceRow) → flat_map (piece_columns width now) (instance_pieces row) ≡ instance_rows width now row
   unfolding instance_rows
@@ -101,6 +102,10 @@ module _ (width now : ℕ) where
       ∙ ap (λ text. text ++ flat_map (piece_columns width now) own) (type_text before owner)
       ∙ ap (λ text. type_begin before owner ++ text) (row_text row))
       ∙ ap (λ text. type_begin before owner ++ instance_rows width now row ++ text) (rows_text owner rows)
+
+-- how much longer the record lives that gives an instance
+abbrev pub given_left : ℕ → GivenRow → List ℕ
+given_left now given = left_text now (given.last, given.end)
 
 -- a page by what was found: the number of records, and the width of the first column
 pub page_by_parts : (now width count : ℕ) (given : List GivenRow) (rows : List InstanceRow)

@@ -1,13 +1,14 @@
 -- A report about no subjects lists all.
 use Rattle.std.proofs.Common.{arith}
-use Rattle.std.proofs.Common.{◌≡◌, sym, ap, refl, ◌↔◌, ℕ, true, List, []}
+use Rattle.std.proofs.Common.{◌≡◌, sym, ap, refl, ◌↔◌, ℕ, true, List, [], ◌∷◌, ◌++◌}
 use Rattle.std.specs.List.{flat_map}
+use Rattle.dns_name.specs.Name.{name_text}
 use Rattle.mdns_message.specs.declared.hearing.Hearing.{Hearing}
 use Rattle.mdns_join.specs.declared.latest.Latest.{Latest}
 use Rattle.mdns_browse.specs.About.{keeps_instance, keeps_record, keeps_type}
-use Rattle.mdns_browse.specs.Report.{IsReport, IsReportIn, lines_about, lines_in}
+use Rattle.mdns_browse.specs.Report.{IsReport, IsReportIn, lines_in, text_about}
 use Rattle.mdns_browse.specs.Services.{lasts_in, types_in}
-use Rattle.mdns_browse.specs.RecordText.{record_line, type_line}
+use Rattle.mdns_browse.specs.RecordText.{record_line}
 use Rattle.mdns_browse.specs.declared.report.Ask.{Ask}
 use Rattle.mdns_browse.specs.declared.report.Ask.TheVariants.{Records, Types, Instances}
 use Rattle.mdns_browse.specs.declared.report.Form.TheVariants.{Lines}
@@ -16,13 +17,13 @@ use Rattle.mdns_browse.proofs.KeptLemmas.{filter-all}
 use Rattle.mdns_browse.proofs.LineLemmas.{flat_map-map}
 use Rattle.mdns_browse.proofs.RowLemmas.{like_value}
 
-all_lines : (ask : Ask) (rows : List (Latest × ℕ)) → lines_about [] ask rows ≡ lines_in ask rows
+all_lines : (ask : Ask) (now : ℕ) (rows : List (Latest × ℕ)) → text_about [] Lines now ask rows ≡ lines_in ask rows
 unfolding keeps_record keeps_type keeps_instance
-all_lines Records rows = ap (flat_map record_line) (filter-all (λ (row : Latest × ℕ). true) (λ row. refl) rows)
-all_lines Types rows = ap (flat_map type_line) (filter-all (λ (name : List ℕ). true) (λ name. refl) (types_in (lasts_in rows)))
-all_lines Instances rows = grind (arith, filter-all, flat_map-map, instances-shown (lasts_in rows) rows)
+all_lines Records now rows = ap (flat_map record_line) (filter-all (λ (row : Latest × ℕ). true) (λ row. refl) rows)
+all_lines Types now rows = ap (flat_map (λ name. name_text name ++ 10 ∷ [])) (filter-all (λ (name : List ℕ). true) (λ name. refl) (types_in (lasts_in rows)))
+all_lines Instances now rows = grind (arith, filter-all, flat_map-map, instances-shown (lasts_in rows) rows)
 
 pub about_all : (ask : Ask) (heard : List Hearing) (now : ℕ) (text : List ℕ)
     → IsReportIn [] Lines ask heard now text ↔ IsReport ask heard now text
 about_all ask heard now text =
-    (like_value heard now text (all_lines ask), like_value heard now text (λ rows. sym (all_lines ask rows)))
+    (like_value heard now text (all_lines ask now), like_value heard now text (λ rows. sym (all_lines ask now rows)))

@@ -2,8 +2,16 @@
 use Rattle.std.proofs.lemmas.Grind.{common_steps}
 use Rattle.std.proofs.Common.{arith}
 use Rattle.std.proofs.Common.{◌≡◌, refl, sym, ◌∙◌, ap, ℕ, Bool, true, false, if◌then◌else◌, List, [], ◌∷◌, ◌++◌, append_assoc}
-use Rattle.people_text.specs.Shown.{shown}
-use Rattle.mdns_browse.specs.NameSaid.{after_front, before_type, from_type, front, further_said, is_of_type, labels_said}
+use Rattle.std.specs.List.{flat_map}
+use Rattle.people_text.specs.Shown.{dotted, shown}
+use Rattle.mdns_browse.specs.NameSaid.{after_front, before_type, from_type, front, is_of_type}
+
+-- the labels that follow another one, each after a `.`
+abbrev pub further_said : List (List ℕ) → List ℕ
+further_said labels = flat_map (λ label. 46 ∷ shown label) labels
+
+abbrev pub labels_said : List (List ℕ) → List ℕ
+labels_said labels = dotted shown labels
 
 -- one label more was written, and the others are left
 pub label-written : (old new label whole : List ℕ) (labels : List (List ℕ)) → old ++ further_said labels ≡ whole

@@ -16,11 +16,11 @@ use Rattle.mdns_message.specs.declared.parts.Content.{Content}
 use Rattle.mdns_message.specs.declared.parts.Content.TheVariants as content
 use Rattle.mdns_message.specs.declared.resource.Resource.{Resource}
 use Rattle.mdns_join.specs.declared.latest.Latest.{Latest}
-use Rattle.people_text.specs.Shown.{name_shown, shown}
+use Rattle.people_text.specs.Shown.{dotted, name_shown, shown}
 use Rattle.mdns_browse.specs.declared.about.Subject.{Subject}
 use Rattle.mdns_browse.specs.declared.instance.Instance.{Instance}
 use Rattle.mdns_browse.specs.declared.instance.Server.{Server}
-use Rattle.mdns_browse.specs.NameSaid.{front, labels_said}
+use Rattle.mdns_browse.specs.NameSaid.{front}
 use Rattle.mdns_browse.specs.Services.{instance_in, same_text, server_at}
 use Rattle.mdns_browse.specs.RecordShown.{shown_strings}
 use Rattle.mdns_browse.specs.RecordText.{text_words}
@@ -40,7 +40,7 @@ is_first_label word (label ∷ labels) = same_text word (label_text label) || sa
 
 -- the word is the labels as people write them, in whose dots nothing is escaped: all, or those of the instance before its type
 unfoldable pub is_said : List ℕ → List (List ℕ) → Bool
-is_said word labels = same_text word (labels_said (front labels)) || is_text_in_local word (labels_said labels)
+is_said word labels = same_text word (dotted shown (front labels)) || is_text_in_local word (dotted shown labels)
 
 -- the word is the name, as lines write it, as people read it or as they write it: whole, without `local` at its end, or its first
 -- label alone, and of an instance's name what stands before its type
@@ -93,8 +93,7 @@ is_server_about server subject = is_name_about server.target subject || list_any
 -- the instance is about the subject: it is its name, its type, a server or an address of one
 abbrev pub is_instance_about : Instance → Subject → Bool
 is_instance_about instance subject =
-    is_name_about instance.name subject
-    || (is_rest (string_bytes subject.text) (labels_of instance.name)
+    is_name_about instance.name subject || (is_rest (string_bytes subject.text) (labels_of instance.name)
     || list_any (λ server. is_server_about server subject) instance.servers)
 
 -- SRV data gives a server among rows that is about the subject

@@ -54,35 +54,27 @@ unless_none (x ∷ xs) text = 10 ∷ text
 
 -- ---- records
 
--- when a live record was last heard, and its type
-abbrev pub heard_text : Latest × ℕ → List ℕ
-heard_text row = seconds_text row.0.moment.nanos
-
-abbrev pub kind_text : Latest × ℕ → List ℕ
-kind_text row = type_name (type_of row.0.resource.body)
-
 -- a line of a table: three columns, each padded to its width, and the last one, two spaces between them
 abbrev pub table_line : (left heard kind : ℕ) → (first second third last : List ℕ) → List ℕ
 table_line left heard kind first second third last =
     padded left first ++ codes "  " ++ padded heard second ++ codes "  " ++ padded kind third ++ codes "  " ++ last ++ 10 ∷ []
 
--- the line of a live record
+-- the line of a live record: how much longer it lives, when it was last heard, its type, and the record
 unfoldable pub record_row : (left heard kind now : ℕ) → Latest × ℕ → List ℕ
 record_row left heard kind now row =
-    table_line left heard kind (left_text now row) (heard_text row) (kind_text row) (shown_record row.0.resource)
+    table_line left heard kind (left_text now row) (seconds_text row.0.moment.nanos) (type_name (type_of row.0.resource.body))
+    (shown_record row.0.resource)
 
 -- the heads of the columns
 unfoldable pub record_heads : (left heard kind : ℕ) → List ℕ
 record_heads left heard kind = table_line left heard kind (codes "LEFT") (codes "HEARD") (codes "TYPE") (codes "RECORD")
 
--- a column is as wide as its widest text, that of the head included
-abbrev pub column_width : List ℕ → (Latest × ℕ → List ℕ) → List (Latest × ℕ) → ℕ
-column_width head text rows = widest (head ∷ map text rows)
-
+-- each column but the last is as wide as its widest text, that of the head included
 unfoldable pub record_table : ℕ → List (Latest × ℕ) → List ℕ
 record_table now rows =
-    let left = column_width (codes "LEFT") (left_text now) rows in let heard = column_width (codes "HEARD") heard_text rows in
-    let kind = column_width (codes "TYPE") kind_text rows in
+    let left = widest (codes "LEFT" ∷ map (left_text now) rows) in
+    let heard = widest (codes "HEARD" ∷ map (λ (row : Latest × ℕ). seconds_text row.0.moment.nanos) rows) in
+    let kind = widest (codes "TYPE" ∷ map (λ (row : Latest × ℕ). type_name (type_of row.0.resource.body)) rows) in
     record_heads left heard kind ++ flat_map (record_row left heard kind now) rows
 
 abbrev pub records_pretty : ℕ → List (Latest × ℕ) → List ℕ
@@ -103,19 +95,11 @@ types_pretty now names =
 unfoldable pub words_line : ℕ → List (List ℕ) → List ℕ
 words_line width words = spaces width ++ codes "    " ++ spaced_wide words ++ 10 ∷ []
 
--- a server, and its addresses
-abbrev pub server_words : Server → List (List ℕ)
-server_words server =
-    shown_words (body.Srv server.priority server.weight server.port server.target) ++ flat_map shown_words server.addresses
-
--- the line of a server
+-- the line of a server, and of its addresses
 abbrev pub server_line : ℕ → Server → List ℕ
-server_line width server = words_line width (server_words server)
-
--- the lines of an instance's servers; where it has none, one line that says so
-abbrev pub servers_rows : ℕ → List Server → List ℕ
-servers_rows width [] = words_line width (codes "unresolved" ∷ [])
-servers_rows width (server ∷ servers) = flat_map (server_line width) (server ∷ servers)
+server_line width server =
+    words_line width
+    (shown_words (body.Srv server.priority server.weight server.port server.target) ++ flat_map shown_words server.addresses)
 
 -- the line of a TXT record; none where it has no words
 abbrev pub line_of_some : ℕ → List (List ℕ) → List ℕ
@@ -130,20 +114,18 @@ text_row width text = line_of_some width (shown_strings text)
 abbrev pub type_begin : List ℕ → List ℕ → List ℕ
 type_begin before owner = if is_eq (slice_cmp nat_cmp (folded before) (folded owner)) then [] else 10 ∷ type_row owner
 
--- how much longer the record lives that gives an instance
-abbrev pub given_left : ℕ → GivenRow → List ℕ
-given_left now given = left_text now (given.last, given.end)
-
--- the line of an instance: what is left and its name
+-- the line of an instance: how much longer the record lives that gives it, and its name
 unfoldable pub instance_row : (width now : ℕ) → GivenRow → List ℕ → List ℕ
 instance_row width now given name =
-    codes "  " ++ padded width (given_left now given) ++ codes "  " ++ shown_instance name ++ 10 ∷ []
+    codes "  " ++ padded width (left_text now (given.last, given.end)) ++ codes "  " ++ shown_instance name ++ 10 ∷ []
 
--- the lines of an instance: its own, its servers, its texts
+-- the lines of an instance: its own, its servers, or one line that says that it has none, and its texts
 unfoldable pub instance_rows : (width now : ℕ) → InstanceRow → List ℕ
 instance_rows width now row =
     instance_row width now row.given row.instance.name
-    ++ (servers_rows width row.instance.servers ++ flat_map (text_row width) row.instance.texts)
+    ++ (flat_map (server_line width) row.instance.servers
+    ++ (if length row.instance.servers == 0 then words_line width (codes "unresolved" ∷ []) else [])
+    ++ flat_map (text_row width) row.instance.texts)
 
 -- the lines of instances, by type; `before` is the type of the instance before
 abbrev pub rows_by_type : (width now : ℕ) → List ℕ → List InstanceRow → List ℕ
@@ -163,12 +145,9 @@ others_pretty width now others =
     unless_none others (codes "names that aren't one label and the type\n" ++ flat_map (other_row width now) others)
 
 -- the first column is as wide as its widest text in any of these lines
-abbrev pub instances_width : ℕ → List InstanceRow → List (Latest × ℕ) → ℕ
-instances_width now rows others =
-    max (widest (map (λ (row : InstanceRow). given_left now row.given) rows)) (widest (map (left_text now) others))
-
 abbrev pub instances_pretty : ℕ → List InstanceRow → List (Latest × ℕ) → List ℕ
 instances_pretty now rows others =
-    let width = instances_width now rows others in
+    let width = max (widest (map (λ (row : InstanceRow). left_text now (row.given.last, row.given.end)) rows))
+    (widest (map (left_text now) others)) in
     heading (length rows) (codes "instance") (codes "instances") now
     ++ rows_by_type width now [] rows ++ others_pretty width now others

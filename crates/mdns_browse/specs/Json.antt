@@ -13,15 +13,10 @@ use Rattle.mdns_browse.specs.RecordShown.{shown_instance, shown_record}
 use Rattle.mdns_browse.specs.RecordText.{data_words, text_words}
 use Rattle.mdns_capture.specs.Text.{moment_text}
 
--- a byte of a text within a string: `"` and `\` stand after a `\`. No text here has a control character, so nothing else
--- has to be escaped: words and moments have bytes 0x21 to 0x7E alone, and texts for people visible scalars (the law
--- `shown_text` of `people_text`), those beyond ASCII as they are
-abbrev pub escaped_byte : ℕ → List ℕ
-escaped_byte b = if (b == 34) || (b == 92) then 92 ∷ b ∷ [] else b ∷ []
-
--- a text within a string
+-- a text within a string, `"` and `\` after a `\`. No text here has a control character, so nothing else has to be escaped: words
+-- and moments have bytes 0x21 to 0x7E alone, and texts for people visible scalars (the law `shown_text` of `people_text`)
 unfoldable pub escaped : List ℕ → List ℕ
-escaped text = flat_map escaped_byte text
+escaped text = flat_map (λ b. if (b == 34) || (b == 92) then 92 ∷ b ∷ [] else b ∷ []) text
 
 -- a text as a string (section 7)
 abbrev pub json_string : List ℕ → List ℕ
@@ -29,8 +24,7 @@ json_string text = 34 ∷ escaped text ++ 34 ∷ []
 
 -- a comma, unless what follows is the first
 abbrev pub comma_unless : Bool → List ℕ
-comma_unless true = []
-comma_unless false = 44 ∷ []
+comma_unless first = if first then [] else 44 ∷ []
 
 -- values one after another, each after a comma, but not one that is the first
 unfoldable pub parted : Bool → List (List ℕ) → List ℕ
@@ -45,29 +39,27 @@ json_array values = 91 ∷ parted true values ++ 93 ∷ []
 abbrev pub json_member : List ℕ → List ℕ → List ℕ
 json_member name value = json_string name ++ 58 ∷ value
 
+-- the same of a text, as a string
+abbrev pub text_member : List ℕ → List ℕ → List ℕ
+text_member name text = json_member name (json_string text)
+
 -- an object of these members, in this order (section 4)
 abbrev pub json_object : List (List ℕ) → List ℕ
 json_object members = 123 ∷ parted true members ++ 125 ∷ []
 
 -- `true` or `false` (section 3)
 abbrev pub json_bool : Bool → List ℕ
-json_bool true = codes "true"
-json_bool false = codes "false"
+json_bool value = if value then codes "true" else codes "false"
 
 -- words as an array of strings
 abbrev pub json_words : List (List ℕ) → List ℕ
 json_words words = json_array (map json_string words)
 
--- owner, type, and the words of the data of a record
-abbrev pub exact_members : Resource → List (List ℕ)
-exact_members resource =
-    json_member (codes "owner") (json_string (name_text resource.owner))
-    ∷ json_member (codes "type") (json_string (type_name (type_of resource.body)))
-    ∷ json_member (codes "data") (json_words (data_words resource.body)) ∷ []
-
--- what an object says of a record: these, and owner and data as people read them
+-- what an object says of a record: owner, type, and the words of the data, and owner and data as people read them
 abbrev pub resource_members : Resource → List (List ℕ)
-resource_members resource = exact_members resource ++ json_member (codes "shown") (json_string (shown_record resource)) ∷ []
+resource_members resource =
+    text_member (codes "owner") (name_text resource.owner) ∷ text_member (codes "type") (type_name (type_of resource.body))
+    ∷ json_member (codes "data") (json_words (data_words resource.body)) ∷ text_member (codes "shown") (shown_record resource) ∷ []
 
 -- the line of a live record, by its last hearing and its end: the members of the record, the TTL as it was heard, the
 -- moment and the end. Moments are strings, so that no reader rounds them
@@ -75,43 +67,33 @@ unfoldable pub record_json : Latest × ℕ → List ℕ
 record_json (last, end) =
     json_object
     (resource_members last.resource
-    ++ json_member (codes "ttl") (decimal last.ttl)
-    ∷ json_member (codes "heard") (json_string (moment_text last.moment.nanos))
-    ∷ json_member (codes "until") (json_string (moment_text end)) ∷ []) ++ 10 ∷ []
+    ++ json_member (codes "ttl") (decimal last.ttl) ∷ text_member (codes "heard") (moment_text last.moment.nanos)
+    ∷ text_member (codes "until") (moment_text end) ∷ []) ++ 10 ∷ []
 
 -- the line of a service type: its name, and the name as people read it
 unfoldable pub type_json : List ℕ → List ℕ
 type_json name =
-    json_object
-    (json_member (codes "type") (json_string (name_text name))
-    ∷ json_member (codes "shown") (json_string (name_shown name)) ∷ []) ++ 10 ∷ []
+    json_object (text_member (codes "type") (name_text name) ∷ text_member (codes "shown") (name_shown name) ∷ []) ++ 10 ∷ []
 
 -- a server: target, as people read it too, port, priority and weight (RFC 2782), and its addresses, each of which is one word
 unfoldable pub server_json : Server → List ℕ
 server_json server =
-    json_object (
-    json_member (codes "target") (json_string (name_text server.target))
-    ∷ json_member (codes "shown") (json_string (name_shown server.target))
-    ∷ json_member (codes "port") (decimal server.port)
-    ∷ json_member (codes "priority") (decimal server.priority)
+    json_object
+    (text_member (codes "target") (name_text server.target) ∷ text_member (codes "shown") (name_shown server.target)
+    ∷ json_member (codes "port") (decimal server.port) ∷ json_member (codes "priority") (decimal server.priority)
     ∷ json_member (codes "weight") (decimal server.weight)
     ∷ json_member (codes "addresses") (json_words (flat_map data_words server.addresses)) ∷ [])
-
--- a text: its words
-unfoldable pub text_json : List ℕ → List ℕ
-text_json text = json_words (text_words text)
 
 -- the line of an instance: its name, the name as people read it, of the record that gives it the owner, which is the type, and
 -- whether it has said goodbye (RFC 6762, section 10.1), its servers, its texts
 unfoldable pub instance_json : InstanceRow → List ℕ
 instance_json row =
-    json_object (
-    json_member (codes "instance") (json_string (name_text row.instance.name))
-    ∷ json_member (codes "shown") (json_string (shown_instance row.instance.name))
-    ∷ json_member (codes "type") (json_string (name_text row.given.last.resource.owner))
+    json_object
+    (text_member (codes "instance") (name_text row.instance.name) ∷ text_member (codes "shown") (shown_instance row.instance.name)
+    ∷ text_member (codes "type") (name_text row.given.last.resource.owner)
     ∷ json_member (codes "goodbye") (json_bool (row.given.last.ttl == 0))
     ∷ json_member (codes "servers") (json_array (map server_json row.instance.servers))
-    ∷ json_member (codes "texts") (json_array (map text_json row.instance.texts)) ∷ []) ++ 10 ∷ []
+    ∷ json_member (codes "texts") (json_array (map (λ text. json_words (text_words text)) row.instance.texts)) ∷ []) ++ 10 ∷ []
 
 -- whether the next value is the first, after these
 abbrev pub first_after : {X : Type 0} → Bool → List X → Bool

@@ -6,8 +6,8 @@ use Rattle.people_text.specs.Shown.{name_shown}
 use Rattle.mdns_browse.specs.Sheet.{Piece, live_record, service_type, instance_begin, server_begin, server_address}
 use Rattle.mdns_browse.specs.Sheet.{server_end, servers_end, instance_text, instance_end}
 use Rattle.mdns_browse.specs.RecordShown.{shown_instance}
-use Rattle.mdns_browse.specs.RecordText.{data_words}
-use Rattle.mdns_browse.specs.Json.{json_string, json_bool, text_json, record_json, type_json, comma_unless, parted, first_after}
+use Rattle.mdns_browse.specs.RecordText.{data_words, text_words}
+use Rattle.mdns_browse.specs.Json.{json_string, json_bool, json_words, record_json, type_json, comma_unless, parted, first_after}
 use Rattle.mdns_browse.specs.declared.report_json.Objects.{Objects}
 
 -- the text of a piece, which may be the first value of an array
@@ -26,7 +26,7 @@ piece_json first (server_begin priority weight port target) =
 piece_json first (server_address address) = parted first (map json_string (data_words address))
 piece_json first server_end = codes "]}"
 piece_json first (servers_end none) = codes "],\"texts\":["
-piece_json first (instance_text text) = comma_unless first ++ text_json text
+piece_json first (instance_text text) = comma_unless first ++ json_words (text_words text)
 piece_json first instance_end = codes "]}\n"
 
 -- whether the next value of the array is its first

@@ -19,7 +19,7 @@ use Rattle.mdns_browse.specs.declared.life_text.Layout.{Layout}
 use Rattle.mdns_browse.specs.Columns.{padded, widest}
 use Rattle.mdns_browse.specs.RecordShown.{shown_record}
 use Rattle.mdns_browse.specs.RecordText.{data_words, resource_text}
-use Rattle.mdns_browse.specs.Json.{json_string, json_member, json_object, json_words, resource_members}
+use Rattle.mdns_browse.specs.Json.{json_string, json_member, json_object, json_words, resource_members, text_member}
 
 -- why a life ended, as a word
 abbrev pub reason_text : Reason → List ℕ
@@ -48,21 +48,14 @@ life_words end life =
     ++ codes " ttl " ++ decimal life.last.ttl ++ codes " heard " ++ moment_text life.last.moment.nanos
     ++ codes " until " ++ moment_text life.until ++ 32 ∷ end_text end life ++ 10 ∷ []
 
--- the line of a life, by the end of the captures, the record and the life: owner and type, the words of the data, and
--- those of the life
-abbrev pub life_line : ℕ → Resource → Life → List ℕ
-life_line end resource life = resource_text resource ++ life_words end life
-
--- the same as an object: that of a live record, with `from` before `ttl`, and `end` last
+-- a life as an object: that of a live record, with `from` before `ttl`, and `end` last
 unfoldable pub life_json : ℕ → Resource → Life → List ℕ
 life_json end resource life =
     json_object
     (resource_members resource
-    ++ json_member (codes "from") (json_string (moment_text life.from.nanos))
-    ∷ json_member (codes "ttl") (decimal life.last.ttl)
-    ∷ json_member (codes "heard") (json_string (moment_text life.last.moment.nanos))
-    ∷ json_member (codes "until") (json_string (moment_text life.until))
-    ∷ json_member (codes "end") (json_string (end_text end life)) ∷ []) ++ 10 ∷ []
+    ++ text_member (codes "from") (moment_text life.from.nanos) ∷ json_member (codes "ttl") (decimal life.last.ttl)
+    ∷ text_member (codes "heard") (moment_text life.last.moment.nanos) ∷ text_member (codes "until") (moment_text life.until)
+    ∷ text_member (codes "end") (end_text end life) ∷ []) ++ 10 ∷ []
 
 -- the beginning of that object: owner, type, and the words of the data
 abbrev pub resource_begin : Resource → List ℕ
@@ -99,10 +92,6 @@ life_row width end resource life =
     millis_text life.from.nanos ++ codes "  " ++ millis_text life.until ++ codes "  " ++ padded width (end_shown end life)
     ++ codes "  " ++ padded 4 (type_name (type_of resource.body)) ++ codes "  " ++ shown_record resource ++ 10 ∷ []
 
--- the heads of the columns
-unfoldable pub life_heads : ℕ → List ℕ
-life_heads width = codes "FROM                      UNTIL                     " ++ padded width (codes "END") ++ codes "  TYPE  RECORD\n"
-
 -- what so many of them are called
 abbrev pub called : Which → ℕ → List ℕ
 called All count = if count == 1 then codes " life between " else codes " lives between "
@@ -115,7 +104,8 @@ called Changes count =
 unfoldable pub lives_heading : Which → (count width begin end : ℕ) → List ℕ
 lives_heading which count width begin end =
     decimal count ++ called which count ++ millis_text begin ++ codes " and "
-    ++ millis_text end ++ 10 ∷ (if count == 0 then [] else 10 ∷ life_heads width)
+    ++ millis_text end ++ 10 ∷ (if count == 0 then [] else 10 ∷ (codes "FROM                      UNTIL                     "
+    ++ padded width (codes "END") ++ codes "  TYPE  RECORD\n"))
 
 -- ---- forms
 
@@ -126,7 +116,7 @@ lives_head which _ count width begin end = []
 
 -- a life in that form
 abbrev pub life_text : Form → ℕ → ℕ → Resource → Life → List ℕ
-life_text Lines width = life_line
+life_text Lines width = λ end resource life. resource_text resource ++ life_words end life
 life_text Json width = life_json
 life_text Pretty width = life_row width
 

@@ -1,16 +1,5 @@
--- Names as people write them: dots within labels look like those between them.
-use Rattle.std.specs.Prelude.{ℕ, ◌==◌, Bool, false, if◌then◌else◌, List, [], ◌∷◌, ◌++◌}
-use Rattle.people_text.specs.Shown.{shown}
-
--- the labels that follow another one, each after a `.`
-abbrev pub further_said : List (List ℕ) → List ℕ
-further_said [] = []
-further_said (label ∷ labels) = (46 ∷ shown label) ++ further_said labels
-
--- labels with `.` between them and no final dot, and the root as `.`
-abbrev pub labels_said : List (List ℕ) → List ℕ
-labels_said [] = 46 ∷ []
-labels_said (label ∷ labels) = shown label ++ further_said labels
+-- Which labels of a name people write where they mean an instance, and which are its type.
+use Rattle.std.specs.Prelude.{ℕ, ◌==◌, Bool, false, if◌then◌else◌, List, [], ◌∷◌}
 
 -- the label begins with `_`, as those of a service type do (RFC 6763, section 7)
 abbrev pub is_of_type : List ℕ → Bool

@@ -1,5 +1,5 @@
 -- Records and services as text for people.
-use Rattle.std.specs.Prelude.{ℕ, ◌==◌, ◌&&◌, if◌then◌else◌, List, [], ◌∷◌, ◌++◌, codes}
+use Rattle.std.specs.Prelude.{ℕ, ◌==◌, ◌&&◌, if◌then◌else◌, List, [], ◌∷◌, ◌++◌, slice_index_or, codes}
 use Rattle.std.specs.Fmt.{decimal}
 use Rattle.std.specs.List.{flat_map}
 use Rattle.dns_name.specs.Name.{labels_of}
@@ -56,11 +56,6 @@ spaced_wide words = flat_map (λ word. 32 ∷ 32 ∷ word) words
 unfoldable pub shown_record : Resource → List ℕ
 shown_record resource = name_shown resource.owner ++ spaced_wide (shown_words resource.body)
 
--- the first of the labels, in which dots aren't escaped; nothing where there is none
-abbrev pub first_shown : List (List ℕ) → List ℕ
-first_shown [] = []
-first_shown (label ∷ labels) = shown label
-
--- the name of an instance where it stands alone: its first label (RFC 6763, section 4.1.1)
+-- the name of an instance where it stands alone: its first label, in which dots aren't escaped (RFC 6763, section 4.1.1)
 unfoldable pub shown_instance : List ℕ → List ℕ
-shown_instance name = first_shown (labels_of name)
+shown_instance name = shown (slice_index_or (labels_of name) 0 [])

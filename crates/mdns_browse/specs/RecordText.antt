@@ -1,6 +1,6 @@
 -- Records and services as text: presentation form after RFC 1035, section 5.1, and this project's own lines.
-use Rattle.std.specs.Prelude.{ℕ, zero, suc, false, ◌+◌, ◌*◌, ◌/◌, ◌%◌, nat_lt, if◌then◌else◌}
-use Rattle.std.specs.Prelude.{List, [], ◌∷◌, ◌++◌, slice_index, codes}
+use Rattle.std.specs.Prelude.{ℕ, false, ◌+◌, ◌*◌, ◌/◌, ◌%◌, ◌==◌, nat_lt, if◌then◌else◌}
+use Rattle.std.specs.Prelude.{List, [], ◌∷◌, ◌++◌, length, slice_index, codes}
 use Rattle.std.specs.Fmt.{decimal, digit_glyph}
 use Rattle.std.specs.List.{flat_map}
 unfoldable pub use Rattle.mdns_capture.specs.Text.{moment_text}
@@ -38,14 +38,9 @@ abbrev pub placed_group : List ℕ → ℕ → List ℕ
 placed_group octets k =
     (if nat_lt 0 k then 58 ∷ [] else []) ++ (hex_octet (slice_index octets (2 * k)) ++ hex_octet (slice_index octets (2 * k + 1)))
 
--- the first groups of an IPv6 address
-unfoldable pub groups_text : List ℕ → ℕ → List ℕ
-groups_text octets zero = []
-groups_text octets (suc k) = groups_text octets k ++ placed_group octets k
-
 -- an IPv6 address: eight groups of four lower case hexadecimal digits
-abbrev pub ipv6_text : List ℕ → List ℕ
-ipv6_text octets = groups_text octets 8
+unfoldable pub ipv6_text : List ℕ → List ℕ
+ipv6_text octets = flat_map (placed_group octets) (0 ∷ 1 ∷ 2 ∷ 3 ∷ 4 ∷ 5 ∷ 6 ∷ 7 ∷ [])
 
 -- an IPv4 address: four decimal numbers
 abbrev pub ipv4_text : List ℕ → List ℕ
@@ -86,43 +81,24 @@ data_words b = content_words (content_of b)
 
 -- a record: its owner, its type, and the words of its data
 abbrev pub resource_text : Resource → List ℕ
-resource_text resource =
-    name_text resource.owner ++ 32 ∷ type_name (type_of resource.body) ++ spaced (data_words resource.body)
+resource_text resource = name_text resource.owner ++ 32 ∷ type_name (type_of resource.body) ++ spaced (data_words resource.body)
 
--- the line of a live record, by its last hearing and its end: owner and type, the words of the data, the TTL as it was
--- heard, the moment, the end, and a line feed
+-- the line of a live record, by its last hearing and its end: the record, the TTL as it was heard, the moment, and the end
 unfoldable pub record_line : Latest × ℕ → List ℕ
 record_line (last, end) =
-    name_text last.resource.owner ++ 32 ∷ type_name (type_of last.resource.body)
-    ++ spaced (data_words last.resource.body)
-    ++ codes " ttl " ++ decimal last.ttl ++ codes " heard " ++ moment_text last.moment.nanos
+    resource_text last.resource ++ codes " ttl " ++ decimal last.ttl ++ codes " heard " ++ moment_text last.moment.nanos
     ++ codes " until " ++ moment_text end ++ 10 ∷ []
-
--- the line of a service type: its name, and a line feed
-unfoldable pub type_line : List ℕ → List ℕ
-type_line name = name_text name ++ 10 ∷ []
-
--- the line of an address
-unfoldable pub address_line : Body → List ℕ
-address_line address = codes "    address" ++ spaced (data_words address) ++ 10 ∷ []
 
 -- the line of a server: target, port, priority and weight (RFC 2782), and the lines of its addresses
 unfoldable pub server_lines : Server → List ℕ
 server_lines server =
     codes "  server " ++ name_text server.target ++ 32 ∷ decimal server.port
     ++ codes " priority " ++ decimal server.priority ++ codes " weight " ++ decimal server.weight
-    ++ 10 ∷ flat_map address_line server.addresses
+    ++ 10 ∷ flat_map (λ address. codes "    address" ++ spaced (data_words address) ++ 10 ∷ []) server.addresses
 
--- the lines of an instance's servers; where it has none, one line that says so
-unfoldable pub servers_lines : List Server → List ℕ
-servers_lines [] = codes "  unresolved" ++ 10 ∷ []
-servers_lines (server ∷ servers) = flat_map server_lines (server ∷ servers)
-
--- the line of a TXT record: its words, each after a space
-unfoldable pub text_line : List ℕ → List ℕ
-text_line text = codes "  text" ++ spaced (text_words text) ++ 10 ∷ []
-
--- the lines of an instance: its name, its servers, its texts
+-- the lines of an instance: its name, its servers, or one line that says that it has none, and its texts
 unfoldable pub instance_lines : Instance → List ℕ
 instance_lines instance =
-    name_text instance.name ++ 10 ∷ servers_lines instance.servers ++ flat_map text_line instance.texts
+    name_text instance.name ++ 10 ∷ flat_map server_lines instance.servers
+    ++ (if length instance.servers == 0 then codes "  unresolved\n" else [])
+    ++ flat_map (λ text. codes "  text" ++ spaced (text_words text) ++ 10 ∷ []) instance.texts

@@ -1,12 +1,13 @@
 -- The text of a report.
-use Rattle.std.specs.Prelude.{ℕ, List, map}
+use Rattle.std.specs.Prelude.{ℕ, List, [], ◌∷◌, ◌++◌, map}
 use Rattle.std.specs.List.{filter, flat_map}
+use Rattle.dns_name.specs.Name.{name_text}
 use Rattle.mdns_capture.specs.declared.moment.Moment.{Moment}
 use Rattle.mdns_message.specs.declared.hearing.Hearing.{Hearing}
 use Rattle.mdns_join.specs.declared.latest.Latest.{Latest}
 use Rattle.mdns_browse.specs.About.{keeps_instance, keeps_record, keeps_type}
 use Rattle.mdns_browse.specs.declared.about.Subject.{Subject}
-use Rattle.mdns_browse.specs.RecordText.{record_line, type_line, instance_lines}
+use Rattle.mdns_browse.specs.RecordText.{instance_lines, record_line}
 use Rattle.mdns_browse.specs.Json.{record_json, type_json, instance_json}
 use Rattle.mdns_browse.specs.Columns.{instances_pretty, records_pretty, types_pretty}
 use Rattle.mdns_browse.specs.Services.{InstanceRow, IsOfLive, given_of, instance_rows_in, instances_in, lasts_in, others_in, types_in}
@@ -21,15 +22,14 @@ use Rattle.mdns_browse.specs.declared.report.ReportFault.TheVariants.{Early, Mem
 -- or the lines of each service instance, in key order
 abbrev pub lines_in : Ask → List (Latest × ℕ) → List ℕ
 lines_in Records rows = flat_map record_line rows
-lines_in Types rows = flat_map type_line (types_in (lasts_in rows))
+lines_in Types rows = flat_map (λ name. name_text name ++ 10 ∷ []) (types_in (lasts_in rows))
 lines_in Instances rows = flat_map instance_lines (instances_in (lasts_in rows))
 
 -- the text answers the question over all hearings, as of `now` nanoseconds
 abbrev pub IsReport : Ask → List Hearing → ℕ → List ℕ → Type 0
 IsReport ask = IsOfLive (lines_in ask)
 
--- what a report about some subjects lists: of the live records, service types or service instances those that are about one
--- of them; where there are no subjects, all
+-- what a report lists: the live records, service types or instances about one of the subjects; all, where there are none
 abbrev pub records_about : List Subject → List (Latest × ℕ) → List (Latest × ℕ)
 records_about about rows = filter (λ row. keeps_record about row.0.resource) rows
 
@@ -41,30 +41,18 @@ abbrev pub instances_about : List Subject → List (Latest × ℕ) → List Inst
 instances_about about rows =
     filter (λ row. keeps_instance about row.instance) (instance_rows_in (lasts_in rows) (map given_of rows))
 
--- the lines of words of these
-abbrev pub lines_about : List Subject → Ask → List (Latest × ℕ) → List ℕ
-lines_about about Records rows = flat_map record_line (records_about about rows)
-lines_about about Types rows = flat_map type_line (types_about about rows)
-lines_about about Instances rows = flat_map (λ row. instance_lines row.instance) (instances_about about rows)
-
--- one JSON object a line, an instance's with what it says of the record that gives it
-abbrev pub json_about : List Subject → Ask → List (Latest × ℕ) → List ℕ
-json_about about Records rows = flat_map record_json (records_about about rows)
-json_about about Types rows = flat_map type_json (types_about about rows)
-json_about about Instances rows = flat_map instance_json (instances_about about rows)
-
--- readable columns, as of `now` nanoseconds: how many there are, and each of them; after the instances the live records that
--- point from a service to another name
-abbrev pub pretty_about : List Subject → ℕ → Ask → List (Latest × ℕ) → List ℕ
-pretty_about about now Records rows = records_pretty now (records_about about rows)
-pretty_about about now Types rows = types_pretty now (types_about about rows)
-pretty_about about now Instances rows = instances_pretty now (instances_about about rows) (records_about about (others_in rows))
-
--- the text of a report in that form
+-- The text of a report in that form: lines of words; one JSON object a line; or readable columns, as of `now` nanoseconds, with
+-- the live records that point from a service to another name after the instances.
 abbrev pub text_about : List Subject → Form → ℕ → Ask → List (Latest × ℕ) → List ℕ
-text_about about Lines now = lines_about about
-text_about about Json now = json_about about
-text_about about Pretty now = pretty_about about now
+text_about about Lines now Records rows = flat_map record_line (records_about about rows)
+text_about about Lines now Types rows = flat_map (λ name. name_text name ++ 10 ∷ []) (types_about about rows)
+text_about about Lines now Instances rows = flat_map (λ row. instance_lines row.instance) (instances_about about rows)
+text_about about Json now Records rows = flat_map record_json (records_about about rows)
+text_about about Json now Types rows = flat_map type_json (types_about about rows)
+text_about about Json now Instances rows = flat_map instance_json (instances_about about rows)
+text_about about Pretty now Records rows = records_pretty now (records_about about rows)
+text_about about Pretty now Types rows = types_pretty now (types_about about rows)
+text_about about Pretty now Instances rows = instances_pretty now (instances_about about rows) (records_about about (others_in rows))
 
 -- the text answers the question about these subjects in that form
 abbrev pub IsReportIn : List Subject → Form → Ask → List Hearing → ℕ → List ℕ → Type 0

@@ -117,11 +117,7 @@ rows_of_set rows name number = filter (λ row. is_eq (set_key_cmp (record_of row
 abbrev pub data_of_set : List Latest → List ℕ → ℕ → List Body
 data_of_set rows name number = map body_of (rows_of_set rows name number)
 
--- the addresses of a name: those of its A records, and then those of its AAAA records
-abbrev pub addresses_in : List Latest → List ℕ → List Body
-addresses_in rows name = data_of_set rows name (type_number kind.A) ++ data_of_set rows name (type_number kind.Aaaa)
-
--- the server of a service, with the addresses of its target (RFC 2782)
+-- the server of a service, with the addresses of its target: those of its A records, then those of its AAAA records (RFC 2782)
 abbrev pub server_at : List Latest → Service (List ℕ) → Server
 server_at rows service =
     record {
@@ -129,7 +125,7 @@ server_at rows service =
       weight = service.weight;
       port = service.port;
       target = service.target;
-      addresses = addresses_in rows service.target;
+      addresses = data_of_set rows service.target (type_number kind.A) ++ data_of_set rows service.target (type_number kind.Aaaa);
     }
 
 -- the servers of a name, by its SRV records: where an instance is served (section 5)

@@ -9,9 +9,9 @@ ghost use Rattle.mdns_cache.specs.Live.{NoneLater};
 ghost use Rattle.mdns_cache.specs.LentRecords.{last_lent, live_record_lent};
 ghost use Rattle.mdns_browse.specs.Given.{given_lent};
 ghost use Rattle.mdns_browse.specs.ColumnPieces.{Writes, row_pieces, rows_pieces, type_pieces};
-ghost use Rattle.mdns_browse.specs.Columns.{given_left, left_text, widest};
+ghost use Rattle.mdns_browse.specs.Columns.{left_text, widest};
 ghost use Rattle.mdns_browse.specs.Report.{IsReportIn};
-ghost use Rattle.mdns_browse.specs.Services.{AreAscending, instance_in, instance_row_in};
+ghost use Rattle.mdns_browse.specs.Services.{AreAscending, GivenRow, instance_in, instance_row_in};
 ghost use Rattle.mdns_browse.specs.declared.report.Ask.TheVariants.{Instances};
 ghost use Rattle.mdns_browse.specs.declared.report.Form.TheVariants.{Pretty};
 
@@ -58,7 +58,8 @@ fn names_width(
     given: &[Given<'_>],
     others: &[LiveRecord<'_>],
 ) -> Result<usize, Want>
-    ensures { IfOk result (λ width. width ≡ max (widest (map (given_left now.nanos) (map given_lent given.now)))
+    ensures { IfOk result (λ width. width
+        ≡ max (widest (map (λ (row : GivenRow). left_text now.nanos (row.last, row.end)) (map given_lent given.now)))
         (widest (map (left_text now.nanos) (map live_record_lent others.now)))) }
 {
     let width = given_width(alloc, now, given)?;
@@ -67,7 +68,8 @@ fn names_width(
 
 // Returns the greatest length of the texts of how much longer the records live.
 fn given_width(alloc: Global, now: Moment, given: &[Given<'_>]) -> Result<usize, Want>
-    ensures { IfOk result (λ width. width ≡ widest (map (given_left now.nanos) (map given_lent given.now))) }
+    ensures { IfOk result (λ width. width
+        ≡ widest (map (λ (row : GivenRow). left_text now.nanos (row.last, row.end)) (map given_lent given.now))) }
 {
     let mut text = String::new(alloc);
     let mut width = 0;

@@ -5,7 +5,7 @@ ghost use Rattle.std.specs.Prelude.{◌≡◌, ◌==◌, ◌||◌, ◌++◌, ◌
 ghost use Rattle.std.specs.Fmt.{decimal};
 ghost use Rattle.std.specs.Char.{encode_utf8};
 ghost use Rattle.std.specs.String.{string_bytes};
-ghost use Rattle.mdns_browse.specs.Json.{comma_unless, escaped, json_bool, json_member, json_string};
+ghost use Rattle.mdns_browse.specs.Json.{comma_unless, escaped, json_bool, json_member, json_string, text_member};
 
 use mdns_message::Want;
 
@@ -42,7 +42,7 @@ fn push_name(to: &mut String, first: bool, name: &str) -> Result<(), Want>
 /// Appends a member whose value is a string.
 pub fn push_text_member(to: &mut String, first: bool, name: &str, text: &str) -> Result<(), Want>
     ensures { OnOk result (string_bytes to.new
-        ≡ string_bytes to.old ++ (comma_unless first ++ json_member name.now (json_string text.now))) }
+        ≡ string_bytes to.old ++ (comma_unless first ++ text_member name.now text.now)) }
 {
     push_name(to, first, name)?;
     push_json_string(to, text)

@@ -5,7 +5,7 @@ ghost use Rattle.std.specs.List.{flat_map};
 ghost use Rattle.std.specs.String.{string_bytes};
 ghost use Rattle.mdns_message.specs.Resource.{type_name, type_of};
 ghost use Rattle.people_text.specs.MomentText.{millis_text};
-ghost use Rattle.mdns_browse.specs.LifeText.{called, end_shown, life_heads, life_row, lives_heading, open_text};
+ghost use Rattle.mdns_browse.specs.LifeText.{called, end_shown, life_row, lives_heading, open_text};
 ghost use Rattle.mdns_browse.specs.Columns.{padded, widest};
 ghost use Rattle.mdns_browse.specs.RecordShown.{shown_record};
 
@@ -68,9 +68,10 @@ fn called(which: Which, count: usize) -> &'static str
     }
 }
 
-#[tactic(auto, unfolding(crate::specs::LifeText::life_heads))]
 fn push_heads(text: &mut String, width: usize) -> Result<(), Want>
-    ensures { OnOk result (string_bytes text.new ≡ string_bytes text.old ++ life_heads width) }
+    ensures { OnOk result (string_bytes text.new ≡ string_bytes text.old
+        ++ (codes "FROM                      UNTIL                     " ++ padded width (codes "END")
+        ++ codes "  TYPE  RECORD\n")) }
 {
     text.push_str("FROM                      UNTIL                     ")?;
     push_padded(text, width, "END")?;

@@ -4,8 +4,9 @@ ghost use Rattle.std.specs.Prelude.{◌≡◌, ◌++◌, ◌∷◌, [], ◌≤�
 ghost use Rattle.std.specs.List.{flat_map};
 ghost use Rattle.std.specs.String.{string_bytes};
 ghost use Rattle.mdns_join.specs.declared.latest.Latest.{Latest};
-ghost use Rattle.mdns_browse.specs.LifeText.{IsLayout, end_text, life_json, life_line, life_rest, life_text, life_words};
-ghost use Rattle.mdns_browse.specs.LifeText.{lives_head, reason_text};
+ghost use Rattle.mdns_browse.specs.LifeText.{IsLayout, end_text, life_json, life_rest, life_text, life_words, lives_head};
+ghost use Rattle.mdns_browse.specs.LifeText.{reason_text};
+ghost use Rattle.mdns_browse.specs.RecordText.{resource_text};
 
 use crate::columns::wider;
 use crate::format::push_resource;
@@ -97,7 +98,7 @@ fn push_lines(
     lives: &[Life],
 ) -> Result<(), Want>
     ensures { OnOk result (string_bytes text.new
-        ≡ string_bytes text.old ++ flat_map (life_line end.nanos resource.now) lives.now) }
+        ≡ string_bytes text.old ++ flat_map (λ life. resource_text resource.now ++ life_words end.nanos life) lives.now) }
 {
     let mut head = String::new(*text.allocator());
     push_resource(&mut head, &resource.borrowed())?;

@@ -2,10 +2,11 @@
 //! specified.
 
 ghost use Rattle.std.specs.Prelude.{◌≡◌, ◌∷◌, ◌++◌, IfOk, OnOk};
+ghost use Rattle.std.specs.List.{flat_map};
 ghost use Rattle.std.specs.String.{string_bytes};
 ghost use Rattle.dns_name.specs.Name.{IsForm, labels_of};
-ghost use Rattle.people_text.specs.Shown.{shown};
-ghost use Rattle.mdns_browse.specs.NameSaid.{after_front, before_type, from_type, front, further_said, is_of_type, labels_said};
+ghost use Rattle.people_text.specs.Shown.{dotted, shown};
+ghost use Rattle.mdns_browse.specs.NameSaid.{after_front, before_type, from_type, front, is_of_type};
 
 use dns_name::name::split_label;
 use mdns_message::Want;
@@ -15,7 +16,7 @@ use people_text::shown::push_shown;
 /// is written as `.`.
 pub(crate) fn push_front<'b>(to: &mut String, form: &'b [u8]) -> Result<&'b [u8], Want>
     requires { IsForm form.now }
-    ensures text { OnOk result (string_bytes to.new ≡ string_bytes to.old ++ labels_said (front (labels_of form.now))) }
+    ensures text { OnOk result (string_bytes to.new ≡ string_bytes to.old ++ dotted shown (front (labels_of form.now))) }
     ensures form { IfOk result (λ rest. IsForm rest.now) }
     ensures rest { IfOk result (λ rest. labels_of rest.now ≡ after_front (labels_of form.now)) }
 {
@@ -34,7 +35,8 @@ pub(crate) fn push_front<'b>(to: &mut String, form: &'b [u8]) -> Result<&'b [u8]
 /// Appends the labels of a form, each after a `.`.
 pub(crate) fn push_further(to: &mut String, form: &[u8]) -> Result<(), Want>
     requires { IsForm form.now }
-    ensures { OnOk result (string_bytes to.new ≡ string_bytes to.old ++ further_said (labels_of form.now)) }
+    ensures { OnOk result (string_bytes to.new
+        ≡ string_bytes to.old ++ flat_map (λ label. 46 ∷ shown label) (labels_of form.now)) }
 {
     let mut rest = form;
     while let Some((label, after)) = split_label(rest) {
@@ -47,7 +49,8 @@ pub(crate) fn push_further(to: &mut String, form: &[u8]) -> Result<(), Want>
 // Appends the labels of a form that stand before a type, each after a `.`; returns the form after them.
 fn push_before_type<'b>(to: &mut String, form: &'b [u8]) -> Result<&'b [u8], Want>
     requires { IsForm form.now }
-    ensures text { OnOk result (string_bytes to.new ≡ string_bytes to.old ++ further_said (before_type (labels_of form.now))) }
+    ensures text { OnOk result (string_bytes to.new
+        ≡ string_bytes to.old ++ flat_map (λ label. 46 ∷ shown label) (before_type (labels_of form.now))) }
     ensures form { IfOk result (λ rest. IsForm rest.now) }
     ensures rest { IfOk result (λ rest. labels_of rest.now ≡ from_type (labels_of form.now)) }
 {

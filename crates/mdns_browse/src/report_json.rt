@@ -1,13 +1,13 @@
 //! Reports as JSON (RFC 8259): one object a line.
 
-ghost use Rattle.std.specs.Prelude.{◌≡◌, ◌++◌, [], codes, true, false, OnOk};
+ghost use Rattle.std.specs.Prelude.{◌≡◌, ◌++◌, [], codes, take, true, false, OnOk};
 ghost use Rattle.std.specs.Fmt.{decimal};
 ghost use Rattle.std.specs.String.{string_bytes};
 ghost use Rattle.dns_name.specs.Name.{name_text};
 ghost use Rattle.mdns_browse.specs.RecordText.{word_text, data_words};
 ghost use Rattle.mdns_capture.specs.Text.{moment_text};
 ghost use Rattle.mdns_message.specs.Borrowed.{resource_lent};
-ghost use Rattle.mdns_browse.specs.Json.{json_string, comma_unless, exact_members, first_after, parted, resource_members};
+ghost use Rattle.mdns_browse.specs.Json.{json_string, comma_unless, first_after, parted, resource_members};
 ghost use Rattle.mdns_browse.specs.LifeText.{life_rest, resource_begin, resource_json};
 ghost use Rattle.people_text.specs.Shown.{name_shown};
 ghost use Rattle.mdns_browse.specs.RecordShown.{shown_instance};
@@ -258,7 +258,6 @@ impl Sheet for Objects {
         Ok(())
     }
 
-    #[tactic(auto, unfolding(crate::specs::Json::text_json))]
     fn instance_text(&mut self, text: &Bytes) -> Result<(), Want> {
         self.comma()?;
         self.text.push('[')?;
@@ -292,6 +291,7 @@ pub fn push_resource_members(
     push_text_member(to, false, "shown", shown.as_str())
 }
 
+// Appends the members before `shown`.
 #[tactic(auto, unfolding(crate::specs::Json::parted))]
 fn push_exact_members(
     alloc: Global,
@@ -299,7 +299,7 @@ fn push_exact_members(
     resource: &BorrowedResource<'_>,
 ) -> Result<(), Want>
     ensures { OnOk result (string_bytes to.new
-        ≡ string_bytes to.old ++ parted false (exact_members (resource_lent resource.now))) }
+        ≡ string_bytes to.old ++ parted false (take 3 (resource_members (resource_lent resource.now)))) }
 {
     let mut words = Objects::new(alloc);
     words.scratch.clear();

@@ -84,7 +84,6 @@ impl Sheet for String {
         push_live(self, row)
     }
 
-    #[tactic(auto, unfolding(crate::specs::RecordText::type_line))]
     fn service_type(&mut self, name: &Name) -> Result<(), Want> {
         name.push_text(self)?;
         Ok(self.push('\n')?)
@@ -108,7 +107,6 @@ impl Sheet for String {
         Ok(())
     }
 
-    #[tactic(auto, unfolding(crate::specs::RecordText::address_line))]
     fn server_address(&mut self, address: &BorrowedBody<'_>) -> Result<(), Want> {
         self.push_str("    address")?;
         push_words(self, address)?;
@@ -126,7 +124,6 @@ impl Sheet for String {
         Ok(())
     }
 
-    #[tactic(auto, unfolding(crate::specs::RecordText::text_line))]
     fn instance_text(&mut self, text: &Bytes) -> Result<(), Want> {
         self.push_str("  text")?;
         push_text_words(self, text.as_slice())?;

@@ -1,6 +1,6 @@
 //! The walk over live records and services, which hands what it finds to a sheet.
 
-ghost use Rattle.std.specs.Prelude.{◌∷◌, [], List, map, OnOk};
+ghost use Rattle.std.specs.Prelude.{◌∷◌, [], List, map, option_map, OnOk};
 ghost use Rattle.std.specs.List.{filter, filter_map, flat_map};
 ghost use Rattle.mdns_message.specs.Parts.{service_of};
 ghost use Rattle.mdns_message.specs.declared.hearing.Hearing.{Hearing};

@@ -2,13 +2,14 @@
 
 ghost use Rattle.std.specs.Prelude.{◌≡◌, ◌++◌, List, map, option_map, IfOk, OnOk};
 ghost use Rattle.std.specs.List.{filter_map};
+ghost use Rattle.mdns_message.specs.Resource.{type_number};
 ghost use Rattle.mdns_message.specs.declared.hearing.Hearing.{Hearing};
 ghost use Rattle.mdns_cache.specs.Live.{NoneLater};
 ghost use Rattle.mdns_cache.specs.Contents.{StandsFor};
 ghost use Rattle.mdns_cache.specs.LentRecords.{last_lent};
 ghost use Rattle.mdns_browse.specs.Given.{given_lent};
 ghost use Rattle.mdns_browse.specs.Services.{AreAscending, AreInstances, AreTypes, InstanceRow};
-ghost use Rattle.mdns_browse.specs.Services.{addresses_in, body_of, instance_given, instance_in, instance_row_in, is_instance_of, lasts_in};
+ghost use Rattle.mdns_browse.specs.Services.{body_of, data_of_set, instance_given, instance_in, instance_row_in, is_instance_of, lasts_in};
 ghost use Rattle.mdns_browse.specs.Services.{is_service_name, other_given, same_text, servers_in, texts_in, type_given, types_in};
 ghost use Rattle.mdns_browse.specs.Services.{types_owner};
 
@@ -103,8 +104,9 @@ pub fn other_of<'a>(row: &Last<'a>) -> Option<&'a Name>
 
 // Collects the addresses of a name: its A records, and then its AAAA records, which have the greater type number.
 fn addresses(alloc: Global, rows: &[Last<'_>], name: &Name) -> Result<Addresses, Want>
-    ensures { IfOk result (λ addresses. AreAscending (map last_lent rows.now)
-        → addresses ≡ addresses_in (map last_lent rows.now) name.now) }
+    ensures { IfOk result (λ addresses. AreAscending (map last_lent rows.now) → addresses
+        ≡ data_of_set (map last_lent rows.now) name.now (type_number RecordType.A)
+        ++ data_of_set (map last_lent rows.now) name.now (type_number RecordType.Aaaa)) }
 {
     let mut found = Vec::new(alloc);
     push_bodies(&mut found, alloc, of_set(rows, name, RecordType::A))?;

@@ -11,4 +11,4 @@ loop-group-preserved c =
     )
 
 pub returns : goal.returns
-returns c = grind (arith, groups_before-all _ _ _ _ (omega arith) c.loop-group.invariant.1)
+returns c = grind (arith, groups_before-all _ _ _ (omega arith) c.loop-group.invariant.1)

@@ -1,5 +1,5 @@
 use Rattle.std.proofs.Common.{◌≡◌, ◌++◌, ◌+◌, ◌*◌, ◌≤◌, length}
-use Rattle.mdns_browse.specs.RecordText.{groups_text}
+use Rattle.mdns_browse.proofs.TextLemmas.{groups_text}
 use Rattle.mdns_browse.proofs.format.push_ipv6.Given as goal
 
 abbrev pub invariant-loop-group : goal.invariant-loop-group

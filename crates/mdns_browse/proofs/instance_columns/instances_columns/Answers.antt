@@ -7,11 +7,11 @@ use Rattle.mdns_cache.specs.LentRecords.{last_lent, live_record_lent}
 use Rattle.mdns_browse.specs.About.{keeps_instance}
 use Rattle.mdns_browse.specs.Given.{given_lent}
 use Rattle.mdns_browse.specs.ColumnPieces.{piece_columns, rows_pieces}
-use Rattle.mdns_browse.specs.Columns.{given_left, instances_pretty, left_text, widest}
+use Rattle.mdns_browse.specs.Columns.{instances_pretty, left_text, widest}
 use Rattle.mdns_browse.specs.Report.{instances_about, records_about}
 use Rattle.mdns_browse.specs.Services.{AreAscending, InstanceRow, given_of, gives_instance, lasts_in, others_in}
 use Rattle.mdns_browse.proofs.InstanceLemmas.{shown-again, shown_in}
-use Rattle.mdns_browse.proofs.PageLemmas.{page_by_parts}
+use Rattle.mdns_browse.proofs.PageLemmas.{given_left, page_by_parts}
 use Rattle.mdns_browse.proofs.RowLemmas.{ascending_lasts, one_records}
 use Rattle.mdns_browse.proofs.instance_columns.instances_columns.Goals as goal
 

@@ -3,8 +3,8 @@ use Rattle.std.proofs.Common.{arith}
 use Rattle.std.proofs.Common.{◌++◌, ap, append-nil, sym, ◌∙◌, string_bytes}
 use Rattle.dns_name.specs.Name.{labels_of}
 use Rattle.dns_name.proofs.FormLemmas.{IsForm-after, IsForm-last, labels_of-after}
-use Rattle.mdns_browse.specs.NameSaid.{before_type, from_type, further_said}
-use Rattle.mdns_browse.proofs.SaidLemmas.{before-written, from-other}
+use Rattle.mdns_browse.specs.NameSaid.{before_type, from_type}
+use Rattle.mdns_browse.proofs.SaidLemmas.{before-written, from-other, further_said}
 use Rattle.mdns_browse.proofs.name_said.push_before_type.Goals as goal
 
 pub loop-label-preserved : goal.loop-label-preserved

@@ -1,6 +1,7 @@
 use Rattle.std.proofs.Common.{◌≡◌, ◌++◌, length, string_bytes}
 use Rattle.dns_name.specs.Name.{IsForm, labels_of}
-use Rattle.mdns_browse.specs.NameSaid.{before_type, from_type, further_said}
+use Rattle.mdns_browse.specs.NameSaid.{before_type, from_type}
+use Rattle.mdns_browse.proofs.SaidLemmas.{further_said}
 use Rattle.mdns_browse.proofs.name_said.push_before_type.Given as goal
 
 abbrev pub invariant-loop-label : goal.invariant-loop-label

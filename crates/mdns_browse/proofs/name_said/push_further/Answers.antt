@@ -3,8 +3,7 @@ use Rattle.std.proofs.Common.{arith}
 use Rattle.std.proofs.Common.{◌++◌, ap, append-nil, sym, ◌∙◌, string_bytes}
 use Rattle.dns_name.specs.Name.{labels_of}
 use Rattle.dns_name.proofs.FormLemmas.{IsForm-after, IsForm-last, labels_of-after}
-use Rattle.mdns_browse.specs.NameSaid.{further_said}
-use Rattle.mdns_browse.proofs.SaidLemmas.{label-written}
+use Rattle.mdns_browse.proofs.SaidLemmas.{further_said, label-written}
 use Rattle.mdns_browse.proofs.name_said.push_further.Goals as goal
 
 pub loop-label-preserved : goal.loop-label-preserved

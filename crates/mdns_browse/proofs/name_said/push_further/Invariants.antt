@@ -1,6 +1,6 @@
 use Rattle.std.proofs.Common.{◌≡◌, ◌++◌, length, string_bytes}
 use Rattle.dns_name.specs.Name.{IsForm, labels_of}
-use Rattle.mdns_browse.specs.NameSaid.{further_said}
+use Rattle.mdns_browse.proofs.SaidLemmas.{further_said}
 use Rattle.mdns_browse.proofs.name_said.push_further.Given as goal
 
 abbrev pub invariant-loop-label : goal.invariant-loop-label

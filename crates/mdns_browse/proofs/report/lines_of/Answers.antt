@@ -8,5 +8,5 @@ returns c heard stands =
     record {
       rows = added.value;
       are = added.right;
-      is = lines_written c.args.about.now c.args.ask added.value c.new-text.result c.walk.new.sheet (search rules) added.taken;
+      is = lines_written c.args.about.now c.args.ask c.args.now.nanos added.value c.new-text.result c.walk.new.sheet (search rules) added.taken;
     }

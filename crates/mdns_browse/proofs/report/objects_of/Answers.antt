@@ -7,5 +7,5 @@ returns c heard stands =
     record {
       rows = added.value;
       are = added.right;
-      is = json_written c.args.about.now c.args.ask added.value c.new-objects.result c.walk.new.sheet c.new-objects.ensures added.taken;
+      is = json_written c.args.about.now c.args.ask c.args.now.nanos added.value c.new-objects.result c.walk.new.sheet c.new-objects.ensures added.taken;
     }

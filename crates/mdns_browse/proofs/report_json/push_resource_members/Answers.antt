@@ -1,9 +1,9 @@
-use Rattle.std.proofs.Common.{ℕ, List, ◌∷◌, ◌++◌, false, codes, sym, ap, ◌∙◌}
+use Rattle.std.proofs.Common.{ℕ, List, ◌∷◌, ◌++◌, take, false, codes, sym, ap, ◌∙◌}
 use Rattle.std.proofs.lemmas.List.{append_assoc}
 use Rattle.std.proofs.lemmas.Result.{on_ok_weaker}
 use Rattle.std.specs.String.{string_bytes}
 use Rattle.mdns_message.specs.Borrowed.{resource_lent}
-use Rattle.mdns_browse.specs.Json.{exact_members, json_member, json_string, parted}
+use Rattle.mdns_browse.specs.Json.{json_member, json_string, parted, resource_members}
 use Rattle.mdns_browse.specs.RecordShown.{shown_record}
 use Rattle.mdns_browse.proofs.ObjectLemmas.{parted-more}
 use Rattle.mdns_browse.proofs.report_json.push_resource_members.Goals as goal
@@ -11,7 +11,7 @@ use Rattle.mdns_browse.proofs.report_json.push_resource_members.Goals as goal
 pub returns : goal.returns
 returns c =
     let old = string_bytes c.args.to.now in
-    let exact = exact_members (resource_lent c.args.resource.now) in
+    let exact = take 3 (resource_members (resource_lent c.args.resource.now)) in
     let member : List ℕ → List ℕ = λ text. json_member (codes "shown") (json_string text) in
     let text = c.as_str.ensures.value ∙ c.in_ok-push_shown_record.ensures
     ∙ ap (λ (none : List ℕ). none ++ shown_record (resource_lent c.args.resource.now)) c.new-shown.ensures.bytes in
