@@ -1,11 +1,9 @@
 -- Columns, their widths, and pages by the pieces that are written of them.
-use Rattle.std.proofs.Common.{◌≡◌, refl, sym, ℕ, ◌+◌, ◌-◌, ◌<◌, ◌≤◌, ◌==◌, max, true, false, List, [], ◌∷◌, ◌++◌}
+use Rattle.std.proofs.Common.{◌≡◌, refl, sym, ap, ◌∙◌, ℕ, ◌+◌, ◌-◌, ◌<◌, ◌≤◌, ◌==◌, max, true, false, List, [], ◌∷◌, ◌++◌}
 use Rattle.std.proofs.Common.{length, map, take, get_or, add-one, arith, codes}
 use Rattle.std.proofs.lemmas.List.{append-nil, append_assoc, length-append, length-map}
 use Rattle.std.proofs.lemmas.Simd.{map-map}
 use Rattle.std.specs.List.{flat_map}
-use Rattle.mdns_message.specs.declared.record_type.RecordType.{RecordType}
-use Rattle.mdns_message.specs.declared.record_type.RecordType.TheVariants as kind
 use Rattle.mdns_message.specs.Resource.{type_name, type_of}
 use Rattle.mdns_join.specs.declared.latest.Latest.{Latest}
 use Rattle.people_text.specs.MomentText.{clock_text, date_text, date_written, hours_text, seconds_text}
@@ -85,64 +83,61 @@ heard-width [] some = absurd (omega (arith, some))
 heard-width (row ∷ rows) some =
     let rest = widest_heard-most rows in let own = seconds-len row.0.moment.nanos in omega (arith, rest, own)
 
-kind-len : (k : RecordType) → length (type_name k) ≤ 4
-kind-len kind.A = omega arith
-kind-len kind.Ptr = omega arith
-kind-len kind.Txt = omega arith
-kind-len kind.Aaaa = omega arith
-kind-len kind.Srv = omega arith
-
-widest_kind-most : (rows : List (Latest × ℕ)) → widest (map kind_text rows) ≤ 4
+-- the width of a column below a head of four letters
+head-width : (head : List ℕ) (texts : List (List ℕ)) → length head ≡ 4 → widest (head ∷ texts) ≡ max (widest texts) 4
 unfolding widest
-widest_kind-most [] = omega arith
-widest_kind-most (row ∷ rows) =
-    let rest = widest_kind-most rows in let own = kind-len (type_of row.0.resource.body) in omega (arith, rest, own)
-
--- the width of the third one
-kind-width : (rows : List (Latest × ℕ)) → widest (codes "TYPE" ∷ map kind_text rows) ≡ 4
-unfolding widest
-kind-width rows = let rest = widest_kind-most rows in omega (arith, rest)
-
--- the width of the first one
-left-width : (now : ℕ) (rows : List (Latest × ℕ))
-    → widest (codes "LEFT" ∷ map (left_text now) rows) ≡ max (widest (map (left_text now) rows)) 4
-unfolding widest
-left-width now rows = omega arith
+head-width head texts four = omega (arith, four)
 
 -- the table with the widths that were found
 table_wide : ℕ → ℕ → ℕ → ℕ → List (Latest × ℕ) → List ℕ
 table_wide now left heard kind rows = record_heads left heard kind ++ flat_map (record_row left heard kind now) rows
 
-table_widths : (now left : ℕ) (rows : List (Latest × ℕ)) → 0 < length rows → left ≡ max (widest (map (left_text now) rows)) 4
-    → table_wide now left 20 4 rows ≡ record_table now rows
+table_widths : (now left kind : ℕ) (rows : List (Latest × ℕ)) → 0 < length rows → left ≡ max (widest (map (left_text now) rows)) 4
+    → kind ≡ max (widest (map kind_text rows)) 4 → table_wide now left 20 kind rows ≡ record_table now rows
 unfolding record_table table_wide
-table_widths now left rows some is = grind (arith, table_wide, left-width, heard-width, kind-width)
+table_widths now left kind rows some left_is kind_is =
+    let first = widest (codes "LEFT" ∷ map (left_text now) rows) in
+    let second = widest (codes "HEARD" ∷ map heard_text rows) in
+    ap (λ heard. record_heads left heard kind ++ flat_map (record_row left heard kind now) rows) (sym (heard-width rows some))
+    ∙ ap (λ left. record_heads left second kind ++ flat_map (record_row left second kind now) rows)
+    (left_is ∙ sym (head-width (codes "LEFT") (map (left_text now) rows) refl))
+    ∙ ap (λ kind. record_heads first second kind ++ flat_map (record_row first second kind now) rows)
+    (kind_is ∙ sym (head-width (codes "TYPE") (map kind_text rows) refl))
 
-pub table_by_parts : (old mid new : List ℕ) (now left : ℕ) (rows : List (Latest × ℕ)) → 0 < length rows
-    → left ≡ max (widest (map (left_text now) rows)) 4 → mid ≡ old ++ record_heads left 20 4
-    → new ≡ mid ++ flat_map (record_row left 20 4 now) rows → new ≡ old ++ record_table now rows
+pub table_by_parts : (old mid new : List ℕ) (now left kind : ℕ) (rows : List (Latest × ℕ)) → 0 < length rows
+    → left ≡ max (widest (map (left_text now) rows)) 4 → kind ≡ max (widest (map kind_text rows)) 4
+    → mid ≡ old ++ record_heads left 20 kind → new ≡ mid ++ flat_map (record_row left 20 kind now) rows
+    → new ≡ old ++ record_table now rows
 unfolding table_wide
-table_by_parts old mid new now left rows some is heads lines = grind (arith, append_assoc, table_widths)
+table_by_parts old mid new now left kind rows some left_is kind_is heads lines = grind (arith, append_assoc, table_widths)
 
 -- the heads
-after_first : (p a b c d e f g : List ℕ) → p ++ a ++ b ++ c ++ d ++ e ++ f ++ g ≡ p ++ (a ++ b ++ c ++ d ++ e ++ f ++ g)
-after_first p a b c d e f g = simp append_assoc
+heads_parts : (old left gap heard kind last end : List ℕ)
+    → (((old ++ left) ++ (gap ++ heard ++ gap)) ++ kind) ++ (gap ++ last ++ end)
+    ≡ old ++ (left ++ gap ++ heard ++ gap ++ kind ++ gap ++ last ++ end)
+heads_parts old left gap heard kind last end = simp append_assoc
 
-heads_rest : codes "  " ++ padded 20 (codes "HEARD") ++ codes "  " ++ padded 4 (codes "TYPE") ++ codes "  " ++ codes "RECORD" ++ 10 ∷ []
-    ≡ codes "  HEARD                 TYPE  RECORD\n"
+second_head : codes "  " ++ padded 20 (codes "HEARD") ++ codes "  " ≡ codes "  HEARD                 "
 unfolding padded spaces
-heads_rest = refl
+second_head = refl
 
-pub heads_text : (left : ℕ) → record_heads left 20 4 ≡ padded left (codes "LEFT") ++ codes "  HEARD                 TYPE  RECORD\n"
+pub heads_by_parts : (old a b c new : List ℕ) (left kind : ℕ) → a ≡ old ++ padded left (codes "LEFT")
+    → b ≡ a ++ codes "  HEARD                 " → c ≡ b ++ padded kind (codes "TYPE") → new ≡ c ++ codes "  RECORD\n"
+    → new ≡ old ++ record_heads left 20 kind
 unfolding record_heads
-heads_text left = grind (arith, after_first, heads_rest)
+heads_by_parts old a b c new left kind one two three four =
+    four ∙ ap (λ text. text ++ codes "  RECORD\n") (three ∙ ap (λ text. text ++ padded kind (codes "TYPE"))
+    (two ∙ ap (λ text. text ++ codes "  HEARD                 ") one))
+    ∙ ap (λ heard. ((old ++ padded left (codes "LEFT") ++ heard) ++ padded kind (codes "TYPE")) ++ codes "  RECORD\n") (sym second_head)
+    ∙ (heads_parts old (padded left (codes "LEFT")) (codes "  ") (padded 20 (codes "HEARD")) (padded kind (codes "TYPE")) (codes "RECORD")
+    (10 ∷ []))
 
 -- a row
-pub row_text : (left now : ℕ) (row : Latest × ℕ) → record_row left 20 4 now row
-    ≡ padded left (left_text now row) ++ codes "  " ++ heard_text row ++ codes "  " ++ padded 4 (kind_text row) ++ codes "  "
+pub row_text : (left kind now : ℕ) (row : Latest × ℕ) → record_row left 20 kind now row
+    ≡ padded left (left_text now row) ++ codes "  " ++ heard_text row ++ codes "  " ++ padded kind (kind_text row) ++ codes "  "
     ++ shown_record row.0.resource ++ 10 ∷ []
 unfolding record_row
-row_text left now row = grind (arith, padded-exact, seconds-len)
+row_text left kind now row = grind (arith, padded-exact, seconds-len)
 
 -- a row by what is written of it
 pub row_by_parts : (old gap left heard kind own a b c d e f g new : List ℕ) → a ≡ old ++ left → b ≡ a ++ gap → c ≡ b ++ heard → d ≡ c ++ gap

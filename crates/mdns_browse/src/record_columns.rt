@@ -1,14 +1,17 @@
 //! Reports in readable columns, for people.
 
-ghost use Rattle.std.specs.Prelude.{◌≡◌, ◌<◌, ◌++◌, ◌∷◌, [], List, length, map, IfOk, OnOk};
+ghost use Rattle.std.specs.Prelude.{◌≡◌, ◌<◌, ℕ, ◌++◌, ◌∷◌, [], List, length, map, IfOk, OnOk};
 ghost use Rattle.std.specs.List.{filter, flat_map};
 ghost use Rattle.std.specs.String.{string_bytes};
 ghost use Rattle.mdns_message.specs.declared.hearing.Hearing.{Hearing};
+ghost use Rattle.mdns_message.specs.Resource.{type_name, type_of};
+ghost use Rattle.mdns_join.specs.declared.latest.Latest.{Latest};
 ghost use Rattle.mdns_cache.specs.Contents.{StandsFor};
 ghost use Rattle.mdns_cache.specs.Live.{NoneLater};
 ghost use Rattle.mdns_cache.specs.LentRecords.{live_record_lent};
 ghost use Rattle.mdns_browse.specs.About.{keeps_type};
-ghost use Rattle.mdns_browse.specs.Columns.{record_heads, record_row, record_table, records_pretty, type_row, types_pretty};
+ghost use Rattle.mdns_browse.specs.Columns.{record_heads, record_row, record_table, records_pretty, type_row};
+ghost use Rattle.mdns_browse.specs.Columns.{types_pretty, widest};
 ghost use Rattle.mdns_browse.specs.Report.{IsReportIn, records_about, types_about};
 ghost use Rattle.mdns_browse.specs.declared.report.Ask.TheVariants.{Records, Types};
 ghost use Rattle.mdns_browse.specs.declared.report.Form.TheVariants.{Pretty};
@@ -101,38 +104,64 @@ fn push_table(
     ensures { OnOk result (string_bytes to.new ≡ string_bytes to.old ++ record_table now.nanos (map live_record_lent rows.now)) }
 {
     let left = wider(left_width(alloc, now, rows)?, 4);
-    push_heads(to, left)?;
-    push_rows(to, left, now, rows)
+    let kind = wider(kind_width(rows), 4);
+    push_heads(to, left, kind)?;
+    push_rows(to, left, kind, now, rows)
 }
 
-fn push_heads(to: &mut String, left: usize) -> Result<(), Want>
-    ensures { OnOk result (string_bytes to.new ≡ string_bytes to.old ++ record_heads left 20 4) }
+// Returns the greatest length of the names of the rows' types.
+fn kind_width(rows: &[LiveRecord<'_>]) -> usize
+    ensures { result ≡ widest (map (λ (row : Latest × ℕ). type_name (type_of row.0.resource.body)) (map live_record_lent rows.now)) }
+{
+    let mut width = 0;
+    for row in rows {
+        width = wider(width, row.last.resource.body.record_type().name().len());
+    }
+    width
+}
+
+fn push_heads(to: &mut String, left: usize, kind: usize) -> Result<(), Want>
+    ensures { OnOk result (string_bytes to.new ≡ string_bytes to.old ++ record_heads left 20 kind) }
 {
     push_padded(to, left, "LEFT")?;
-    to.push_str("  HEARD                 TYPE  RECORD\n")?;
+    to.push_str("  HEARD                 ")?;
+    push_padded(to, kind, "TYPE")?;
+    to.push_str("  RECORD\n")?;
     Ok(())
 }
 
-fn push_rows(to: &mut String, left: usize, now: Moment, rows: &[LiveRecord<'_>]) -> Result<(), Want>
+fn push_rows(
+    to: &mut String,
+    left: usize,
+    kind: usize,
+    now: Moment,
+    rows: &[LiveRecord<'_>],
+) -> Result<(), Want>
     ensures { OnOk result (string_bytes to.new
-        ≡ string_bytes to.old ++ flat_map (record_row left 20 4 now.nanos) (map live_record_lent rows.now)) }
+        ≡ string_bytes to.old ++ flat_map (record_row left 20 kind now.nanos) (map live_record_lent rows.now)) }
 {
     for row in rows {
-        push_row(to, left, now, row)?;
+        push_row(to, left, kind, now, row)?;
     }
     Ok(())
 }
 
 // Appends the line of a row. What is written of a moment has the width of its column, 20.
-fn push_row(to: &mut String, left: usize, now: Moment, row: &LiveRecord<'_>) -> Result<(), Want>
+fn push_row(
+    to: &mut String,
+    left: usize,
+    kind: usize,
+    now: Moment,
+    row: &LiveRecord<'_>,
+) -> Result<(), Want>
     ensures { OnOk result (string_bytes to.new
-        ≡ string_bytes to.old ++ record_row left 20 4 now.nanos (live_record_lent row.now)) }
+        ≡ string_bytes to.old ++ record_row left 20 kind now.nanos (live_record_lent row.now)) }
 {
     push_padded_left(to, left, now, row)?;
     to.push_str("  ")?;
     push_seconds(to, row.last.moment.nanos())?;
     to.push_str("  ")?;
-    push_padded(to, 4, row.last.resource.body.record_type().name())?;
+    push_padded(to, kind, row.last.resource.body.record_type().name())?;
     to.push_str("  ")?;
     push_shown_record(to, &row.last.resource.borrowed())?;
     to.push('\n')?;

@@ -1,8 +1,7 @@
-use Rattle.std.proofs.lemmas.Grind.{common_steps}
 use Rattle.std.proofs.Common.{arith}
-use Rattle.mdns_browse.proofs.ColumnLemmas.{heads_text}
-use Rattle.mdns_browse.proofs.TextLemmas.{two_parts}
+use Rattle.std.proofs.lemmas.Grind.{common_steps}
+use Rattle.mdns_browse.proofs.ColumnLemmas.{heads_by_parts}
 use Rattle.mdns_browse.proofs.record_columns.push_heads.Goals as goal
 
 pub returns : goal.returns
-returns c = grind (arith, common_steps, two_parts, heads_text)
+returns c = grind (arith, common_steps, heads_by_parts)

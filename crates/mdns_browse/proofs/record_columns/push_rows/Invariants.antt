@@ -8,4 +8,4 @@ use Rattle.mdns_browse.proofs.record_columns.push_rows.Given as goal
 abbrev pub invariant-loop-row : goal.invariant-loop-row
 invariant-loop-row l =
     string_bytes l.to
-    ≡ string_bytes l.initial.to ++ flat_map (record_row l.left 20 4 l.now.nanos) (map live_record_lent (take l.row-index l.rows))
+    ≡ string_bytes l.initial.to ++ flat_map (record_row l.left 20 l.kind l.now.nanos) (map live_record_lent (take l.row-index l.rows))
