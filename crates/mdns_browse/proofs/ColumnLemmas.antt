@@ -1,4 +1,4 @@
--- Columns, their widths, and pages by the pieces that are written of them.
+-- Columns, their widths, and what is written in them.
 use Rattle.std.proofs.Common.{◌≡◌, refl, sym, ap, ◌∙◌, ℕ, ◌+◌, ◌-◌, ◌<◌, ◌≤◌, ◌==◌, max, true, false, List, [], ◌∷◌, ◌++◌}
 use Rattle.std.proofs.Common.{length, map, take, get_or, add-one, arith, codes}
 use Rattle.std.proofs.lemmas.List.{append-nil, append_assoc, length-append, length-map}
@@ -146,8 +146,8 @@ pub row_by_parts : (old gap left heard kind own a b c d e f g new : List ℕ) �
 row_by_parts old gap left heard kind own a b c d e f g new pa pb pc pd pe pf pg pn =
     rw (pn, pg, pf, pe, pd, pc, pb, pa) (simp append_assoc)
 
-pub page-some : {R X : Type 0} (f : R → X) (rows : List R) (old a b new one many text : List ℕ) (now : ℕ) → (length rows == 0) ≡ false
+pub report-some : {R X : Type 0} (f : R → X) (rows : List R) (old a b new one many text : List ℕ) (now : ℕ) → (length rows == 0) ≡ false
     → a ≡ old ++ heading (length rows) one many now → b ≡ a ++ 10 ∷ [] → new ≡ b ++ text
     → new ≡ old ++ (heading (length (map f rows)) one many now ++ unless_none (map f rows) text)
-page-some f [] old a b new one many text now some head line written = let both : true ≡ false = some in cc
-page-some f (row ∷ rows) old a b new one many text now some head line written = grind (arith, length-map, append_assoc)
+report-some f [] old a b new one many text now some head line written = let both : true ≡ false = some in cc
+report-some f (row ∷ rows) old a b new one many text now some head line written = grind (arith, length-map, append_assoc)

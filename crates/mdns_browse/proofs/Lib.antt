@@ -3,6 +3,7 @@ mod AboutServiceLemmas
 mod ColumnLemmas
 mod DigitLemmas
 mod FormLemmas
+mod InstanceColumnLemmas
 mod InstanceLemmas
 mod JsonLemmas
 mod KeptLemmas
@@ -11,7 +12,6 @@ mod LineLemmas
 mod ListLemmas
 mod NameLemmas
 mod ObjectLemmas
-mod PageLemmas
 mod ReachLemmas
 mod ReportLemmas
 pub mod RowLemmas

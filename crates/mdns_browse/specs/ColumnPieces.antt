@@ -12,7 +12,7 @@ use Rattle.mdns_browse.specs.Sheet.{Piece, live_record, service_type, instance_b
 use Rattle.mdns_browse.specs.Sheet.{server_end, servers_end, instance_text, instance_end, instance_pieces}
 use Rattle.mdns_browse.specs.RecordShown.{shown_words, spaced_wide}
 
--- the text of a piece; a page of instances has no other records
+-- the text of a piece; columns of instances have no other records
 abbrev pub piece_columns : ℕ → ℕ → Piece → List ℕ
 piece_columns width now (live_record row) = []
 piece_columns width now (service_type name) = 10 ∷ type_row name
@@ -25,7 +25,7 @@ piece_columns width now (servers_end none) = if none then words_line width (code
 piece_columns width now (instance_text text) = text_row width text
 piece_columns width now instance_end = []
 
--- the page has the text of some pieces more
+-- the sheet has the text of some pieces more
 pub record Writes (old : InstanceSheet) (pieces : List Piece) (new : InstanceSheet) : Type 0 where
   pub width : new.width ≡ old.width
   pub now : new.now ≡ old.now

@@ -44,11 +44,11 @@ pub(crate) fn instances_columns(
     let listed = gathered.given.as_slice();
     let others = kept_others(alloc, about, cache.walk_live(now))?;
     let width = names_width(alloc, now, listed, others.as_slice())?;
-    let mut page = InstanceSheet::new(alloc, now, width);
-    push_heading(&mut page.text, listed.len(), "instance", "instances", now)?;
-    push_instances(&mut page, gathered.rows.as_slice(), listed)?;
-    push_others(&mut page.text, width, now, others.as_slice())?;
-    Ok(page.text)
+    let mut sheet = InstanceSheet::new(alloc, now, width);
+    push_heading(&mut sheet.text, listed.len(), "instance", "instances", now)?;
+    push_instances(&mut sheet, gathered.rows.as_slice(), listed)?;
+    push_others(&mut sheet.text, width, now, others.as_slice())?;
+    Ok(sheet.text)
 }
 
 // Returns the width of the first column.
@@ -82,12 +82,12 @@ fn given_width(alloc: Global, now: Moment, given: &[Given<'_>]) -> Result<usize,
 
 // Appends each instance, and before the first of a type the type's name. The servers and texts are looked up in the rows.
 fn push_instances(
-    page: &mut InstanceSheet,
+    sheet: &mut InstanceSheet,
     rows: &[Last<'_>],
     given: &[Given<'_>],
 ) -> Result<(), Want>
-    ensures { OnOk result (AreAscending (map last_lent rows.now) → Writes page.old
-        (rows_pieces [] (filter_map (instance_row_in (map last_lent rows.now)) (map given_lent given.now))) page.new) }
+    ensures { OnOk result (AreAscending (map last_lent rows.now) → Writes sheet.old
+        (rows_pieces [] (filter_map (instance_row_in (map last_lent rows.now)) (map given_lent given.now))) sheet.new) }
 {
     let mut before: &[u8] = b"";
     for row in given {
@@ -95,7 +95,7 @@ fn push_instances(
         let Some(name) = row.row.last.resource.body.pointer() else {
             continue;
         };
-        push_instance(page, rows, row, name, before)?;
+        push_instance(sheet, rows, row, name, before)?;
         before = row.row.last.resource.owner.wire();
     }
     Ok(())
@@ -103,27 +103,27 @@ fn push_instances(
 
 // Appends an instance by the record that gives it.
 fn push_instance(
-    page: &mut InstanceSheet,
+    sheet: &mut InstanceSheet,
     rows: &[Last<'_>],
     given: &Given<'_>,
     name: &Name,
     before: &[u8],
 ) -> Result<(), Want>
-    ensures { OnOk result (AreAscending (map last_lent rows.now) → Writes page.old (row_pieces before.now (record {
+    ensures { OnOk result (AreAscending (map last_lent rows.now) → Writes sheet.old (row_pieces before.now (record {
       given = given_lent given.now;
       instance = instance_in (map last_lent rows.now) name.now;
-    })) page.new) }
+    })) sheet.new) }
 {
-    push_type(page, before, &given.row.last.resource.owner)?;
-    walk_instance(page, rows, given, name)
+    push_type(sheet, before, &given.row.last.resource.owner)?;
+    walk_instance(sheet, rows, given, name)
 }
 
 // Appends the name of a type, unless the instance before is of that type.
-fn push_type(page: &mut InstanceSheet, before: &[u8], owner: &Name) -> Result<(), Want>
-    ensures { OnOk result (Writes page.old (type_pieces before.now owner.now) page.new) }
+fn push_type(sheet: &mut InstanceSheet, before: &[u8], owner: &Name) -> Result<(), Want>
+    ensures { OnOk result (Writes sheet.old (type_pieces before.now owner.now) sheet.new) }
 {
     if folded_cmp(before, owner.wire()).is_eq() {
         return Ok(());
     }
-    page.service_type(owner)
+    sheet.service_type(owner)
 }

@@ -1,4 +1,4 @@
-//! A page of service instances in readable columns.
+//! Service instances in readable columns.
 
 ghost use Rattle.std.specs.Prelude.{◌≡◌, ◌++◌, ◌∷◌, [], codes, OnOk};
 ghost use Rattle.std.specs.String.{string_bytes};
@@ -15,7 +15,7 @@ use mdns_capture::Moment;
 use mdns_message::{BorrowedBody, Bytes, Name, Want};
 use std::alloc::Global;
 
-/// A page of service instances, as of a moment, with a column of this width for what is left.
+/// Service instances in columns, as of a moment, with a column of this width for what is left.
 #[derive(Drop)]
 pub(crate) struct InstanceSheet {
     pub(crate) text: String,
@@ -26,7 +26,7 @@ pub(crate) struct InstanceSheet {
 }
 
 impl InstanceSheet {
-    /// Makes an empty page.
+    /// Makes an empty sheet.
     pub(crate) fn new(alloc: Global, now: Moment, width: usize) -> InstanceSheet
         ensures text { string_bytes result.text ≡ [] }
         ensures now { result.now ≡ now }
@@ -61,11 +61,11 @@ fn push_line(to: &mut String, width: usize, words: &str) -> Result<(), Want>
 
 impl Sheet for InstanceSheet {
     ghost use Rattle.mdns_browse.specs.ColumnPieces.{Writes};
-    ghost use Rattle.mdns_browse.specs.laws.ColumnPieces.{writes_page-laws};
+    ghost use Rattle.mdns_browse.specs.laws.ColumnPieces.{columns-laws};
 
     ghost takes = { Writes };
 
-    // A page of instances has no other records.
+    // Columns of instances have no other records.
     fn live_record(&mut self, _row: &LiveRecord<'_>) -> Result<(), Want> {
         Ok(())
     }
@@ -125,5 +125,5 @@ impl Sheet for InstanceSheet {
         Ok(())
     }
 
-    ghost laws = { writes_page-laws };
+    ghost laws = { columns-laws };
 }

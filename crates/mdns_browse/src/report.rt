@@ -119,7 +119,6 @@ fn newest_after(cache: &Cache, now: Moment) -> Option<Moment>
     None
 }
 
-// Writes the lines of a report.
 fn lines_of(
     alloc: Global,
     cache: &Cache,
@@ -136,8 +135,7 @@ fn lines_of(
     Ok(text)
 }
 
-// Writes the objects of a report.
-fn objects_of(
+fn json_of(
     alloc: Global,
     cache: &Cache,
     ask: Ask,
@@ -153,8 +151,7 @@ fn objects_of(
     Ok(objects.text)
 }
 
-// Writes the page of a report.
-fn page_of(
+fn columns_of(
     alloc: Global,
     cache: &Cache,
     ask: Ask,
@@ -172,7 +169,6 @@ fn page_of(
     }
 }
 
-// Writes a report in its form.
 fn text_of(
     alloc: Global,
     cache: &Cache,
@@ -187,7 +183,7 @@ fn text_of(
 {
     match form {
         Form::Lines => lines_of(alloc, cache, ask, about, now),
-        Form::Json => objects_of(alloc, cache, ask, about, now),
-        Form::Pretty => page_of(alloc, cache, ask, about, now),
+        Form::Json => json_of(alloc, cache, ask, about, now),
+        Form::Pretty => columns_of(alloc, cache, ask, about, now),
     }
 }

@@ -1,4 +1,4 @@
--- Pages obey the laws of sheets.
+-- Columns obey the laws of sheets.
 use Rattle.std.specs.Prelude.{◌++◌, string_bytes}
 use Rattle.std.specs.List.{flat_map}
 use Rattle.std.proofs.Common.{sym, ap, ◌∙◌, append_assoc, append-nil, refl}
@@ -6,8 +6,8 @@ use Rattle.std.proofs.lemmas.Grind.{flat_map-append}
 use Rattle.mdns_browse.specs.ColumnPieces.{Writes, piece_columns}
 use Rattle.mdns_browse.specs.Sheet.{TakeLaws}
 
-pub writes_page-laws : TakeLaws Writes
-writes_page-laws = record {
+pub columns-laws : TakeLaws Writes
+columns-laws = record {
   nothing = λ s. record { width = refl; now = refl; written = sym (append-nil (string_bytes s.text)) };
   more = λ s t u a b one two. record {
     width = two.width ∙ one.width;

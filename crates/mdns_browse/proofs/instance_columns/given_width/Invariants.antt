@@ -1,7 +1,7 @@
 use Rattle.std.proofs.Common.{◌≡◌, map, take}
 use Rattle.mdns_browse.specs.Given.{given_lent}
 use Rattle.mdns_browse.specs.Columns.{widest}
-use Rattle.mdns_browse.proofs.PageLemmas.{given_left}
+use Rattle.mdns_browse.proofs.InstanceColumnLemmas.{given_left}
 use Rattle.mdns_browse.proofs.instance_columns.given_width.Given as goal
 
 abbrev pub invariant-loop-row : goal.invariant-loop-row

@@ -11,7 +11,7 @@ use Rattle.mdns_browse.specs.Columns.{instances_pretty, left_text, widest}
 use Rattle.mdns_browse.specs.Report.{instances_about, records_about}
 use Rattle.mdns_browse.specs.Services.{AreAscending, InstanceRow, given_of, gives_instance, lasts_in, others_in}
 use Rattle.mdns_browse.proofs.InstanceLemmas.{shown-again, shown_in}
-use Rattle.mdns_browse.proofs.PageLemmas.{given_left, page_by_parts}
+use Rattle.mdns_browse.proofs.InstanceColumnLemmas.{columns_by_parts, given_left}
 use Rattle.mdns_browse.proofs.RowLemmas.{ascending_lasts, one_records}
 use Rattle.mdns_browse.proofs.instance_columns.instances_columns.Goals as goal
 
@@ -39,18 +39,18 @@ returns c heard stands =
       rows = records;
       are = are;
       is =
-          page_by_parts now _ (length listed) (map given_lent listed) (instances_about about records) (map live_record_lent others)
-          (string_bytes c.new-page.result.text) begun _ _ given c.new-page.ensures.text (sym (length-map listed given_lent))
+          columns_by_parts now _ (length listed) (map given_lent listed) (instances_about about records) (map live_record_lent others)
+          (string_bytes c.new-sheet.result.text) begun _ _ given c.new-sheet.ensures.text (sym (length-map listed given_lent))
           (c.in_ok-width.ensures
           ∙ ap
           (λ rows. max (widest (map (given_left now) (map given_lent listed))) (widest (map (left_text now) (map live_record_lent rows))))
           same)
           c.in_ok-push_heading.ensures
           (pushed.written
-          ∙ ap (λ (at : Moment). begun ++ flat_map (piece_columns c.new-page.result.width at.nanos)
-          (rows_pieces [] (shown_in (map last_lent c.as_slice-2.result.now) (map given_lent listed)))) c.new-page.ensures.now
+          ∙ ap (λ (at : Moment). begun ++ flat_map (piece_columns c.new-sheet.result.width at.nanos)
+          (rows_pieces [] (shown_in (map last_lent c.as_slice-2.result.now) (map given_lent listed)))) c.new-sheet.ensures.now
           ∙ ap (λ width. begun ++ flat_map (piece_columns width now)
-          (rows_pieces [] (shown_in (map last_lent c.as_slice-2.result.now) (map given_lent listed)))) c.new-page.ensures.width
+          (rows_pieces [] (shown_in (map last_lent c.as_slice-2.result.now) (map given_lent listed)))) c.new-sheet.ensures.width
           ∙ ap (λ rows. begun ++ flat_map (piece_columns c.in_ok-width.width now) (rows_pieces [] rows)) shown)
           c.in_ok-push_others.ensures
           ∙ ap (instances_pretty now (instances_about about records)) found;

@@ -4,7 +4,7 @@ use Rattle.mdns_cache.specs.LentRecords.{last_lent}
 use Rattle.mdns_browse.specs.Given.{given_lent}
 use Rattle.mdns_browse.specs.ColumnPieces.{type_pieces}
 use Rattle.mdns_browse.specs.Sheet.{instance_pieces}
-use Rattle.mdns_browse.specs.laws.ColumnPieces.{writes_page-laws}
+use Rattle.mdns_browse.specs.laws.ColumnPieces.{columns-laws}
 use Rattle.mdns_browse.proofs.InstanceLemmas.{row_named}
 use Rattle.mdns_browse.proofs.instance_columns.push_instance.Goals as goal
 
@@ -13,6 +13,6 @@ returns c =
     let given = given_lent c.args.given.now in
     on_ok_weaker c.walk_instance.result
     (λ taken ascending.
-    writes_page-laws.more _ _ _ (type_pieces c.args.before.now given.last.resource.owner)
+    columns-laws.more _ _ _ (type_pieces c.args.before.now given.last.resource.owner)
     (instance_pieces (row_named (map last_lent c.args.rows.now) given c.args.name.now)) c.in_ok-push_type.ensures (taken ascending))
     c.walk_instance.ensures

@@ -1,4 +1,4 @@
-use Rattle.mdns_browse.proofs.PageLemmas.{Shows}
+use Rattle.mdns_browse.proofs.InstanceColumnLemmas.{Shows}
 use Rattle.std.proofs.lemmas.Grind.{common_steps}
 use Rattle.std.proofs.Common.{None, Some, refl, sym, ap, subst, ◌++◌, map, take, arith}
 use Rattle.std.proofs.lemmas.List.Elements.{filter_map-append}
@@ -7,17 +7,17 @@ use Rattle.mdns_browse.specs.Given.{given_lent}
 use Rattle.mdns_browse.specs.Services.{instance_row_in}
 use Rattle.mdns_browse.proofs.InstanceLemmas.{row_named, shown-one, shown_in}
 use Rattle.mdns_browse.proofs.ListLemmas.{made_all, made_more, made_same}
-use Rattle.mdns_browse.proofs.PageLemmas.{shows-more, shows-start}
+use Rattle.mdns_browse.proofs.InstanceColumnLemmas.{shows-more, shows-start}
 use Rattle.mdns_browse.proofs.instance_columns.push_instances.Goals as goal
 
 pub loop-row-init : goal.loop-row-init
-loop-row-init c ascending = shows-start c.args.page.now
+loop-row-init c ascending = shows-start c.args.sheet.now
 
 pub loop-row-preserved-in_default : goal.loop-row-preserved-in_default
 loop-row-preserved-in_default c ascending =
     let rows = map last_lent c.args.rows.now in
     let row = c.row-item.result in
-    subst (λ shown. Shows shown c.loop-row.before.now c.args.page.now c.loop-row.page)
+    subst (λ shown. Shows shown c.loop-row.before.now c.args.sheet.now c.loop-row.sheet)
     (made_same (shown_in rows) (filter_map-append (instance_row_in rows)) given_lent c.args.given.now c.loop-row.row-index row (omega arith)
     c.row-item.is refl (shown-one rows (given_lent row) None c.in_default.ensures))
     (c.loop-row.invariant ascending)

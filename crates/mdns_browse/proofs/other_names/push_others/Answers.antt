@@ -2,7 +2,7 @@ use Rattle.std.proofs.Common.{rules, ◌≡◌, ◌==◌, false, length, ◌++�
 use Rattle.std.proofs.lemmas.Result.{on_ok_weaker}
 use Rattle.std.specs.String.{string_bytes}
 use Rattle.mdns_cache.specs.LentRecords.{live_record_lent}
-use Rattle.mdns_browse.proofs.PageLemmas.{others-some}
+use Rattle.mdns_browse.proofs.InstanceColumnLemmas.{others-some}
 use Rattle.mdns_browse.proofs.other_names.push_others.Goals as goal
 
 pub returns : goal.returns

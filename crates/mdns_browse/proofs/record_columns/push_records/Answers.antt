@@ -1,7 +1,7 @@
 use Rattle.std.proofs.Common.{arith}
 use Rattle.std.proofs.lemmas.Result.{on_ok_weaker}
-use Rattle.mdns_browse.proofs.ColumnLemmas.{page-some}
+use Rattle.mdns_browse.proofs.ColumnLemmas.{report-some}
 use Rattle.mdns_browse.proofs.record_columns.push_records.Goals as goal
 
 pub returns : goal.returns
-returns c = grind (arith, on_ok_weaker, page-some)
+returns c = grind (arith, on_ok_weaker, report-some)

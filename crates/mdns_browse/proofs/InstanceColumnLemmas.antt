@@ -16,7 +16,7 @@ use Rattle.mdns_browse.specs.Services.{GivenRow, InstanceRow}
 use Rattle.mdns_browse.specs.Sheet.{server_pieces, servers_end, servers_pieces}
 use Rattle.mdns_browse.specs.Sheet.{instance_pieces}
 use Rattle.mdns_browse.specs.RecordShown.{spaced_wide}
-use Rattle.mdns_browse.specs.laws.ColumnPieces.{writes_page-laws}
+use Rattle.mdns_browse.specs.laws.ColumnPieces.{columns-laws}
 use Rattle.mdns_browse.proofs.LineLemmas.{flat_map-map, flat_map-pieces}
 use Rattle.mdns_browse.proofs.InstanceLemmas.{given_in}
 
@@ -40,8 +40,8 @@ last_owner-more : (before : List ℕ) (rows : List InstanceRow) (row : InstanceR
 last_owner-more before [] row = refl
 last_owner-more before (first ∷ rows) row = last_owner-more first.given.last.resource.owner rows row
 
-pub shows-start : (page : InstanceSheet) → Shows [] [] page page
-shows-start page = record { last = refl; taken = writes_page-laws.nothing page }
+pub shows-start : (sheet : InstanceSheet) → Shows [] [] sheet sheet
+shows-start sheet = record { last = refl; taken = columns-laws.nothing sheet }
 
 pub shows-more : {rows more : List InstanceRow} {before after : List ℕ} {old mid new : InstanceSheet} (row : InstanceRow) → Shows rows before old mid
     → more ≡ rows ++ row ∷ [] → after ≡ row.given.last.resource.owner → Writes mid (row_pieces before row) new → Shows more after old new
@@ -50,7 +50,7 @@ shows-more {rows} {more} {before} {after} {old} {mid} {new} row so_far whole own
       last = owner ∙ sym (last_owner-more [] rows row);
       taken =
           subst (λ pieces. Writes old pieces new) (sym (rows_pieces-more [] rows row))
-          (writes_page-laws.more old mid new (rows_pieces [] rows) (row_pieces (last_owner [] rows) row) so_far.taken
+          (columns-laws.more old mid new (rows_pieces [] rows) (row_pieces (last_owner [] rows) row) so_far.taken
           (subst (λ name. Writes mid (row_pieces name row) new) so_far.last taken));
     }
 
@@ -107,17 +107,17 @@ module _ (width now : ℕ) where
 abbrev pub given_left : ℕ → GivenRow → List ℕ
 given_left now given = left_text now (given.last, given.end)
 
--- a page by what was found: the number of records, and the width of the first column
-pub page_by_parts : (now width count : ℕ) (given : List GivenRow) (rows : List InstanceRow)
+-- the columns by what was found: the number of records, and the width of the first column
+pub columns_by_parts : (now width count : ℕ) (given : List GivenRow) (rows : List InstanceRow)
     (others : List (Latest × ℕ)) (old a b new : List ℕ) → given ≡ given_in rows → old ≡ [] → count ≡ length given
     → width ≡ max (widest (map (given_left now) given)) (widest (map (left_text now) others))
     → a ≡ old ++ heading count (codes "instance") (codes "instances") now
     → b ≡ a ++ flat_map (piece_columns width now) (rows_pieces [] rows) → new ≡ b ++ others_pretty width now others
     → new ≡ instances_pretty now rows others
-page_by_parts now width count given rows others old a b new shown none counts wide head written after =
+columns_by_parts now width count given rows others old a b new shown none counts wide head written after =
     grind (arith, length-map, map-map, rows_text)
 
--- a page on which there are other names
+-- columns with other names
 pub others-some : {R : Type 0} (f : R → Latest × ℕ) (rows : List R) (width now : ℕ) (old a new : List ℕ) → (length rows == 0) ≡ false
     → a ≡ old ++ codes "\nnames that aren't one label and the type\n" → new ≡ a ++ flat_map (other_row width now) (map f rows)
     → new ≡ old ++ others_pretty width now (map f rows)

@@ -1,5 +1,5 @@
 use Rattle.mdns_browse.proofs.FormLemmas.{json_written}
-use Rattle.mdns_browse.proofs.report.objects_of.Goals as goal
+use Rattle.mdns_browse.proofs.report.json_of.Goals as goal
 
 pub returns : goal.returns
 returns c heard stands =
