@@ -16,7 +16,7 @@ use Rattle.mdns_survey.specs.Outcomes.{Outcome}
 use Rattle.mdns_survey.specs.Readings.{lost_in, refused_in, skipped_in, summaries_of}
 use Rattle.mdns_survey.specs.Skips.{IsSkipOf, count_of, is_why}
 use Rattle.mdns_survey.specs.Surveys.{AllLeft}
-use Rattle.mdns_survey.specs.Why.{why_text}
+use Rattle.mdns_survey.specs.Reasons.{row_of}
 use Rattle.mdns_survey.proofs.LossLemmas.{NeverBoth, SkipsByCause, no-cause}
 use Rattle.mdns_survey.proofs.OutcomeLemmas.{OnePayload}
 use Rattle.mdns_page.specs.SkippedSection.{broken, broken_rows, nothing_text, other_rows, others as reasons, packets_text, row_text, table_text}
@@ -155,7 +155,7 @@ module _ (readings others : List Reading) (alike : AreEach IsAlike readings othe
 
   warnings-alike : (warnings : List (Why × List ℕ)) → flat_map (warning_row readings) warnings ≡ flat_map (warning_row others) warnings
   warnings-alike warnings i =
-      flat_map (λ (w : Why × List ℕ). row_text (skipped-alike w.0 i) (why_text w.0) true w.1) warnings
+      flat_map (λ (w : Why × List ℕ). row_text (skipped-alike w.0 i) (row_of w.0).words true w.1) warnings
 
   unread-alike : unread_rows readings ≡ unread_rows others
   unfolding unread_rows
@@ -168,7 +168,7 @@ module _ (readings others : List Reading) (alike : AreEach IsAlike readings othe
   other-alike : other_rows readings ≡ other_rows others
   unfolding other_rows
   other-alike i =
-      flat_map (λ (reason : Why). row_text (skipped-alike reason i) (why_text reason) false (codes "normal")) reasons
+      flat_map (λ (reason : Why). row_text (skipped-alike reason i) (row_of reason).words false (codes "normal")) reasons
 
   table-alike : table_text readings ≡ table_text others
   unfolding table_text

@@ -6,7 +6,7 @@ use Rattle.mdns_survey.specs.declared.outcome.Why.{Why}
 use Rattle.mdns_survey.specs.declared.outcome.Why.TheVariants as why
 use Rattle.mdns_survey.specs.declared.reading.Reading.{Reading}
 use Rattle.mdns_survey.specs.Readings.{refused_in, skipped_in}
-use Rattle.mdns_survey.specs.Why.{why_text}
+use Rattle.mdns_survey.specs.Reasons.{row_of}
 use Rattle.mdns_page.specs.Counts.{commas}
 
 -- ---- the reasons
@@ -53,7 +53,7 @@ row_text count cause bold meaning = if count == 0 then [] else some_row count ca
 
 -- the row of the packets that were skipped for a reason
 abbrev pub skipped_row : List Reading → Bool → Why → List ℕ → List ℕ
-skipped_row readings bold reason meaning = row_text (skipped_in reason readings) (why_text reason) bold meaning
+skipped_row readings bold reason meaning = row_text (skipped_in reason readings) (row_of reason).words bold meaning
 
 -- the same for a reason that needs attention, with what it means
 abbrev pub warning_row : List Reading → Why × List ℕ → List ℕ

@@ -13,7 +13,7 @@ use Rattle.mdns_survey.specs.Outcomes.{Outcome, hearings_in}
 use Rattle.mdns_survey.specs.Head.{AllHave, Heads, IsHead, all_lost_frames, all_refused, head_text, hearings_counted}
 use Rattle.mdns_survey.specs.Listen.{HearsCapture, IsReadingOf, ListensTo}
 use Rattle.mdns_survey.specs.LivesAnswer.{AllRead}
-use Rattle.mdns_survey.specs.Losses.{lost_frames}
+use Rattle.mdns_survey.specs.Reasons.{lost_frames}
 use Rattle.mdns_survey.specs.Readings.{CountLosses, HaveSpans, lost_in, summaries_of}
 use Rattle.mdns_survey.specs.Surveys.{AllLeft, AllTell, HearsAll, Listened, all_hearings}
 

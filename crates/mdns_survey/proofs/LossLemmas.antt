@@ -1,13 +1,14 @@
 -- Lost frames are counted.
 use Rattle.std.proofs.Common.{◌≡◌, ◌∙◌, ℕ, ◌+◌, Bool, false, List, Option, Some, None, ap, arith, refl}
 use Rattle.std.proofs.lemmas.List.Sums.{sum_by_push}
-use Rattle.std.specs.Option.{option_map}
+use Rattle.std.specs.Option.{option_map, option_map_or}
 use mathlib.Core.Bool.{cond}
 use Rattle.mdns_capture.specs.declared.cause.Cause.{Cause}
 use Rattle.mdns_capture.specs.declared.frame.Skip.{Skip}
 use Rattle.mdns_capture.specs.Frame.{FrameCarries, cause_of, skip_of, skip_of_cause}
 use Rattle.mdns_capture.specs.Savefile.{PacketAt}
-use Rattle.mdns_survey.specs.Losses.{loses_for, loses_frame}
+use Rattle.mdns_survey.specs.declared.outcome.Why.TheVariants as why
+use Rattle.mdns_survey.specs.Reasons.{loses_frame, row_of}
 use Rattle.mdns_survey.specs.Reading.{CountsLoss}
 
 -- THE CHECK THAT A FRAME FAILS
@@ -38,4 +39,7 @@ counts-loss packet lost new_lost lose is_loss more packets counted = grind (arit
 pub counts-no-loss : NeverBoth → SkipsByCause → (packet : PacketAt) (payload : List ℕ) (lost : ℕ)
     → FrameCarries packet.frame payload → CountsLoss packet lost lost
 counts-no-loss never by_cause packet payload lost carries =
-    counts-loss packet lost lost false (ap loses_for (no-cause never by_cause packet.frame payload carries)) (omega arith)
+    counts-loss packet lost lost false
+    (ap (λ (failed : Option Cause). option_map_or (λ c. (row_of (why.Frame c)).loses) failed false)
+    (no-cause never by_cause packet.frame payload carries))
+    (omega arith)

@@ -18,7 +18,8 @@ use Rattle.mdns_survey.specs.declared.outcome.Why.{Why}
 use Rattle.mdns_survey.specs.declared.skips.Skips.{Skips}
 use Rattle.mdns_survey.specs.Outcomes.{ComesTo}
 use Rattle.mdns_survey.specs.Listen.{outcome_of}
-use Rattle.mdns_survey.specs.Skips.{CountsSkip, IsSkipOf, is_why, place_of, why_of}
+use Rattle.mdns_survey.specs.Skips.{CountsSkip, IsSkipOf, is_why, why_of}
+use Rattle.mdns_survey.specs.Reasons.{row_of}
 use Rattle.mdns_survey.specs.Why.{SaysWhy}
 use Rattle.mdns_survey.proofs.OutcomeLemmas.{not_passed, not_passed_damaged}
 
@@ -59,12 +60,12 @@ count-push : (own : Why) (whys : List (Option Why)) (why : Option Why)
 count-push own whys why = sum_by_push (λ (w : Option Why). cond (is_why own w) 1 0) whys why
 
 -- the count of each reason after one packet more that is skipped for `why`
-count-more : (counts : List ℕ) (whys : List (Option Why)) (why own : Why) (place next : ℕ) → place ≡ place_of why
-    → place < length counts → next ≡ get_or counts place 0 + 1 → get_or counts (place_of own) 0 ≡ count_by (is_why own) whys
-    → get_or (set counts place next) (place_of own) 0 ≡ count_by (is_why own) (whys ++ Some why ∷ [])
+count-more : (counts : List ℕ) (whys : List (Option Why)) (why own : Why) (place next : ℕ) → place ≡ (row_of why).place
+    → place < length counts → next ≡ get_or counts place 0 + 1 → get_or counts (row_of own).place 0 ≡ count_by (is_why own) whys
+    → get_or (set counts place next) (row_of own).place 0 ≡ count_by (is_why own) (whys ++ Some why ∷ [])
 count-more counts whys why own place next at within more is = grind (
   arith,
-  cases_eq (place_of own) place,
+  cases_eq (row_of own).place place,
   get_or-set_same counts place next 0 within,
   eq-eqb,
   count-push own whys (Some why),
@@ -81,7 +82,7 @@ counts-no-skip packet skips is packets few counted = record {
 }
 
 -- a packet that is skipped is counted for its reason
-pub counts-skip : (packet : PacketAt) (why : Why) (skips new_skips : Skips) (place next : ℕ) → place ≡ place_of why
+pub counts-skip : (packet : PacketAt) (why : Why) (skips new_skips : Skips) (place next : ℕ) → place ≡ (row_of why).place
     → place < length skips.counts → (get_or skips.counts place 0 < most_packets → next ≡ get_or skips.counts place 0 + 1)
     → new_skips.counts ≡ set skips.counts place next → IsSkipOf packet (Some why) → CountsSkip packet skips new_skips
 counts-skip packet why skips new_skips place next at within adds new is packets few counted = grind (

@@ -5,7 +5,7 @@ use Rattle.mdns_browse.specs.declared.report.Form.TheVariants.{Pretty}
 use Rattle.mdns_capture.specs.Savefile.{CaptureReads, PacketAt}
 use Rattle.mdns_survey.specs.declared.reading.Reading.{Reading}
 use Rattle.mdns_survey.specs.declared.summary.Summary.{Summary}
-use Rattle.mdns_survey.specs.Losses.{lost_frames}
+use Rattle.mdns_survey.specs.Reasons.{lost_frames}
 use Rattle.mdns_survey.specs.Readings.{CountLosses, summaries_of}
 
 -- THE TEXT

@@ -7,10 +7,10 @@ pub mod Laws
 pub mod ProgramLines
 pub mod LivesAnswer
 pub mod Listen
-pub mod Losses
 pub mod Question
 pub mod Reading
 pub mod Readings
+pub mod Reasons
 pub mod Refusals
 pub mod Request
 pub mod Said

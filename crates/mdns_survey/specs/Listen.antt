@@ -13,7 +13,7 @@ use Rattle.mdns_message.specs.declared.hearing.Hearing.{Hearing}
 use Rattle.mdns_survey.specs.declared.reading.Reading.{Reading}
 use Rattle.mdns_survey.specs.Outcomes.{Outcome, skipped, refused, heard, AllCome, CaptureTells, Counts}
 use Rattle.mdns_survey.specs.Outcomes.{hearings_in}
-use Rattle.mdns_survey.specs.Losses.{lost_frames}
+use Rattle.mdns_survey.specs.Reasons.{lost_frames}
 use Rattle.mdns_survey.specs.Skips.{CountsSkips}
 use Rattle.mdns_survey.specs.Span.{span_of}
 

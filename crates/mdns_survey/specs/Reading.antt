@@ -15,7 +15,7 @@ use Rattle.mdns_survey.specs.declared.skips.Skips.{Skips}
 use Rattle.mdns_survey.specs.declared.summary.Tally.{Tally}
 use Rattle.mdns_survey.specs.Outcomes.{Outcome, AllCome, ComesTo, Counts}
 use Rattle.mdns_survey.specs.Listen.{HasListenFault, IsNoReadFault, packet_moments}
-use Rattle.mdns_survey.specs.Losses.{lost_frames}
+use Rattle.mdns_survey.specs.Reasons.{lost_frames}
 use Rattle.mdns_survey.specs.Skips.{CountsSkips}
 use Rattle.mdns_survey.specs.Span.{span_of}
 

@@ -7,7 +7,7 @@ use Rattle.mdns_survey.specs.declared.outcome.Why.{Why}
 use Rattle.mdns_survey.specs.declared.reading.Reading.{Reading}
 use Rattle.mdns_survey.specs.declared.summary.Summary.{Summary}
 use Rattle.mdns_survey.specs.Listen.{packet_moments}
-use Rattle.mdns_survey.specs.Losses.{lost_frames}
+use Rattle.mdns_survey.specs.Reasons.{lost_frames}
 use Rattle.mdns_survey.specs.Skips.{count_of}
 use Rattle.mdns_survey.specs.Span.{span_of}
 

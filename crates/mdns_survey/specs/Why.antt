@@ -1,7 +1,5 @@
--- Why a packet told nothing, and the words that say so.
-use Rattle.std.specs.Prelude.{◌≡◌, ℕ, List, Some, codes}
-use Rattle.mdns_capture.specs.declared.cause.Cause.{Cause}
-use Rattle.mdns_capture.specs.declared.cause.Cause.TheVariants as cause
+-- Why a packet told nothing.
+use Rattle.std.specs.Prelude.{◌≡◌, ℕ, List, Some}
 use Rattle.mdns_capture.specs.Frame.{FrameCarries, cause_of}
 use Rattle.mdns_capture.specs.Source.{IsSourceOf}
 use Rattle.mdns_message.specs.declared.fault.MessageFault.{MessageFault}
@@ -38,26 +36,3 @@ abbrev pub SaysWhy : List ℕ → Found → Type 0
 SaysWhy frame (found.Skipped why) = IsSkippedFor frame why
 SaysWhy frame (found.Refused damage) = IsRefusedFor frame damage
 SaysWhy frame (found.Heard source message) = IsSourceOf frame source
-
--- the check that a frame fails, in words that lead to the cure
-abbrev pub cause_text : Cause → List ℕ
-cause_text cause.EthernetCut = codes "cut within the Ethernet header"
-cause_text cause.VlanTag = codes "VLAN tag"
-cause_text cause.EtherType = codes "neither IPv4 nor IPv6"
-cause_text cause.HeaderCut = codes "cut within the IP header"
-cause_text cause.IpHeader = codes "malformed IP header"
-cause_text cause.TotalLength = codes "IPv4 total length below its header"
-cause_text cause.DatagramCut = codes "cut within the datagram"
-cause_text cause.Fragment = codes "fragment"
-cause_text cause.FragmentHeader = codes "IPv6 fragment"
-cause_text cause.Protocol = codes "not UDP"
-cause_text cause.ExtensionHeader = codes "IPv6 extension header"
-cause_text cause.Group = codes "another group"
-cause_text cause.Port = codes "another port"
-cause_text cause.UdpLength = codes "UDP length out of range"
-
--- why a packet is skipped: the check that its frame fails, or its message's kind
-abbrev pub why_text : Why → List ℕ
-why_text (why.Frame cause) = cause_text cause
-why_text why.Query = codes "query"
-why_text why.Ignored = codes "OPCODE or RCODE"

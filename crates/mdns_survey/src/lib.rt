@@ -16,6 +16,7 @@ pub mod program_lines;
 pub mod question;
 pub mod reading;
 pub mod readings;
+mod reasons;
 pub mod recording_hearer;
 pub mod request;
 pub mod skips;

@@ -6,8 +6,10 @@ ghost use Rattle.mdns_capture.specs.Source.{IsSourceOf};
 ghost use Rattle.mdns_message.specs.Message.{most_hearings};
 ghost use Rattle.mdns_survey.specs.Outcomes.{ComesTo, ReadsTo, hearings_of_outcome};
 ghost use Rattle.mdns_survey.specs.Listen.{outcome_of};
-ghost use Rattle.mdns_survey.specs.Why.{SaysWhy, cause_text, why_text};
+ghost use Rattle.mdns_survey.specs.Reasons.{row_of};
+ghost use Rattle.mdns_survey.specs.Why.{SaysWhy};
 
+use crate::reasons::row_of;
 use mdns_capture::{Cause, Moment, SourceAddress};
 use mdns_message::laws::one_message_outcome;
 use mdns_message::{MessageFault, MessageReader, Want};
@@ -27,13 +29,9 @@ pub enum Why {
 impl Why {
     /// Returns in words why a packet is skipped, so that they lead to the cure.
     pub fn words(self) -> &'static str
-        ensures { result.now ≡ why_text self }
+        ensures { result.now ≡ (row_of self).words }
     {
-        match self {
-            Why::Frame(cause) => cause_words(cause),
-            Why::Query => "query",
-            Why::Ignored => "OPCODE or RCODE",
-        }
+        row_of(self).words
     }
 }
 
@@ -77,27 +75,5 @@ pub fn found_of<'a>(
         Err(MessageFault::Ignored) => Ok(Found::Skipped(Why::Ignored)),
         Err(MessageFault::Memory) => Err(Want),
         Err(fault) => Ok(Found::Refused(fault)),
-    }
-}
-
-// Returns in words which check a frame fails.
-fn cause_words(cause: Cause) -> &'static str
-    ensures { result.now ≡ cause_text cause }
-{
-    match cause {
-        Cause::EthernetCut => "cut within the Ethernet header",
-        Cause::VlanTag => "VLAN tag",
-        Cause::EtherType => "neither IPv4 nor IPv6",
-        Cause::HeaderCut => "cut within the IP header",
-        Cause::IpHeader => "malformed IP header",
-        Cause::TotalLength => "IPv4 total length below its header",
-        Cause::DatagramCut => "cut within the datagram",
-        Cause::Fragment => "fragment",
-        Cause::FragmentHeader => "IPv6 fragment",
-        Cause::Protocol => "not UDP",
-        Cause::ExtensionHeader => "IPv6 extension header",
-        Cause::Group => "another group",
-        Cause::Port => "another port",
-        Cause::UdpLength => "UDP length out of range",
     }
 }

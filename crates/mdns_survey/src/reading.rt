@@ -12,7 +12,6 @@ ghost use Rattle.mdns_cache.specs.Contents.{later_moment};
 ghost use Rattle.mdns_cache.specs.Repeats.{ReadsAs};
 ghost use Rattle.mdns_survey.specs.Outcomes.{Outcome, ComesTo, ReadsTo, hearings_of_outcome, heard};
 ghost use Rattle.mdns_survey.specs.Listen.{outcome_of};
-ghost use Rattle.mdns_survey.specs.Losses.{loses};
 ghost use Rattle.mdns_survey.specs.Reading.{CountsLoss, HasReadFault, IsNoCaptureRead, LeavesConsumer, ReadsCapture};
 ghost use Rattle.mdns_survey.specs.Reading.{TakesPacket};
 ghost use Rattle.mdns_survey.specs.Skips.{CountsSkip};
@@ -21,6 +20,7 @@ ghost use Rattle.mdns_survey.specs.Why.{SaysWhy};
 
 use crate::listen::ListenFault;
 use crate::outcome::{Found, Why, found_of};
+use crate::reasons::row_of;
 use crate::skips::{Skips, why_of};
 use crate::summary::{Summary, Tally};
 use mdns_capture::laws::{payload_or_skip, skip_is_of_the_cause};
@@ -275,26 +275,7 @@ fn count_loss(lost: &mut u32, cause: Cause)
     requires { lost.old < most_packets }
     ensures { (packet : PacketAt) → cause_of packet.frame ≡ Some cause → CountsLoss packet lost.old lost.new }
 {
-    if loses(cause) {
+    if row_of(Why::Frame(cause)).loses {
         *lost += 1;
-    }
-}
-
-// Checks that a frame that fails this check first lost what it said.
-fn loses(cause: Cause) -> bool
-    ensures { result ≡ loses cause }
-{
-    match cause {
-        Cause::EthernetCut
-        | Cause::VlanTag
-        | Cause::HeaderCut
-        | Cause::IpHeader
-        | Cause::TotalLength
-        | Cause::DatagramCut
-        | Cause::Fragment
-        | Cause::FragmentHeader
-        | Cause::UdpLength => true,
-        Cause::EtherType | Cause::Protocol | Cause::ExtensionHeader | Cause::Group | Cause::Port =>
-            false,
     }
 }

@@ -3,10 +3,10 @@
 ghost use Rattle.std.specs.Prelude.{◌≡◌, ◌+◌, ◌<◌, [], Option, Some};
 ghost use Rattle.mdns_capture.specs.Limits.{most_packets};
 ghost use Rattle.mdns_capture.specs.Savefile.{PacketAt};
-ghost use Rattle.mdns_survey.specs.Skips.{CountsSkip, CountsSkips, IsSkipOf, count_of, place_of, place_of_cause, why_of};
+ghost use Rattle.mdns_survey.specs.Skips.{CountsSkip, CountsSkips, IsSkipOf, count_of, why_of};
 
 use crate::outcome::{Found, Why};
-use mdns_capture::Cause;
+use crate::reasons::row_of;
 
 /// How many packets of a capture were skipped for each reason.
 #[derive(Clone, Copy)]
@@ -27,7 +27,7 @@ impl Skips {
     pub fn count(&self, why: Why) -> u32
         ensures { result ≡ count_of why self.now }
     {
-        self.counts[place_of(why)]
+        self.counts[row_of(why).place]
     }
 
     /// Counts one packet more, which was skipped for this reason, or wasn't skipped.
@@ -37,7 +37,7 @@ impl Skips {
         let Some(why) = why else {
             return;
         };
-        let place = place_of(why);
+        let place = row_of(why).place;
         self.counts[place] = one_more(self.counts[place]);
     }
 }
@@ -58,39 +58,4 @@ fn one_more(count: u32) -> u32
     ensures { count < most_packets → result ≡ count + 1 }
 {
     count.saturating_add(1)
-}
-
-// Returns the place of a reason; each has its own.
-fn place_of(why: Why) -> usize
-    ensures place { result ≡ place_of why }
-    ensures within { result < 16 }
-{
-    match why {
-        Why::Frame(cause) => place_of_cause(cause),
-        Why::Query => 14,
-        Why::Ignored => 15,
-    }
-}
-
-// Returns the place of a check in the order of the checks.
-fn place_of_cause(cause: Cause) -> usize
-    ensures place { result ≡ place_of_cause cause }
-    ensures within { result < 14 }
-{
-    match cause {
-        Cause::EthernetCut => 0,
-        Cause::VlanTag => 1,
-        Cause::EtherType => 2,
-        Cause::HeaderCut => 3,
-        Cause::IpHeader => 4,
-        Cause::TotalLength => 5,
-        Cause::DatagramCut => 6,
-        Cause::Fragment => 7,
-        Cause::FragmentHeader => 8,
-        Cause::Protocol => 9,
-        Cause::ExtensionHeader => 10,
-        Cause::Group => 11,
-        Cause::Port => 12,
-        Cause::UdpLength => 13,
-    }
 }

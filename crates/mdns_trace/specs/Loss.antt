@@ -4,7 +4,7 @@ use Rattle.mdns_capture.specs.declared.cause.Cause.TheVariants as cause
 use Rattle.mdns_survey.specs.declared.outcome.Why.TheVariants as why
 use Rattle.mdns_survey.specs.declared.reading.Reading.{Reading}
 use Rattle.mdns_survey.specs.Skips.{count_of}
-use Rattle.mdns_survey.specs.Why.{cause_text}
+use Rattle.mdns_survey.specs.Reasons.{row_of}
 use Rattle.mdns_trace.specs.declared.loss.Loss.{Loss}
 use Rattle.mdns_trace.specs.declared.loss.Loss.TheVariants.{Check, Damage}
 
@@ -20,7 +20,7 @@ lost_to (Check cause) reading = count_of (why.Frame cause) reading.skips
 lost_to Damage reading = reading.summary.tally.refused
 
 abbrev pub words_of : Loss → List ℕ
-words_of (Check cause) = cause_text cause
+words_of (Check cause) = (row_of (why.Frame cause)).words
 words_of Damage = codes "refused"
 
 -- what to do about it, and nothing where other traffic fails the check

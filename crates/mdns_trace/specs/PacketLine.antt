@@ -8,7 +8,7 @@ use Rattle.mdns_capture.specs.Savefile.{PacketAt}
 use Rattle.mdns_survey.specs.declared.outcome.Found.{Found}
 use Rattle.mdns_survey.specs.declared.outcome.Found.TheVariants as found
 use Rattle.mdns_survey.specs.ProgramLines.{◌<>◌}
-use Rattle.mdns_survey.specs.Why.{why_text}
+use Rattle.mdns_survey.specs.Reasons.{row_of}
 
 -- The fault of a damaged message in words, and its offset from the message's first byte. The last three are no damage, so
 -- that no packet is refused for them.
@@ -41,7 +41,7 @@ silence_text = codes "heard no listed record"
 
 -- what came of a packet that told nothing, and the cause
 abbrev pub found_text : Found → List ℕ
-found_text (found.Skipped why) = codes "skipped " <> why_text why
+found_text (found.Skipped why) = codes "skipped " <> (row_of why).words
 found_text (found.Refused damage) = codes "refused " <> fault_text damage <> codes " at " <> decimal (fault_at damage)
 found_text (found.Heard source message) = silence_text
 

@@ -10,7 +10,7 @@ use Rattle.mdns_message.specs.declared.hearing.Hearing.{Hearing}
 use Rattle.mdns_survey.specs.declared.outcome.Found.{Found}
 use Rattle.mdns_survey.specs.declared.outcome.Found.TheVariants as found
 use Rattle.mdns_survey.specs.declared.reading.Span.{Span}
-use Rattle.mdns_survey.specs.Why.{why_text}
+use Rattle.mdns_survey.specs.Reasons.{row_of}
 use Rattle.mdns_trace.specs.declared.span_line.Spanned.{Spanned}
 use Rattle.mdns_trace.specs.HearingLine.{address_text, hearing_line}
 use Rattle.mdns_trace.specs.PacketLine.{fault_at, fault_text, packet_line}
@@ -52,7 +52,7 @@ silence_members = status_members (codes "heard") (codes "no listed record")
 
 -- what came of a packet that told nothing, and the cause; of a damaged message also the offset of its fault
 abbrev pub found_members : Found → List (List ℕ)
-found_members (found.Skipped why) = status_members (codes "skipped") (why_text why)
+found_members (found.Skipped why) = status_members (codes "skipped") (row_of why).words
 found_members (found.Refused damage) =
     status_members (codes "refused") (fault_text damage) ++ json_member (codes "at") (decimal (fault_at damage)) ∷ []
 found_members (found.Heard source message) = silence_members
