@@ -1,6 +1,7 @@
 -- The readers listened to, one more at a time, and what is known of them where their bytes are.
 use Rattle.std.proofs.Common.{◌≡◌, ◌∙◌, ℕ, ◌+◌, List, [], ◌∷◌, ◌++◌, map, Option, Some, append_assoc, append-nil, ap, arith, refl}
 use Rattle.std.proofs.Common.{subst, sym}
+use Rattle.std.specs.Prelude.{sum_by}
 use Rattle.std.proofs.lemmas.List.{map-append}
 use Rattle.std.proofs.lemmas.List.Sums.{sum_by-cons}
 use Rattle.mdns_capture.specs.Savefile.{PacketAt}
@@ -10,7 +11,7 @@ use Rattle.mdns_browse.specs.declared.report.Form.TheVariants.{Pretty}
 use Rattle.mdns_survey.specs.declared.reading.Reading.{Reading}
 use Rattle.mdns_survey.specs.declared.summary.Summary.{Summary}
 use Rattle.mdns_survey.specs.Outcomes.{Outcome, hearings_in}
-use Rattle.mdns_survey.specs.Head.{AllHave, Heads, IsHead, all_lost_frames, all_refused, head_text, hearings_counted}
+use Rattle.mdns_survey.specs.Head.{AllHave, Heads, IsHead, lost_text, unheard_text}
 use Rattle.mdns_survey.specs.Listen.{HearsCapture, IsReadingOf, ListensTo}
 use Rattle.mdns_survey.specs.LivesAnswer.{AllRead}
 use Rattle.mdns_survey.specs.Reasons.{lost_frames}
@@ -89,7 +90,7 @@ have-spans lefts packets outcomes readings read = absurd read
 
 -- the lost packets of captures with these packets
 pub lost-counted : (packets : List (List PacketAt)) (readings : List Reading) → CountLosses packets readings
-    → lost_in readings ≡ all_lost_frames packets + all_refused (summaries_of readings)
+    → lost_in readings ≡ sum_by lost_frames packets + sum_by (λ (s : Summary). s.tally.refused) (summaries_of readings)
 lost-counted [] [] count = refl
 lost-counted [] (r ∷ rs) count = absurd cc
 lost-counted (p ∷ ps) [] count = absurd cc
@@ -98,8 +99,9 @@ lost-counted (p ∷ ps) (r ∷ rs) count =
     let after : CountLosses ps rs = cc in
     let lost : lost_in (r ∷ rs) ≡ (r.lost + r.summary.tally.refused) + lost_in rs =
     sum_by-cons (λ (r : Reading). r.lost + r.summary.tally.refused) r rs in
-    let frames : all_lost_frames (p ∷ ps) ≡ lost_frames p + all_lost_frames ps = sum_by-cons lost_frames p ps in
-    let refused : all_refused (summaries_of (r ∷ rs)) ≡ r.summary.tally.refused + all_refused (summaries_of rs) =
+    let frames : sum_by lost_frames (p ∷ ps) ≡ lost_frames p + sum_by lost_frames ps = sum_by-cons lost_frames p ps in
+    let refused : sum_by (λ (s : Summary). s.tally.refused) (summaries_of (r ∷ rs))
+    ≡ r.summary.tally.refused + sum_by (λ (s : Summary). s.tally.refused) (summaries_of rs) =
     sum_by-cons (λ (s : Summary). s.tally.refused) r.summary (summaries_of rs) in
     omega (arith, lost, frames, refused, here, lost-counted ps rs after)
 
@@ -136,7 +138,8 @@ all_have captures packets outcomes readings read = absurd read
 
 -- for people it is the text of what was lost and heard
 pub heads-pretty : (form : Form) (readings : List Reading) (given head : List ℕ) → form ≡ Pretty → given ≡ []
-    → head ≡ given ++ head_text (lost_in readings) (hearings_counted (summaries_of readings)) → Heads form readings head
+    → head ≡ given ++ (lost_text (lost_in readings) ++ unheard_text (sum_by (λ summary. summary.tally.hearings) (summaries_of readings)))
+    → Heads form readings head
 heads-pretty form readings given head is none written captures packets have count = grind (arith, lost-counted)
 
 -- is that of the readers listened to

@@ -1,5 +1,5 @@
 -- The chronicle of the readers listened to, and the end of their captures.
-use Rattle.std.proofs.Common.{◌≡◌, ◌∙◌, ℕ, ◌<◌, ◌≤◌, List, [], ◌∷◌, ◌++◌, Option, Some, map}
+use Rattle.std.proofs.Common.{◌≡◌, ◌∙◌, ℕ, ◌<◌, ◌≤◌, List, [], ◌∷◌, ◌++◌, Option, Some, length, map}
 use Rattle.std.proofs.Common.{refl, ap, subst, inl, inr, append_assoc, arith, IsSomeAnd}
 use Rattle.std.specs.Prelude.{Contains}
 use Rattle.std.specs.List.{flat_map}
@@ -20,7 +20,7 @@ use Rattle.mdns_browse.specs.declared.report.Form.{Form}
 use Rattle.mdns_browse.specs.declared.report.Form.TheVariants.{Lines, Json, Pretty}
 use Rattle.mdns_lives.specs.declared.life.Which.{Which}
 use Rattle.mdns_lives.specs.Changes.{chosen}
-use Rattle.mdns_browse.specs.LifeText.{end_width, lives_head, lives_report, lives_text}
+use Rattle.mdns_browse.specs.LifeText.{end_width, lives_head, lives_in, lives_report, lives_text}
 use Rattle.mdns_survey.specs.declared.request.LivesQuery.{LivesQuery}
 use Rattle.mdns_survey.specs.declared.reading.Reading.{Reading}
 use Rattle.mdns_survey.specs.declared.request.AsOf.{AsOf}
@@ -32,7 +32,7 @@ use Rattle.mdns_survey.specs.Chronicling.{FitsForm, StopsRows}
 use Rattle.mdns_survey.specs.Head.{Heads, IsHead}
 use Rattle.mdns_survey.specs.Listen.{packet_moments}
 use Rattle.mdns_survey.specs.LivesAnswer.{SurveysLives, WritesFirstRows}
-use Rattle.mdns_survey.specs.LivesAnswer.{begin_of, end_of, kept_rows, latest_nanos, rows_head}
+use Rattle.mdns_survey.specs.LivesAnswer.{begin_of, end_of, kept_rows, latest_nanos}
 use Rattle.mdns_survey.specs.Question.{HearsReaders, IsAnswer, IsTooEarly, Refuses, WritesAnswer, asked_lives}
 use Rattle.mdns_survey.specs.Readings.{all_moments, summaries_of}
 use Rattle.mdns_survey.specs.Filter.{counted, filter_of}
@@ -134,6 +134,10 @@ module _ {Heard : List (List Outcome) → Type 0} (lefts : List (Option (List �
 
 -- THE LAYOUT OF ROWS
 
+-- what stands before the lives of rows
+abbrev rows_head : Which → Form → (begin end : ℕ) → List (Latest × List Life) → List ℕ
+rows_head which form begin end rows = lives_head which form (length (lives_in rows)) (end_width end rows) begin end
+
 module _ (end : ℕ) (rows : List (Latest × List Life)) (layout : Layout) where
   -- what stands before the rows needs a layout that fits the form
   pub head-fits : (which : Which) (form : Form) (begin : ℕ) → FitsForm form end rows layout
@@ -226,11 +230,13 @@ module _ {Heard : List (List Outcome) → Type 0} (query : LivesQuery) (lefts : 
         (subst (λ (xs : List Row). WritesFirstRows head query.which query.form begin.nanos end.nanos xs out) all_kept
         (stops.0, (stops.1.0, stops.1.1, subst (Appends out.old out.new) (text-fits stops.0) stops.1.2))));
   })
-  stops-lives Write stops = λ captures known. record {
-    summaries = summaries_of readings;
-    text = head ++ report;
-    answers = with-head captures known;
-    prefix = subst
-        (λ (xs : List Row). AppendsPrefix out.old out.new (head ++ lives_report query.which query.form begin.nanos end.nanos xs))
-        all_kept (subst (AppendsPrefix out.old out.new) (text-fits (kept_rows query.about shown)) stops);
-  }
+  stops-lives Write stops = λ captures known. (
+    summaries_of readings,
+    (
+      head ++ report,
+      with-head captures known,
+      subst
+          (λ (xs : List Row). AppendsPrefix out.old out.new (head ++ lives_report query.which query.form begin.nanos end.nanos xs))
+          all_kept (subst (AppendsPrefix out.old out.new) (text-fits (kept_rows query.about shown)) stops),
+    ),
+  )

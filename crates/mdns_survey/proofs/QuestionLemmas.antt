@@ -28,7 +28,7 @@ answer-summed asked lefts out readings lent again summaries is same are =
     subst (λ (ss : List Summary). WritesAnswer asked lefts ss out) (sym (are ∙ ap summaries_of (is ∙ sym same)))
 
 -- a fault that isn't of a reader blames none
-pub blames-no-reader : {R : Type 0} (steady : R → Bool) (readers : List R) (fault : SurveyFault) → IfFile fault (λ index. ⊥)
+pub blames-no-reader : {R : Type 0} (steady : R → Bool) (readers : List R) (fault : SurveyFault) → IfFile fault (λ index why. ⊥)
     → BlamesReaders steady readers fault
 blames-no-reader steady readers (File index fault) none = absurd none
 blames-no-reader steady readers (Early newest) none = record { within = tt; no_read = λ all. tt; spared = tt }

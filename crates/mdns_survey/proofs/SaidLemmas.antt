@@ -1,7 +1,8 @@
 -- Lines that are written to the error writer one after another.
 use Rattle.std.proofs.Common.{map, length, arith, Bool, true, false, cond, IsTrue, ◌≡◌, refl, sym, ap, subst, ◌∙◌}
-use Rattle.std.proofs.Common.{inl, inr, ℕ, ◌<◌, List, [], ◌∷◌, ◌++◌, append_assoc, append-nil, Option, Result, Ok}
+use Rattle.std.proofs.Common.{◌⊎◌, inl, inr, ℕ, ◌<◌, List, [], ◌∷◌, ◌++◌, append_assoc, append-nil, Option, Result, Ok}
 use Rattle.std.proofs.Common.{Err, IfOk, String, string_bytes}
+use Rattle.std.specs.Prelude.{codes}
 use Rattle.std.proofs.lemmas.Bool.{false≢true}
 use Rattle.std.specs.Global.{Global}
 use Rattle.std.specs.Bool.{OnTrue, OnFalse}
@@ -12,9 +13,9 @@ use Rattle.mdns_capture.specs.Stream.{OneMoreFailed}
 use Rattle.mdns_survey.specs.declared.summary.Summary.{Summary}
 use Rattle.mdns_survey.specs.declared.survey.SurveyFault.{SurveyFault}
 use Rattle.mdns_survey.specs.declared.survey.SurveyFault.TheVariants.{File, Early, Memory, Write}
-use Rattle.mdns_survey.specs.Question.{Leaves}
+use Rattle.mdns_survey.specs.Refusals.{Leaves}
 use Rattle.mdns_survey.specs.ProgramLines.{ending_line_text, is_whole, said_text}
-use Rattle.mdns_survey.specs.Said.{AreSaid, IsSaid, Says, SaysAll, SaysPrefix, ending_lines}
+use Rattle.mdns_survey.specs.Said.{AreSaid, Says, SaysAll, SaysPrefix, ending_lines}
 use Rattle.mdns_capture.specs.Output.{AppendsPrefix, Writing}
 
 longer : (rest more : List ℕ) → 0 < length rest → 0 < length (rest ++ more)
@@ -33,6 +34,10 @@ prefix-after old mid new text more first (prefix, (rest, split, appended, some))
     grind (arith, append_assoc text prefix rest, Appends-trans old mid new text prefix first appended)
 
 module _ (program : List ℕ) where
+  -- a line as a program writes it
+  abbrev pub IsSaid : List ℕ → List ℕ → Type 0
+  IsSaid line said = (said ≡ line) ⊎ (said ≡ program ++ codes ": out of memory")
+
   -- lines said one after another
   pub said-append : (lines others : List (List ℕ)) (text other : List ℕ) → AreSaid program lines text → AreSaid program others other
       → AreSaid program (lines ++ others) (text ++ other)
@@ -90,24 +95,24 @@ module _ (program : List ℕ) where
       → left ≡ [] → Says program all err
   so_far-all all left err far unfailed none = grind (arith, append-nil far.done)
 
-  pub says-prefix-of-one : (line said : List ℕ) (old new : Option (List ℕ)) → IsSaid program line said
+  pub says-prefix-of-one : (line said : List ℕ) (old new : Option (List ℕ)) → IsSaid line said
       → AppendsPrefix old new (said ++ 10 ∷ []) → SaysPrefix program (line ∷ []) old new
   says-prefix-of-one line said old new is prefix = (said ++ 10 ∷ [], (said, ([], is, refl, refl)), prefix)
 
   -- a line, or `out of memory` in its place
   pub is-said : (line : List ℕ) (result : Result (String Global) Want) → IfOk result (λ l. string_bytes l ≡ line)
-      → IsSaid program line (said_text program result)
+      → IsSaid line (said_text program result)
   is-said line (Ok l) e = inl e
   is-said line (Err want) e = inr refl
 
   -- a line that wasn't written whole
-  pub prefix-said : (b : Bool) (line said : List ℕ) (old new : Option (List ℕ)) → IsSaid program line said
+  pub prefix-said : (b : Bool) (line said : List ℕ) (old new : Option (List ℕ)) → IsSaid line said
       → OnFalse b (AppendsPrefix old new (said ++ 10 ∷ [])) → OnFalse b (SaysPrefix program (line ∷ []) old new)
   prefix-said true line said old new is prefix = tt
   prefix-said false line said old new is prefix = says-prefix-of-one line said old new is prefix
 
   -- one line, written whole or not
-  pub says-line : (b : Bool) (line said : List ℕ) (err : Writing) → IsSaid program line said
+  pub says-line : (b : Bool) (line said : List ℕ) (err : Writing) → IsSaid line said
       → OnTrue b (Appends err.old err.new (said ++ 10 ∷ [])) → OnFalse b (AppendsPrefix err.old err.new (said ++ 10 ∷ []))
       → OnTrue b (err.new_failures ≡ err.failures) → OnFalse b (OneMoreFailed err.failures err.new_failures)
       → (IsTrue err.steady → IsTrue b) → Says program (line ∷ []) err
@@ -122,7 +127,7 @@ module _ (program : List ℕ) where
   -- the line of a capture that isn't whole
   pub prefix-of-ending : (b : Bool) (name : List ℕ) (summary : Summary) (said : List ℕ) (old new : Option (List ℕ))
       → is_whole summary.ending ≡ false
-      → IsSaid program (ending_line_text program name summary.ending) said → OnFalse b (AppendsPrefix old new (said ++ 10 ∷ []))
+      → IsSaid (ending_line_text program name summary.ending) said → OnFalse b (AppendsPrefix old new (said ++ 10 ∷ []))
       → OnFalse b (SaysPrefix program (ending_lines program (name ∷ []) (summary ∷ [])) old new)
   prefix-of-ending b name summary said old new damaged is prefix =
       grind (arith, prefix-said b (ending_line_text program name summary.ending) said old new is prefix)

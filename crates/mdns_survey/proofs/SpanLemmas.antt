@@ -8,6 +8,7 @@ use Rattle.std.specs.List.{Contains}
 use Rattle.mdns_capture.specs.declared.moment.Moment.{Moment}
 use Rattle.mdns_capture.specs.Savefile.{PacketAt}
 use Rattle.mdns_capture.proofs.OneReadingLemmas.{same_moment}
+use Rattle.mdns_cache.specs.Contents.{later_moment}
 use Rattle.mdns_cache.proofs.ContentsLemmas.{nanos-later}
 use Rattle.mdns_survey.specs.declared.reading.Reading.{Reading}
 use Rattle.mdns_survey.specs.declared.reading.Span.{Span}
@@ -17,7 +18,7 @@ use Rattle.mdns_survey.specs.Listen.{packet_moments}
 use Rattle.mdns_survey.specs.LivesAnswer.{begin_of, earliest_nanos, end_of, latest_nanos}
 use Rattle.mdns_survey.specs.Readings.{HaveSpans, all_moments}
 use Rattle.mdns_survey.specs.Request.{moment_of}
-use Rattle.mdns_survey.specs.Span.{HasEnds, both_spans, earlier_moment, joined_spans, span_at, span_of}
+use Rattle.mdns_survey.specs.Span.{HasEnds, earlier_moment, joined_spans, span_at, span_of}
 
 -- BOTH SPANS
 
@@ -29,6 +30,10 @@ span_from first last = record { first = first; last = last }
 
 same_span : (a b : Span) → a.first.nanos ≡ b.first.nanos → a.last.nanos ≡ b.last.nanos → a ≡ b
 same_span a b first last = grind (arith, same_moment a.first b.first first, same_moment a.last b.last last)
+
+-- the span from the earlier beginning to the later end
+abbrev both_spans : Span → Span → Span
+both_spans a b = record { first = earlier_moment a.first b.first; last = later_moment a.last b.last }
 
 both-assoc : (a b c : Span) → both_spans (both_spans a b) c ≡ both_spans a (both_spans b c)
 both-assoc a b c = search (rules, same_span, nanos-earlier, nanos-later)

@@ -4,13 +4,14 @@ use Rattle.std.proofs.Common.{◌≡◌, Bool, IsTrue, ℕ, zero, suc, ◌<◌, 
 use Rattle.std.proofs.Common.{sym, ap, ◌∙◌, subst, append_assoc, arith, length-append, Option, None, Some}
 use Rattle.std.proofs.Common.{IfSome, IsSomeAnd, MatchOption, unwrap_or, Contains, Ok, Err, Result, String, Global}
 use Rattle.std.proofs.Common.{◌≤◌, ◌↔◌, inl, inr}
-use Rattle.std.specs.List.{All}
+use Rattle.std.specs.List.{All, HoldsAt}
 use Rattle.std.proofs.Math.Nat.{lt_of_not-le}
 use Rattle.std.proofs.Math.Seq.{get_or-append_seam}
 use Rattle.std.proofs.lemmas.List.{map-append, length-map}
 use Rattle.std.proofs.lemmas.List.Elements.{All-append}
 use Rattle.mdns_message.specs.declared.hearing.Hearing.{Hearing}
 use Rattle.mdns_capture.specs.declared.moment.Moment.{Moment}
+use Rattle.mdns_capture.specs.Savefile.{header_fault}
 use Rattle.mdns_cache.specs.Contents.{Contents, StandsFor}
 use Rattle.mdns_cache.specs.Live.{IsNewest}
 use Rattle.mdns_browse.specs.declared.report.ReportFault.{ReportFault}
@@ -38,8 +39,12 @@ use Rattle.mdns_survey.specs.Surveys.{SurveysQuery, SurveysReport}
 use Rattle.mdns_survey.proofs.ListenedLemmas.{known-head, known-told}
 use Rattle.mdns_survey.proofs.SelectedLemmas.{counted-at, is-earlier}
 use Rattle.mdns_capture.specs.Output.{Writing}
-use Rattle.mdns_survey.specs.Refusals.{IsSound, RefusesBy, RefusesReaders, RefusesReader, SparesSteady}
+use Rattle.mdns_survey.specs.Refusals.{RefusesBy, RefusesReaders, RefusesReader}
 use Rattle.mdns_survey.specs.Refusals.{BlamesReaders}
+
+-- the file header of these bytes has no fault, where they are known
+abbrev pub IsSound : Option (List ℕ) → Type 0
+IsSound left = IfSome left (λ bytes. header_fault bytes ≡ None)
 
 -- one reader is sound
 sound-one : (left : Option (List ℕ)) → IsSound left → All IsSound (left ∷ [])
@@ -172,9 +177,9 @@ module _ {Heard : List (List Outcome) → Type 0} (lefts : List (Option (List �
 -- the reader that failed is the one at its place
 spares-steady : {R : Type 0} (steady : R → Bool) (readers before : List R) (reader : R) (after : List R) (count : ℕ) (fault : ListenFault)
     → readers ≡ before ++ reader ∷ after → count ≡ length before → (IsTrue (steady reader) → IsNoReadFault fault)
-    → SparesSteady steady readers (File count fault)
-spares-steady {R} steady readers before reader after count fault among counted spared others later other parts place =
-    grind (arith, get_or-append_seam before reader after reader, get_or-append_seam others other later reader)
+    → HoldsAt (λ one. IsTrue (steady one) → IsNoReadFault fault) readers count
+spares-steady {R} steady readers before reader after count fault among counted spared default =
+    grind (arith, get_or-append_seam before reader after default)
 
 -- the reader that failed is among them, and to blame
 pub blames-reader : {R : Type 0} (steady : R → Bool) (readers before : List R) (reader : R) (after : List R)

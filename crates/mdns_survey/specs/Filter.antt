@@ -23,7 +23,7 @@ selected which heard = filter (λ hearing. counts which hearing.moment) heard
 
 -- the hearings of each capture that count
 abbrev pub counted_each : Filter → List (List Outcome) → List (List Hearing)
-counted_each which outcomes = map (λ capture. selected which (hearings_in capture)) outcomes
+counted_each which outcomes = map (λ capture. filter (λ hearing. counts which hearing.moment) (hearings_in capture)) outcomes
 
 -- the hearings of all captures that count, in order and as often as they come
 abbrev pub counted : Filter → List (List Outcome) → List Hearing

@@ -22,24 +22,6 @@ unfoldable pub unheard_text : ℕ → List ℕ
 unheard_text hearings =
     if hearings == 0 then codes "nothing was heard: mdnswhy files FILE... says what each file is" ++ 10 ∷ [] else []
 
--- the head of a report on captures with so many lost packets, and so many hearings
-abbrev pub head_text : ℕ → ℕ → List ℕ
-head_text lost hearings = lost_text lost ++ unheard_text hearings
-
--- THE NUMBERS
-
--- how many frames of all captures lost what they said
-abbrev pub all_lost_frames : List (List PacketAt) → ℕ
-all_lost_frames packets = sum_by lost_frames packets
-
--- how many messages of all captures are damaged
-abbrev pub all_refused : List Summary → ℕ
-all_refused summaries = sum_by (λ summary. summary.tally.refused) summaries
-
--- how many hearings there are in all captures, as often as they came
-abbrev pub hearings_counted : List Summary → ℕ
-hearings_counted summaries = sum_by (λ summary. summary.tally.hearings) summaries
-
 -- THE HEAD
 
 -- each capture has its packets and its ending
@@ -54,7 +36,8 @@ AllHave _ _ _ = ⊥
 abbrev pub IsHead : Form → List (List ℕ) → List Summary → List ℕ → Type 0
 IsHead Pretty captures summaries head =
     (packets : List (List PacketAt)) × AllHave captures packets summaries
-    × (head ≡ head_text (all_lost_frames packets + all_refused summaries) (hearings_counted summaries))
+    × (head ≡ lost_text (sum_by lost_frames packets + sum_by (λ summary. summary.tally.refused) summaries)
+    ++ unheard_text (sum_by (λ summary. summary.tally.hearings) summaries))
 IsHead _ captures summaries head = head ≡ []
 
 -- the head of captures with these readings

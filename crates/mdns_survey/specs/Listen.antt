@@ -5,7 +5,7 @@ use Rattle.mdns_capture.specs.declared.savefile.BeginFault.TheVariants.{Memory a
 use Rattle.mdns_capture.specs.Savefile.{header_fault, snap_length, CaptureReads, PacketAt}
 use Rattle.mdns_cache.specs.Contents.{StandsFor}
 use Rattle.mdns_survey.specs.declared.listen.ListenFault.{ListenFault}
-use Rattle.mdns_survey.specs.declared.listen.ListenFault.TheVariants.{Begin, Read, Memory}
+use Rattle.mdns_survey.specs.declared.listen.ListenFault.TheVariants.{Begin, Read}
 use Rattle.mdns_survey.specs.declared.outcome.Found.{Found}
 use Rattle.mdns_survey.specs.declared.outcome.Found.TheVariants as found
 use Rattle.mdns_survey.specs.declared.listen.Heard.{Heard}
@@ -37,8 +37,7 @@ abbrev pub HasListenFault : ListenFault → Option (List ℕ) → Type 0
 HasListenFault (Begin BeginMemory) left = Unit {0}
 HasListenFault (Begin BeginRead) left = Unit {0}
 HasListenFault (Begin fault) left = IfSome left (λ bytes. header_fault bytes ≡ Some fault)
-HasListenFault Read left = IfSome left (λ bytes. header_fault bytes ≡ None)
-HasListenFault Memory left = IfSome left (λ bytes. header_fault bytes ≡ None)
+HasListenFault _ left = IfSome left (λ bytes. header_fault bytes ≡ None)
 
 -- the fault isn't a read that failed
 abbrev pub IsNoReadFault : ListenFault → Type 0

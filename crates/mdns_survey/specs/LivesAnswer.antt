@@ -17,6 +17,7 @@ use Rattle.mdns_browse.specs.About.{keeps_record}
 use Rattle.mdns_browse.specs.LifeText.{end_width, lives_head, lives_in, lives_report, lives_text}
 use Rattle.mdns_survey.specs.declared.request.AsOf.{AsOf}
 use Rattle.mdns_survey.specs.declared.request.AsOf.TheVariants.{Newest, At, Before}
+use Rattle.mdns_survey.specs.declared.request.LivesQuery.{LivesQuery}
 use Rattle.mdns_survey.specs.declared.summary.Summary.{Summary}
 use Rattle.mdns_survey.specs.Outcomes.{AllCome, Counts, Outcome}
 use Rattle.mdns_survey.specs.Head.{IsHead}
@@ -60,10 +61,6 @@ begin_of as_of moments = earliest_nanos (end_of as_of moments) moments
 abbrev pub kept_rows : List Subject → List (Latest × List Life) → List (Latest × List Life)
 kept_rows about rows = filter (λ (row : Latest × List Life). keeps_record about row.0.resource) rows
 
--- what stands before the lives of rows
-abbrev pub rows_head : Which → Form → (begin end : ℕ) → List (Latest × List Life) → List ℕ
-rows_head which form begin end rows = lives_head which form (length (lives_in rows)) (end_width end rows) begin end
-
 -- The text is that of those lives of all records about these subjects which are chosen, between the earliest moment and the
 -- end of the captures, which no hearing is later than.
 pub record WritesLives (which : Which) (form : Form) (about : List Subject) (heard : List Hearing) (begin end : ℕ) (text : List ℕ)
@@ -82,11 +79,11 @@ pub record SurveysLives (which : Which) (form : Form) (about : List Subject) (ca
   pub writes : WritesLives which form about (counted (filter_of as_of) outcomes) (begin_of as_of (all_moments packets))
       (end_of as_of (all_moments packets)) text
 
--- the text is those lives after the head
-abbrev pub SurveysLivesWithHead : Which → Form → List Subject → List (List ℕ) → AsOf → List Summary → List ℕ → Type 0
-SurveysLivesWithHead which form about captures as_of summaries text =
-    (head : List ℕ) × ((lives : List ℕ) × (text ≡ head ++ lives)
-    × IsHead form captures summaries head × SurveysLives which form about captures as_of summaries lives)
+-- the text is the lives that the query asks for, after the head
+abbrev pub SurveysLivesWithHead : LivesQuery → List (List ℕ) → List Summary → List ℕ → Type 0
+SurveysLivesWithHead query captures summaries text =
+    (head : List ℕ) × ((lives : List ℕ) × (text ≡ head ++ lives) × IsHead query.form captures summaries head
+    × SurveysLives query.which query.form query.about captures query.as_of summaries lives)
 
 -- WHY A SURVEY IS REFUSED
 
@@ -94,15 +91,15 @@ SurveysLivesWithHead which form about captures as_of summaries text =
 abbrev pub WritesFirstRows : List ℕ → Which → Form → (begin end : ℕ) → List (Latest × List Life) → Writing → Type 0
 WritesFirstRows head which form begin end rows out =
     (first : List (Latest × List Life)) × ((later : List (Latest × List Life)) × (rows ≡ first ++ later)
-    × Appends out.old out.new (head ++ (rows_head which form begin end rows ++ flat_map (lives_text form (end_width end rows) end) first)))
+    × Appends out.old out.new (head ++ (lives_head which form (length (lives_in rows)) (end_width end rows) begin end
+    ++ flat_map (lives_text form (end_width end rows) end) first)))
 
 -- the head was written, what stands before the lives, and all lines of some first records
-pub record WritesFirstRecords (which : Which) (form : Form) (about : List Subject) (captures : List (List ℕ)) (as_of : AsOf)
-    (out : Writing) : Type 0 where
+pub record WritesFirstRecords (query : LivesQuery) (captures : List (List ℕ)) (out : Writing) : Type 0 where
   pub summaries : List Summary
   pub head : List ℕ
-  pub is_head : IsHead form captures summaries head
+  pub is_head : IsHead query.form captures summaries head
   pub lives : List ℕ
-  pub surveys : SurveysLives which form about captures as_of summaries lives
-  pub written : WritesFirstRows head which form (begin_of as_of (all_moments surveys.packets))
-      (end_of as_of (all_moments surveys.packets)) (kept_rows about (chosen which surveys.writes.rows)) out
+  pub surveys : SurveysLives query.which query.form query.about captures query.as_of summaries lives
+  pub written : WritesFirstRows head query.which query.form (begin_of query.as_of (all_moments surveys.packets))
+      (end_of query.as_of (all_moments surveys.packets)) (kept_rows query.about (chosen query.which surveys.writes.rows)) out

@@ -5,7 +5,6 @@ use Rattle.std.specs.Global.{Global}
 use Rattle.mdns_capture.specs.declared.savefile.Ending.{Ending}
 use Rattle.mdns_capture.specs.declared.savefile.Ending.TheVariants.{Whole}
 pub use Rattle.mdns_capture.specs.Text.{ending_text}
-use Rattle.mdns_capture.specs.declared.savefile.BeginFault.{BeginFault}
 use Rattle.mdns_capture.specs.declared.savefile.BeginFault.TheVariants.{Memory as BeginMemory, Read as BeginRead}
 use Rattle.mdns_capture.specs.declared.savefile.BeginFault.TheVariants.{ShortHeader, Magic, Version, Link}
 use Rattle.mdns_survey.specs.declared.listen.ListenFault.{ListenFault}
@@ -39,18 +38,14 @@ ending_line_text program name ending = program <> codes ": " <> name <> codes ":
 abbrev pub open_line_text : List ℕ → List ℕ → List ℕ
 open_line_text program name = program <> codes ": " <> name <> codes ": cannot be opened"
 
--- why a file header is refused
-abbrev pub begin_text : BeginFault → List ℕ
-begin_text BeginMemory = codes "out of memory"
-begin_text BeginRead = codes "read failed"
-begin_text ShortHeader = codes "file header is cut short"
-begin_text Magic = codes "not a classic pcap file"
-begin_text Version = codes "pcap version is not 2.4"
-begin_text Link = codes "link type is not Ethernet"
-
 -- why a capture is refused
 abbrev pub listen_text : ListenFault → List ℕ
-listen_text (Begin fault) = begin_text fault
+listen_text (Begin BeginMemory) = codes "out of memory"
+listen_text (Begin BeginRead) = codes "read failed"
+listen_text (Begin ShortHeader) = codes "file header is cut short"
+listen_text (Begin Magic) = codes "not a classic pcap file"
+listen_text (Begin Version) = codes "pcap version is not 2.4"
+listen_text (Begin Link) = codes "link type is not Ethernet"
 listen_text Read = codes "read failed"
 listen_text ListenMemory = codes "out of memory"
 
@@ -63,16 +58,15 @@ fault_line_text program names (Early newest) =
 fault_line_text program names Memory = program <> codes ": out of memory"
 fault_line_text program names Write = program <> codes ": write failed"
 
--- a fact of the index that a file's fault carries
-abbrev pub IfFile : SurveyFault → (ℕ → Type 0) → Type 0
-IfFile (File index fault) p = p index
+-- a fact of the index that a file's fault carries, and of why the file can't be listened to
+abbrev pub IfFile : SurveyFault → (ℕ → ListenFault → Type 0) → Type 0
+IfFile (File index fault) p = p index fault
 IfFile _ p = Unit {0}
 
 -- the lines of a check, one for each capture, each with its line feed
 abbrev pub check_lines_text : List (List ℕ) → List Summary → List ℕ
-check_lines_text [] summaries = []
-check_lines_text (name ∷ names) [] = []
 check_lines_text (name ∷ names) (summary ∷ summaries) = check_text name summary <> 10 ∷ check_lines_text names summaries
+check_lines_text _ _ = []
 
 -- the line that a program writes: the line itself, or `out of memory` where its allocation failed
 abbrev pub said_text : List ℕ → Result (String Global) Want → List ℕ

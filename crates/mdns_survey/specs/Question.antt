@@ -17,7 +17,7 @@ use Rattle.mdns_survey.specs.declared.survey.SurveyFault.TheVariants.{File, Earl
 use Rattle.mdns_survey.specs.Outcomes.{Outcome}
 use Rattle.mdns_survey.specs.ProgramLines.{check_lines_text}
 use Rattle.mdns_survey.specs.LivesAnswer.{SurveysLivesWithHead, WritesFirstRecords}
-use Rattle.mdns_survey.specs.Refusals.{FirstFails, HasNewest, LeavesOut}
+use Rattle.mdns_survey.specs.Refusals.{FirstFails, HasNewest}
 use Rattle.mdns_survey.specs.Request.{IsEarly}
 use Rattle.mdns_survey.specs.Surveys.{AllLeft, AllTell, SurveysQuery}
 
@@ -46,12 +46,8 @@ asked_query query = asked_at_once (λ captures. SurveysQuery captures query) que
 
 -- lives of records
 abbrev pub asked_lives : LivesQuery → Asked
-asked_lives query = record {
-  Answers = λ captures. SurveysLivesWithHead query.which query.form query.about captures query.as_of;
-  as_of = query.as_of;
-  at_once = false;
-  Stops = λ captures out. WritesFirstRecords query.which query.form query.about captures query.as_of out;
-}
+asked_lives query =
+    record { Answers = SurveysLivesWithHead query; as_of = query.as_of; at_once = false; Stops = WritesFirstRecords query }
 
 -- a line for each capture with one of these names
 abbrev pub asked_check : List (List ℕ) → Asked
@@ -86,13 +82,6 @@ WritesAnswer asked lefts summaries out =
 
 -- WHY THERE IS NONE
 
--- a prefix of an answer was written
-pub record WritesAnswerPrefix (Answers : List Summary → List ℕ → Type 0) (out : Writing) : Type 0 where
-  pub summaries : List Summary
-  pub text : List ℕ
-  pub answers : Answers summaries text
-  pub prefix : AppendsPrefix out.old out.new text
-
 -- the newest hearing is at that moment, and an earlier one was asked for
 abbrev pub IsTooEarly : AsOf → List (Option (List ℕ)) → Moment → Type 0
 IsTooEarly as_of lefts newest =
@@ -106,14 +95,5 @@ Refuses asked lefts out (Early newest) = IsTooEarly asked.as_of lefts newest
 Refuses asked lefts out Memory =
     (out.new ≡ out.old) ⊎ ((captures : List (List ℕ)) → lefts ≡ map Some captures → asked.Stops captures out)
 Refuses asked lefts out Write =
-    (captures : List (List ℕ)) → lefts ≡ map Some captures → WritesAnswerPrefix (asked.Answers captures) out
-
--- nothing was written, unless an allocation or a write failed
-abbrev pub LeavesSome : {W : Type 0} → W → W → SurveyFault → Type 0
-LeavesSome old new Memory = Unit {0}
-LeavesSome old new fault = LeavesOut old new fault
-
--- nothing was written, unless a write failed, or an allocation where the answer isn't written at once
-abbrev pub Leaves : {W : Type 0} → Bool → W → W → SurveyFault → Type 0
-Leaves true old new = LeavesOut old new
-Leaves false old new = LeavesSome old new
+    (captures : List (List ℕ)) → lefts ≡ map Some captures
+    → (summaries : List Summary) × ((text : List ℕ) × asked.Answers captures summaries text × AppendsPrefix out.old out.new text)

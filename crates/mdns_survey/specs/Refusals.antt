@@ -1,5 +1,6 @@
 -- Why a survey is refused, and what was written by then.
-use Rattle.std.specs.Prelude.{◌≡◌, ◌≢◌, ℕ, ◌<◌, Bool, IsTrue, List, ◌∷◌, ◌++◌, length, map, Option, Some, None, IfSome, All}
+use Rattle.std.specs.Prelude.{◌≡◌, ◌≢◌, ℕ, ◌<◌, Bool, true, false, IsTrue, List, ◌∷◌, ◌++◌, length, map}
+use Rattle.std.specs.Prelude.{Option, Some, None, IfSome, All, HoldsAt}
 use Rattle.std.specs.List.{AllPass}
 use Rattle.mdns_capture.specs.declared.moment.Moment.{Moment}
 use Rattle.mdns_capture.specs.Savefile.{header_fault}
@@ -18,10 +19,6 @@ use Rattle.mdns_survey.specs.Request.{IsEarly}
 use Rattle.mdns_survey.specs.Surveys.{AllTell, all_hearings, SurveysBy}
 use Rattle.mdns_capture.specs.Output.{AppendsPrefix, Writing}
 
--- the file header of these bytes has no fault, where they are known
-abbrev pub IsSound : Option (List ℕ) → Type 0
-IsSound left = IfSome left (λ bytes. header_fault bytes ≡ None)
-
 -- The reader at `index`, of readers with these bytes left, has the fault, and no reader before it has a fault in its
 -- file header.
 pub record FirstFails (lefts : List (Option (List ℕ))) (index : ℕ) (fault : ListenFault) : Type 0 where
@@ -30,7 +27,7 @@ pub record FirstFails (lefts : List (Option (List ℕ))) (index : ℕ) (fault : 
   pub after : List (Option (List ℕ))
   pub among : lefts ≡ before ++ left ∷ after
   pub place : length before ≡ index
-  pub sound : All IsSound before
+  pub sound : All (λ left. IfSome left (λ bytes. header_fault bytes ≡ None)) before
   pub has_fault : HasListenFault fault left
 
 -- the newest hearing of all captures is at that moment
@@ -57,10 +54,15 @@ RefusesBy Is lefts as_of out Memory = Unit {0}
 RefusesBy Is lefts as_of out Write =
     (captures : List (List ℕ)) → lefts ≡ map Some captures → WritesPrefix Is captures as_of out
 
+-- nothing was written, unless a write failed, or an allocation where the answer isn't written at once
+abbrev pub Leaves : {W : Type 0} → Bool → W → W → SurveyFault → Type 0
+Leaves at_once old new Write = Unit {0}
+Leaves false old new Memory = Unit {0}
+Leaves at_once old new _ = new ≡ old
+
 -- nothing was written, unless a write failed
 abbrev pub LeavesOut : {W : Type 0} → W → W → SurveyFault → Type 0
-LeavesOut old new Write = Unit {0}
-LeavesOut old new _ = new ≡ old
+LeavesOut old new = Leaves true old new
 
 -- how many writes had failed before and after: one more where the fault is `Write`, else no more
 abbrev pub CountsFailure : Option ℕ → Option ℕ → SurveyFault → Type 0
@@ -69,21 +71,13 @@ CountsFailure old new _ = new ≡ old
 
 -- the fault isn't a read that failed
 abbrev pub IsNoSurveyRead : SurveyFault → Type 0
-IsNoSurveyRead (File index fault) = IsNoReadFault fault
-IsNoSurveyRead _ = Unit {0}
-
--- where the fault names a steady reader, it isn't a failed read
-abbrev pub SparesSteady : {R : Type 0} → (R → Bool) → List R → SurveyFault → Type 0
-SparesSteady {R} steady readers (File index fault) =
-    (before after : List R) (reader : R) → readers ≡ before ++ reader ∷ after → length before ≡ index
-    → IsTrue (steady reader) → IsNoReadFault fault
-SparesSteady steady readers _ = Unit {0}
+IsNoSurveyRead fault = IfFile fault (λ index why. IsNoReadFault why)
 
 -- An index in the fault is that of one of the readers, and the fault isn't a failed read of a steady reader.
 pub record BlamesReaders {R : Type 0} (steady : R → Bool) (readers : List R) (fault : SurveyFault) : Type 0 where
-  pub within : IfFile fault (λ index. index < length readers)
+  pub within : IfFile fault (λ index why. index < length readers)
   pub no_read : AllPass steady readers → IsNoSurveyRead fault
-  pub spared : SparesSteady steady readers fault
+  pub spared : IfFile fault (λ index why. HoldsAt (λ reader. IsTrue (steady reader) → IsNoReadFault why) readers index)
 
 -- The fault isn't a failed write of a steady writer. One write failed where the fault is `Write`, else none did.
 pub record BlamesWriter (out : Writing) (fault : SurveyFault) : Type 0 where

@@ -8,15 +8,12 @@ use Rattle.mdns_survey.specs.declared.reading.Span.{Span}
 abbrev pub earlier_moment : Moment → Moment → Moment
 earlier_moment a b = if nat_lt b.nanos a.nanos then b else a
 
--- the span from the earlier beginning to the later end
-abbrev pub both_spans : Span → Span → Span
-both_spans a b = record { first = earlier_moment a.first b.first; last = later_moment a.last b.last }
-
--- that of both, where there are both
+-- the span from the earlier beginning to the later end, where there are both
 abbrev pub joined_spans : Option Span → Option Span → Option Span
 joined_spans None other = other
 joined_spans (Some a) None = Some a
-joined_spans (Some a) (Some b) = Some (both_spans a b)
+joined_spans (Some a) (Some b) =
+    Some (record { first = earlier_moment a.first b.first; last = later_moment a.last b.last })
 
 -- the span of one moment
 abbrev pub span_at : Moment → Span

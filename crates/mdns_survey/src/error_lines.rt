@@ -24,7 +24,7 @@ pub fn refuse<E: Sink>(
     fault: &SurveyFault,
     err: &mut E,
 ) -> u8
-    requires { IfFile fault.now (λ index. index < length names.now) }
+    requires { IfFile fault.now (λ index _. index < length names.now) }
     ensures status { result ≡ REFUSED }
     ensures says { Says program.now (fault_line_text program.now (map string_bytes names.now) fault.now ∷ [])
         (writing E.Sink err.old err.new) }

@@ -1,8 +1,8 @@
 //! What a report for people begins with.
 
-ghost use Rattle.std.specs.Prelude.{◌≡◌, ℕ, ◌==◌, ◌++◌, if◌then◌else◌, codes, IfOk, List, OnOk};
+ghost use Rattle.std.specs.Prelude.{◌≡◌, ℕ, ◌==◌, ◌++◌, if◌then◌else◌, codes, sum_by, IfOk, List, OnOk};
 ghost use Rattle.std.specs.String.{string_bytes};
-ghost use Rattle.mdns_survey.specs.Head.{Heads, head_text, hearings_counted, lost_text, unheard_text};
+ghost use Rattle.mdns_survey.specs.Head.{Heads, lost_text, unheard_text};
 ghost use Rattle.mdns_survey.specs.Readings.{lost_in, summaries_of};
 
 use crate::reading::Reading;
@@ -29,7 +29,8 @@ pub(crate) fn head_in(alloc: Global, form: Form, readings: &[Reading]) -> Result
 // Appends the head of a report for people: how many packets were lost, if any were, and whether nothing was heard.
 fn push_head(to: &mut String, readings: &[Reading]) -> Result<(), Want>
     ensures { OnOk result (string_bytes to.new ≡ string_bytes to.old
-        ++ head_text (lost_in readings.now) (hearings_counted (summaries_of readings.now))) }
+        ++ (lost_text (lost_in readings.now)
+        ++ unheard_text (sum_by (λ summary. summary.tally.hearings) (summaries_of readings.now)))) }
 {
     push_lost(to, lost_packets(readings))?;
     push_unheard(to, hearings_in(readings))
@@ -67,7 +68,7 @@ fn push_unheard(to: &mut String, hearings: u128) -> Result<(), Want>
 
 // Returns how many hearings there are in all captures.
 fn hearings_in(readings: &[Reading]) -> u128
-    ensures { result ≡ hearings_counted (summaries_of readings.now) }
+    ensures { result ≡ sum_by (λ summary. summary.tally.hearings) (summaries_of readings.now) }
 {
     readings
         .iter()

@@ -35,7 +35,7 @@ pub fn open_line(alloc: Global, name: &str) -> Result<String, Want>
 
 /// Writes the error line of `mdnsmerge` for a refused survey over the captures `names`.
 pub fn fault_line(alloc: Global, names: &[String], fault: &SurveyFault) -> Result<String, Want>
-    requires { IfFile fault.now (λ index. index < length names.now) }
+    requires { IfFile fault.now (λ index _. index < length names.now) }
     ensures { IfOk result (λ line. string_bytes line
         ≡ fault_line_text (codes "mdnsmerge") (map string_bytes names.now) fault.now) }
 {
@@ -68,7 +68,7 @@ pub(crate) fn fault_line_of(
     names: &[String],
     fault: &SurveyFault,
 ) -> Result<String, Want>
-    requires { IfFile fault.now (λ index. index < length names.now) }
+    requires { IfFile fault.now (λ index _. index < length names.now) }
     ensures { IfOk result (λ line. string_bytes line
         ≡ fault_line_text program.now (map string_bytes names.now) fault.now) }
 {

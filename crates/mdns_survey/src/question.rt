@@ -5,9 +5,9 @@ ghost use Rattle.mdns_capture.specs.Output.{writing};
 ghost use Rattle.mdns_browse.specs.Report.{IfEarly};
 ghost use Rattle.mdns_survey.specs.Outcomes.{Outcome};
 ghost use Rattle.mdns_survey.specs.ProgramLines.{IfFile};
-ghost use Rattle.mdns_survey.specs.Question.{Asked, HearsReaders, IsAnswer, IsTooEarly, Leaves, Refuses, WritesAnswer};
+ghost use Rattle.mdns_survey.specs.Question.{Asked, HearsReaders, IsAnswer, IsTooEarly, Refuses, WritesAnswer};
 ghost use Rattle.mdns_survey.specs.Readings.{summaries_of};
-ghost use Rattle.mdns_survey.specs.Refusals.{BlamesReaders, BlamesWriter};
+ghost use Rattle.mdns_survey.specs.Refusals.{BlamesReaders, BlamesWriter, Leaves};
 
 use crate::listen::Listener;
 use crate::reading::Reading;
@@ -52,7 +52,7 @@ pub trait Answer: Question {
         ensures refused { IfErr result (λ fault. (lefts : List (Option (List ℕ)))
             → HearsReaders (Self.Heard self listener) lefts readings.now
             → Refuses (Self.asked self) lefts (writing W.Sink out.old out.new) fault) }
-        ensures listened { IfErr result (λ fault. IfFile fault (λ _. ⊥)) }
+        ensures listened { IfErr result (λ fault. IfFile fault (λ _ _. ⊥)) }
         ensures untouched { IfErr result (Leaves (Self.asked self).at_once out.old out.new) }
         ensures writer { IfErr result (BlamesWriter (writing W.Sink out.old out.new)) }
         ensures unfailed { OnOk result (W.failures out.new ≡ W.failures out.old) };

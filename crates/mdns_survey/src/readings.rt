@@ -1,11 +1,11 @@
 //! What the readings of several captures say together.
 
-ghost use Rattle.std.specs.Prelude.{◌≡◌, ◌+◌, IfOk, List};
+ghost use Rattle.std.specs.Prelude.{◌≡◌, ◌+◌, IfOk, List, sum_by};
 ghost use Rattle.mdns_capture.specs.Savefile.{PacketAt};
-ghost use Rattle.mdns_survey.specs.Head.{all_lost_frames, all_refused};
 ghost use Rattle.mdns_survey.specs.LivesAnswer.{begin_of, end_of};
 ghost use Rattle.mdns_survey.specs.Readings.{CountLosses, HaveSpans, all_moments, lost_in, refused_in, skipped_in};
 ghost use Rattle.mdns_survey.specs.Readings.{summaries_of};
+ghost use Rattle.mdns_survey.specs.Reasons.{lost_frames};
 ghost use Rattle.mdns_survey.specs.Span.{span_of};
 
 use crate::outcome::Why;
@@ -31,7 +31,7 @@ pub fn summaries_of(alloc: Global, readings: &[Reading]) -> Result<Vec<Summary>,
 pub fn lost_packets(readings: &[Reading]) -> u128
     ensures value { result ≡ lost_in readings.now }
     ensures packets { (packets : List (List PacketAt)) → CountLosses packets readings.now
-        → result ≡ all_lost_frames packets + all_refused (summaries_of readings.now) }
+        → result ≡ sum_by lost_frames packets + sum_by (λ summary. summary.tally.refused) (summaries_of readings.now) }
 {
     let mut lost = 0;
     for reading in readings {

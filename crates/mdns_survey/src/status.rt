@@ -1,8 +1,9 @@
 //! The exit status, which the endings of the captures decide.
 
 ghost use Rattle.std.specs.Prelude.{◌≡◌, ◌≤◌};
+ghost use Rattle.std.specs.List.{list_all};
 ghost use Rattle.mdns_survey.specs.ProgramLines.{is_whole};
-ghost use Rattle.mdns_survey.specs.Answer.{are_whole, status_of};
+ghost use Rattle.mdns_survey.specs.Answer.{status_of};
 
 use crate::summary::Summary;
 use mdns_capture::Ending;
@@ -26,7 +27,7 @@ pub fn status_of(summaries: &[Summary]) -> u8
 
 // Checks that every capture is whole.
 fn are_whole(summaries: &[Summary]) -> bool
-    ensures { result ≡ are_whole summaries.now }
+    ensures { result ≡ list_all (λ summary. is_whole summary.ending) summaries.now }
 {
     summaries.iter().all(|summary| is_whole(summary.ending))
 }

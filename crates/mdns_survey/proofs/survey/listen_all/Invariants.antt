@@ -1,7 +1,7 @@
 use Rattle.std.proofs.Common.{◌≡◌, ◌++◌, map, length}
 use Rattle.std.specs.List.{All}
 use Rattle.mdns_survey.specs.Surveys.{Listened}
-use Rattle.mdns_survey.specs.Refusals.{IsSound}
+use Rattle.mdns_survey.proofs.SurveyLemmas.{IsSound}
 use Rattle.mdns_survey.proofs.survey.listen_all.Given as goal
 
 -- the readers so far were listened to
