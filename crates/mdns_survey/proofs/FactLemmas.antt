@@ -9,10 +9,9 @@ use Rattle.mdns_capture.specs.Savefile.{CaptureReads, PacketAt}
 use Rattle.mdns_message.specs.declared.hearing.Hearing.{Hearing}
 use Rattle.mdns_cache.proofs.StandsPartLemmas.{Contains-cases, Contains-head, Contains-later}
 use Rattle.mdns_survey.specs.declared.summary.Summary.{Summary}
-use Rattle.mdns_survey.specs.Outcomes.{AllCome, CaptureTells, Counts, Outcome, hearings_in}
+use Rattle.mdns_survey.specs.Outcomes.{AllCome, AllRead, CaptureTells, Counts, Outcome, hearings_in}
 use Rattle.mdns_survey.specs.Laws.{SameCaptures}
 use Rattle.mdns_survey.specs.Listen.{packet_moments}
-use Rattle.mdns_survey.specs.LivesAnswer.{AllRead}
 use Rattle.mdns_survey.specs.Readings.{all_moments}
 use Rattle.mdns_survey.specs.Surveys.{all_hearings}
 use Rattle.mdns_survey.proofs.OneSurveyLemmas.{one-read}

@@ -10,13 +10,12 @@ use Rattle.mdns_browse.specs.declared.report.Form.{Form}
 use Rattle.mdns_browse.specs.declared.report.Form.TheVariants.{Pretty}
 use Rattle.mdns_survey.specs.declared.reading.Reading.{Reading}
 use Rattle.mdns_survey.specs.declared.summary.Summary.{Summary}
-use Rattle.mdns_survey.specs.Outcomes.{Outcome, hearings_in}
-use Rattle.mdns_survey.specs.Head.{AllHave, Heads, IsHead, lost_text, unheard_text}
+use Rattle.mdns_survey.specs.Outcomes.{AllRead, Outcome, hearings_in}
+use Rattle.mdns_survey.specs.Head.{Heads, IsHead, lost_text, unheard_text}
 use Rattle.mdns_survey.specs.Listen.{HearsCapture, IsReadingOf, ListensTo}
-use Rattle.mdns_survey.specs.LivesAnswer.{AllRead}
 use Rattle.mdns_survey.specs.Reasons.{lost_frames}
 use Rattle.mdns_survey.specs.Readings.{CountLosses, HaveSpans, lost_in, summaries_of}
-use Rattle.mdns_survey.specs.Surveys.{AllLeft, AllTell, HearsAll, Listened, all_hearings}
+use Rattle.mdns_survey.specs.Surveys.{AllLeft, HearsAll, Listened, all_hearings}
 
 -- ONE READER MORE
 
@@ -118,32 +117,16 @@ pub known-read : (lefts : List (Option (List ℕ))) (captures : List (List ℕ))
     → AllLeft lefts packets outcomes readings → AllRead captures packets outcomes (summaries_of readings)
 known-read lefts captures packets outcomes readings known read = grind (arith, all_known)
 
-all_told : (captures : List (List ℕ)) (packets : List (List PacketAt)) (outcomes : List (List Outcome)) (readings : List Reading)
-    → AllLeft (map (λ x. Some x) captures) packets outcomes readings → AllTell captures outcomes (summaries_of readings)
-all_told [] [] [] [] read = tt
-all_told (c ∷ cs) (p ∷ ps) (o ∷ os) (r ∷ rs) read =
-    (record { packets = p; reads = read.0.reads; come = read.0.come }, read.0.counts, all_told cs ps os rs read.1)
-all_told captures packets outcomes readings read = absurd read
-
-pub known-told : (lefts : List (Option (List ℕ))) (captures : List (List ℕ)) (packets : List (List PacketAt))
-    (outcomes : List (List Outcome)) (readings : List Reading) → lefts ≡ map (λ x. Some x) captures
-    → AllLeft lefts packets outcomes readings → AllTell captures outcomes (summaries_of readings)
-known-told lefts captures packets outcomes readings known read = grind (arith, all_told)
-
-all_have : (captures : List (List ℕ)) (packets : List (List PacketAt)) (outcomes : List (List Outcome)) (readings : List Reading)
-    → AllLeft (map (λ x. Some x) captures) packets outcomes readings → AllHave captures packets (summaries_of readings)
-all_have [] [] [] [] read = tt
-all_have (c ∷ cs) (p ∷ ps) (o ∷ os) (r ∷ rs) read = (read.0.reads, all_have cs ps os rs read.1)
-all_have captures packets outcomes readings read = absurd read
-
 -- for people it is the text of what was lost and heard
 pub heads-pretty : (form : Form) (readings : List Reading) (given head : List ℕ) → form ≡ Pretty → given ≡ []
     → head ≡ given ++ (lost_text (lost_in readings) ++ unheard_text (sum_by (λ summary. summary.tally.hearings) (summaries_of readings)))
     → Heads form readings head
-heads-pretty form readings given head is none written captures packets have count = grind (arith, lost-counted)
+heads-pretty form readings given head is none written captures packets outcomes have count = grind (arith, lost-counted)
 
 -- is that of the readers listened to
 pub known-head : (form : Form) (lefts : List (Option (List ℕ))) (packets : List (List PacketAt)) (outcomes : List (List Outcome))
     (readings : List Reading) (head : List ℕ) → Heads form readings head → AllLeft lefts packets outcomes readings
     → (captures : List (List ℕ)) → lefts ≡ map (λ x. Some x) captures → IsHead form captures (summaries_of readings) head
-known-head form lefts packets outcomes readings head heads read captures known = grind (arith, all_have, count-losses)
+known-head form lefts packets outcomes readings head heads read captures known =
+    heads captures packets outcomes (known-read lefts captures packets outcomes readings known read)
+    (count-losses lefts packets outcomes readings read)

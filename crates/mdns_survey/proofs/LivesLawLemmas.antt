@@ -3,7 +3,6 @@ use Rattle.std.proofs.Common.{◌≡◌, ◌∙◌, ℕ, ◌≤◌, List, [], �
 use Rattle.std.specs.Prelude.{Contains}
 use Rattle.std.proofs.Math.Nat.{le-max_left, le-max_right, max-le}
 use Rattle.mdns_capture.specs.declared.moment.Moment.{Moment}
-use Rattle.mdns_capture.specs.Savefile.{PacketAt}
 use Rattle.mdns_message.specs.declared.hearing.Hearing.{Hearing}
 use Rattle.mdns_join.specs.declared.latest.Latest.{Latest}
 use Rattle.mdns_cache.specs.Live.{SameHearings}
@@ -17,12 +16,9 @@ use Rattle.mdns_browse.specs.LifeText.{lives_report}
 use Rattle.mdns_cache.proofs.StandsPartLemmas.{Contains-cases, Contains-head, Contains-later}
 use Rattle.mdns_survey.specs.declared.request.AsOf.{AsOf}
 use Rattle.mdns_survey.specs.declared.request.AsOf.TheVariants.{Newest, At, Before}
-use Rattle.mdns_survey.specs.declared.summary.Summary.{Summary}
-use Rattle.mdns_survey.specs.Outcomes.{Outcome}
-use Rattle.mdns_survey.specs.LivesAnswer.{AllRead, SurveysLives, WritesLives, begin_of, earliest_nanos, end_of, kept_rows, latest_nanos}
+use Rattle.mdns_survey.specs.LivesAnswer.{SurveysLives, WritesLives, begin_of, earliest_nanos, end_of, kept_rows, latest_nanos}
 use Rattle.mdns_survey.specs.Filter.{filter_of, selected}
 use Rattle.mdns_survey.specs.Readings.{all_moments}
-use Rattle.mdns_survey.specs.Surveys.{AllTell}
 use Rattle.mdns_survey.proofs.FactLemmas.{IsByFacts}
 use Rattle.mdns_survey.proofs.SelectedLemmas.{counted-all, same_selected}
 
@@ -111,21 +107,6 @@ module _ (moments others : List Moment) (into : Within moments others) (back : W
   same_begin as_of = ap (λ n. earliest_nanos n moments) (same_end as_of) ∙ same_earliest (end_of as_of others)
 
 -- THE TEXT
-
-pub tell_of : (captures : List (List ℕ)) (packets : List (List PacketAt)) (outcomes : List (List Outcome)) (summaries : List Summary)
-    → AllRead captures packets outcomes summaries → AllTell captures outcomes summaries
-tell_of [] [] [] [] read = tt
-tell_of (bytes ∷ captures) (packets ∷ more) (outcomes ∷ rest) (summary ∷ summaries) read =
-    (record { packets = packets; reads = read.0; come = read.1 }, read.2, tell_of captures more rest summaries read.3)
-tell_of captures packets outcomes summaries read = absurd read
-
-pub read_of : (captures : List (List ℕ)) (outcomes : List (List Outcome)) (summaries : List Summary)
-    → AllTell captures outcomes summaries → (packets : List (List PacketAt)) × AllRead captures packets outcomes summaries
-read_of [] [] [] tell = ([], tt)
-read_of (bytes ∷ captures) (outcomes ∷ rest) (summary ∷ summaries) tell =
-    let after = read_of captures rest summaries tell.2 in
-    (tell.0.packets ∷ after.0, (tell.0.reads, tell.0.come, tell.1, after.1))
-read_of captures outcomes summaries tell = absurd tell
 
 pub same_itself : (heard : List Hearing) → SameHearings heard heard
 same_itself heard = record { into = λ hearing among. among; back = λ hearing among. among }

@@ -6,8 +6,7 @@ use Rattle.std.proofs.Math.Nat.{ℕ_set}
 use Rattle.mdns_capture.specs.Savefile.{PacketAt}
 use Rattle.mdns_survey.specs.declared.summary.Summary.{Summary}
 use Rattle.mdns_survey.specs.declared.summary.Tally.{Tally}
-use Rattle.mdns_survey.specs.Outcomes.{Counts, Outcome}
-use Rattle.mdns_survey.specs.LivesAnswer.{AllRead}
+use Rattle.mdns_survey.specs.Outcomes.{AllRead, Counts, Outcome}
 use Rattle.mdns_survey.proofs.OutcomeLemmas.{OneReading, OneTelling}
 
 same_tally : (outcomes : List Outcome) (a b : Tally) → Counts outcomes a → Counts outcomes b → a ≡ b

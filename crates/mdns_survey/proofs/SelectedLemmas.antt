@@ -7,6 +7,7 @@ use Rattle.std.specs.List.{filter}
 use Rattle.std.proofs.lemmas.Bool.{lt-ltb, ltb-true}
 use Rattle.std.proofs.lemmas.List.Elements.{filter-append}
 use Rattle.mdns_capture.specs.declared.moment.Moment.{Moment}
+use Rattle.mdns_capture.specs.Savefile.{PacketAt}
 use Rattle.mdns_message.specs.declared.hearing.Hearing.{Hearing}
 use Rattle.mdns_message.specs.Message.{MessageReads}
 use Rattle.mdns_cache.proofs.RepeatLemmas.{moment_in}
@@ -21,9 +22,9 @@ use Rattle.mdns_survey.specs.declared.request.AsOf.{AsOf}
 use Rattle.mdns_survey.specs.declared.request.AsOf.TheVariants.{At, Before}
 use Rattle.mdns_survey.specs.declared.summary.Summary.{Summary}
 use Rattle.mdns_survey.specs.Laws.{AreBefore}
-use Rattle.mdns_survey.specs.Outcomes.{Outcome}
+use Rattle.mdns_survey.specs.Outcomes.{AllRead, Outcome}
 use Rattle.mdns_survey.specs.Filter.{counted, counts, filter_of, selected}
-use Rattle.mdns_survey.specs.Surveys.{AllTell, IsAsOf, ReportsBy, SurveysBy, all_hearings}
+use Rattle.mdns_survey.specs.Surveys.{IsAsOf, ReportsBy, SurveysBy, all_hearings}
 use Rattle.mdns_lives.proofs.FilterLemmas.{from-filter, to-filter}
 
 -- the same hearings have the same ones that count
@@ -109,7 +110,7 @@ is-earlier before outcomes hearing among =
 -- a text as of one moment is one as of another where the same hearings count, and both are the same
 surveys-moved : (Is : List Hearing → ℕ → List ℕ → Type 0) (captures : List (List ℕ)) (as_of other : AsOf) (summaries : List Summary)
     (text : List ℕ) → ((heard : List Hearing) (now : ℕ) → IsAsOf as_of heard now → IsAsOf other heard now)
-    → ((outcomes : List (List Outcome)) → AllTell captures outcomes summaries
+    → ((packets : List (List PacketAt)) (outcomes : List (List Outcome)) → AllRead captures packets outcomes summaries
     → counted (filter_of as_of) outcomes ≡ counted (filter_of other) outcomes)
     → SurveysBy Is captures as_of summaries text → SurveysBy Is captures other summaries text
 surveys-moved Is captures as_of other summaries text moment same survey =
@@ -121,9 +122,10 @@ surveys-moved Is captures as_of other summaries text moment same survey =
       reports = over.reports;
     } in
     record {
+      packets = survey.packets;
       outcomes = survey.outcomes;
-      tell = survey.tell;
-      reports = subst (λ (hs : List Hearing). ReportsBy Is hs other text) (same survey.outcomes survey.tell) reports;
+      read = survey.read;
+      reports = subst (λ (hs : List Hearing). ReportsBy Is hs other text) (same survey.packets survey.outcomes survey.read) reports;
     }
 
 -- and the report is the one as of that moment

@@ -23,7 +23,7 @@ use Rattle.mdns_survey.specs.declared.survey.SurveyFault.{SurveyFault}
 use Rattle.mdns_survey.specs.declared.survey.SurveyFault.TheVariants.{File, Early, Memory, Write}
 use Rattle.mdns_survey.specs.declared.reading.Reading.{Reading}
 use Rattle.mdns_survey.specs.declared.summary.Summary.{Summary}
-use Rattle.mdns_survey.specs.Outcomes.{Outcome}
+use Rattle.mdns_survey.specs.Outcomes.{AllRead, Outcome}
 use Rattle.mdns_survey.specs.Listen.{IsNoReadFault}
 use Rattle.mdns_survey.specs.declared.listen.ListenFault.{ListenFault}
 use Rattle.mdns_survey.specs.declared.request.AsOf.{AsOf}
@@ -34,9 +34,9 @@ use Rattle.mdns_survey.specs.Question.{HearsReaders, IsAnswer, IsTooEarly, Refus
 use Rattle.mdns_survey.specs.Filter.{counted, filter_of}
 use Rattle.mdns_survey.specs.Request.{IsEarly, at_or_newest, moment_of, plain_query}
 use Rattle.mdns_survey.specs.Readings.{summaries_of}
-use Rattle.mdns_survey.specs.Surveys.{AllTell, all_hearings, IsAsOf, ReportsQuery, SurveysBy}
+use Rattle.mdns_survey.specs.Surveys.{all_hearings, IsAsOf, ReportsQuery, SurveysBy}
 use Rattle.mdns_survey.specs.Surveys.{SurveysQuery, SurveysReport}
-use Rattle.mdns_survey.proofs.ListenedLemmas.{known-head, known-told}
+use Rattle.mdns_survey.proofs.ListenedLemmas.{known-head, known-read}
 use Rattle.mdns_survey.proofs.SelectedLemmas.{counted-at, is-earlier}
 use Rattle.mdns_capture.specs.Output.{Writing}
 use Rattle.mdns_survey.specs.Refusals.{RefusesBy, RefusesReaders, RefusesReader}
@@ -150,9 +150,9 @@ early-weaker ReportMemory weaker is = tt
 
 module _ {Heard : List (List Outcome) → Type 0} (lefts : List (Option (List ℕ))) (readings : List Reading)
     (hears : HearsReaders Heard lefts readings) where
-  pub told-heard : (captures : List (List ℕ)) → lefts ≡ map (λ x. Some x) captures
-      → AllTell captures hears.outcomes (summaries_of readings)
-  told-heard captures known = known-told lefts captures hears.packets hears.outcomes readings known hears.read
+  pub read-heard : (captures : List (List ℕ)) → lefts ≡ map (λ x. Some x) captures
+      → AllRead captures hears.packets hears.outcomes (summaries_of readings)
+  read-heard captures known = known-read lefts captures hears.packets hears.outcomes readings known hears.read
 
   -- a moment that was asked for, and is earlier than the newest of the hearings that count
   pub too-early : (as_of : AsOf) (newest : Moment) → IsSomeAnd (moment_of as_of) (λ m. m.nanos < newest.nanos)
@@ -161,9 +161,10 @@ module _ {Heard : List (List Outcome) → Type 0} (lefts : List (Option (List �
       let early = early-counted as_of newest hears.outcomes asked is_newest in (
         early.0,
         λ captures known. record {
+          packets = hears.packets;
           outcomes = hears.outcomes;
           summaries = summaries_of readings;
-          tell = told-heard captures known;
+          read = read-heard captures known;
           is_newest = early.1;
         },
       )
@@ -172,7 +173,7 @@ module _ {Heard : List (List Outcome) → Type 0} (lefts : List (Option (List �
   pub answers-query : (query : Query) (head report text : List ℕ) → Heads query.form readings head → text ≡ head ++ report
       → ReportsQuery query (counted (filter_of query.as_of) hears.outcomes) report
       → IsAnswer (asked_query query) lefts (summaries_of readings) text
-  answers-query query head report text heads is reports = grind (arith, known-head, told-heard)
+  answers-query query head report text heads is reports = grind (arith, known-head, read-heard)
 
 -- the reader that failed is the one at its place
 spares-steady : {R : Type 0} (steady : R → Bool) (readers before : List R) (reader : R) (after : List R) (count : ℕ) (fault : ListenFault)

@@ -14,7 +14,6 @@ use Rattle.mdns_survey.specs.declared.request.Query.{Query}
 use Rattle.mdns_survey.specs.Filter.{filter_of, selected}
 use Rattle.mdns_survey.specs.Surveys.{IsAsOf, ReportsQuery, SurveysReport}
 use Rattle.mdns_survey.proofs.FactLemmas.{IsByFacts}
-use Rattle.mdns_survey.proofs.LivesLawLemmas.{read_of, tell_of}
 use Rattle.mdns_survey.proofs.SelectedLemmas.{counted-all, same_selected}
 
 -- THE LAWS BELOW
@@ -105,18 +104,17 @@ one_text one query hearings text other first second =
 pub report-by-facts : SharedReport → OneReport → (query : Query) → IsByFacts (λ captures. SurveysReport captures query)
 report-by-facts shared one query = record {
   Writes = λ heard moments. ReportsQuery query (selected (filter_of query.as_of) heard);
-  to = λ captures summaries text survey.
-      let read = read_of captures survey.outcomes summaries survey.tell in
-      record {
-        packets = read.0;
-        outcomes = survey.outcomes;
-        read = read.1;
-        writes = subst (λ (hs : List Hearing). ReportsQuery query hs text) (counted-all (filter_of query.as_of) survey.outcomes)
-            survey.reports;
-      };
+  to = λ captures summaries text survey. record {
+    packets = survey.packets;
+    outcomes = survey.outcomes;
+    read = survey.read;
+    writes = subst (λ (hs : List Hearing). ReportsQuery query hs text) (counted-all (filter_of query.as_of) survey.outcomes)
+        survey.reports;
+  };
   from = λ captures summaries text by. record {
+    packets = by.packets;
     outcomes = by.outcomes;
-    tell = tell_of captures by.packets by.outcomes summaries by.read;
+    read = by.read;
     reports = subst (λ (hs : List Hearing). ReportsQuery query hs text) (sym (counted-all (filter_of query.as_of) by.outcomes))
         by.writes;
   };

@@ -2,9 +2,10 @@
 use Rattle.std.specs.Prelude.{◌≡◌, ℕ, ◌+◌, ◌==◌, if◌then◌else◌, List, [], ◌∷◌, ◌++◌, codes, decimal, sum_by}
 use Rattle.mdns_browse.specs.declared.report.Form.{Form}
 use Rattle.mdns_browse.specs.declared.report.Form.TheVariants.{Pretty}
-use Rattle.mdns_capture.specs.Savefile.{CaptureReads, PacketAt}
+use Rattle.mdns_capture.specs.Savefile.{PacketAt}
 use Rattle.mdns_survey.specs.declared.reading.Reading.{Reading}
 use Rattle.mdns_survey.specs.declared.summary.Summary.{Summary}
+use Rattle.mdns_survey.specs.Outcomes.{AllRead, Outcome}
 use Rattle.mdns_survey.specs.Reasons.{lost_frames}
 use Rattle.mdns_survey.specs.Readings.{CountLosses, summaries_of}
 
@@ -24,25 +25,18 @@ unheard_text hearings =
 
 -- THE HEAD
 
--- each capture has its packets and its ending
-abbrev pub AllHave : List (List ℕ) → List (List PacketAt) → List Summary → Type 0
-AllHave [] [] [] = Unit {0}
-AllHave (bytes ∷ captures) (packets ∷ more) (summary ∷ summaries) =
-    CaptureReads bytes packets summary.ending × AllHave captures more summaries
-AllHave _ _ _ = ⊥
-
 -- The head of a report on captures with these summaries: for people the text of what they lost, which is a frame that lost
 -- what it said or a damaged message, and of whether nothing was heard; else nothing.
 abbrev pub IsHead : Form → List (List ℕ) → List Summary → List ℕ → Type 0
 IsHead Pretty captures summaries head =
-    (packets : List (List PacketAt)) × AllHave captures packets summaries
+    (packets : List (List PacketAt)) × ((outcomes : List (List Outcome)) × AllRead captures packets outcomes summaries
     × (head ≡ lost_text (sum_by lost_frames packets + sum_by (λ summary. summary.tally.refused) summaries)
-    ++ unheard_text (sum_by (λ summary. summary.tally.hearings) summaries))
+    ++ unheard_text (sum_by (λ summary. summary.tally.hearings) summaries)))
 IsHead _ captures summaries head = head ≡ []
 
 -- the head of captures with these readings
 abbrev pub Heads : Form → List Reading → List ℕ → Type 0
 Heads form readings head =
-    (captures : List (List ℕ)) (packets : List (List PacketAt))
-    → AllHave captures packets (summaries_of readings) → CountLosses packets readings
+    (captures : List (List ℕ)) (packets : List (List PacketAt)) (outcomes : List (List Outcome))
+    → AllRead captures packets outcomes (summaries_of readings) → CountLosses packets readings
     → IsHead form captures (summaries_of readings) head

@@ -6,8 +6,8 @@ use Rattle.mdns_capture.specs.Savefile.{PacketAt}
 use Rattle.mdns_capture.specs.Cut.{offset_after, part_before, part_from}
 use Rattle.mdns_message.specs.declared.hearing.Hearing.{Hearing}
 use Rattle.mdns_survey.specs.declared.summary.Summary.{Summary}
-use Rattle.mdns_survey.specs.Outcomes.{Outcome}
-use Rattle.mdns_survey.specs.Surveys.{AllTell, all_hearings}
+use Rattle.mdns_survey.specs.Outcomes.{AllRead, Outcome}
+use Rattle.mdns_survey.specs.Surveys.{all_hearings}
 
 -- the same captures, in whatever order and however often
 pub record SameCaptures (captures others : List (List ℕ)) : Type 0 where
@@ -26,5 +26,6 @@ with_both_parts before front bytes after =
 -- every hearing of the captures is earlier than the moment
 abbrev pub AreBefore : List (List ℕ) → Moment → Type 0
 AreBefore captures before =
-    (outcomes : List (List Outcome)) (summaries : List Summary) → AllTell captures outcomes summaries
+    (packets : List (List PacketAt)) (outcomes : List (List Outcome)) (summaries : List Summary)
+    → AllRead captures packets outcomes summaries
     → (hearing : Hearing) → Contains (all_hearings outcomes) hearing → hearing.moment.nanos < before.nanos

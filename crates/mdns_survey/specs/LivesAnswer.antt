@@ -4,7 +4,7 @@ use Rattle.std.specs.List.{filter, flat_map}
 use Rattle.std.specs.Io.KnownBytes.{Appends}
 use Rattle.mdns_capture.specs.declared.moment.Moment.{Moment}
 use Rattle.mdns_capture.specs.Output.{Writing}
-use Rattle.mdns_capture.specs.Savefile.{CaptureReads, PacketAt}
+use Rattle.mdns_capture.specs.Savefile.{PacketAt}
 use Rattle.mdns_message.specs.declared.hearing.Hearing.{Hearing}
 use Rattle.mdns_join.specs.declared.latest.Latest.{Latest}
 use Rattle.mdns_lives.specs.declared.life.Life.{Life}
@@ -19,20 +19,12 @@ use Rattle.mdns_survey.specs.declared.request.AsOf.{AsOf}
 use Rattle.mdns_survey.specs.declared.request.AsOf.TheVariants.{Newest, At, Before}
 use Rattle.mdns_survey.specs.declared.request.LivesQuery.{LivesQuery}
 use Rattle.mdns_survey.specs.declared.summary.Summary.{Summary}
-use Rattle.mdns_survey.specs.Outcomes.{AllCome, Counts, Outcome}
+use Rattle.mdns_survey.specs.Outcomes.{AllRead, Outcome}
 use Rattle.mdns_survey.specs.Head.{IsHead}
 use Rattle.mdns_survey.specs.Filter.{counted, filter_of}
 use Rattle.mdns_survey.specs.Readings.{all_moments}
 
 -- THE END OF CAPTURES
-
--- each capture has its packets and its ending, and its packets come to its outcomes, which its tally counts
-abbrev pub AllRead : List (List ℕ) → List (List PacketAt) → List (List Outcome) → List Summary → Type 0
-AllRead [] [] [] [] = Unit {0}
-AllRead (bytes ∷ captures) (packets ∷ more) (outcomes ∷ rest) (summary ∷ summaries) =
-    CaptureReads bytes packets summary.ending × AllCome packets outcomes × Counts outcomes summary.tally
-    × AllRead captures more rest summaries
-AllRead _ _ _ _ = ⊥
 
 -- the latest of the moments, and 0 of none
 abbrev pub latest_nanos : List Moment → ℕ

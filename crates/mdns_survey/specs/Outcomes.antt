@@ -7,6 +7,7 @@ use Rattle.mdns_capture.specs.Savefile.{PacketAt, CaptureReads}
 use Rattle.mdns_capture.specs.Frame.{FrameCarries}
 use Rattle.mdns_message.specs.declared.hearing.Hearing.{Hearing}
 use Rattle.mdns_message.specs.Message.{IsShort, IsQuery, IsIgnored, HasHeader, MessageReads}
+use Rattle.mdns_survey.specs.declared.summary.Summary.{Summary}
 use Rattle.mdns_survey.specs.declared.summary.Tally.{Tally}
 
 -- the outcome of a packet
@@ -73,3 +74,11 @@ pub record Counts (outcomes : List Outcome) (tally : Tally) : Type 0 where
   pub refused : tally.refused ≡ count_by is_refused outcomes
   pub messages : tally.messages ≡ count_by is_heard outcomes
   pub hearings : tally.hearings ≡ length (hearings_in outcomes)
+
+-- each capture has its packets and its ending, and its packets come to its outcomes, which its tally counts
+abbrev pub AllRead : List (List ℕ) → List (List PacketAt) → List (List Outcome) → List Summary → Type 0
+AllRead [] [] [] [] = Unit {0}
+AllRead (bytes ∷ captures) (packets ∷ more) (outcomes ∷ rest) (summary ∷ summaries) =
+    CaptureReads bytes packets summary.ending × AllCome packets outcomes × Counts outcomes summary.tally
+    × AllRead captures more rest summaries
+AllRead _ _ _ _ = ⊥

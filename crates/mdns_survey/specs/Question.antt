@@ -14,12 +14,12 @@ use Rattle.mdns_survey.specs.declared.request.Request.TheVariants.{Report, Lives
 use Rattle.mdns_survey.specs.declared.summary.Summary.{Summary}
 use Rattle.mdns_survey.specs.declared.survey.SurveyFault.{SurveyFault}
 use Rattle.mdns_survey.specs.declared.survey.SurveyFault.TheVariants.{File, Early, Memory, Write}
-use Rattle.mdns_survey.specs.Outcomes.{Outcome}
+use Rattle.mdns_survey.specs.Outcomes.{AllRead, Outcome}
 use Rattle.mdns_survey.specs.ProgramLines.{check_lines_text}
 use Rattle.mdns_survey.specs.LivesAnswer.{SurveysLivesWithHead, WritesFirstRecords}
 use Rattle.mdns_survey.specs.Refusals.{FirstFails, HasNewest}
 use Rattle.mdns_survey.specs.Request.{IsEarly}
-use Rattle.mdns_survey.specs.Surveys.{AllLeft, AllTell, SurveysQuery}
+use Rattle.mdns_survey.specs.Surveys.{AllLeft, SurveysQuery}
 
 -- What is asked of captures: which text answers it over captures with these summaries; as of when; whether nothing is written
 -- before the text is complete; and else what may have been written when an allocation failed.
@@ -34,10 +34,11 @@ abbrev pub asked_at_once : (List (List ℕ) → List Summary → List ℕ → Ty
 asked_at_once Answers as_of =
     record { Answers = Answers; as_of = as_of; at_once = true; Stops = λ captures out. ⊥ }
 
--- each capture came to its outcomes, and the text has a line for each
+-- the captures were read, and the text has a line for each
 pub record IsCheck (names captures : List (List ℕ)) (summaries : List Summary) (text : List ℕ) : Type 0 where
+  pub packets : List (List PacketAt)
   pub outcomes : List (List Outcome)
-  pub tell : AllTell captures outcomes summaries
+  pub read : AllRead captures packets outcomes summaries
   pub lines : text ≡ check_lines_text names summaries
 
 -- a report
@@ -49,15 +50,11 @@ abbrev pub asked_lives : LivesQuery → Asked
 asked_lives query =
     record { Answers = SurveysLivesWithHead query; as_of = query.as_of; at_once = false; Stops = WritesFirstRecords query }
 
--- a line for each capture with one of these names
-abbrev pub asked_check : List (List ℕ) → Asked
-asked_check names = asked_at_once (λ captures. IsCheck names captures) Newest
-
 -- what a request asks for of captures with these names
 abbrev pub asked_of : Request → List (List ℕ) → Asked
 asked_of (Report query) names = asked_query query
 asked_of (Lives query) names = asked_lives query
-asked_of Check names = asked_check names
+asked_of Check names = asked_at_once (λ captures. IsCheck names captures) Newest
 
 -- THE ANSWER
 

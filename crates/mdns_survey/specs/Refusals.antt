@@ -3,7 +3,7 @@ use Rattle.std.specs.Prelude.{◌≡◌, ◌≢◌, ℕ, ◌<◌, Bool, true, fa
 use Rattle.std.specs.Prelude.{Option, Some, None, IfSome, All, HoldsAt}
 use Rattle.std.specs.List.{AllPass}
 use Rattle.mdns_capture.specs.declared.moment.Moment.{Moment}
-use Rattle.mdns_capture.specs.Savefile.{header_fault}
+use Rattle.mdns_capture.specs.Savefile.{PacketAt, header_fault}
 use Rattle.mdns_capture.specs.Stream.{OneMoreFailed}
 use Rattle.mdns_cache.specs.Live.{IsNewest}
 use Rattle.mdns_message.specs.declared.hearing.Hearing.{Hearing}
@@ -12,11 +12,11 @@ use Rattle.mdns_survey.specs.declared.request.AsOf.{AsOf}
 use Rattle.mdns_survey.specs.declared.survey.SurveyFault.{SurveyFault}
 use Rattle.mdns_survey.specs.declared.survey.SurveyFault.TheVariants.{File, Early, Memory, Write}
 use Rattle.mdns_survey.specs.declared.summary.Summary.{Summary}
-use Rattle.mdns_survey.specs.Outcomes.{Outcome}
+use Rattle.mdns_survey.specs.Outcomes.{AllRead, Outcome}
 use Rattle.mdns_survey.specs.ProgramLines.{IfFile}
 use Rattle.mdns_survey.specs.Listen.{HasListenFault, IsNoReadFault}
 use Rattle.mdns_survey.specs.Request.{IsEarly}
-use Rattle.mdns_survey.specs.Surveys.{AllTell, all_hearings, SurveysBy}
+use Rattle.mdns_survey.specs.Surveys.{all_hearings, SurveysBy}
 use Rattle.mdns_capture.specs.Output.{AppendsPrefix, Writing}
 
 -- The reader at `index`, of readers with these bytes left, has the fault, and no reader before it has a fault in its
@@ -32,9 +32,10 @@ pub record FirstFails (lefts : List (Option (List ℕ))) (index : ℕ) (fault : 
 
 -- the newest hearing of all captures is at that moment
 pub record HasNewest (captures : List (List ℕ)) (newest : Moment) : Type 0 where
+  pub packets : List (List PacketAt)
   pub outcomes : List (List Outcome)
   pub summaries : List Summary
-  pub tell : AllTell captures outcomes summaries
+  pub read : AllRead captures packets outcomes summaries
   pub is_newest : IsNewest (all_hearings outcomes) newest
 
 -- a prefix of a text that is right was written

@@ -6,7 +6,7 @@ use Rattle.mdns_capture.specs.Savefile.{PacketAt}
 use Rattle.mdns_message.specs.declared.hearing.Hearing.{Hearing}
 use Rattle.mdns_cache.specs.Live.{IsNewest}
 use Rattle.mdns_browse.specs.Report.{IsReportIn}
-use Rattle.mdns_survey.specs.Outcomes.{Outcome, CaptureTells, Counts, hearings_in}
+use Rattle.mdns_survey.specs.Outcomes.{AllRead, Outcome, hearings_in}
 use Rattle.mdns_survey.specs.declared.request.AsOf.{AsOf}
 use Rattle.mdns_survey.specs.declared.request.AsOf.TheVariants.{Newest, At, Before}
 use Rattle.mdns_survey.specs.declared.request.Query.{Query}
@@ -15,13 +15,6 @@ use Rattle.mdns_survey.specs.declared.summary.Summary.{Summary}
 use Rattle.mdns_survey.specs.Head.{IsHead}
 use Rattle.mdns_survey.specs.Listen.{IsReadingOf}
 use Rattle.mdns_survey.specs.Filter.{counted, filter_of}
-
--- each capture has its outcomes, which its tally counts, and its ending
-abbrev pub AllTell : List (List ℕ) → List (List Outcome) → List Summary → Type 0
-AllTell [] [] [] = Unit {0}
-AllTell (bytes ∷ captures) (outcomes ∷ rest) (summary ∷ summaries) =
-    CaptureTells bytes outcomes summary.ending × Counts outcomes summary.tally × AllTell captures rest summaries
-AllTell _ _ _ = ⊥
 
 -- the hearings of all captures, as often as they come
 abbrev pub all_hearings : List (List Outcome) → List Hearing
@@ -43,8 +36,9 @@ pub record ReportsBy (Is : List Hearing → ℕ → List ℕ → Type 0) (heard 
 -- The text is right for those hearings of all captures that count.
 pub record SurveysBy (Is : List Hearing → ℕ → List ℕ → Type 0) (captures : List (List ℕ)) (as_of : AsOf)
     (summaries : List Summary) (text : List ℕ) : Type 0 where
+  pub packets : List (List PacketAt)
   pub outcomes : List (List Outcome)
-  pub tell : AllTell captures outcomes summaries
+  pub read : AllRead captures packets outcomes summaries
   pub reports : ReportsBy Is (counted (filter_of as_of) outcomes) as_of text
 
 -- the report is what the query asks for over all captures, and over some hearings

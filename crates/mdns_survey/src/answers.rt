@@ -114,11 +114,12 @@ pub(crate) struct Check<'a> {
 }
 
 impl<'a> Question for Check<'a> {
-    ghost use Rattle.mdns_survey.specs.Question.{asked_check};
+    ghost use Rattle.mdns_survey.specs.Question.{asked_of};
+    ghost use Rattle.mdns_survey.specs.declared.request.Request.TheVariants.{Check as CheckRequest};
 
     type Listener = Forgetful;
 
-    ghost asked = { λ check. asked_check (map string_bytes check.names.now) };
+    ghost asked = { λ check. asked_of CheckRequest (map string_bytes check.names.now) };
 
     ghost Heard = { λ _ _ _. Unit {0} };
 
