@@ -30,10 +30,10 @@ use mdns_cache::{Last, LiveRecord};
 use mdns_lives::{LiveSince, Lives};
 use mdns_message::Want;
 use mdns_survey::each_capture::EachChronicling;
+use mdns_survey::lives_answer::newest_after;
 use mdns_survey::question::{Question, TextAnswer};
 use mdns_survey::reading::Reading;
 use mdns_survey::readings::lost_packets;
-use mdns_survey::recording_hearer::newest_after;
 use mdns_survey::request::{AsOf, Subjects};
 use std::alloc::Global;
 

@@ -8,9 +8,9 @@ ghost use Rattle.mdns_survey.specs.Filter.{selected};
 ghost use Rattle.mdns_survey.specs.declared.each_capture.EachChronicling.{EachChronicling};
 
 use crate::filter::{Filter, Filtered};
+use crate::hearer::finished;
 use crate::listen::{ListenFault, Listener, hear_capture};
 use crate::reading::Reading;
-use crate::recording_hearer::finished;
 use mdns_capture::Source;
 use mdns_lives::{Chronicle, Lives, Recording};
 use mdns_message::Want;

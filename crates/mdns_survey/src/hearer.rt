@@ -1,15 +1,19 @@
-//! `Hearer`, which takes hearings, and two of them: `Listening`, which fills a cache, and `Forgetful`, which only counts.
+//! `Hearer`, which takes hearings, and three of them: `Listening`, which fills a cache, `Recording`, which records hearings for a
+//! chronicle, and `Forgetful`, which only counts.
 
-ghost use Rattle.std.specs.Prelude.{◌≡◌, ◌++◌, List, IfNone, IfSome, OnOk};
+ghost use Rattle.std.specs.Prelude.{◌≡◌, ◌++◌, List, IfNone, IfOk, IfSome, OnOk};
 ghost use Rattle.mdns_capture.specs.declared.moment.Moment.{Moment};
 ghost use Rattle.mdns_message.specs.declared.hearing.Hearing.{Hearing};
 ghost use Rattle.mdns_message.specs.Message.{MessageReads};
 ghost use Rattle.mdns_cache.specs.Repeats.{ReadsAs};
+ghost use Rattle.mdns_lives.specs.Chronicle.{Chronicles};
+ghost use Rattle.mdns_lives.specs.Recording.{RecordsAll};
 
 use crate::outcome::Found;
 use crate::reading::Consumer;
 use mdns_cache::{Listening, Messages};
 use mdns_capture::{Moment, Packet};
+use mdns_lives::{Lives, Recording};
 use mdns_message::{MessageReader, Want};
 use std::alloc::Global;
 
@@ -84,6 +88,37 @@ impl Hearer for Listening {
     ) -> Result<(), Want> {
         self.hear(message, moment, read)
     }
+}
+
+impl Hearer for Recording {
+    ghost use Rattle.mdns_lives.specs.Recording.{RecordsAll};
+
+    ghost Stands = { λ _ recording. RecordsAll recording.contents recording.memory };
+
+    fn count(&mut self, message: &[u8]) -> Option<usize> {
+        self.count(message)
+    }
+
+    fn hear_again(&mut self, message: &[u8], moment: Moment) -> Option<usize> {
+        self.hear_again(message, moment)
+    }
+
+    fn hear_all(
+        &mut self,
+        message: &[u8],
+        moment: Moment,
+        read: &MessageReader,
+    ) -> Result<(), Want> {
+        self.hear(message, moment, read)
+    }
+}
+
+/// Makes the chronicle of the hearings that were recorded, sorted by record.
+pub(crate) fn finished(recording: Recording) -> Result<Lives, Want>
+    ensures { IfOk result (λ lives. (heard : List Hearing)
+        → RecordsAll recording.contents recording.memory heard → Chronicles lives heard) }
+{
+    recording.finish()?.finish()
 }
 
 /// A hearer that keeps no hearing; it remembers messages only to count their hearings without reading them again.

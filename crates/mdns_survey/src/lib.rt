@@ -17,7 +17,6 @@ pub mod question;
 pub mod reading;
 pub mod readings;
 mod reasons;
-pub mod recording_hearer;
 pub mod request;
 pub mod skips;
 pub mod status;

@@ -1,11 +1,15 @@
 //! The lives of all records of several captures.
 
-ghost use Rattle.std.specs.Prelude.{◌≡◌, ◌++◌, ◌∷◌, [], ℕ, IfOk, IfErr, List, OnErr, OnOk, is_ok, string_bytes};
+ghost use Rattle.std.specs.Prelude.{◌≡◌, ◌<◌, ◌≤◌, ◌++◌, ◌∷◌, [], ℕ, Contains, IfNone, IfOk, IfErr, IfSome, List, OnErr, OnOk, Some};
+ghost use Rattle.std.specs.Prelude.{is_ok, string_bytes};
 ghost use Rattle.std.specs.List.{flat_map};
 ghost use Rattle.std.specs.Io.KnownBytes.{Appends};
 ghost use Rattle.mdns_capture.specs.Calls.{WritesWell};
 ghost use Rattle.mdns_capture.specs.Output.{AppendsPrefix, writing};
+ghost use Rattle.mdns_message.specs.declared.hearing.Hearing.{Hearing};
 ghost use Rattle.mdns_join.specs.declared.latest.Latest.{Latest};
+ghost use Rattle.mdns_cache.specs.Live.{IsNewest, NoneLater};
+ghost use Rattle.mdns_lives.specs.Chronicle.{Chronicles};
 ghost use Rattle.mdns_lives.specs.LentLives.{row_lent};
 ghost use Rattle.mdns_lives.specs.declared.life.Life.{Life};
 ghost use Rattle.mdns_browse.specs.LifeText.{IsLayout, lives_head, lives_text};
@@ -16,17 +20,17 @@ ghost use Rattle.mdns_survey.specs.Refusals.{BlamesWriter};
 
 use crate::filter::Filtered;
 use crate::head::head_in;
+use crate::hearer::finished;
 use crate::question::{Answer, Question};
 use crate::reading::Reading;
 use crate::readings::{begin_of, end_of};
-use crate::recording_hearer::{finished, newest_after};
 use crate::request::LivesQuery;
 use crate::survey::SurveyFault;
 use mdns_browse::about::{Subject, keeps_record};
 use mdns_browse::life_text::{Layout, push_lives, push_lives_head};
 use mdns_browse::report::Form;
 use mdns_capture::{Broken, Moment, Sink, write_whole};
-use mdns_lives::{ChosenWalk, RecordLives, Recording};
+use mdns_lives::{ChosenWalk, Lives, RecordLives, Recording};
 use mdns_message::Want;
 use std::alloc::Global;
 
@@ -95,6 +99,19 @@ impl Answer for LivesQuery {
         };
         write_rows(text, rows, lines, out)
     }
+}
+
+/// Returns the newest hearing's moment, where it is later than `end`.
+pub fn newest_after(lives: &Lives, end: Moment) -> Option<Moment>
+    ensures some { IfSome result (λ newest. (end.nanos < newest.nanos)
+        × ((heard : List Hearing) → Chronicles lives.now heard → IsNewest heard newest)) }
+    ensures newest { IfSome result (λ newest. lives.now.newest ≡ Some newest) }
+    ensures none { IfNone result ((heard : List Hearing) → Chronicles lives.now heard
+        → (hearing : Hearing) → Contains heard hearing → hearing.moment.nanos ≤ end.nanos) }
+    ensures none_later { IfNone result (NoneLater lives.now.newest end) }
+{
+    let newest = lives.newest()?;
+    if end < newest { Some(newest) } else { None }
 }
 
 // The lines of rows: their form, what the records are about, the width of the column of ends, and the end of the captures.

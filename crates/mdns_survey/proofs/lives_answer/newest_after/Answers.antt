@@ -1,6 +1,6 @@
 use Rattle.std.proofs.Common.{◌≤◌, Some, rules}
 use Rattle.mdns_survey.proofs.SurveyLemmas.{none-later}
-use Rattle.mdns_survey.proofs.recording_hearer.newest_after.Goals as goal
+use Rattle.mdns_survey.proofs.lives_answer.newest_after.Goals as goal
 
 pub returns-then-lt-clause-some : goal.returns-then-lt-clause-some
 returns-then-lt-clause-some c = (search rules, c.in_ok-newest.ensures.stands)
