@@ -26,7 +26,7 @@ use Rattle.mdns_survey.specs.declared.reading.Reading.{Reading}
 use Rattle.mdns_survey.specs.declared.request.AsOf.{AsOf}
 use Rattle.mdns_survey.specs.declared.summary.Summary.{Summary}
 use Rattle.mdns_survey.specs.Outcomes.{Outcome}
-use Rattle.mdns_survey.specs.LivesAnswer.{begin_of, end_of, latest_nanos}
+use Rattle.mdns_survey.specs.LivesAnswer.{captures_begin, captures_end, latest_nanos}
 use Rattle.mdns_survey.specs.Readings.{all_moments, summaries_of}
 use Rattle.mdns_survey.specs.Filter.{counted, counted_each, filter_of}
 use Rattle.mdns_survey.specs.Surveys.{AllLeft}
@@ -207,9 +207,9 @@ module _ (one : OneReading) (telling : OneTelling) (payload : OnePayload) (never
       let alike = are-alike payload never by_cause lefts first.packets first.outcomes second.outcomes first.readings second.readings first.read
       (subst (λ (ps : List (List PacketAt)). AllLeft lefts ps second.outcomes second.readings) packets second.read) same in
       let start = moment-same second.axis.start first.axis.start
-      (second.is_axis.begins ∙ ap (λ (ps : List (List PacketAt)). begin_of as_of (all_moments ps)) packets ∙ sym first.is_axis.begins) in
+      (second.is_axis.begins ∙ ap (λ (ps : List (List PacketAt)). captures_begin as_of (all_moments ps)) packets ∙ sym first.is_axis.begins) in
       let end = moment-same second.axis.end first.axis.end
-      (second.is_axis.ends ∙ ap (λ (ps : List (List PacketAt)). end_of as_of (all_moments ps)) packets ∙ sym first.is_axis.ends) in
+      (second.is_axis.ends ∙ ap (λ (ps : List (List PacketAt)). captures_end as_of (all_moments ps)) packets ∙ sym first.is_axis.ends) in
       let lasts : dates_of second.axis.start.nanos (max second.axis.end.nanos (latest_nanos (all_moments second.packets)))
       ≡ dates_of first.axis.start.nanos (max first.axis.end.nanos (latest_nanos (all_moments first.packets))) =
       λ i. dates_of (start i).nanos (max (end i).nanos (latest_nanos (all_moments (packets i)))) in

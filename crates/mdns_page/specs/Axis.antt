@@ -3,7 +3,7 @@ use Rattle.std.specs.Prelude.{◌≡◌, ℕ, ◌+◌, ◌-◌, ◌/◌, ◌==�
 use Rattle.mdns_capture.specs.declared.moment.Moment.{Moment}
 use Rattle.mdns_survey.specs.declared.reading.Span.{Span}
 use Rattle.mdns_survey.specs.declared.request.AsOf.{AsOf}
-use Rattle.mdns_survey.specs.LivesAnswer.{begin_of, end_of, latest_nanos}
+use Rattle.mdns_survey.specs.LivesAnswer.{captures_begin, captures_end, latest_nanos}
 use Rattle.people_text.specs.MomentText.{clock_text, date_text, month_day_text, seconds_of, year_at}
 use Rattle.mdns_page.specs.declared.axis.Axis.{Axis}
 use Rattle.mdns_page.specs.declared.axis.Dates.{Dates}
@@ -36,8 +36,8 @@ dates_of first last =
 -- The axis of captures with packets at these moments. The first moment of the page is its start, and the last is its end or
 -- the latest packet, where captures recorded past the moment that is asked for: a page tells when each recorded.
 pub record IsAxis (as_of : AsOf) (moments : List Moment) (axis : Axis) : Type 0 where
-  pub begins : axis.start.nanos ≡ begin_of as_of moments
-  pub ends : axis.end.nanos ≡ end_of as_of moments
+  pub begins : axis.start.nanos ≡ captures_begin as_of moments
+  pub ends : axis.end.nanos ≡ captures_end as_of moments
   pub dates : axis.dates ≡ dates_of axis.start.nanos (max axis.end.nanos (latest_nanos moments))
 
 -- a date, with its year where the page needs it: `11-22`, `2026-11-22`

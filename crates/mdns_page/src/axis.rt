@@ -11,7 +11,7 @@ use mdns_capture::Moment;
 use mdns_capture::moment::SECOND;
 use mdns_message::Want;
 use mdns_survey::reading::{Reading, Span};
-use mdns_survey::readings::{begin_of, end_of};
+use mdns_survey::readings::{captures_begin, captures_end};
 use mdns_survey::request::AsOf;
 use people_text::moment_text::{push_clock, push_date, push_month_day, year_at};
 
@@ -47,9 +47,9 @@ pub(crate) struct Axis {
 pub(crate) fn axis_of(as_of: AsOf, readings: &[Reading]) -> Axis
     ensures { (packets : List (List PacketAt)) → HaveSpans packets readings.now → IsAxis as_of (all_moments packets) result }
 {
-    let start = begin_of(as_of, readings);
-    let end = end_of(as_of, readings);
-    let latest = end_of(AsOf::Newest, readings);
+    let start = captures_begin(as_of, readings);
+    let end = captures_end(as_of, readings);
+    let latest = captures_end(AsOf::Newest, readings);
     Axis {
         start,
         end,

@@ -16,7 +16,7 @@ use Rattle.mdns_browse.specs.LifeText.{lives_report}
 use Rattle.mdns_cache.proofs.StandsPartLemmas.{Contains-cases, Contains-head, Contains-later}
 use Rattle.mdns_survey.specs.declared.request.AsOf.{AsOf}
 use Rattle.mdns_survey.specs.declared.request.AsOf.TheVariants.{Newest, At, Before}
-use Rattle.mdns_survey.specs.LivesAnswer.{SurveysLives, WritesLives, begin_of, earliest_nanos, end_of, kept_rows, latest_nanos}
+use Rattle.mdns_survey.specs.LivesAnswer.{SurveysLives, WritesLives, captures_begin, earliest_nanos, captures_end, kept_rows, latest_nanos}
 use Rattle.mdns_survey.specs.Filter.{filter_of, selected}
 use Rattle.mdns_survey.specs.Readings.{all_moments}
 use Rattle.mdns_survey.proofs.FactLemmas.{IsByFacts}
@@ -97,14 +97,14 @@ module _ (moments others : List Moment) (into : Within moments others) (back : W
       omega (arith, below, above)
 
   -- and the same end
-  pub same_end : (as_of : AsOf) → end_of as_of moments ≡ end_of as_of others
+  pub same_end : (as_of : AsOf) → captures_end as_of moments ≡ captures_end as_of others
   same_end Newest = same_latest
   same_end (At moment) = refl
   same_end (Before moment) = refl
 
   -- and the same beginning
-  pub same_begin : (as_of : AsOf) → begin_of as_of moments ≡ begin_of as_of others
-  same_begin as_of = ap (λ n. earliest_nanos n moments) (same_end as_of) ∙ same_earliest (end_of as_of others)
+  pub same_begin : (as_of : AsOf) → captures_begin as_of moments ≡ captures_begin as_of others
+  same_begin as_of = ap (λ n. earliest_nanos n moments) (same_end as_of) ∙ same_earliest (captures_end as_of others)
 
 -- THE TEXT
 
@@ -132,29 +132,29 @@ one_text one which form about heard begin end text other first second = grind (a
 pub lives-by-facts : SharedLives → OneLives → (which : Which) (form : Form) (about : List Subject) (as_of : AsOf)
     → IsByFacts (λ captures. SurveysLives which form about captures as_of)
 lives-by-facts shared one which form about as_of = record {
-  Writes = λ heard moments. WritesLives which form about (selected (filter_of as_of) heard) (begin_of as_of moments) (end_of as_of moments);
+  Writes = λ heard moments. WritesLives which form about (selected (filter_of as_of) heard) (captures_begin as_of moments) (captures_end as_of moments);
   to = λ captures summaries text survey. record {
     packets = survey.packets;
     outcomes = survey.outcomes;
     read = survey.read;
-    writes = subst (λ (hs : List Hearing). WritesLives which form about hs (begin_of as_of (all_moments survey.packets))
-        (end_of as_of (all_moments survey.packets)) text) (counted-all (filter_of as_of) survey.outcomes) survey.writes;
+    writes = subst (λ (hs : List Hearing). WritesLives which form about hs (captures_begin as_of (all_moments survey.packets))
+        (captures_end as_of (all_moments survey.packets)) text) (counted-all (filter_of as_of) survey.outcomes) survey.writes;
   };
   from = λ captures summaries text by. record {
     packets = by.packets;
     outcomes = by.outcomes;
     read = by.read;
-    writes = subst (λ (hs : List Hearing). WritesLives which form about hs (begin_of as_of (all_moments by.packets))
-        (end_of as_of (all_moments by.packets)) text) (sym (counted-all (filter_of as_of) by.outcomes)) by.writes;
+    writes = subst (λ (hs : List Hearing). WritesLives which form about hs (captures_begin as_of (all_moments by.packets))
+        (captures_end as_of (all_moments by.packets)) text) (sym (counted-all (filter_of as_of) by.outcomes)) by.writes;
   };
   shared = λ heard others moments more text same writes.
-      shared_lives shared which form about (selected (filter_of as_of) heard) (selected (filter_of as_of) others) (begin_of as_of moments)
-      (begin_of as_of more) (end_of as_of moments) (end_of as_of more) text
+      shared_lives shared which form about (selected (filter_of as_of) heard) (selected (filter_of as_of) others) (captures_begin as_of moments)
+      (captures_begin as_of more) (captures_end as_of moments) (captures_end as_of more) text
       (same_selected (filter_of as_of) heard others
       record { into = λ hearing among. same.into (inl hearing) among; back = λ hearing among. same.back (inl hearing) among })
       (same_begin moments more (λ m among. same.into (inr m) among) (λ m among. same.back (inr m) among) as_of)
       (same_end moments more (λ m among. same.into (inr m) among) (λ m among. same.back (inr m) among) as_of) writes;
   one = λ heard moments text other first second.
-      one_text one which form about (selected (filter_of as_of) heard) (begin_of as_of moments) (end_of as_of moments) text other first
+      one_text one which form about (selected (filter_of as_of) heard) (captures_begin as_of moments) (captures_end as_of moments) text other first
       second;
 }

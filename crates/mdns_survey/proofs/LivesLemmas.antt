@@ -32,7 +32,7 @@ use Rattle.mdns_survey.specs.Chronicling.{FitsForm, StopsRows}
 use Rattle.mdns_survey.specs.Head.{Heads, IsHead}
 use Rattle.mdns_survey.specs.Listen.{packet_moments}
 use Rattle.mdns_survey.specs.LivesAnswer.{SurveysLives, WritesFirstRows}
-use Rattle.mdns_survey.specs.LivesAnswer.{begin_of, end_of, kept_rows, latest_nanos}
+use Rattle.mdns_survey.specs.LivesAnswer.{captures_begin, captures_end, kept_rows, latest_nanos}
 use Rattle.mdns_survey.specs.Question.{HearsReaders, IsAnswer, IsTooEarly, Refuses, WritesAnswer, asked_lives}
 use Rattle.mdns_survey.specs.Readings.{all_moments, summaries_of}
 use Rattle.mdns_survey.specs.Filter.{counted, filter_of}
@@ -105,7 +105,7 @@ all-heard-by lefts packets outcomes readings read hearing among = absurd read
 -- A MOMENT THAT IS TOO EARLY
 
 -- a moment earlier than some hearing's is one that was asked for
-early-end : (as_of : AsOf) (moments : List Moment) (end newest : Moment) → end.nanos ≡ end_of as_of moments
+early-end : (as_of : AsOf) (moments : List Moment) (end newest : Moment) → end.nanos ≡ captures_end as_of moments
     → end.nanos < newest.nanos → newest.nanos ≤ latest_nanos moments → IsSomeAnd (moment_of as_of) (λ m. m.nanos < newest.nanos)
 early-end Newest moments end newest is early by = absurd (omega (arith, is, early, by))
 early-end (At moment) moments end newest is early by = omega (arith, is, early)
@@ -126,7 +126,7 @@ module _ {Heard : List (List Outcome) → Type 0} (lefts : List (Option (List �
       omega (arith, by, at_it)
 
   -- where the captures end before the newest hearing, that is their newest one, and a moment before it was asked for
-  pub early-ended : (end newest : Moment) → end.nanos ≡ end_of as_of (all_moments hears.packets) → end.nanos < newest.nanos
+  pub early-ended : (end newest : Moment) → end.nanos ≡ captures_end as_of (all_moments hears.packets) → end.nanos < newest.nanos
       → IsNewest (counted (filter_of as_of) hears.outcomes) newest → IsTooEarly as_of lefts newest
   early-ended end newest ends before is_newest =
       too-early lefts readings hears as_of newest
@@ -157,8 +157,8 @@ module _ (end : ℕ) (rows : List (Latest × List Life)) (layout : Layout) where
 
 module _ {Heard : List (List Outcome) → Type 0} (query : LivesQuery) (lefts : List (Option (List ℕ))) (readings : List Reading)
     (begin end : Moment) (hears : HearsReaders Heard lefts readings)
-    (begins : begin.nanos ≡ begin_of query.as_of (all_moments hears.packets))
-    (ends : end.nanos ≡ end_of query.as_of (all_moments hears.packets))
+    (begins : begin.nanos ≡ captures_begin query.as_of (all_moments hears.packets))
+    (ends : end.nanos ≡ captures_end query.as_of (all_moments hears.packets))
     (latest : (hearing : Hearing) → Contains (counted (filter_of query.as_of) hears.outcomes) hearing
     → hearing.moment.nanos ≤ end.nanos)
     (rows shown : List Row) (lives : AreAllLives (counted (filter_of query.as_of) hears.outcomes) rows)
@@ -193,7 +193,7 @@ module _ {Heard : List (List Outcome) → Type 0} (query : LivesQuery) (lefts : 
       rows = rows;
       lives = lives;
       lines = ap (λ n. lives_report query.which query.form n end.nanos kept) begins
-          ∙ ap (λ n. lives_report query.which query.form (begin_of query.as_of (all_moments hears.packets)) n kept) ends;
+          ∙ ap (λ n. lives_report query.which query.form (captures_begin query.as_of (all_moments hears.packets)) n kept) ends;
     };
   }
 
@@ -225,7 +225,7 @@ module _ {Heard : List (List Outcome) → Type 0} (query : LivesQuery) (lefts : 
     lives = report;
     surveys = surveys-lives captures known;
     written = subst
-        (λ n. WritesFirstRows head query.which query.form (begin_of query.as_of (all_moments hears.packets)) n kept out) ends
+        (λ n. WritesFirstRows head query.which query.form (captures_begin query.as_of (all_moments hears.packets)) n kept out) ends
         (subst (λ n. WritesFirstRows head query.which query.form n end.nanos kept out) begins
         (subst (λ (xs : List Row). WritesFirstRows head query.which query.form begin.nanos end.nanos xs out) all_kept
         (stops.0, (stops.1.0, stops.1.1, subst (Appends out.old out.new) (text-fits stops.0) stops.1.2))));

@@ -15,7 +15,7 @@ use Rattle.mdns_survey.specs.declared.reading.Span.{Span}
 use Rattle.mdns_survey.specs.declared.request.AsOf.{AsOf}
 use Rattle.mdns_survey.specs.declared.request.AsOf.TheVariants.{Newest, At, Before}
 use Rattle.mdns_survey.specs.Listen.{packet_moments}
-use Rattle.mdns_survey.specs.LivesAnswer.{begin_of, earliest_nanos, end_of, latest_nanos}
+use Rattle.mdns_survey.specs.LivesAnswer.{captures_begin, earliest_nanos, captures_end, latest_nanos}
 use Rattle.mdns_survey.specs.Readings.{HaveSpans, all_moments}
 use Rattle.mdns_survey.specs.Request.{moment_of}
 use Rattle.mdns_survey.specs.Span.{HasEnds, earlier_moment, joined_spans, span_at, span_of}
@@ -109,17 +109,17 @@ first-is end (moment ∷ moments) = first-joined moment (span_of moments) end �
 
 -- the beginning of captures with this span
 pub begin-is : (as_of : AsOf) (span : Option Span) (begin end : Moment) (moments : List Moment) → span ≡ span_of moments
-    → end.nanos ≡ end_of as_of moments → begin.nanos ≡ first_of span end.nanos → begin.nanos ≡ begin_of as_of moments
+    → end.nanos ≡ captures_end as_of moments → begin.nanos ≡ first_of span end.nanos → begin.nanos ≡ captures_begin as_of moments
 begin-is as_of span begin end moments is is_end is_first = grind (arith, first-is)
 
 -- and their end, where a moment is given, and where none is
-pub end-given : (as_of : AsOf) (end : Moment) (moments : List Moment) → moment_of as_of ≡ Some end → end.nanos ≡ end_of as_of moments
+pub end-given : (as_of : AsOf) (end : Moment) (moments : List Moment) → moment_of as_of ≡ Some end → end.nanos ≡ captures_end as_of moments
 end-given Newest end moments is = absurd cc
 end-given (At moment) end moments is = let same : end ≡ moment = cc in ap (λ (m : Moment). m.nanos) same
 end-given (Before moment) end moments is = let same : end ≡ moment = cc in ap (λ (m : Moment). m.nanos) same
 
 pub end-latest : (as_of : AsOf) (span : Option Span) (end : ℕ) (moments : List Moment) → moment_of as_of ≡ None
-    → span ≡ span_of moments → end ≡ last_of span → end ≡ end_of as_of moments
+    → span ≡ span_of moments → end ≡ last_of span → end ≡ captures_end as_of moments
 end-latest Newest span end moments none is is_last = is_last ∙ ap last_of is ∙ last-is moments
 end-latest (At moment) span end moments none is is_last = absurd cc
 end-latest (Before moment) span end moments none is is_last = absurd cc

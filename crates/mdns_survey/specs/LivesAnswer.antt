@@ -32,10 +32,10 @@ latest_nanos [] = 0
 latest_nanos (moment ∷ moments) = max moment.nanos (latest_nanos moments)
 
 -- the end of captures with packets at these moments: the moment that is given, or without one the latest of them
-abbrev pub end_of : AsOf → List Moment → ℕ
-end_of Newest moments = latest_nanos moments
-end_of (At moment) moments = moment.nanos
-end_of (Before moment) moments = moment.nanos
+abbrev pub captures_end : AsOf → List Moment → ℕ
+captures_end Newest moments = latest_nanos moments
+captures_end (At moment) moments = moment.nanos
+captures_end (Before moment) moments = moment.nanos
 
 -- the earliest of the moments, or `end` where that is earlier
 abbrev pub earliest_nanos : ℕ → List Moment → ℕ
@@ -44,8 +44,8 @@ earliest_nanos end (moment ∷ moments) = min moment.nanos (earliest_nanos end m
 
 -- the earliest moment of captures with packets at these moments, or their end where that is earlier. Packets that aren't
 -- earlier than the end, which don't count where the hearings before it do, make no difference.
-abbrev pub begin_of : AsOf → List Moment → ℕ
-begin_of as_of moments = earliest_nanos (end_of as_of moments) moments
+abbrev pub captures_begin : AsOf → List Moment → ℕ
+captures_begin as_of moments = earliest_nanos (captures_end as_of moments) moments
 
 -- THE TEXT
 
@@ -68,8 +68,8 @@ pub record SurveysLives (which : Which) (form : Form) (about : List Subject) (ca
   pub packets : List (List PacketAt)
   pub outcomes : List (List Outcome)
   pub read : AllRead captures packets outcomes summaries
-  pub writes : WritesLives which form about (counted (filter_of as_of) outcomes) (begin_of as_of (all_moments packets))
-      (end_of as_of (all_moments packets)) text
+  pub writes : WritesLives which form about (counted (filter_of as_of) outcomes) (captures_begin as_of (all_moments packets))
+      (captures_end as_of (all_moments packets)) text
 
 -- the text is the lives that the query asks for, after the head
 abbrev pub SurveysLivesWithHead : LivesQuery → List (List ℕ) → List Summary → List ℕ → Type 0
@@ -93,5 +93,5 @@ pub record WritesFirstRecords (query : LivesQuery) (captures : List (List ℕ)) 
   pub is_head : IsHead query.form captures summaries head
   pub lives : List ℕ
   pub surveys : SurveysLives query.which query.form query.about captures query.as_of summaries lives
-  pub written : WritesFirstRows head query.which query.form (begin_of query.as_of (all_moments surveys.packets))
-      (end_of query.as_of (all_moments surveys.packets)) (kept_rows query.about (chosen query.which surveys.writes.rows)) out
+  pub written : WritesFirstRows head query.which query.form (captures_begin query.as_of (all_moments surveys.packets))
+      (captures_end query.as_of (all_moments surveys.packets)) (kept_rows query.about (chosen query.which surveys.writes.rows)) out

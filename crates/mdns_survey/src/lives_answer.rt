@@ -23,7 +23,7 @@ use crate::head::head_in;
 use crate::hearer::finished;
 use crate::question::{Answer, Question};
 use crate::reading::Reading;
-use crate::readings::{begin_of, end_of};
+use crate::readings::{captures_begin, captures_end};
 use crate::request::LivesQuery;
 use crate::survey::SurveyFault;
 use mdns_browse::about::{Subject, keeps_record};
@@ -75,8 +75,8 @@ impl Answer for LivesQuery {
             Ok(lives) => lives,
             Err(Want) => return Err(SurveyFault::Memory),
         };
-        let begin = begin_of(self.as_of, readings);
-        let end = end_of(self.as_of, readings);
+        let begin = captures_begin(self.as_of, readings);
+        let end = captures_end(self.as_of, readings);
         if let Some(newest) = newest_after(&lives, end) {
             return Err(SurveyFault::Early { newest });
         }

@@ -2,7 +2,7 @@
 
 ghost use Rattle.std.specs.Prelude.{◌≡◌, ◌+◌, IfOk, List, sum_by};
 ghost use Rattle.mdns_capture.specs.Savefile.{PacketAt};
-ghost use Rattle.mdns_survey.specs.LivesAnswer.{begin_of, end_of};
+ghost use Rattle.mdns_survey.specs.LivesAnswer.{captures_begin, captures_end};
 ghost use Rattle.mdns_survey.specs.Readings.{CountLosses, HaveSpans, all_moments, lost_in, refused_in, skipped_in};
 ghost use Rattle.mdns_survey.specs.Readings.{summaries_of};
 ghost use Rattle.mdns_survey.specs.Reasons.{lost_frames};
@@ -75,9 +75,9 @@ pub fn span_of(readings: &[Reading]) -> Option<Span>
 
 /// Returns the end of captures: the moment of `as_of`, or with `AsOf::Newest` the latest packet's moment; 0 where there
 /// are no packets.
-pub fn end_of(as_of: AsOf, readings: &[Reading]) -> Moment
+pub fn captures_end(as_of: AsOf, readings: &[Reading]) -> Moment
     ensures { (packets : List (List PacketAt)) → HaveSpans packets readings.now
-        → result.nanos ≡ end_of as_of (all_moments packets) }
+        → result.nanos ≡ captures_end as_of (all_moments packets) }
 {
     if let Some(moment) = as_of.moment() {
         return moment;
@@ -89,11 +89,11 @@ pub fn end_of(as_of: AsOf, readings: &[Reading]) -> Moment
 }
 
 /// Returns the earliest packet's moment, or the end of the captures where that is earlier.
-pub fn begin_of(as_of: AsOf, readings: &[Reading]) -> Moment
+pub fn captures_begin(as_of: AsOf, readings: &[Reading]) -> Moment
     ensures { (packets : List (List PacketAt)) → HaveSpans packets readings.now
-        → result.nanos ≡ begin_of as_of (all_moments packets) }
+        → result.nanos ≡ captures_begin as_of (all_moments packets) }
 {
-    let end = end_of(as_of, readings);
+    let end = captures_end(as_of, readings);
     match span_of(readings) {
         Some(span) => { if span.first < end { span.first } else { end } }
         None => end,

@@ -18,8 +18,8 @@ pub returns-in-Some-clause-refused : goal.returns-in-Some-clause-refused
 returns-in-Some-clause-refused g c = λ lefts hears.
     let query = c.args.self in
     let readings = c.args.readings.now in
-    early-ended lefts readings hears query.as_of c.end_of-end.result c.in-Some.newest
-    (c.end_of-end.ensures hears.packets (have-spans lefts hears.packets hears.outcomes readings hears.read))
+    early-ended lefts readings hears query.as_of c.captures_end-end.result c.in-Some.newest
+    (c.captures_end-end.ensures hears.packets (have-spans lefts hears.packets hears.outcomes readings hears.read))
     c.in-Some.ensures.some.0
     (c.in-Some.ensures.some.1 _ (c.in-Ok.ensures (counted (filter_of query.as_of) hears.outcomes) hears.heard))
 
@@ -27,7 +27,7 @@ pub returns-clause-written : goal.returns-clause-written
 returns-clause-written g c =
     let query = c.args.self in
     let readings = c.args.readings.now in
-    let end = c.end_of-end.result in
+    let end = c.captures_end-end.result in
     let rows = c.chosen-rows.result in
     let layout = c.in-Ok-layout_of.layout in
     let before = c.in-Ok-text_before.text in
@@ -41,8 +41,8 @@ returns-clause-written g c =
     subst (λ (about : List Subject). FitsForm query.form end.nanos (kept_rows about rows) layout) c.as_slice-about.ensures
     (subst (λ (shown : List Row). FitsForm query.form end.nanos (kept_rows c.as_slice-about.result.now shown) layout)
     (c.chosen-columns.ensures.left heard told ∙ sym (c.chosen-rows.ensures.left heard told)) c.in-Ok-layout_of.ensures) in
-    writes-lives query lefts readings c.begin_of-begin.result end hears (c.begin_of-begin.ensures hears.packets spans)
-    (c.end_of-end.ensures hears.packets spans) (c.in_default.ensures.none heard told) (rows_of c.in-Ok.lives) rows
+    writes-lives query lefts readings c.captures_begin-begin.result end hears (c.captures_begin-begin.ensures hears.packets spans)
+    (c.captures_end-end.ensures hears.packets spans) (c.in_default.ensures.none heard told) (rows_of c.in-Ok.lives) rows
     (c.chosen-rows.ensures.all heard told) (c.chosen-rows.ensures.left heard told) layout fits
     c.in-Ok-text_before.ensures.0 (string_bytes before) c.in-Ok-text_before.ensures.1 c.in-Ok-text_before.ensures.2 out
     (subst (λ (about : List Subject). Appends out.old out.new
@@ -54,7 +54,7 @@ pub returns-clause-refused : goal.returns-clause-refused
 returns-clause-refused g c =
     let query = c.args.self in
     let readings = c.args.readings.now in
-    let end = c.end_of-end.result in
+    let end = c.captures_end-end.result in
     let rows = c.chosen-rows.result in
     let layout = c.in-Ok-layout_of.layout in
     let before = c.in-Ok-text_before.text in
@@ -68,8 +68,8 @@ returns-clause-refused g c =
     subst (λ (about : List Subject). FitsForm query.form end.nanos (kept_rows about rows) layout) c.as_slice-about.ensures
     (subst (λ (shown : List Row). FitsForm query.form end.nanos (kept_rows c.as_slice-about.result.now shown) layout)
     (c.chosen-columns.ensures.left heard told ∙ sym (c.chosen-rows.ensures.left heard told)) c.in-Ok-layout_of.ensures) in
-    stops-lives query lefts readings c.begin_of-begin.result end hears (c.begin_of-begin.ensures hears.packets spans)
-    (c.end_of-end.ensures hears.packets spans) (c.in_default.ensures.none heard told) (rows_of c.in-Ok.lives) rows
+    stops-lives query lefts readings c.captures_begin-begin.result end hears (c.captures_begin-begin.ensures hears.packets spans)
+    (c.captures_end-end.ensures hears.packets spans) (c.in_default.ensures.none heard told) (rows_of c.in-Ok.lives) rows
     (c.chosen-rows.ensures.all heard told) (c.chosen-rows.ensures.left heard told) layout fits
     c.in-Ok-text_before.ensures.0 (string_bytes before) c.in-Ok-text_before.ensures.1 c.in-Ok-text_before.ensures.2 out fault
     (subst (λ (about : List Subject). StopsRows (string_bytes before) (lives_text query.form layout.width end.nanos)

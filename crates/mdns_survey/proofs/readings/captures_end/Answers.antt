@@ -1,7 +1,7 @@
 use Rattle.std.proofs.Common.{arith}
 use Rattle.std.proofs.Common.{◌∙◌, sym}
 use Rattle.mdns_survey.proofs.SpanLemmas.{end-given, end-latest, last_of}
-use Rattle.mdns_survey.proofs.readings.end_of.Goals as goal
+use Rattle.mdns_survey.proofs.readings.captures_end.Goals as goal
 
 pub returns-in-Some : goal.returns-in-Some
 returns-in-Some c = λ packets have. end-given c.args.as_of c.in-Some.moment _ (sym c.moment.ensures ∙ c.in-Some.is)
