@@ -2,7 +2,6 @@
 
 ghost use Rattle.std.specs.Prelude.{◌≡◌, ◌<◌, ◌^◌, ◌++◌, length, map, nat_lt, OnOk};
 ghost use Rattle.std.specs.String.{string_bytes};
-ghost use Rattle.mdns_survey.specs.ProgramLines.{is_whole};
 ghost use Rattle.people_text.specs.Shown.{shown};
 ghost use Rattle.mdns_page.specs.Captures.{capture_text, captures_text, each_from, ending_words, facts_lent, number_text};
 ghost use Rattle.mdns_page.specs.Captures.{outcomes_text, recorded_bar, recorded_path, recorded_picture, recorded_stroke, recorded_words, sizes_text};
@@ -15,6 +14,7 @@ use crate::html::push_isolated;
 use mdns_capture::Ending;
 use mdns_message::Want;
 use mdns_survey::reading::Span;
+use mdns_survey::status::is_whole;
 use mdns_survey::{Summary, Tally};
 use people_text::moment_text::push_millis;
 use people_text::shown::push_shown;
@@ -69,13 +69,6 @@ pub(crate) fn push_shown_word(to: &mut String, word: &str) -> Result<(), Want>
     let mut text = String::new(*to.allocator());
     push_shown(&mut text, word.as_bytes())?;
     push_isolated(to, text.as_str())
-}
-
-/// Checks that a capture was read whole.
-pub(crate) fn is_whole(ending: Ending) -> bool
-    ensures { result ≡ is_whole ending }
-{
-    matches!(ending, Ending::Whole)
 }
 
 fn push_rows(to: &mut String, axis: Axis, captures: &[CaptureFacts<'_>]) -> Result<(), Want>

@@ -12,7 +12,7 @@ ghost use Rattle.mdns_page.specs.Lead.{lost_warning, others_text, said_text, sub
 ghost use Rattle.mdns_page.specs.Timeline.{count_last, counted_lent, is_some_such};
 
 use crate::axis::Axis;
-use crate::captures::{CaptureFacts, is_whole, push_shown_word};
+use crate::captures::{CaptureFacts, push_shown_word};
 use crate::counts::{push_commas, push_count};
 use crate::picture::{goes_on, is_for};
 use crate::row_text::live_rows;
@@ -21,6 +21,7 @@ use mdns_browse::Subject;
 use mdns_capture::Ending;
 use mdns_lives::{Life, Reason};
 use mdns_message::Want;
+use mdns_survey::status::is_whole;
 use people_text::moment_text::push_millis;
 
 /// Appends what a page begins with: how many instances were live at the end of the captures, how many of them have

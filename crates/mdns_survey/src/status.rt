@@ -33,7 +33,7 @@ fn are_whole(summaries: &[Summary]) -> bool
 }
 
 /// Returns `true` if a capture's bytes end where a packet does.
-pub(crate) fn is_whole(ending: Ending) -> bool
+pub fn is_whole(ending: Ending) -> bool
     ensures { result ≡ is_whole ending }
 {
     matches!(ending, Ending::Whole)

@@ -3,7 +3,6 @@
 ghost use Rattle.std.specs.Prelude.{◌≡◌, ◌++◌, IfOk, IfSome, OnOk, Some, string_bytes};
 ghost use Rattle.std.specs.Io.KnownBytes.{prepend_known};
 ghost use Rattle.mdns_message.specs.TextData.{string_text};
-ghost use Rattle.mdns_survey.specs.ProgramLines.{is_whole};
 ghost use Rattle.mdns_trace.specs.Flaw.{cure_text, head_of, what_text};
 ghost use Rattle.mdns_trace.specs.Verdict.{IsVerdict, IsVerdictOf, capture_front, capture_line, capture_text, early_cure};
 ghost use Rattle.mdns_trace.specs.Verdict.{early_text, is_silent, silent_text, unusable_line, verdict_for, verdict_text};
@@ -22,6 +21,7 @@ use mdns_capture::{BeginFault, Broken, Ending, Source};
 use mdns_message::Want;
 use mdns_survey::listen::ListenFault;
 use mdns_survey::reading::{Reading, Span};
+use mdns_survey::status::is_whole;
 use mdns_survey::summary::Tally;
 use std::alloc::Global;
 
@@ -179,13 +179,6 @@ pub(crate) fn push_early_cure(to: &mut String, span: Option<Span>) -> Result<(),
     to.push_str("later goodbyes are missing, so trust the answers --before ")?;
     push_nanos(to, span.last.nanos())?;
     Ok(())
-}
-
-/// Checks that a capture ended where a packet did.
-pub(crate) fn is_whole(ending: Ending) -> bool
-    ensures { result ≡ is_whole ending }
-{
-    matches!(ending, Ending::Whole)
 }
 
 #[tactic(auto, unfolding(crate::specs::Verdict::capture_front))]

@@ -12,12 +12,13 @@ use crate::flaw::{Flaw, cure_words, link_name};
 use crate::loss::{LOSSES, Loss};
 use crate::trace_json::push_moment_member;
 use crate::verdict::{
-    SILENT_CURE, UNOPENED_CURE, UNREAD_CURE, Verdict, is_silent, is_whole, push_early_cure,
+    SILENT_CURE, UNOPENED_CURE, UNREAD_CURE, Verdict, is_silent, push_early_cure,
 };
 use mdns_browse::json::{push_json_name, push_number_member, push_text_member};
 use mdns_capture::Ending;
 use mdns_message::Want;
 use mdns_survey::reading::{Reading, Span};
+use mdns_survey::status::is_whole;
 use mdns_survey::summary::Tally;
 use std::alloc::Global;
 

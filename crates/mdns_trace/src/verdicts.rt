@@ -8,13 +8,13 @@ ghost use Rattle.mdns_trace.specs.Verdicts.{are_usable, is_sound, is_usable, sta
 
 use crate::each_file::{FilesFault, Scribe, write_each};
 use crate::trace::TraceFault;
-use crate::verdict::{Verdict, is_silent, is_whole, judge, lines_of};
+use crate::verdict::{Verdict, is_silent, judge, lines_of};
 use mdns_browse::report::Form;
 use mdns_capture::{Broken, Sink, Source, write_whole};
 use mdns_survey::error_lines::refuse;
 use mdns_survey::listen::ListenFault;
 use mdns_survey::reading::Reading;
-use mdns_survey::status::{DAMAGED, REFUSED, WHOLE};
+use mdns_survey::status::{DAMAGED, REFUSED, WHOLE, is_whole};
 use mdns_survey::survey::SurveyFault;
 use std::alloc::Global;
 
