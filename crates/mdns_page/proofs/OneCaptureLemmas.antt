@@ -1,5 +1,5 @@
 -- Readings of captures agree in all that a page tells.
-use Rattle.std.proofs.Common.{◌≡◌, ◌∙◌, ℕ, ◌+◌, true, false, List, [], ◌∷◌, ◌++◌, Option, Some, None, ap, drop, get_or, inl, inr}
+use Rattle.std.proofs.Common.{◌≡◌, ◌∙◌, ℕ, ◌+◌, ◌==◌, if◌then◌else◌, true, false, List, [], ◌∷◌, ◌++◌, Option, Some, None, ap, drop, get_or, inl, inr}
 use Rattle.std.proofs.Common.{option_map, refl, subst, sym}
 use Rattle.std.specs.Prelude.{codes, count_by, sum_by}
 use Rattle.std.specs.List.{flat_map}
@@ -19,8 +19,7 @@ use Rattle.mdns_survey.specs.Surveys.{AllLeft}
 use Rattle.mdns_survey.specs.Reasons.{row_of}
 use Rattle.mdns_survey.proofs.LossLemmas.{NeverBoth, SkipsByCause, no-cause}
 use Rattle.mdns_survey.proofs.OutcomeLemmas.{OnePayload}
-use Rattle.mdns_page.specs.SkippedSection.{broken, broken_rows, nothing_text, other_rows, others as reasons, packets_text, row_text, table_text}
-use Rattle.mdns_page.specs.SkippedSection.{unread, unread_rows, untold, warning_row}
+use Rattle.mdns_page.specs.SkippedSection.{nothing_text, others as reasons, row_text, table_text, warnings}
 use Rattle.mdns_page.specs.Page.{facts_of}
 
 -- ---- why packets are skipped
@@ -148,36 +147,22 @@ module _ (readings others : List Reading) (alike : AreEach IsAlike readings othe
   refused-alike =
       sums-alike (λ (r : Reading). r.summary.tally.refused) (λ a b same i. (same.summary i).tally.refused) readings others alike
 
-  untold-alike : untold readings ≡ untold others
+  untold-alike : sum_by (λ (r : Reading). r.summary.tally.skipped + r.summary.tally.refused) readings
+      ≡ sum_by (λ (r : Reading). r.summary.tally.skipped + r.summary.tally.refused) others
   untold-alike =
       sums-alike (λ (r : Reading). r.summary.tally.skipped + r.summary.tally.refused)
       (λ a b same i. (same.summary i).tally.skipped + (same.summary i).tally.refused) readings others alike
 
-  warnings-alike : (warnings : List (Why × List ℕ)) → flat_map (warning_row readings) warnings ≡ flat_map (warning_row others) warnings
-  warnings-alike warnings i =
-      flat_map (λ (w : Why × List ℕ). row_text (skipped-alike w.0 i) (row_of w.0).words true w.1) warnings
-
-  unread-alike : unread_rows readings ≡ unread_rows others
-  unfolding unread_rows
-  unread-alike = warnings-alike unread
-
-  broken-alike : broken_rows readings ≡ broken_rows others
-  unfolding broken_rows
-  broken-alike = warnings-alike broken
-
-  other-alike : other_rows readings ≡ other_rows others
-  unfolding other_rows
-  other-alike i =
-      flat_map (λ (reason : Why). row_text (skipped-alike reason i) (row_of reason).words false (codes "normal")) reasons
-
   table-alike : table_text readings ≡ table_text others
   unfolding table_text
-  table-alike = rw (unread-alike, broken-alike, refused-alike, other-alike) refl
-
-  packets-alike : packets_text readings ≡ packets_text others
-  unfolding packets_text
-  packets-alike = rw (untold-alike, table-alike) refl
+  table-alike i =
+      codes "<table>\n" ++ flat_map (λ (w : Why × List ℕ). row_text (skipped-alike w.0 i) (why_text w.0) true w.1) warnings
+      ++ row_text (refused-alike i) (codes "damaged message") true (codes "damaged: refused whole")
+      ++ flat_map (λ (reason : Why). row_text (skipped-alike reason i) (why_text reason) false (codes "normal")) reasons
+      ++ codes "</table>\n"
 
   pub nothing-alike : nothing_text readings ≡ nothing_text others
   unfolding nothing_text
-  nothing-alike = ap (λ (text : List ℕ). codes "<h2 id=\"nothing\">Skipped and refused packets</h2>\n" ++ text) packets-alike
+  nothing-alike i =
+      codes "<h2 id=\"nothing\">Skipped and refused packets</h2>\n"
+      ++ (if untold-alike i == 0 then codes "<p class=\"note\">None.</p>\n" else table-alike i)

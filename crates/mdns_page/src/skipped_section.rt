@@ -1,9 +1,10 @@
 //! The table of the packets that told nothing: how many, why, and what that means.
 
-ghost use Rattle.std.specs.Prelude.{◌≡◌, ◌++◌, OnOk, codes, false, true};
+ghost use Rattle.std.specs.Prelude.{◌≡◌, ◌+◌, ◌==◌, ◌++◌, if◌then◌else◌, OnOk, codes, false, sum_by, true};
+ghost use Rattle.std.specs.List.{flat_map};
 ghost use Rattle.std.specs.String.{string_bytes};
-ghost use Rattle.mdns_page.specs.SkippedSection.{broken_rows, damaged_row, meaning_text, nothing_text, other_rows, row_text, skipped_row};
-ghost use Rattle.mdns_page.specs.SkippedSection.{packets_text, some_row, table_text, unread_rows, untold, warning_row};
+ghost use Rattle.mdns_survey.specs.Readings.{refused_in};
+ghost use Rattle.mdns_page.specs.SkippedSection.{nothing_text, others, row_text, skipped_row, table_text, warnings};
 
 use crate::counts::push_commas;
 use mdns_capture::Cause;
@@ -27,9 +28,10 @@ pub(crate) fn push_nothing(to: &mut String, readings: &[Reading]) -> Result<(), 
     push_packets(to, readings)
 }
 
-#[tactic(auto, unfolding(crate::specs::SkippedSection::packets_text))]
 fn push_packets(to: &mut String, readings: &[Reading]) -> Result<(), Want>
-    ensures { OnOk result (string_bytes to.new ≡ string_bytes to.old ++ packets_text readings.now) }
+    ensures { OnOk result (string_bytes to.new ≡ string_bytes to.old
+        ++ (if sum_by (λ reading. reading.summary.tally.skipped + reading.summary.tally.refused) readings.now == 0
+        then codes "<p class=\"note\">None.</p>\n" else table_text readings.now)) }
 {
     if untold(readings) == 0 {
         to.push_str("<p class=\"note\">None.</p>\n")?;
@@ -40,7 +42,7 @@ fn push_packets(to: &mut String, readings: &[Reading]) -> Result<(), Want>
 
 // Returns how many packets of all captures were skipped or refused.
 fn untold(readings: &[Reading]) -> u128
-    ensures { result ≡ untold readings.now }
+    ensures { result ≡ sum_by (λ reading. reading.summary.tally.skipped + reading.summary.tally.refused) readings.now }
 {
     let mut untold = 0;
     for reading in readings {
@@ -54,17 +56,16 @@ fn push_table(to: &mut String, readings: &[Reading]) -> Result<(), Want>
     ensures { OnOk result (string_bytes to.new ≡ string_bytes to.old ++ table_text readings.now) }
 {
     to.push_str("<table>\n")?;
-    push_unread(to, readings)?;
-    push_broken(to, readings)?;
+    push_warnings(to, readings)?;
     push_damaged(to, readings)?;
     push_others(to, readings)?;
     to.push_str("</table>\n")?;
     Ok(())
 }
 
-#[tactic(auto, unfolding(crate::specs::SkippedSection::unread_rows))]
-fn push_unread(to: &mut String, readings: &[Reading]) -> Result<(), Want>
-    ensures { OnOk result (string_bytes to.new ≡ string_bytes to.old ++ unread_rows readings.now) }
+fn push_warnings(to: &mut String, readings: &[Reading]) -> Result<(), Want>
+    ensures { OnOk result (string_bytes to.new
+        ≡ string_bytes to.old ++ flat_map (skipped_row readings.now true) warnings) }
 {
     push_warning(
         to,
@@ -76,13 +77,7 @@ fn push_unread(to: &mut String, readings: &[Reading]) -> Result<(), Want>
     push_warning(to, readings, Why::Frame(Cause::HeaderCut), MISSING)?;
     push_warning(to, readings, Why::Frame(Cause::DatagramCut), MISSING)?;
     push_warning(to, readings, Why::Frame(Cause::Fragment), UNLESS_TOLD)?;
-    push_warning(to, readings, Why::Frame(Cause::FragmentHeader), UNLESS_TOLD)
-}
-
-#[tactic(auto, unfolding(crate::specs::SkippedSection::broken_rows))]
-fn push_broken(to: &mut String, readings: &[Reading]) -> Result<(), Want>
-    ensures { OnOk result (string_bytes to.new ≡ string_bytes to.old ++ broken_rows readings.now) }
-{
+    push_warning(to, readings, Why::Frame(Cause::FragmentHeader), UNLESS_TOLD)?;
     push_warning(to, readings, Why::Frame(Cause::IpHeader), BROKEN)?;
     push_warning(to, readings, Why::Frame(Cause::TotalLength), BROKEN)?;
     push_warning(to, readings, Why::Frame(Cause::UdpLength), BROKEN)?;
@@ -91,7 +86,7 @@ fn push_broken(to: &mut String, readings: &[Reading]) -> Result<(), Want>
 
 fn push_warning(to: &mut String, readings: &[Reading], why: Why, meaning: &str) -> Result<(), Want>
     ensures { OnOk result (string_bytes to.new
-        ≡ string_bytes to.old ++ warning_row readings.now (why, meaning.now)) }
+        ≡ string_bytes to.old ++ skipped_row readings.now true (why, meaning.now)) }
 {
     push_row(
         to,
@@ -103,7 +98,8 @@ fn push_warning(to: &mut String, readings: &[Reading], why: Why, meaning: &str) 
 }
 
 fn push_damaged(to: &mut String, readings: &[Reading]) -> Result<(), Want>
-    ensures { OnOk result (string_bytes to.new ≡ string_bytes to.old ++ damaged_row readings.now) }
+    ensures { OnOk result (string_bytes to.new ≡ string_bytes to.old
+        ++ row_text (refused_in readings.now) (codes "damaged message") true (codes "damaged: refused whole")) }
 {
     push_row(
         to,
@@ -114,9 +110,9 @@ fn push_damaged(to: &mut String, readings: &[Reading]) -> Result<(), Want>
     )
 }
 
-#[tactic(auto, unfolding(crate::specs::SkippedSection::other_rows))]
 fn push_others(to: &mut String, readings: &[Reading]) -> Result<(), Want>
-    ensures { OnOk result (string_bytes to.new ≡ string_bytes to.old ++ other_rows readings.now) }
+    ensures { OnOk result (string_bytes to.new
+        ≡ string_bytes to.old ++ flat_map (λ why. skipped_row readings.now false (why, codes "normal")) others) }
 {
     push_other(to, readings, Why::Query)?;
     push_other(to, readings, Why::Frame(Cause::Port))?;
@@ -128,7 +124,7 @@ fn push_others(to: &mut String, readings: &[Reading]) -> Result<(), Want>
 
 fn push_other(to: &mut String, readings: &[Reading], why: Why) -> Result<(), Want>
     ensures { OnOk result (string_bytes to.new
-        ≡ string_bytes to.old ++ skipped_row readings.now false why (codes "normal")) }
+        ≡ string_bytes to.old ++ skipped_row readings.now false (why, codes "normal")) }
 {
     push_row(
         to,
@@ -153,19 +149,6 @@ fn push_row(
     if count == 0 {
         return Ok(());
     }
-    push_some_row(to, count, cause, bold, meaning)
-}
-
-fn push_some_row(
-    to: &mut String,
-    count: u128,
-    cause: &str,
-    bold: bool,
-    meaning: &str,
-) -> Result<(), Want>
-    ensures { OnOk result (string_bytes to.new
-        ≡ string_bytes to.old ++ some_row count cause.now bold meaning.now) }
-{
     to.push_str("<tr><td>")?;
     push_commas(to, count)?;
     to.push_str("</td><th scope=\"row\">")?;
@@ -176,9 +159,9 @@ fn push_some_row(
     Ok(())
 }
 
-#[tactic(auto, unfolding(crate::specs::SkippedSection::meaning_text))]
 fn push_meaning(to: &mut String, bold: bool, meaning: &str) -> Result<(), Want>
-    ensures { OnOk result (string_bytes to.new ≡ string_bytes to.old ++ meaning_text bold meaning.now) }
+    ensures { OnOk result (string_bytes to.new ≡ string_bytes to.old
+        ++ (if bold then codes "<b class=\"warn\">" ++ meaning.now ++ codes "</b>" else meaning.now)) }
 {
     if bold {
         write!(to, "<b class=\"warn\">{meaning}</b>")?;
