@@ -44,7 +44,7 @@ use Rattle.mdns_page.specs.TimelineRows.{IsCounted, shown_seconds}
 use Rattle.mdns_page.specs.OtherRows.{is_large}
 use Rattle.mdns_page.specs.Html.{isolated}
 use Rattle.mdns_page.specs.Document.{page}
-use Rattle.mdns_page.specs.Servers.{IsServed, servers_of}
+use Rattle.mdns_page.specs.Servers.{servers_of}
 use Rattle.mdns_page.specs.KeptRecords.{AreRows, kept_of}
 use Rattle.mdns_page.specs.Page.{SurveysPage, WritesPage, live_at_end}
 use Rattle.mdns_page.specs.Timeline.{Row, is_open, record_in}
@@ -116,6 +116,10 @@ module _ (IsThere : Heard → Type 0) where
       same-members xs ys are.ascending too.ascending (seconds-within xs ys are too) (seconds-within ys xs too are)
 
 -- ---- the records of the timeline
+
+-- the row has the servers of its instance, of these records
+abbrev IsServed : List (Latest × List Life) → Row → Type 0
+IsServed rows row = row.servers ≡ servers_of rows (body_of row.last)
 
 module _ (each : List (List Hearing)) (rows : List (Latest × List Life)) where
   -- a row is decided by its record

@@ -1,5 +1,5 @@
 -- SRV records of a name among rows in key order.
-use Rattle.std.proofs.Common.{◌≡◌, refl, sym, ◌∙◌, ap, subst, ℕ, Bool, true, false, cond, List, [], ◌∷◌, map}
+use Rattle.std.proofs.Common.{◌≡◌, refl, sym, ◌∙◌, ap, subst, Bool, true, false, cond, List, [], ◌∷◌, map}
 use Rattle.std.proofs.lemmas.Simd.{map-map}
 use Rattle.std.specs.List.{filter}
 use Rattle.std.specs.List.Sorted.{IsStrictlySortedBy}
@@ -10,7 +10,6 @@ use Rattle.mdns_lives.specs.LentLives.{row_lent}
 use Rattle.mdns_lives.specs.declared.life.Life.{Life}
 use Rattle.mdns_lives.specs.declared.lives.RecordLives.{RecordLives}
 use Rattle.mdns_page.specs.KeptRecords.{lasts_of}
-use Rattle.mdns_page.specs.Servers.{is_server_of, servers_named}
 use Rattle.mdns_page.specs.Timeline.{lives_lent}
 
 -- what passes after a function is applied
@@ -35,7 +34,7 @@ ascending-lent lent rows sorted =
 pub lives-lent : (rows : List RecordLives) → map lives_lent rows ≡ map (λ (row : Latest × List Life). row.1) (map row_lent rows)
 lives-lent rows = sym (map-map (λ (row : Latest × List Life). row.1) row_lent rows)
 
--- of rows that are lent those of the name's SRV records
-pub named-lent : {R : Type 0} (lent : R → Latest × List Life) (rows found : List R) (name : List ℕ)
-    → filter (λ r. is_server_of name (lent r)) rows ≡ found → map lent found ≡ servers_named (map lent rows) name
-named-lent lent rows found name is = ap (map lent) (sym is) ∙ sym (filter-map (is_server_of name) lent rows)
+-- of rows that are lent those that pass
+pub passing-lent : {R : Type 0} (lent : R → Latest × List Life) (rows found : List R) (passes : Latest × List Life → Bool)
+    → filter (λ r. passes (lent r)) rows ≡ found → map lent found ≡ filter passes (map lent rows)
+passing-lent lent rows found passes is = ap (map lent) (sym is) ∙ sym (filter-map passes lent rows)

@@ -1,6 +1,7 @@
 -- The records of a page.
 use Rattle.std.specs.Prelude.{◌≡◌, Bool, ◌||◌, if◌then◌else◌, is_some, Option, ℕ, List, [], ◌∷◌, map}
 use Rattle.std.specs.List.{All, filter}
+use Rattle.mdns_message.specs.Parts.{address_of, service_of}
 use Rattle.mdns_message.specs.declared.hearing.Hearing.{Hearing}
 use Rattle.mdns_join.specs.declared.latest.Latest.{Latest}
 use Rattle.mdns_lives.specs.declared.life.Life.{Life}
@@ -10,8 +11,7 @@ use Rattle.mdns_browse.specs.Services.{body_of, instance_given, name_if, other_g
 use Rattle.mdns_page.specs.declared.kept_records.TimelinePart.{TimelinePart}
 use Rattle.mdns_page.specs.declared.kept_records.TimelinePart.TheVariants.{Addresses, Instances, Names}
 use Rattle.mdns_page.specs.TimelineRows.{IsCounted}
-use Rattle.mdns_page.specs.OtherRows.{has_address}
-use Rattle.mdns_page.specs.Servers.{IsServed, is_srv}
+use Rattle.mdns_page.specs.Servers.{servers_of}
 use Rattle.mdns_page.specs.Timeline.{Row, record_in}
 
 -- the last hearings of rows
@@ -33,7 +33,8 @@ is_drawn about lasts last = is_some (name_if (keeps_heard about lasts) (instance
 abbrev pub is_kept : List Subject → List Latest → Latest → Bool
 is_kept about lasts last =
     if is_some (instance_given last) then is_drawn about lasts last
-    else (if has_address (body_of last) || is_some (other_given last) then keeps_record about last.resource else is_srv (body_of last))
+    else (if is_some (address_of (body_of last)) || is_some (other_given last) then keeps_record about last.resource
+    else is_some (service_of (body_of last)))
 
 -- of the records that were heard those that the page keeps
 abbrev pub kept_of : List Subject → List (Latest × List Life) → List (Latest × List Life)
@@ -42,7 +43,7 @@ kept_of about rows = filter (λ row. is_kept about (looked_up about rows) row.0)
 -- the record has its row in this part of the timeline
 abbrev pub is_of : TimelinePart → Latest → Bool
 is_of Instances last = is_some (instance_given last)
-is_of Addresses last = has_address (body_of last)
+is_of Addresses last = is_some (address_of (body_of last))
 is_of Names last = is_some (other_given last)
 
 -- The rows are those of this part of the timeline, each with the lives of its name's servers, and with how often each capture heard
@@ -51,4 +52,4 @@ pub record AreRows (kind : TimelinePart) (large : Bool) (each : List (List Heari
     : Type 0 where
   pub are : map record_in rows ≡ filter (λ row. is_of kind row.0) (if large then [] else kept)
   pub counted : All (IsCounted each) rows
-  pub served : All (IsServed kept) rows
+  pub served : All (λ (row : Row). row.servers ≡ servers_of kept (body_of row.last)) rows

@@ -1,15 +1,9 @@
 -- Rows of records that give no instance: the addresses of hosts, and names that aren't one label and the type.
-use Rattle.std.specs.Prelude.{ℕ, nat_lt, Bool, if◌then◌else◌, List, [], ◌++◌, codes, is_some}
-use Rattle.mdns_message.specs.Resource.{Body}
-use Rattle.mdns_message.specs.Parts.{address_of}
+use Rattle.std.specs.Prelude.{ℕ, nat_lt, Bool, if◌then◌else◌, List, [], ◌++◌, codes}
 use Rattle.mdns_message.specs.declared.parts.Address.{Address}
 use Rattle.people_text.specs.Shown.{name_shown}
 use Rattle.mdns_browse.specs.RecordShown.{shown_address}
 use Rattle.mdns_page.specs.Counts.{live_count_text}
-
--- the data is an address: that of A and AAAA records is
-abbrev pub has_address : Body → Bool
-has_address b = is_some (address_of b)
 
 -- so many instances that other records have no rows, and no row has lanes
 abbrev pub is_large : ℕ → Bool

@@ -3,12 +3,12 @@
 ghost use Rattle.std.specs.Prelude.{◌≡◌, ◌++◌, ◌||◌, ◌∷◌, [], if◌then◌else◌, is_some, IfOk, OnOk, map};
 ghost use Rattle.std.specs.List.{filter};
 ghost use Rattle.std.specs.List.Sorted.{IsStrictlySortedBy};
+ghost use Rattle.mdns_message.specs.Parts.{address_of};
 ghost use Rattle.mdns_message.specs.Resource.{key_cmp};
 ghost use Rattle.mdns_cache.specs.Live.{record_of};
 ghost use Rattle.mdns_cache.specs.LentRecords.{last_lent};
 ghost use Rattle.mdns_lives.specs.LentLives.{row_lent};
 ghost use Rattle.mdns_browse.specs.Services.{body_of, other_given};
-ghost use Rattle.mdns_page.specs.OtherRows.{has_address};
 ghost use Rattle.mdns_page.specs.KeptRecords.{is_drawn, is_kept, is_of};
 
 use crate::other_rows::has_address;
@@ -105,7 +105,7 @@ pub(crate) fn is_drawn(
 
 // Checks that a record is of an address, or of a name that isn't one label and the type.
 fn is_apart(last: &Last<'_>) -> bool
-    ensures { result ≡ (has_address (body_of (last_lent last.now)) || is_some (other_given (last_lent last.now))) }
+    ensures { result ≡ (is_some (address_of (body_of (last_lent last.now))) || is_some (other_given (last_lent last.now))) }
 {
     has_address(&last.resource.body) || other_of(last).is_some()
 }

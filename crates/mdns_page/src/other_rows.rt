@@ -1,9 +1,10 @@
 //! Rows of records that give no instance, which are addresses of hosts, and names that aren't one label and the type: what
 //! they are called.
 
-ghost use Rattle.std.specs.Prelude.{◌≡◌, ◌++◌, codes, if◌then◌else◌, OnOk};
+ghost use Rattle.std.specs.Prelude.{◌≡◌, ◌++◌, codes, if◌then◌else◌, is_some, OnOk};
 ghost use Rattle.std.specs.String.{string_bytes};
-ghost use Rattle.mdns_page.specs.OtherRows.{has_address, host_name, is_large, large_note, others_words};
+ghost use Rattle.mdns_message.specs.Parts.{address_of};
+ghost use Rattle.mdns_page.specs.OtherRows.{host_name, is_large, large_note, others_words};
 ghost use Rattle.mdns_page.specs.Html.{isolated};
 ghost use Rattle.people_text.specs.Shown.{name_shown};
 
@@ -18,7 +19,7 @@ const LARGE_INSTANCES: usize = 1000;
 
 /// Checks that data is an address.
 pub(crate) fn has_address(body: &Body) -> bool
-    ensures { result ≡ has_address body.now }
+    ensures { result ≡ is_some (address_of body.now) }
 {
     body.address().is_some()
 }

@@ -1,7 +1,8 @@
 //! The servers of instances: their SRV records among all that were heard, in key order.
 
-ghost use Rattle.std.specs.Prelude.{◌≡◌, length, map};
+ghost use Rattle.std.specs.Prelude.{◌≡◌, is_some, map};
 ghost use Rattle.std.specs.List.Sorted.{IsStrictlySortedBy};
+ghost use Rattle.mdns_message.specs.Parts.{service_of};
 ghost use Rattle.mdns_message.specs.Resource.{key_cmp, set_key_cmp, set_key_of, type_number};
 ghost use Rattle.mdns_message.specs.declared.record_type.RecordType.TheVariants.{Srv};
 ghost use Rattle.mdns_cache.specs.Live.{record_of};
@@ -9,7 +10,7 @@ ghost use Rattle.mdns_cache.specs.LentRecords.{last_lent};
 ghost use Rattle.mdns_lives.specs.LentLives.{row_lent};
 ghost use Rattle.mdns_browse.specs.Services.{body_of, set_for};
 ghost use Rattle.mdns_page.specs.KeptRecords.{lasts_of};
-ghost use Rattle.mdns_page.specs.Servers.{is_srv, servers_named, servers_of};
+ghost use Rattle.mdns_page.specs.Servers.{servers_named, servers_of};
 ghost use Rattle.mdns_page.specs.Timeline.{lives_lent};
 
 use dns_name::fold::folded_cmp;
@@ -20,7 +21,7 @@ use std::cmp::Ordering;
 
 /// Checks that a record is an SRV record.
 pub(crate) fn is_server(last: &Last<'_>) -> bool
-    ensures { result ≡ is_srv (body_of (last_lent last.now)) }
+    ensures { result ≡ is_some (service_of (body_of (last_lent last.now))) }
 {
     last.resource.body.service().is_some()
 }

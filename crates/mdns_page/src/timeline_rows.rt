@@ -6,12 +6,12 @@ ghost use Rattle.std.specs.List.Sorted.{IsStrictlySortedBy};
 ghost use Rattle.mdns_message.specs.Resource.{key_cmp, key_of};
 ghost use Rattle.mdns_message.specs.declared.hearing.Hearing.{Hearing};
 ghost use Rattle.mdns_cache.specs.Live.{record_of};
-ghost use Rattle.mdns_browse.specs.Services.{AreEach};
+ghost use Rattle.mdns_browse.specs.Services.{AreEach, body_of};
 ghost use Rattle.mdns_lives.specs.Chronicle.{Chronicles};
 ghost use Rattle.mdns_lives.specs.LentLives.{row_lent};
 ghost use Rattle.mdns_page.specs.TimelineRows.{AreShownBy, IsCounted, shown_seconds};
 ghost use Rattle.mdns_page.specs.KeptRecords.{is_of, lasts_of};
-ghost use Rattle.mdns_page.specs.Servers.{IsServed};
+ghost use Rattle.mdns_page.specs.Servers.{servers_of};
 ghost use Rattle.mdns_page.specs.Timeline.{counted_lent, record_in, seconds_lent};
 
 use crate::captures::FEW_CAPTURES;
@@ -47,7 +47,7 @@ pub(crate) fn counted_rows<'a>(
     ensures heard { IfOk result (λ rows. (each : List (List Hearing)) → AreEach Chronicles captures.now each
         → All (IsCounted each) (map counted_lent rows.items)) }
     ensures servers { IfOk result (λ rows. IsStrictlySortedBy key_cmp (map record_of (lasts_of (map row_lent servers.now)))
-        → All (IsServed (map row_lent servers.now)) (map counted_lent rows.items)) }
+        → All (λ row. row.servers ≡ servers_of (map row_lent servers.now) (body_of row.last)) (map counted_lent rows.items)) }
 {
     let mut rows = Vec::new(alloc);
     for record in records {
@@ -70,7 +70,7 @@ fn counted_row<'a>(
     ensures heard { IfOk result (λ row. (each : List (List Hearing)) → AreEach Chronicles captures.now each
         → IsCounted each (counted_lent row)) }
     ensures servers { IfOk result (λ row. IsStrictlySortedBy key_cmp (map record_of (lasts_of (map row_lent servers.now)))
-        → IsServed (map row_lent servers.now) (counted_lent row)) }
+        → (counted_lent row).servers ≡ servers_of (map row_lent servers.now) (body_of (counted_lent row).last)) }
 {
     let heard = heard_by(alloc, captures, record.last.resource)?;
     Ok(CountedRow {

@@ -1,9 +1,9 @@
 use Rattle.std.proofs.Common.{◌≡◌, ◌∙◌, ◌||◌, ap, is_some, sym, true, false}
 use Rattle.std.proofs.lemmas.Result.{IfOk-weaker}
 use Rattle.mdns_cache.specs.LentRecords.{last_lent}
+use Rattle.mdns_message.specs.Parts.{address_of}
 use Rattle.mdns_browse.specs.About.{keeps_record}
 use Rattle.mdns_browse.specs.Services.{body_of, instance_given, other_given}
-use Rattle.mdns_page.specs.OtherRows.{has_address}
 use Rattle.mdns_page.proofs.KeptLemmas.{some-mapped}
 use Rattle.mdns_page.proofs.kept_records.is_kept.Goals as goal
 
@@ -19,7 +19,7 @@ returns-then-is_apart c =
     let last = last_lent c.args.last.now in
     let gives : false ≡ is_some (instance_given last) =
     sym c.if-is_some.false ∙ c.is_some.ensures ∙ some-mapped _ _ _ c.instance_of.ensures.given in
-    let apart : true ≡ (has_address (body_of last) || is_some (other_given last)) = sym c.if-is_apart.true ∙ c.is_apart.ensures in
+    let apart : true ≡ (is_some (address_of (body_of last)) || is_some (other_given last)) = sym c.if-is_apart.true ∙ c.is_apart.ensures in
     IfOk-weaker c.keeps_record.result _ _
     (λ is same sorted. rw (sym gives, sym apart) (same ∙ ap (keeps_record c.args.about.now) c.borrowed.ensures))
     c.keeps_record.ensures
@@ -29,5 +29,5 @@ returns c sorted =
     let last = last_lent c.args.last.now in
     let gives : false ≡ is_some (instance_given last) =
     sym c.if-is_some.false ∙ c.is_some.ensures ∙ some-mapped _ _ _ c.instance_of.ensures.given in
-    let apart : false ≡ (has_address (body_of last) || is_some (other_given last)) = sym c.if-is_apart.false ∙ c.is_apart.ensures in
+    let apart : false ≡ (is_some (address_of (body_of last)) || is_some (other_given last)) = sym c.if-is_apart.false ∙ c.is_apart.ensures in
     rw (sym gives, sym apart) c.is_server.ensures

@@ -1,15 +1,17 @@
-use Rattle.std.proofs.Common.{◌-◌, drop, length, rules, take}
+use Rattle.std.proofs.Common.{◌-◌, List, drop, length, rules, take}
 use Rattle.std.proofs.lemmas.List.Sorted.{IsPartitionPoint-from_clause}
-use Rattle.std.specs.Ordering.{is_le, is_lt}
-use Rattle.mdns_message.specs.Resource.{type_number}
+use Rattle.std.specs.Ordering.{is_eq, is_le, is_lt}
+use Rattle.mdns_message.specs.Resource.{set_key_cmp, type_number}
 use Rattle.mdns_message.specs.declared.record_type.RecordType.TheVariants as kind
+use Rattle.mdns_join.specs.declared.latest.Latest.{Latest}
 use Rattle.mdns_cache.specs.Live.{record_of}
 use Rattle.mdns_cache.specs.LentRecords.{last_lent}
 use Rattle.mdns_lives.specs.LentLives.{row_lent}
+use Rattle.mdns_lives.specs.declared.life.Life.{Life}
 use Rattle.mdns_lives.specs.declared.lives.RecordLives.{RecordLives}
 use Rattle.mdns_browse.specs.Services.{set_for}
 use Rattle.mdns_browse.proofs.SearchLemmas.{after_whole, against, filter-rest, parted_after, parted_below}
-use Rattle.mdns_page.proofs.ServerLemmas.{ascending-lent, named-lent}
+use Rattle.mdns_page.proofs.ServerLemmas.{ascending-lent, passing-lent}
 use Rattle.mdns_page.proofs.servers.servers_named.Goals as goal
 
 pub returns : goal.returns
@@ -28,5 +30,5 @@ returns c ascending =
     let upto =
     IsPartitionPoint-from_clause (λ row. is_le (against key set row)) after count c.partition_point-count.ensures.partitioned
     (parted_after key set rows after first whole sorted) (λ a r q k. search rules) in
-    named-lent row_lent rows (take count after) c.args.name.now
+    passing-lent row_lent rows (take count after) (λ (row : Latest × List Life). is_eq (set_key_cmp (record_of row.0).set set))
     (filter-rest key set rows after first count whole c.partition_point-count.ensures.bound below upto)

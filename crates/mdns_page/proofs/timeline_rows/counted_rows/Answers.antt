@@ -1,12 +1,13 @@
-use Rattle.std.proofs.Common.{◌∙◌, ◌++◌, ◌∷◌, [], List, ap, cond, map, sym}
+use Rattle.std.proofs.Common.{◌≡◌, ◌∙◌, ◌++◌, ◌∷◌, [], List, ap, cond, map, sym}
 use Rattle.std.proofs.lemmas.List.{append-nil, map-append}
 use Rattle.mdns_join.specs.declared.latest.Latest.{Latest}
 use Rattle.mdns_lives.specs.LentLives.{row_lent}
 use Rattle.mdns_lives.specs.declared.life.Life.{Life}
+use Rattle.mdns_browse.specs.Services.{body_of}
 use Rattle.mdns_page.specs.TimelineRows.{IsCounted}
 use Rattle.mdns_page.specs.KeptRecords.{is_of}
-use Rattle.mdns_page.specs.Servers.{IsServed}
-use Rattle.mdns_page.specs.Timeline.{counted_lent, record_in}
+use Rattle.mdns_page.specs.Servers.{servers_of}
+use Rattle.mdns_page.specs.Timeline.{Row, counted_lent, record_in}
 use Rattle.mdns_page.proofs.CountedLemmas.{row-more}
 use Rattle.mdns_page.proofs.KeptLemmas.{kept-more}
 use Rattle.mdns_page.proofs.timeline_rows.counted_rows.Goals as goal
@@ -41,5 +42,5 @@ loop-record-preserved c =
           ∙ sym (kept-more keep row_lent c.args.records.now c.loop-record.record-index c.record-item.result _ c.loop-record-test.true
           c.record-item.is so_far.0),
       λ each are. row-more (IsCounted each) rows row _ pushed (so_far.1 each are) (made.heard each are),
-      λ sorted. row-more (IsServed (map row_lent c.args.servers.now)) rows row _ pushed (so_far.2 sorted) (made.servers sorted),
+      λ sorted. row-more (λ (row : Row). row.servers ≡ servers_of (map row_lent c.args.servers.now) (body_of row.last)) rows row _ pushed (so_far.2 sorted) (made.servers sorted),
     )
