@@ -1,39 +1,40 @@
 -- Pages on which names aren't written are equal where they agree but for names.
 use Rattle.std.proofs.Common.{◌≡◌, refl, sym, ◌∙◌, ap, ℕ, ◌+◌, ◌==◌, nat_le, Bool, true, false, if◌then◌else◌, Option, None, Some}
 use Rattle.std.proofs.Common.{List, [], ◌∷◌, ◌++◌, ◌-◌, codes, length, map, arith}
-use Rattle.std.specs.Prelude.{nat_lt, slice_get}
-use Rattle.std.specs.List.{filter_map, flat_map}
+use Rattle.std.specs.Prelude.{nat_lt, not, option_map, slice_get, unwrap_or}
+use Rattle.std.specs.List.{filter_map, flat_map, join_by}
 use Rattle.mdns_message.specs.Resource.{Body}
 use Rattle.mdns_message.specs.TextData.{strings_of}
-use Rattle.mdns_message.specs.Parts.{content_of}
+use Rattle.mdns_message.specs.Parts.{address_of, content_of}
+use Rattle.mdns_message.specs.declared.body.RecordData.TheVariants as body
 use Rattle.mdns_message.specs.declared.parts.Address.{Address}
-use Rattle.mdns_message.specs.declared.parts.Content.{Content}
-use Rattle.mdns_message.specs.declared.parts.Content.TheVariants as content
 use Rattle.mdns_lives.specs.declared.life.Life.{Life}
 use Rattle.mdns_lives.specs.declared.life.Reason.TheVariants.{RanOut, Goodbye, Flushed}
 use Rattle.mdns_browse.specs.declared.about.Subject.{Subject}
 use Rattle.mdns_browse.specs.declared.instance.Server.{Server}
 use Rattle.mdns_join.specs.declared.latest.Latest.{Latest}
 use Rattle.mdns_browse.specs.Services.{GivenRow, InstanceRow, instance_row_in}
-use Rattle.mdns_browse.specs.RecordShown.{shown_string, shown_strings}
+use Rattle.people_text.specs.MomentText.{duration_text}
+use Rattle.people_text.specs.Shown.{shown}
+use Rattle.mdns_browse.specs.RecordShown.{shown_address, shown_string, shown_strings}
 use Rattle.mdns_page.specs.declared.axis.Axis.{Axis}
 use Rattle.mdns_page.specs.Bare.{BareLive, BareRow, bare_capture, bare_end}
 use Rattle.mdns_page.specs.Bare.{bare_group, bare_groups, bare_instances, bare_live}
 use Rattle.mdns_page.specs.Bare.{bare_row, bare_server, bare_text, is_some_filled, unsaid}
 use Rattle.mdns_page.specs.Captures.{Facts, capture_text, captures_text, each_from}
-use Rattle.mdns_page.specs.Group.{grouped}
+use Rattle.mdns_page.specs.Axis.{short_text}
+use Rattle.mdns_page.specs.Group.{grouped, item}
 use Rattle.mdns_page.specs.OtherRows.{host_name, is_large}
 use Rattle.mdns_page.specs.Lanes.{lanes_for}
 use Rattle.mdns_page.specs.Lead.{about_line, ending_warning, is_ended, is_leaving, lead_text, live_line, subject_text}
 use Rattle.mdns_page.specs.Picture.{goes_on}
-use Rattle.mdns_page.specs.LiveSection.{address_if, address_in, address_said, addresses_html, left_words, live_group, live_row, live_text, paragraph, server_html}
-use Rattle.mdns_page.specs.LiveSection.{address_html, servers_html, text_html}
-use Rattle.mdns_page.specs.LiveSection.{type_of}
+use Rattle.mdns_page.specs.LiveSection.{address_html, live_group, live_row, live_text, server_html, text_html, type_of}
 use Rattle.mdns_page.specs.Document.{Shown, page}
 use Rattle.mdns_page.specs.Timeline.{Row, are_titled, count_last, group_text, is_open, is_some_such, lives_in, others_group}
 use Rattle.mdns_page.specs.Timeline.{content_name, owner_of, row_text, timeline}
 use Rattle.mdns_page.specs.declared.look.Look.{Look}
 use Rattle.mdns_page.proofs.GroupLemmas.{grouped-all}
+use Rattle.mdns_page.proofs.LiveWordLemmas.{some-items}
 use Rattle.mdns_page.proofs.SameLists.{append-same, count-same, flat_map-alike, flat_map-same, groups-same, length-same, map-same}
 
 -- ---- captures
@@ -117,20 +118,20 @@ bare_name : Option Address → List ℕ
 bare_name None = []
 bare_name (Some address) = host_name unsaid [] address
 
-name-bare : (whole : Bool) (owner : List ℕ) (said : Content (List ℕ) (List ℕ))
-    → content_name unsaid whole owner said ≡ bare_name (address_said said)
+name-bare : (whole : Bool) (owner : List ℕ) (b : Body) → content_name unsaid whole owner (content_of b) ≡ bare_name (address_of b)
 unfolding bare_name host_name
-name-bare whole owner (content.Address address) = refl
-name-bare whole owner (content.Name name) = refl
-name-bare whole owner (content.Strings strings) = refl
-name-bare whole owner (content.Service service) = refl
+name-bare whole owner (body.A octets) = refl
+name-bare whole owner (body.Aaaa octets) = refl
+name-bare whole owner (body.Ptr target) = refl
+name-bare whole owner (body.Txt strings) = refl
+name-bare whole owner (body.Srv priority weight port target) = refl
 
 row-same : (whole : Bool) (look : Look) (row other : Row) → bare_row row ≡ bare_row other
     → row_text unsaid whole look row ≡ row_text unsaid whole look other
 unfolding row_text
 row-same whole look row other same =
-    let name = name-bare whole (owner_of row) (content_of row.last.resource.body) ∙ ap (λ (bare : BareRow). bare_name bare.0) same
-    ∙ sym (name-bare whole (owner_of other) (content_of other.last.resource.body)) in
+    let name = name-bare whole (owner_of row) row.last.resource.body ∙ ap (λ (bare : BareRow). bare_name bare.0) same
+    ∙ sym (name-bare whole (owner_of other) other.last.resource.body) in
     let lives : row.lives ≡ other.lives = ap (λ (bare : BareRow). bare.1) same in
     let servers : row.servers ≡ other.servers = ap (λ (bare : BareRow). bare.2) same in
     let captures : row.captures ≡ other.captures = ap (λ (bare : BareRow). bare.3) same in
@@ -192,9 +193,12 @@ timeline-same axis lanes rows drawn addresses hosts names apart same_groups same
 
 -- ---- instances
 
+-- how much longer an instance lives
+abbrev left_words : ℕ → GivenRow → List ℕ
+left_words now given = if given.last.ttl == 0 then codes "said goodbye" else duration_text (given.end - now) ++ codes " left"
+
 left-same_by : (now : ℕ) (given other : GivenRow) (is was : Bool) → (given.last.ttl == 0) ≡ is → (other.last.ttl == 0) ≡ was
     → bare_end given ≡ bare_end other → left_words now given ≡ left_words now other
-unfolding left_words
 left-same_by now given other true true said said_too same = rw (said, said_too) refl
 left-same_by now given other true false said not same =
     let ends = rw (said, not) at same in cc
@@ -208,65 +212,59 @@ left-same_by now given other false false not not_either same =
 left-same : (now : ℕ) (given other : GivenRow) → bare_end given ≡ bare_end other → left_words now given ≡ left_words now other
 left-same now given other same = left-same_by now given other (given.last.ttl == 0) (other.last.ttl == 0) refl refl same
 
-addresses-same : (first : Bool) (addresses others : List Body) → map address_in addresses ≡ map address_in others
-    → addresses_html first addresses ≡ addresses_html first others
-addresses-same first [] [] same = refl
-addresses-same first [] (other ∷ others) same = cc
-addresses-same first (address ∷ addresses) [] same = cc
-addresses-same first (address ∷ addresses) (other ∷ others) same =
-    let here : address_in address ≡ address_in other = cc in
-    let rest : map address_in addresses ≡ map address_in others = cc in
-    let text : address_html first address ≡ address_html first other =
-    λ i. (if first then [] else 32 ∷ []) ++ (codes "<code>" ++ address_if (here i) ++ codes "</code>") in
-    λ i. text i ++ addresses-same false addresses others rest i
+-- an address by what is said of it
+abbrev address_by : Option Address → List ℕ
+address_by found = codes "<code>" ++ unwrap_or (option_map shown_address found) [] ++ codes "</code>"
+
+addresses-same : (addresses others : List Body) → map address_of addresses ≡ map address_of others
+    → join_by address_html (32 ∷ []) addresses ≡ join_by address_html (32 ∷ []) others
+addresses-same [] [] same = refl
+addresses-same [] (other ∷ others) same = cc
+addresses-same (address ∷ addresses) [] same = cc
+addresses-same (address ∷ addresses) (other ∷ others) same =
+    let here : address_of address ≡ address_of other = cc in
+    let rest : map address_of addresses ≡ map address_of others = cc in
+    let after : flat_map (λ address. (32 ∷ []) ++ address_html address) addresses
+    ≡ flat_map (λ address. (32 ∷ []) ++ address_html address) others =
+    flat_map-same (λ (b : Body). address_of b) (λ (b : Body). (32 ∷ []) ++ address_html b)
+    (λ a b same. ap (λ (found : Option Address). (32 ∷ []) ++ address_by found) same) addresses others rest in
+    λ i. address_by (here i) ++ after i
 
 server-same : (server other : Server) → bare_server server ≡ bare_server other → server_html unsaid server ≡ server_html unsaid other
 server-same server other same =
     let priority : server.priority ≡ other.priority = ap (λ (bare : ℕ × ℕ × ℕ × List (Option Address)). bare.0) same in
     let weight : server.weight ≡ other.weight = ap (λ (bare : ℕ × ℕ × ℕ × List (Option Address)). bare.1) same in
     let port : server.port ≡ other.port = ap (λ (bare : ℕ × ℕ × ℕ × List (Option Address)). bare.2) same in
-    let addresses = addresses-same true server.addresses other.addresses (ap (λ (bare : ℕ × ℕ × ℕ × List (Option Address)). bare.3) same) in
+    let addresses = addresses-same server.addresses other.addresses (ap (λ (bare : ℕ × ℕ × ℕ × List (Option Address)). bare.3) same) in
     rw (priority, weight, port, addresses) refl
 
-servers-same : (servers others : List Server) → map bare_server servers ≡ map bare_server others
-    → servers_html unsaid servers ≡ servers_html unsaid others
-servers-same [] [] same = refl
-servers-same [] (other ∷ others) same = cc
-servers-same (server ∷ servers) [] same = cc
-servers-same (server ∷ servers) (other ∷ others) same =
-    flat_map-same bare_server (server_html unsaid) server-same (server ∷ servers) (other ∷ others) same
-
-bare_paragraph : Bool → List ℕ
-bare_paragraph filled = if filled then paragraph unsaid ([] ∷ []) else []
-
-paragraph-bare : (strings : List (List ℕ)) → paragraph unsaid (flat_map shown_string strings) ≡ bare_paragraph (is_some_filled strings)
-unfolding bare_paragraph
-paragraph-bare [] = refl
-paragraph-bare ([] ∷ strings) = paragraph-bare strings
-paragraph-bare ((byte ∷ bytes) ∷ strings) = refl
-
-text-bare : (text : List ℕ) → text_html unsaid text ≡ bare_paragraph (bare_text text)
-unfolding shown_strings
-text-bare text = paragraph-bare (strings_of text)
+none-filled : (strings : List (List ℕ)) → (length (flat_map shown_string strings) == 0) ≡ not (is_some_filled strings)
+none-filled [] = refl
+none-filled ([] ∷ strings) = none-filled strings
+none-filled ((byte ∷ bytes) ∷ strings) = some-items (shown (byte ∷ bytes)) (flat_map shown_string strings)
 
 text-same : (text other : List ℕ) → bare_text text ≡ bare_text other → text_html unsaid text ≡ text_html unsaid other
-text-same text other same = text-bare text ∙ ap bare_paragraph same ∙ sym (text-bare other)
+unfolding shown_strings
+text-same text other same =
+    let none = none-filled (strings_of text) ∙ ap not same ∙ sym (none-filled (strings_of other)) in
+    λ i. if none i then [] else codes "<p>" ++ [] ++ codes "</p>"
 
 live_row-same : (axis : Axis) (row other : InstanceRow) → bare_live row ≡ bare_live other
     → live_row unsaid axis row ≡ live_row unsaid axis other
 unfolding live_row
 live_row-same axis row other same =
     let since : row.given.since ≡ other.given.since = ap (λ (bare : BareLive). bare.0) same in
-    let end : bare_end row.given ≡ bare_end other.given = ap (λ (bare : BareLive). bare.1) same in
-    let servers : map bare_server row.instance.servers ≡ map bare_server other.instance.servers =
+    let left = left-same axis.end.nanos row.given other.given (ap (λ (bare : BareLive). bare.1) same) in
+    let bare_servers : map bare_server row.instance.servers ≡ map bare_server other.instance.servers =
     ap (λ (bare : BareLive). bare.2) same in
-    let texts : map bare_text row.instance.texts ≡ map bare_text other.instance.texts = ap (λ (bare : BareLive). bare.3) same in
-    rw (
-      left-same axis.end.nanos row.given other.given end,
-      since,
-      servers-same row.instance.servers other.instance.servers servers,
-      flat_map-same bare_text (text_html unsaid) text-same row.instance.texts other.instance.texts texts,
-    ) refl
+    let count = length-same bare_server row.instance.servers other.instance.servers bare_servers in
+    let servers =
+    flat_map-same bare_server (server_html unsaid) server-same row.instance.servers other.instance.servers bare_servers in
+    let texts = flat_map-same bare_text (text_html unsaid) text-same row.instance.texts other.instance.texts
+    (ap (λ (bare : BareLive). bare.3) same) in
+    λ i. item (codes "<small>" ++ unwrap_or (option_map (λ from. codes "since " ++ short_text axis.dates from ++ codes ", ") (since i)) []
+    ++ left i ++ codes "</small>")
+    (codes "<div>" ++ (if count i == 0 then codes "<p>unresolved</p>" else servers i) ++ codes "</div>") (texts i)
 
 live_group-same : (axis : Axis) (opened : Bool) (lasts others : List Latest) (given more : List GivenRow)
     → bare_group lasts given ≡ bare_group others more

@@ -3,7 +3,7 @@ use Rattle.std.proofs.Common.{◌≡◌, refl, sym, ◌∙◌, ap, subst, ℕ, s
 use Rattle.std.proofs.Common.{length, map, take, arith, codes}
 use Rattle.std.proofs.lemmas.Bool.Decides.{nat_tests}
 use Rattle.std.proofs.lemmas.List.{append-nil, append_assoc}
-use Rattle.std.specs.List.{filter_map, flat_map}
+use Rattle.std.specs.List.{filter_map, flat_map, join_by}
 use Rattle.std.specs.String.{string_bytes}
 use Rattle.mdns_message.specs.Resource.{Body}
 use Rattle.mdns_join.specs.declared.latest.Latest.{Latest}
@@ -18,8 +18,7 @@ use Rattle.mdns_page.specs.declared.live_sheet.LiveSheet.{LiveSheet}
 use Rattle.mdns_page.specs.Group.{grouped}
 use Rattle.mdns_page.specs.Html.{isolated}
 use Rattle.mdns_page.specs.LiveSection.{live_text}
-use Rattle.mdns_page.specs.LiveSection.{address_html, addresses_html, given_words, live_group, live_row, server_html}
-use Rattle.mdns_page.specs.LiveSection.{server_line, servers_html, text_html, type_of}
+use Rattle.mdns_page.specs.LiveSection.{address_html, given_words, live_group, live_row, server_html, server_line, text_html, type_of}
 use Rattle.mdns_page.specs.LiveSheet.{Adds, Grows, pieces_html, pieces_next, type_begin}
 use Rattle.mdns_page.specs.laws.LiveSheet.{pieces-append}
 
@@ -30,6 +29,10 @@ each-count Is (x ∷ xs) [] each = absurd each
 each-count Is (x ∷ xs) (y ∷ ys) each = ap suc (each-count Is xs ys each.1)
 
 -- ---- the text of a row, by its pieces
+
+-- the servers of an instance
+abbrev servers_html : (List ℕ → List ℕ) → List Server → List ℕ
+servers_html say servers = if length servers == 0 then codes "<p>unresolved</p>" else flat_map (server_html say) servers
 
 module _ (say : List ℕ → List ℕ) (axis : Axis) where
   -- the pieces of each value, if each of them has a text whatever is before it
@@ -42,16 +45,21 @@ module _ (say : List ℕ → List ℕ) (axis : Axis) where
       ∙ ap (λ front. front ++ pieces_html say axis (pieces_next first (pieces x)) (flat_map pieces xs)) (same first x)
       ∙ ap (λ rest. text x ++ rest) (each_html pieces text same (pieces_next first (pieces x)) xs)
 
-  addresses_text : (first : Bool) (addresses : List Body)
-      → pieces_html say axis first (map server_address addresses) ≡ addresses_html first addresses
-  addresses_text first [] = refl
-  addresses_text first (address ∷ addresses) = ap (λ text. address_html first address ++ text) (addresses_text false addresses)
+  further_text : (addresses : List Body)
+      → pieces_html say axis false (map server_address addresses) ≡ flat_map (λ address. (32 ∷ []) ++ address_html address) addresses
+  further_text [] = refl
+  further_text (address ∷ addresses) = ap (λ text. (32 ∷ address_html address) ++ text) (further_text addresses)
+
+  addresses_text : (addresses : List Body)
+      → pieces_html say axis true (map server_address addresses) ≡ join_by address_html (32 ∷ []) addresses
+  addresses_text [] = refl
+  addresses_text (address ∷ addresses) = ap (λ text. address_html address ++ text) (further_text addresses)
 
   server_text : (first : Bool) (server : Server) → pieces_html say axis first (server_pieces server) ≡ server_html say server
   server_text first server =
       ap (λ text. server_line say server.priority server.weight server.port server.target ++ text)
       (pieces-append say axis true (map server_address server.addresses) (server_end ∷ []) ∙ append-nil _
-      ∙ addresses_text true server.addresses)
+      ∙ addresses_text server.addresses)
 
   servers_text : (first : Bool) (servers : List Server) → pieces_html say axis first (servers_pieces servers)
       ≡ servers_html say servers ++ (codes "</div>" ++ (codes "<div>"))
@@ -62,9 +70,11 @@ module _ (say : List ℕ → List ℕ) (axis : Axis) where
       ∙ ap (λ front. front ++ pieces_html say axis (pieces_next first (flat_map server_pieces (server ∷ servers)))
       (servers_end (length (server ∷ servers) == 0) ∷ []))
       (each_html server_pieces (server_html say) server_text first (server ∷ servers))
-      ∙ ap (λ (none : Bool). servers_html say (server ∷ servers)
+      ∙ ap (λ (none : Bool). flat_map (server_html say) (server ∷ servers)
       ++ (((if none then codes "<p>unresolved</p>" else []) ++ codes "</div>" ++ (codes "<div>")) ++ [])) some
-      ∙ ap (λ text. servers_html say (server ∷ servers) ++ text) (append-nil (codes "</div>" ++ codes "<div>"))
+      ∙ ap (λ text. flat_map (server_html say) (server ∷ servers) ++ text) (append-nil (codes "</div>" ++ codes "<div>"))
+      ∙ ap (λ (none : Bool). (if none then codes "<p>unresolved</p>" else flat_map (server_html say) (server ∷ servers))
+      ++ (codes "</div>" ++ codes "<div>")) (sym some)
 
   texts_text : (first : Bool) (texts : List (List ℕ)) → pieces_html say axis first (map instance_text texts) ≡ flat_map (text_html say) texts
   texts_text first [] = refl

@@ -1,11 +1,17 @@
--- Strings of a text, one a line.
-use Rattle.std.proofs.Common.{◌≡◌, refl, sym, ◌∙◌, ap, ℕ, Bool, false, if◌then◌else◌, List, [], ◌∷◌, ◌++◌}
+-- Strings of a text, one a line, and an address.
+use Rattle.std.proofs.Common.{◌≡◌, refl, sym, ◌∙◌, ap, arith, ℕ, ◌==◌, Bool, true, false, if◌then◌else◌, List, [], ◌∷◌, ◌++◌, codes, length}
+use Rattle.std.proofs.lemmas.Bool.Decides.{nat_tests}
+use Rattle.std.proofs.lemmas.Grind.{flat_map-append}
 use Rattle.std.proofs.lemmas.List.{append-nil, append_assoc}
+use Rattle.std.specs.List.{flat_map, join_by}
+use Rattle.mdns_message.specs.Borrowed.{BorrowedBody, body_lent}
+use Rattle.mdns_message.specs.Parts.{address_of}
+use Rattle.mdns_message.specs.declared.body.RecordData.TheVariants as body
 use Rattle.mdns_message.specs.TextData.{strings_of}
 use Rattle.mdns_browse.specs.Json.{first_after}
 use Rattle.mdns_browse.specs.RecordShown.{shown_string, shown_strings}
 use Rattle.mdns_browse.specs.laws.JsonPieces.{first_after-append}
-use Rattle.mdns_page.specs.LiveSection.{lines}
+use Rattle.mdns_page.specs.LiveSheet.{lines}
 
 -- the words of one string, and those of the others
 strings-cons : (bytes string after : List ℕ) → strings_of bytes ≡ string ∷ strings_of after
@@ -13,16 +19,19 @@ strings-cons : (bytes string after : List ℕ) → strings_of bytes ≡ string �
 unfolding shown_strings
 strings-cons bytes string after split = rw split refl
 
+further : List ℕ → List ℕ
+further word = 10 ∷ word
+
 first_after-false : {X : Type 0} (xs : List X) → first_after false xs ≡ false
 first_after-false [] = refl
 first_after-false (x ∷ xs) = refl
 
 lines-append : (first : Bool) (xs ys : List (List ℕ)) → lines first (xs ++ ys) ≡ lines first xs ++ lines (first_after first xs) ys
-lines-append first [] ys = refl
-lines-append first (x ∷ xs) ys =
-    ap (λ text. (if first then [] else 10 ∷ []) ++ x ++ text)
-    (lines-append false xs ys ∙ ap (λ next. lines false xs ++ lines next ys) (first_after-false xs))
-    ∙ sym (append_assoc ((if first then [] else 10 ∷ []) ++ x) (lines false xs) (lines false ys))
+lines-append true [] ys = refl
+lines-append true (x ∷ xs) ys =
+    ap (λ text. x ++ text) (flat_map-append further xs ys) ∙ sym (append_assoc x (flat_map further xs) (flat_map further ys))
+lines-append false xs ys =
+    flat_map-append further xs ys ∙ ap (λ next. flat_map further xs ++ lines next ys) (sym (first_after-false xs))
 
 -- a string written takes its word from what is left to write
 pub lines_left-step : (old new total bytes string after : List ℕ) (first next : Bool) → strings_of bytes ≡ string ∷ strings_of after
@@ -54,3 +63,30 @@ pub first_left-end : (bytes : List ℕ) (first last : Bool) → bytes ≡ [] →
 unfolding shown_strings
 first_left-end bytes first last none left =
     ap (λ bytes. first_after first (shown_strings bytes)) (sym none) ∙ left
+
+-- ---- a paragraph of words
+
+pub some-items : {X : Type 0} (x : X) (xs : List X) → (length (x ∷ xs) == 0) ≡ false
+some-items x xs = grind (arith, nat_tests)
+
+module _ (say : List ℕ → List ℕ) where
+  abbrev paragraph : List (List ℕ) → List ℕ
+  paragraph words = codes "<p>" ++ say (join_by (λ word. word) (10 ∷ []) words) ++ codes "</p>"
+
+  pub none-paragraph : (words : List (List ℕ)) → first_after true words ≡ true → (if length words == 0 then [] else paragraph words) ≡ []
+  none-paragraph [] none = refl
+  none-paragraph (word ∷ words) none = absurd cc
+
+  pub some-paragraph : (words : List (List ℕ)) → first_after true words ≡ false
+      → (if length words == 0 then [] else paragraph words) ≡ paragraph words
+  some-paragraph [] some = absurd cc
+  some-paragraph (word ∷ words) some = rw (some-items word words) refl
+
+-- ---- an address
+
+pub address-lent : (b : BorrowedBody) → address_of b ≡ address_of (body_lent b)
+address-lent (body.A octets) = refl
+address-lent (body.Aaaa octets) = refl
+address-lent (body.Ptr target) = refl
+address-lent (body.Txt strings) = refl
+address-lent (body.Srv priority weight port target) = refl

@@ -1,6 +1,7 @@
 -- What a page has apart from names.
 use Rattle.std.specs.Prelude.{ℕ, ◌==◌, if◌then◌else◌, Bool, true, false, Option, None, Some, List, [], ◌∷◌, map}
 use Rattle.std.specs.List.{filter_map}
+use Rattle.mdns_message.specs.Parts.{address_of}
 use Rattle.mdns_message.specs.TextData.{strings_of}
 use Rattle.mdns_message.specs.declared.parts.Address.{Address}
 use Rattle.mdns_join.specs.declared.latest.Latest.{Latest}
@@ -12,7 +13,7 @@ use Rattle.mdns_survey.specs.declared.reading.Span.{Span}
 use Rattle.mdns_survey.specs.declared.summary.Summary.{Summary}
 use Rattle.mdns_page.specs.Captures.{Facts}
 use Rattle.mdns_page.specs.Group.{grouped}
-use Rattle.mdns_page.specs.LiveSection.{address_in, type_of}
+use Rattle.mdns_page.specs.LiveSection.{type_of}
 use Rattle.mdns_page.specs.Timeline.{Row, owner_of}
 
 -- text of the network isn't written at all
@@ -34,7 +35,7 @@ BareRow = Option Address × List Life × List (List Life) × ℕ × List (List S
 -- all but the names in the record
 abbrev pub bare_row : Row → BareRow
 bare_row row =
-    (address_in row.last.resource.body, row.lives, row.servers, row.captures, row.heard)
+    (address_of row.last.resource.body, row.lives, row.servers, row.captures, row.heard)
 
 -- the same of rows in groups by type
 abbrev pub bare_groups : List Row → List (List BareRow)
@@ -49,7 +50,7 @@ bare_end given = if given.last.ttl == 0 then None else Some given.end
 -- all but the name of a server
 abbrev pub bare_server : Server → ℕ × ℕ × ℕ × List (Option Address)
 bare_server server =
-    (server.priority, server.weight, server.port, map address_in server.addresses)
+    (server.priority, server.weight, server.port, map address_of server.addresses)
 
 -- some string isn't empty
 abbrev pub is_some_filled : List (List ℕ) → Bool

@@ -1,13 +1,9 @@
 -- What was live at the end.
-use Rattle.std.specs.Prelude.{ℕ, ◌-◌, ◌==◌, if◌then◌else◌, Bool, true, false, Option, None, Some}
-use Rattle.std.specs.Prelude.{List, [], ◌∷◌, ◌++◌, codes}
+use Rattle.std.specs.Prelude.{ℕ, ◌-◌, ◌==◌, if◌then◌else◌, Bool, List, [], ◌∷◌, ◌++◌, codes, length, option_map, unwrap_or}
 use Rattle.std.specs.Fmt.{decimal}
-use Rattle.std.specs.List.{filter_map, flat_map}
+use Rattle.std.specs.List.{filter_map, flat_map, join_by}
 use Rattle.mdns_message.specs.Resource.{Body}
-use Rattle.mdns_message.specs.Parts.{content_of}
-use Rattle.mdns_message.specs.declared.parts.Address.{Address}
-use Rattle.mdns_message.specs.declared.parts.Content.{Content}
-use Rattle.mdns_message.specs.declared.parts.Content.TheVariants as content
+use Rattle.mdns_message.specs.Parts.{address_of}
 use Rattle.people_text.specs.MomentText.{duration_text, millis_text}
 use Rattle.people_text.specs.Shown.{name_shown}
 use Rattle.mdns_browse.specs.declared.instance.Server.{Server}
@@ -15,51 +11,21 @@ use Rattle.mdns_join.specs.declared.latest.Latest.{Latest}
 use Rattle.mdns_browse.specs.Services.{GivenRow, InstanceRow, instance_row_in}
 use Rattle.mdns_browse.specs.RecordShown.{shown_address, shown_instance, shown_order, shown_strings, spaced_wide}
 use Rattle.mdns_page.specs.declared.axis.Axis.{Axis}
-use Rattle.mdns_page.specs.declared.axis.Dates.{Dates}
 use Rattle.mdns_page.specs.Axis.{short_text}
 use Rattle.mdns_page.specs.Group.{first_owner, group, grouped, item}
 
--- ---- what is said of an instance
+-- ---- instances
 
--- since when an instance is live, where that is known
-abbrev pub since_text : Dates → Option ℕ → List ℕ
-since_text dates None = []
-since_text dates (Some from) = codes "since " ++ short_text dates from ++ codes ", "
-
--- how much longer it lives, or that it has said goodbye (RFC 6762, section 10.1)
-unfoldable pub left_words : ℕ → GivenRow → List ℕ
-left_words now given = if given.last.ttl == 0 then codes "said goodbye" else duration_text (given.end - now) ++ codes " left"
-
+-- since when an instance is live, where that is known, and how much longer, or that it has said goodbye (RFC 6762, section 10.1)
 abbrev pub given_words : Axis → GivenRow → List ℕ
 given_words axis given =
-    codes "<small>" ++ since_text axis.dates given.since ++ left_words axis.end.nanos given ++ codes "</small>"
+    codes "<small>" ++ unwrap_or (option_map (λ from. codes "since " ++ short_text axis.dates from ++ codes ", ") given.since) []
+    ++ (if given.last.ttl == 0 then codes "said goodbye" else duration_text (given.end - axis.end.nanos) ++ codes " left")
+    ++ codes "</small>"
 
--- ---- servers
-
--- an address, if there is one
-abbrev pub address_if : Option Address → List ℕ
-address_if None = []
-address_if (Some address) = shown_address address
-
--- the address that data says
-abbrev pub address_said : Content (List ℕ) (List ℕ) → Option Address
-address_said (content.Address address) = Some address
-address_said _ = None
-
-abbrev pub address_in : Body → Option Address
-address_in b = address_said (content_of b)
-
--- data that is an address
-abbrev pub address_text : Body → List ℕ
-address_text b = address_if (address_in b)
-
--- an address, after a space unless it is the first
-abbrev pub address_html : (first : Bool) → Body → List ℕ
-address_html first address = (if first then [] else 32 ∷ []) ++ (codes "<code>" ++ address_text address ++ codes "</code>")
-
-abbrev pub addresses_html : Bool → List Body → List ℕ
-addresses_html first [] = []
-addresses_html first (address ∷ addresses) = address_html first address ++ addresses_html false addresses
+-- an address of a server
+abbrev pub address_html : Body → List ℕ
+address_html b = codes "<code>" ++ unwrap_or (option_map shown_address (address_of b)) [] ++ codes "</code>"
 
 -- the target of a server, its port, and its priority and weight unless both are 0 (RFC 2782); the target alone is text of the network,
 -- so that the port is on its right even if the target goes to the left
@@ -69,36 +35,22 @@ server_line say priority weight port target =
 
 abbrev pub server_html : (List ℕ → List ℕ) → Server → List ℕ
 server_html say server =
-    server_line say server.priority server.weight server.port server.target ++ addresses_html true server.addresses
+    server_line say server.priority server.weight server.port server.target ++ join_by address_html (32 ∷ []) server.addresses
 
--- the servers of an instance; where it has none, that is said
-abbrev pub servers_html : (List ℕ → List ℕ) → List Server → List ℕ
-servers_html say [] = codes "<p>unresolved</p>"
-servers_html say (server ∷ servers) = flat_map (server_html say) (server ∷ servers)
-
--- ---- texts
-
--- words, one a line
-abbrev pub lines : (first : Bool) → List (List ℕ) → List ℕ
-lines first [] = []
-lines first (word ∷ words) = (if first then [] else 10 ∷ []) ++ word ++ lines false words
-
--- the paragraph of some words; nothing where there are none
-abbrev pub paragraph : (List ℕ → List ℕ) → List (List ℕ) → List ℕ
-paragraph say [] = []
-paragraph say (word ∷ words) = codes "<p>" ++ say (lines true (word ∷ words)) ++ codes "</p>"
-
--- a text: each of its strings that isn't empty
+-- a text: each of its strings that isn't empty, one a line; nothing where there is none
 abbrev pub text_html : (List ℕ → List ℕ) → List ℕ → List ℕ
-text_html say text = paragraph say (shown_strings text)
+text_html say text =
+    let words = shown_strings text in
+    if length words == 0 then [] else codes "<p>" ++ say (join_by (λ word. word) (10 ∷ []) words) ++ codes "</p>"
 
--- ---- rows and groups
-
--- an instance: its name and since when it is live, its servers, its texts
+-- an instance: its name and since when it is live, its servers, or that it has none, and its texts
 unfoldable pub live_row : (List ℕ → List ℕ) → Axis → InstanceRow → List ℕ
 live_row say axis row =
     item (say (shown_instance row.instance.name) ++ given_words axis row.given)
-    (codes "<div>" ++ servers_html say row.instance.servers ++ codes "</div>") (flat_map (text_html say) row.instance.texts)
+    (codes "<div>" ++ (if length row.instance.servers == 0 then codes "<p>unresolved</p>" else flat_map (server_html say) row.instance.servers)
+    ++ codes "</div>") (flat_map (text_html say) row.instance.texts)
+
+-- ---- groups
 
 -- the type of the instance that a record gives
 abbrev pub type_of : GivenRow → List ℕ

@@ -1,5 +1,7 @@
 -- The pieces of instances as rows of a page.
 use Rattle.std.specs.Prelude.{◌≡◌, ℕ, if◌then◌else◌, Bool, true, false, List, [], ◌∷◌, ◌++◌, codes, string_bytes}
+use Rattle.std.specs.List.{flat_map, join_by}
+use Rattle.mdns_message.specs.Resource.{Body}
 use Rattle.people_text.specs.Shown.{name_shown}
 use Rattle.mdns_browse.specs.RecordShown.{shown_instance}
 use Rattle.mdns_browse.specs.Sheet.{Piece, live_record, service_type, instance_begin, server_begin, server_address}
@@ -9,6 +11,14 @@ use Rattle.mdns_page.specs.declared.live_sheet.LiveSheet.{LiveSheet}
 use Rattle.mdns_page.specs.Html.{isolated}
 use Rattle.mdns_page.specs.LiveSection.{address_html, given_words, server_line, text_html}
 
+-- an address, after a space unless it is the first of its server
+abbrev pub address_after : (first : Bool) → Body → List ℕ
+address_after first address = (if first then [] else 32 ∷ []) ++ address_html address
+
+-- words, one a line; with others before them unless they are the first
+abbrev pub lines : (first : Bool) → List (List ℕ) → List ℕ
+lines first words = if first then join_by (λ word. word) (10 ∷ []) words else flat_map (λ word. 10 ∷ word) words
+
 -- the text of a piece; `first` tells whether an address is the first of its server
 abbrev pub piece_html : (List ℕ → List ℕ) → Axis → Bool → Piece → List ℕ
 piece_html say axis first (live_record row) = []
@@ -16,7 +26,7 @@ piece_html say axis first (service_type name) = []
 piece_html say axis first (instance_begin given name) =
     codes "<li><div>" ++ (say (shown_instance name) ++ given_words axis given) ++ codes "</div>" ++ codes "<div>"
 piece_html say axis first (server_begin priority weight port target) = server_line say priority weight port target
-piece_html say axis first (server_address address) = address_html first address
+piece_html say axis first (server_address address) = address_after first address
 piece_html say axis first server_end = []
 piece_html say axis first (servers_end none) =
     (if none then codes "<p>unresolved</p>" else []) ++ codes "</div>" ++ codes "<div>"

@@ -1,16 +1,18 @@
 //! What a page says of a live instance: since when it is live, its servers, its texts.
 
-ghost use Rattle.std.specs.Prelude.{◌≡◌, ◌∷◌, [], ◌++◌, codes, if◌then◌else◌, true, IfOk, OnOk};
+ghost use Rattle.std.specs.Prelude.{◌≡◌, ◌-◌, ◌==◌, ◌∷◌, [], ◌++◌, codes, if◌then◌else◌, option_map, true, unwrap_or, IfOk, OnOk};
 ghost use Rattle.std.specs.Fmt.{decimal};
 ghost use Rattle.std.specs.String.{string_bytes};
 ghost use Rattle.mdns_message.specs.Borrowed.{body_lent};
-ghost use Rattle.mdns_message.specs.Parts.{content_lent};
+ghost use Rattle.mdns_message.specs.Parts.{address_of};
+ghost use Rattle.people_text.specs.MomentText.{duration_text};
 ghost use Rattle.mdns_browse.specs.Given.{given_lent, nanos_in};
 ghost use Rattle.mdns_browse.specs.Json.{first_after};
-ghost use Rattle.mdns_browse.specs.RecordShown.{shown_order, shown_string, shown_strings, spaced_wide};
+ghost use Rattle.mdns_browse.specs.RecordShown.{shown_address, shown_order, shown_string, shown_strings, spaced_wide};
 ghost use Rattle.mdns_page.specs.Html.{isolated};
-ghost use Rattle.mdns_page.specs.LiveSection.{address_html, address_if, address_said, address_text, given_words, left_words, lines, since_text};
-ghost use Rattle.mdns_page.specs.LiveSection.{text_html};
+ghost use Rattle.mdns_page.specs.Axis.{short_text};
+ghost use Rattle.mdns_page.specs.LiveSection.{given_words, text_html};
+ghost use Rattle.mdns_page.specs.LiveSheet.{address_after, lines};
 
 use crate::axis::{Axis, Dates, push_short};
 use crate::html::push_isolated;
@@ -18,7 +20,7 @@ use mdns_browse::sheet::Given;
 use mdns_browse::{push_shown_address, push_shown_order};
 use mdns_capture::Moment;
 use mdns_message::text_data::first_string;
-use mdns_message::{BorrowedBody, BorrowedName, Content, Want};
+use mdns_message::{Address, BorrowedBody, Want};
 use people_text::durations::push_duration;
 use people_text::shown::push_shown;
 
@@ -33,7 +35,8 @@ pub(crate) fn push_given(to: &mut String, axis: Axis, given: &Given<'_>) -> Resu
 }
 
 fn push_since(to: &mut String, dates: Dates, since: Option<Moment>) -> Result<(), Want>
-    ensures { OnOk result (string_bytes to.new ≡ string_bytes to.old ++ since_text dates (nanos_in since)) }
+    ensures { OnOk result (string_bytes to.new ≡ string_bytes to.old
+        ++ unwrap_or (option_map (λ from. codes "since " ++ short_text dates from ++ codes ", ") (nanos_in since)) []) }
 {
     let Some(from) = since else {
         return Ok(());
@@ -44,9 +47,9 @@ fn push_since(to: &mut String, dates: Dates, since: Option<Moment>) -> Result<()
 }
 
 // Appends how much longer an instance lives, or that it has said goodbye (RFC 6762, section 10.1).
-#[tactic(auto, unfolding(crate::specs::LiveSection::left_words))]
 fn push_left(to: &mut String, now: Moment, given: &Given<'_>) -> Result<(), Want>
-    ensures { OnOk result (string_bytes to.new ≡ string_bytes to.old ++ left_words now.nanos (given_lent given.now)) }
+    ensures { OnOk result (string_bytes to.new ≡ string_bytes to.old ++ (if (given_lent given.now).last.ttl == 0
+        then codes "said goodbye" else duration_text ((given_lent given.now).end - now.nanos) ++ codes " left")) }
 {
     if given.row.last.ttl == 0 {
         return push_word(to, "said goodbye");
@@ -95,7 +98,7 @@ pub(crate) fn push_address(
     first: bool,
     address: &BorrowedBody<'_>,
 ) -> Result<(), Want>
-    ensures { OnOk result (string_bytes to.new ≡ string_bytes to.old ++ address_html first (body_lent address.now)) }
+    ensures { OnOk result (string_bytes to.new ≡ string_bytes to.old ++ address_after first (body_lent address.now)) }
 {
     if !first {
         to.push(' ')?;
@@ -107,21 +110,18 @@ pub(crate) fn push_address(
 
 // Appends an address as people read it. Only A and AAAA records have one.
 fn push_octets(to: &mut String, address: &BorrowedBody<'_>) -> Result<(), Want>
-    ensures { OnOk result (string_bytes to.new ≡ string_bytes to.old ++ address_text (body_lent address.now)) }
+    ensures { OnOk result (string_bytes to.new
+        ≡ string_bytes to.old ++ unwrap_or (option_map shown_address (address_of (body_lent address.now))) []) }
 {
-    push_address_said(to, address.content())
+    push_address_if(to, address.address())
 }
 
-// Appends an address as people read it; nothing where data says something else.
-fn push_address_said(
-    to: &mut String,
-    content: Content<&BorrowedName<'_>, &[u8]>,
-) -> Result<(), Want>
-    ensures { OnOk result (string_bytes to.new ≡ string_bytes to.old ++ address_if (address_said (content_lent content.entry))) }
+fn push_address_if(to: &mut String, address: Option<Address>) -> Result<(), Want>
+    ensures { OnOk result (string_bytes to.new ≡ string_bytes to.old ++ unwrap_or (option_map shown_address address) []) }
 {
-    match content {
-        Content::Address(address) => push_shown_address(to, address),
-        _ => Ok(()),
+    match address {
+        Some(address) => push_shown_address(to, address),
+        None => Ok(()),
     }
 }
 
