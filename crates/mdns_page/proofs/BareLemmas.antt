@@ -24,14 +24,16 @@ use Rattle.mdns_page.specs.Bare.{bare_row, bare_server, bare_text, is_some_fille
 use Rattle.mdns_page.specs.Captures.{Facts, capture_text, captures_text, each_from}
 use Rattle.mdns_page.specs.Axis.{short_text}
 use Rattle.mdns_page.specs.Group.{grouped, item}
-use Rattle.mdns_page.specs.OtherRows.{host_name, is_large}
+use Rattle.mdns_page.specs.OtherRows.{is_large}
 use Rattle.mdns_page.specs.Lanes.{lanes_for}
 use Rattle.mdns_page.specs.Lead.{about_line, ending_warning, is_ended, is_leaving, lead_text, live_line, subject_text}
 use Rattle.mdns_page.specs.Picture.{goes_on}
 use Rattle.mdns_page.specs.LiveSection.{address_html, live_group, live_row, live_text, server_html, text_html, type_of}
 use Rattle.mdns_page.specs.Document.{Shown, page}
-use Rattle.mdns_page.specs.Timeline.{Row, are_titled, count_last, group_text, is_open, is_some_such, lives_in, others_group}
-use Rattle.mdns_page.specs.Timeline.{content_name, owner_of, row_text, timeline}
+use Rattle.mdns_page.specs.Timeline.{Row, content_name, count_last, group_text, group_words, is_open, lives_in, owner_of, row_text}
+use Rattle.mdns_page.specs.Timeline.{timeline}
+use Rattle.mdns_page.specs.declared.kept_records.TimelinePart.{TimelinePart}
+use Rattle.mdns_page.specs.declared.kept_records.TimelinePart.TheVariants.{Addresses, Instances, Names}
 use Rattle.mdns_page.specs.declared.look.Look.{Look}
 use Rattle.mdns_page.proofs.GroupLemmas.{grouped-all}
 use Rattle.mdns_page.proofs.LiveWordLemmas.{some-items}
@@ -73,8 +75,8 @@ captures-same axis captures files same =
 count_last-same : (is : Life → Bool) (rows others : List Row) → map bare_row rows ≡ map bare_row others
     → count_last is rows ≡ count_last is others
 count_last-same is =
-    count-same bare_row (λ row. is_some_such is (slice_get row.lives (length row.lives - 1)))
-    (λ row other bare. ap (λ (b : BareRow). is_some_such is (slice_get b.1 (length b.1 - 1))) bare)
+    count-same bare_row (λ row. unwrap_or (option_map is (slice_get row.lives (length row.lives - 1))) false)
+    (λ row other bare. ap (λ (b : BareRow). unwrap_or (option_map is (slice_get b.1 (length b.1 - 1))) false) bare)
 
 live_line-same : (axis : Axis) (rows others : List Row) → map bare_row rows ≡ map bare_row others
     → live_line axis rows ≡ live_line axis others
@@ -114,24 +116,25 @@ lead-same axis about others rows drawn captures files lost same_about same_rows 
 
 -- ---- rows
 
-bare_name : Option Address → List ℕ
+abbrev bare_name : Option Address → List ℕ
 bare_name None = []
-bare_name (Some address) = host_name unsaid [] address
+bare_name (Some address) = codes " <code>" ++ shown_address address ++ codes "</code>"
 
-name-bare : (whole : Bool) (owner : List ℕ) (b : Body) → content_name unsaid whole owner (content_of b) ≡ bare_name (address_of b)
-unfolding bare_name host_name
-name-bare whole owner (body.A octets) = refl
-name-bare whole owner (body.Aaaa octets) = refl
-name-bare whole owner (body.Ptr target) = refl
-name-bare whole owner (body.Txt strings) = refl
-name-bare whole owner (body.Srv priority weight port target) = refl
+name-bare : (part : TimelinePart) (owner : List ℕ) (b : Body) → content_name unsaid part owner (content_of b) ≡ bare_name (address_of b)
+name-bare part owner (body.A octets) = refl
+name-bare part owner (body.Aaaa octets) = refl
+name-bare Instances owner (body.Ptr target) = refl
+name-bare Addresses owner (body.Ptr target) = refl
+name-bare Names owner (body.Ptr target) = refl
+name-bare part owner (body.Txt strings) = refl
+name-bare part owner (body.Srv priority weight port target) = refl
 
-row-same : (whole : Bool) (look : Look) (row other : Row) → bare_row row ≡ bare_row other
-    → row_text unsaid whole look row ≡ row_text unsaid whole look other
+row-same : (part : TimelinePart) (look : Look) (row other : Row) → bare_row row ≡ bare_row other
+    → row_text unsaid part look row ≡ row_text unsaid part look other
 unfolding row_text
-row-same whole look row other same =
-    let name = name-bare whole (owner_of row) row.last.resource.body ∙ ap (λ (bare : BareRow). bare_name bare.0) same
-    ∙ sym (name-bare whole (owner_of other) other.last.resource.body) in
+row-same part look row other same =
+    let name = name-bare part (owner_of row) row.last.resource.body ∙ ap (λ (bare : BareRow). bare_name bare.0) same
+    ∙ sym (name-bare part (owner_of other) other.last.resource.body) in
     let lives : row.lives ≡ other.lives = ap (λ (bare : BareRow). bare.1) same in
     let servers : row.servers ≡ other.servers = ap (λ (bare : BareRow). bare.2) same in
     let captures : row.captures ≡ other.captures = ap (λ (bare : BareRow). bare.3) same in
@@ -148,24 +151,14 @@ rows-same rows drawn same =
 
 -- ---- the timeline
 
-group-same : (look : Look) (opened : Bool) (rows others : List Row) → map bare_row rows ≡ map bare_row others
-    → group_text unsaid look opened rows ≡ group_text unsaid look opened others
+group-same : (look : Look) (opened : Bool) (part : TimelinePart) (rows others : List Row) → map bare_row rows ≡ map bare_row others
+    → group_text unsaid look opened part rows ≡ group_text unsaid look opened part others
 unfolding group_text
-group-same look opened rows others same =
+group-same look opened part rows others same =
     rw (
       length-same bare_row rows others same,
       count_last-same (goes_on look.axis) rows others same,
-      flat_map-same bare_row (row_text unsaid false look) (row-same false look) rows others same,
-    ) refl
-
-others_group-same : (look : Look) (opened names : Bool) (rows others : List Row) → map bare_row rows ≡ map bare_row others
-    → others_group unsaid look opened names rows ≡ others_group unsaid look opened names others
-unfolding others_group
-others_group-same look opened names rows others same =
-    rw (
-      length-same bare_row rows others same,
-      count_last-same (goes_on look.axis) rows others same,
-      flat_map-same bare_row (row_text unsaid true look) (row-same true look) rows others same,
+      flat_map-same bare_row (row_text unsaid part look) (row-same part look) rows others same,
     ) refl
 
 timeline-same : (axis : Axis) (lanes : ℕ) (rows drawn addresses hosts names apart : List Row) → bare_groups rows ≡ bare_groups drawn
@@ -175,20 +168,20 @@ timeline-same axis lanes rows drawn addresses hosts names apart same_groups same
     let same_rows = rows-same rows drawn same_groups in
     let all_same = append-same bare_row (rows ++ addresses) (drawn ++ hosts) names apart
     (append-same bare_row rows drawn addresses hosts same_rows same_addresses) same_names in
-    let are_titled-same : are_titled (rows ++ addresses ++ names) ≡ are_titled (drawn ++ hosts ++ apart) =
-    ap (λ (lives : List Life). nat_le (length lives) 1000)
-    (flat_map-same bare_row lives_in lives-same (rows ++ addresses ++ names) (drawn ++ hosts ++ apart) all_same) in
-    let look : Look = record { axis = axis; titled = are_titled (drawn ++ hosts ++ apart); lanes = lanes } in
+    let few = λ (lives : List Life). nat_le (length lives) 1000 in
+    let titled-same = ap few (flat_map-same bare_row lives_in lives-same (rows ++ addresses ++ names) (drawn ++ hosts ++ apart) all_same) in
+    let look : Look =
+    record { axis = axis; titled = few (flat_map lives_in (drawn ++ hosts ++ apart)); lanes = lanes } in
     let opened = is_open (length drawn + length hosts + length apart) in
     rw (
-      are_titled-same,
+      titled-same,
       length-same bare_row rows drawn same_rows,
       length-same bare_row addresses hosts same_addresses,
       length-same bare_row names apart same_names,
-      flat_map-same (map bare_row) (group_text unsaid look opened) (group-same look opened) (grouped owner_of rows) (grouped owner_of drawn)
-          same_groups,
-      others_group-same look opened false addresses hosts same_addresses,
-      others_group-same look opened true names apart same_names,
+      flat_map-same (map bare_row) (group_text unsaid look opened Instances) (group-same look opened Instances) (grouped owner_of rows)
+          (grouped owner_of drawn) same_groups,
+      group-same look opened Addresses addresses hosts same_addresses,
+      group-same look opened Names names apart same_names,
     ) refl
 
 -- ---- instances

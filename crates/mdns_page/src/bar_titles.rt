@@ -1,10 +1,10 @@
 //! What bars say of lives.
 
-ghost use Rattle.std.specs.Prelude.{◌≡◌, ◌≤◌, ◌++◌, if◌then◌else◌, length, map, OnOk};
+ghost use Rattle.std.specs.Prelude.{◌≡◌, ◌≤◌, ◌++◌, if◌then◌else◌, length, map, nat_le, OnOk};
 ghost use Rattle.std.specs.List.{flat_map};
 ghost use Rattle.std.specs.String.{string_bytes};
 ghost use Rattle.mdns_browse.specs.LifeText.{reason_text};
-ghost use Rattle.mdns_page.specs.Timeline.{are_titled, counted_lent, lives_in, lives_lent};
+ghost use Rattle.mdns_page.specs.Timeline.{counted_lent, lives_in, lives_lent};
 ghost use Rattle.mdns_page.specs.BarTitles.{IsLess, life_title, still_text};
 
 use crate::timeline_rows::CountedRow;
@@ -23,7 +23,8 @@ pub(crate) fn are_titled(
     addresses: &[CountedRow<'_>],
     names: &[CountedRow<'_>],
 ) -> bool
-    ensures { result ≡ are_titled (map counted_lent rows.now ++ map counted_lent addresses.now ++ map counted_lent names.now) }
+    ensures { result ≡ nat_le (length (flat_map lives_in
+        (map counted_lent rows.now ++ map counted_lent addresses.now ++ map counted_lent names.now))) 1000 }
 {
     left_after_all(rows, addresses, names).is_some()
 }

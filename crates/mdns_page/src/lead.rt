@@ -1,7 +1,7 @@
 //! What a page begins with: how many instances were live at the end of the captures, which instances it shows, and what the
 //! captures lack.
 
-ghost use Rattle.std.specs.Prelude.{◌≡◌, ◌-◌, ◌∷◌, ◌++◌, codes, length, map, slice_get, OnOk};
+ghost use Rattle.std.specs.Prelude.{◌≡◌, ◌-◌, ◌∷◌, ◌++◌, codes, false, length, map, option_map, slice_get, unwrap_or, OnOk};
 ghost use Rattle.std.specs.List.{flat_map};
 ghost use Rattle.std.specs.String.{string_bytes};
 ghost use Rattle.mdns_capture.specs.Text.{ending_text};
@@ -9,7 +9,7 @@ ghost use Rattle.mdns_page.specs.Captures.{facts_lent};
 ghost use Rattle.mdns_page.specs.Html.{isolated};
 ghost use Rattle.mdns_page.specs.Lead.{about_line, ended_text, ending_warning, is_ended, is_leaving, lead_text, live_line};
 ghost use Rattle.mdns_page.specs.Lead.{lost_warning, others_text, said_text, subject_text};
-ghost use Rattle.mdns_page.specs.Timeline.{count_last, counted_lent, is_some_such};
+ghost use Rattle.mdns_page.specs.Timeline.{count_last, counted_lent};
 
 use crate::axis::Axis;
 use crate::captures::{CaptureFacts, push_shown_word};
@@ -97,7 +97,7 @@ fn said_count(axis: Axis, rows: &[CountedRow<'_>]) -> usize
 
 // Checks that the last of some lives goes on, after a goodbye.
 fn has_said(axis: Axis, lives: &[Life]) -> bool
-    ensures { result ≡ is_some_such (is_leaving axis) (slice_get lives.now (length lives.now - 1)) }
+    ensures { result ≡ unwrap_or (option_map (is_leaving axis) (slice_get lives.now (length lives.now - 1))) false }
 {
     match lives.last() {
         Some(life) => is_leaving(axis, life),
@@ -128,7 +128,7 @@ fn ended_count(axis: Axis, reason: Reason, rows: &[CountedRow<'_>]) -> usize
 
 // Checks that the last of some lives ended for a reason.
 fn has_ended(axis: Axis, reason: Reason, lives: &[Life]) -> bool
-    ensures { result ≡ is_some_such (is_ended axis reason) (slice_get lives.now (length lives.now - 1)) }
+    ensures { result ≡ unwrap_or (option_map (is_ended axis reason) (slice_get lives.now (length lives.now - 1))) false }
 {
     match lives.last() {
         Some(life) => is_ended(axis, reason, life),

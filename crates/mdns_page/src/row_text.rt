@@ -1,19 +1,19 @@
 //! The rows of the timeline: which of them are live, and their texts.
 
-ghost use Rattle.std.specs.Prelude.{◌≡◌, ◌-◌, ◌++◌, length, map, slice_get, OnOk};
+ghost use Rattle.std.specs.Prelude.{◌≡◌, ◌-◌, ◌++◌, false, length, map, option_map, slice_get, unwrap_or, OnOk};
 ghost use Rattle.std.specs.List.{flat_map};
 ghost use Rattle.std.specs.String.{string_bytes};
-ghost use Rattle.mdns_message.specs.Parts.{content_lent};
+ghost use Rattle.mdns_message.specs.Parts.{content_lent, content_of};
 ghost use Rattle.mdns_browse.specs.RecordShown.{shown_instance};
 ghost use Rattle.mdns_page.specs.Html.{isolated};
 ghost use Rattle.mdns_page.specs.HeardWords.{heard_text};
 ghost use Rattle.mdns_page.specs.Picture.{goes_on};
-ghost use Rattle.mdns_page.specs.Timeline.{content_name, count_last, counted_lent, is_some_such, owner_of, record_name, row_text, seconds_lent};
-ghost use Rattle.mdns_page.specs.Timeline.{target_shown};
+ghost use Rattle.mdns_page.specs.Timeline.{content_name, count_last, counted_lent, owner_of, row_text, seconds_lent};
 
 use crate::axis::Axis;
 use crate::heard_words::push_heard;
 use crate::html::push_isolated;
+use crate::kept_records::TimelinePart;
 use crate::life_words::push_lives_words;
 use crate::look::Look;
 use crate::other_rows::{push_host_name, push_whole_name};
@@ -47,7 +47,7 @@ pub(crate) fn live_rows(axis: Axis, rows: &[CountedRow<'_>]) -> usize
 
 /// Checks that the last of some lives goes on after the end of the captures.
 pub(crate) fn is_live(axis: Axis, lives: &[Life]) -> bool
-    ensures { result ≡ is_some_such (goes_on axis) (slice_get lives.now (length lives.now - 1)) }
+    ensures { result ≡ unwrap_or (option_map (goes_on axis) (slice_get lives.now (length lives.now - 1))) false }
 {
     match lives.last() {
         Some(life) => goes_on(axis, life),
@@ -55,39 +55,39 @@ pub(crate) fn is_live(axis: Axis, lives: &[Life]) -> bool
     }
 }
 
-/// Appends rows. `whole` says whether what a record points to is written in full, or as an instance. `scratch` is only room.
+/// Appends rows of a part of the timeline. `scratch` is only room.
 pub(crate) fn push_rows(
     to: &mut String,
     scratch: &mut String,
-    whole: bool,
+    part: TimelinePart,
     look: Look,
     rows: &[CountedRow<'_>],
 ) -> Result<(), Want>
     ensures { OnOk result (string_bytes to.new
-        ≡ string_bytes to.old ++ flat_map (row_text isolated whole look) (map counted_lent rows.now)) }
+        ≡ string_bytes to.old ++ flat_map (row_text isolated part look) (map counted_lent rows.now)) }
 {
     for row in rows {
-        push_row(to, scratch, whole, look, row)?;
+        push_row(to, scratch, part, look, row)?;
     }
     Ok(())
 }
 
-// Appends a record, by way of `scratch`: what it names, whole or as an instance, how often each capture heard it, the picture
-// of its lives and those of its servers, and its own in words.
+// Appends a record, by way of `scratch`: what it names, how often each capture heard it, the picture of its lives and those
+// of its servers, and its own in words.
 #[tactic(auto, unfolding(crate::specs::Timeline::row_text))]
 fn push_row(
     to: &mut String,
     scratch: &mut String,
-    whole: bool,
+    part: TimelinePart,
     look: Look,
     row: &CountedRow<'_>,
 ) -> Result<(), Want>
     ensures { OnOk result (string_bytes to.new
-        ≡ string_bytes to.old ++ row_text isolated whole look (counted_lent row.now)) }
+        ≡ string_bytes to.old ++ row_text isolated part look (counted_lent row.now)) }
 {
     let lives = row.record.lives.as_slice();
     to.push_str("<li><div>")?;
-    push_name(to, scratch, whole, row)?;
+    push_name(to, scratch, part, row)?;
     to.push_str("</div>")?;
     push_picture(to, look, lives, row.servers, row.heard.as_slice())?;
     to.push_str("<div>")?;
@@ -99,15 +99,15 @@ fn push_row(
 fn push_name(
     to: &mut String,
     scratch: &mut String,
-    whole: bool,
+    part: TimelinePart,
     row: &CountedRow<'_>,
 ) -> Result<(), Want>
     ensures { OnOk result (string_bytes to.new ≡ string_bytes to.old
-        ++ (record_name isolated whole (owner_of (counted_lent row.now)) (counted_lent row.now).last.resource.body
+        ++ (content_name isolated part (owner_of (counted_lent row.now)) (content_of (counted_lent row.now).last.resource.body)
         ++ heard_text row.now.captures (map seconds_lent row.now.heard.items))) }
 {
     let record = row.record;
-    push_record_name(to, scratch, whole, record.last.resource)?;
+    push_record_name(to, scratch, part, record.last.resource)?;
     push_heard(to, row.captures, row.heard.as_slice())
 }
 
@@ -116,46 +116,35 @@ fn push_name(
 fn push_record_name(
     to: &mut String,
     scratch: &mut String,
-    whole: bool,
+    part: TimelinePart,
     resource: &Resource,
 ) -> Result<(), Want>
     ensures { OnOk result (string_bytes to.new
-        ≡ string_bytes to.old ++ record_name isolated whole resource.now.owner resource.now.body) }
+        ≡ string_bytes to.old ++ content_name isolated part resource.now.owner (content_of resource.now.body)) }
 {
     let body = resource.body.borrowed();
-    push_content_name(to, scratch, whole, &resource.owner, body.content())
+    push_content_name(to, scratch, part, &resource.owner, body.content())
 }
 
 fn push_content_name(
     to: &mut String,
     scratch: &mut String,
-    whole: bool,
+    part: TimelinePart,
     owner: &Name,
     content: Content<&BorrowedName<'_>, &[u8]>,
 ) -> Result<(), Want>
     ensures { OnOk result (string_bytes to.new
-        ≡ string_bytes to.old ++ content_name isolated whole owner.now (content_lent content.entry)) }
+        ≡ string_bytes to.old ++ content_name isolated part owner.now (content_lent content.entry)) }
 {
     match content {
         Content::Address(address) => push_host_name(to, scratch, owner, address),
-        Content::Name(name) => push_target(to, scratch, whole, name),
+        Content::Name(name) => match part {
+            TimelinePart::Instances => push_instance_name(to, scratch, name),
+            TimelinePart::Addresses => push_whole_name(to, scratch, name),
+            TimelinePart::Names => push_whole_name(to, scratch, name),
+        },
         _ => Ok(()),
     }
-}
-
-// Appends the name to which a record points, by way of `scratch`: whole, or that of an instance alone.
-fn push_target(
-    to: &mut String,
-    scratch: &mut String,
-    whole: bool,
-    target: &BorrowedName<'_>,
-) -> Result<(), Want>
-    ensures { OnOk result (string_bytes to.new ≡ string_bytes to.old ++ isolated (target_shown whole target.now)) }
-{
-    if whole {
-        return push_whole_name(to, scratch, target);
-    }
-    push_instance_name(to, scratch, target)
 }
 
 fn push_instance_name(

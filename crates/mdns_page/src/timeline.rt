@@ -7,18 +7,19 @@ ghost use Rattle.std.specs.String.{string_bytes};
 ghost use Rattle.mdns_page.specs.Group.{first_owner, grouped};
 ghost use Rattle.mdns_page.specs.Html.{isolated};
 ghost use Rattle.people_text.specs.Shown.{name_shown};
-ghost use Rattle.mdns_page.specs.Timeline.{counted_lent, group_text, is_open, others_group, others_text, owner_of, timeline, timeline_begin};
+ghost use Rattle.mdns_page.specs.Timeline.{counted_lent, group_name, group_text, group_words, is_open, others_text, owner_of, timeline};
+ghost use Rattle.mdns_page.specs.Timeline.{timeline_begin};
+ghost use Rattle.mdns_page.specs.declared.kept_records.TimelinePart.TheVariants.{Instances};
 
 use crate::axis::Axis;
 use crate::bar_titles::are_titled;
 use crate::counts::push_live_count;
 use crate::group::{push_axis_picture, push_group_begin};
 use crate::html::push_isolated;
+use crate::kept_records::TimelinePart;
 use crate::legend::push_key;
 use crate::look::Look;
-use crate::other_rows::{
-    is_large, others_heading, push_large_note, push_others_words, push_whole_name,
-};
+use crate::other_rows::{is_large, push_whole_name};
 use crate::owners::following_len;
 use crate::row_text::{live_rows, push_rows};
 use crate::timeline_rows::CountedRow;
@@ -50,8 +51,8 @@ pub(crate) fn push_timeline(
     let opened = is_open(rows.len(), addresses.len(), names.len());
     push_begin(to, titled, is_large(rows.len()), lanes)?;
     push_groups(to, look, opened, rows)?;
-    push_others(to, look, opened, false, addresses)?;
-    push_others(to, look, opened, true, names)?;
+    push_others(to, look, opened, TimelinePart::Addresses, addresses)?;
+    push_others(to, look, opened, TimelinePart::Names, names)?;
     to.push_str("</div>\n")?;
     Ok(())
 }
@@ -81,7 +82,12 @@ fn push_begin(to: &mut String, titled: bool, large: bool, lanes: u32) -> Result<
         lanes > 1,
         " The lanes of ticks are the captures, &#9312; on top.",
     )?;
-    push_large_note(to, large)?;
+    push_if(
+        to,
+        large,
+        " With more than 1,000 instances, the ticks of hearings, the addresses of hosts \
+         and names that are not one label and the type are left out.",
+    )?;
     to.push_str("</p>\n")?;
     push_key(to, lanes)?;
     to.push_str("<div class=\"g\">\n")?;
@@ -104,13 +110,20 @@ fn push_groups(
     rows: &[CountedRow<'_>],
 ) -> Result<(), Want>
     ensures { OnOk result (string_bytes to.new
-        ≡ string_bytes to.old ++ flat_map (group_text isolated look opened) (grouped owner_of (map counted_lent rows.now))) }
+        ≡ string_bytes to.old ++ flat_map (group_text isolated look opened Instances) (grouped owner_of (map counted_lent rows.now))) }
 {
     let mut scratch = String::new(*to.allocator());
     let mut rest = rows;
     while let Some((first, others)) = rest.split_first() {
         let len = 1 + following_len(first, others);
-        push_group(to, &mut scratch, look, opened, &rest[..len])?;
+        push_group(
+            to,
+            &mut scratch,
+            look,
+            opened,
+            TimelinePart::Instances,
+            &rest[..len],
+        )?;
         rest = &rest[len..];
     }
     Ok(())
@@ -121,30 +134,42 @@ fn push_group(
     scratch: &mut String,
     look: Look,
     opened: bool,
+    part: TimelinePart,
     rows: &[CountedRow<'_>],
 ) -> Result<(), Want>
     requires { 0 < length rows.now }
     ensures { OnOk result (string_bytes to.new
-        ≡ string_bytes to.old ++ group_text isolated look opened (map counted_lent rows.now)) }
+        ≡ string_bytes to.old ++ group_text isolated look opened part (map counted_lent rows.now)) }
 {
     push_group_begin(to, opened)?;
-    push_type_name(to, scratch, rows)?;
+    push_group_name(to, scratch, part, rows)?;
     push_axis_picture(to)?;
     to.push_str("<small>")?;
-    push_live_count(
-        to,
-        rows.len(),
-        live_rows(look.axis, rows),
-        "instance",
-        "instances",
-    )?;
+    push_group_words(to, part, rows.len(), live_rows(look.axis, rows))?;
     to.push_str("</small></summary><ul>\n")?;
-    push_rows(to, scratch, false, look, rows)?;
+    push_rows(to, scratch, part, look, rows)?;
     to.push_str("</ul></details>\n")?;
     Ok(())
 }
 
-// Appends the type of the instances, by way of `scratch`.
+// Appends what a group is called, by way of `scratch`: instances by their type.
+fn push_group_name(
+    to: &mut String,
+    scratch: &mut String,
+    part: TimelinePart,
+    rows: &[CountedRow<'_>],
+) -> Result<(), Want>
+    requires { 0 < length rows.now }
+    ensures { OnOk result (string_bytes to.new
+        ≡ string_bytes to.old ++ isolated (group_name part (map counted_lent rows.now))) }
+{
+    match part {
+        TimelinePart::Instances => push_type_name(to, scratch, rows),
+        TimelinePart::Addresses => push_isolated(to, "Addresses of hosts"),
+        TimelinePart::Names => push_isolated(to, "Names that aren't one label and the type"),
+    }
+}
+
 fn push_type_name(
     to: &mut String,
     scratch: &mut String,
@@ -158,41 +183,35 @@ fn push_type_name(
     push_whole_name(to, scratch, &first.last.resource.owner.borrowed())
 }
 
-// Appends the group of some names, or of some addresses; nothing where there are none.
+fn push_group_words(
+    to: &mut String,
+    part: TimelinePart,
+    count: usize,
+    live: usize,
+) -> Result<(), Want>
+    ensures { OnOk result (string_bytes to.new ≡ string_bytes to.old ++ group_words part count live) }
+{
+    match part {
+        TimelinePart::Instances => push_live_count(to, count, live, "instance", "instances"),
+        TimelinePart::Addresses => push_live_count(to, count, live, "address", "addresses"),
+        TimelinePart::Names => push_live_count(to, count, live, "name", "names"),
+    }
+}
+
+// Appends the group of addresses or names; nothing where there are none.
 fn push_others(
     to: &mut String,
     look: Look,
     opened: bool,
-    names: bool,
+    part: TimelinePart,
     rows: &[CountedRow<'_>],
 ) -> Result<(), Want>
     ensures { OnOk result (string_bytes to.new
-        ≡ string_bytes to.old ++ others_text isolated look opened names (map counted_lent rows.now)) }
+        ≡ string_bytes to.old ++ others_text isolated look opened part (map counted_lent rows.now)) }
 {
     if rows.is_empty() {
         return Ok(());
     }
-    push_others_group(to, look, opened, names, rows)
-}
-
-fn push_others_group(
-    to: &mut String,
-    look: Look,
-    opened: bool,
-    names: bool,
-    rows: &[CountedRow<'_>],
-) -> Result<(), Want>
-    ensures { OnOk result (string_bytes to.new
-        ≡ string_bytes to.old ++ others_group isolated look opened names (map counted_lent rows.now)) }
-{
     let mut scratch = String::new(*to.allocator());
-    push_group_begin(to, opened)?;
-    push_isolated(to, others_heading(names))?;
-    push_axis_picture(to)?;
-    to.push_str("<small>")?;
-    push_others_words(to, names, rows.len(), live_rows(look.axis, rows))?;
-    to.push_str("</small></summary><ul>\n")?;
-    push_rows(to, &mut scratch, true, look, rows)?;
-    to.push_str("</ul></details>\n")?;
-    Ok(())
+    push_group(to, &mut scratch, look, opened, part, rows)
 }

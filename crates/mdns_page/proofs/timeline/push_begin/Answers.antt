@@ -7,5 +7,5 @@ unfolding timeline_begin
 returns c =
     parts9 _ _ _ _ _ _ _ _ _ _ _ _ _ _ _ _ _ _ _ c.in_ok-push_str.ensures.bytes c.in_ok-push_str-2.ensures.bytes
     c.in_ok-push_str-3.ensures.bytes c.in_ok-push_if.ensures c.in_ok-push_if-2.ensures
-    c.in_ok-push_large_note.ensures c.in_ok-push_str-4.ensures.bytes
+    c.in_ok-push_if-3.ensures c.in_ok-push_str-4.ensures.bytes
     c.in_ok-push_key.ensures c.in_ok-push_str-5.ensures.bytes

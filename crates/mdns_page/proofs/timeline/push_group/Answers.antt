@@ -1,8 +1,7 @@
-use Rattle.std.proofs.Common.{◌∙◌, ◌++◌, ℕ, ap, codes, length, map, sym}
+use Rattle.std.proofs.Common.{◌∙◌, ◌++◌, ℕ, ap, length, map, sym}
 use Rattle.std.proofs.lemmas.List.{length-map}
 use Rattle.std.specs.String.{string_bytes}
-use Rattle.mdns_page.specs.Counts.{live_count_text}
-use Rattle.mdns_page.specs.Timeline.{counted_lent, group_text}
+use Rattle.mdns_page.specs.Timeline.{counted_lent, group_text, group_words}
 use Rattle.mdns_page.proofs.PartLemmas.{parts8}
 use Rattle.mdns_page.proofs.timeline.push_group.Goals as goal
 
@@ -10,11 +9,9 @@ pub returns : goal.returns
 unfolding group_text
 returns c =
     let before = string_bytes c.push_str.new.self in
-    parts8 _ _ _ _ _ _ _ _ _ _ _ _ _ _ _ _ _ c.in_ok-push_group_begin.ensures c.in_ok-push_type_name.ensures
+    parts8 _ _ _ _ _ _ _ _ _ _ _ _ _ _ _ _ _ c.in_ok-push_group_begin.ensures c.in_ok-push_group_name.ensures
     c.in_ok-push_axis_picture.ensures c.in_ok-push_str.ensures.bytes
-    (c.in_ok-push_live_count.ensures
-    ∙ ap (λ (n : ℕ). before ++ live_count_text n c.live_rows.result (codes "instance") (codes "instances"))
-    (sym (length-map c.args.rows.now counted_lent))
-    ∙ ap (λ (n : ℕ). before ++ live_count_text (length (map counted_lent c.args.rows.now)) n (codes "instance") (codes "instances"))
-    c.live_rows.ensures)
+    (c.in_ok-push_group_words.ensures
+    ∙ ap (λ (n : ℕ). before ++ group_words c.args.part n c.live_rows.result) (sym (length-map c.args.rows.now counted_lent))
+    ∙ ap (λ (n : ℕ). before ++ group_words c.args.part (length (map counted_lent c.args.rows.now)) n) c.live_rows.ensures)
     c.in_ok-push_str-2.ensures.bytes c.in_ok-push_rows.ensures c.in_ok-push_str-3.ensures.bytes

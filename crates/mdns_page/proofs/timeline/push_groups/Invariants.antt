@@ -4,13 +4,14 @@ use Rattle.std.specs.String.{string_bytes}
 use Rattle.mdns_page.specs.Group.{grouped}
 use Rattle.mdns_page.specs.Html.{isolated}
 use Rattle.mdns_page.specs.Timeline.{counted_lent, group_text, owner_of}
+use Rattle.mdns_page.specs.declared.kept_records.TimelinePart.TheVariants.{Instances}
 use Rattle.mdns_page.proofs.timeline.push_groups.Given as goal
 
 -- what was written, with the groups that are left, is all
 abbrev pub invariant-loop-first : goal.invariant-loop-first
 invariant-loop-first l =
-    string_bytes l.to ++ flat_map (group_text isolated l.look l.opened) (grouped owner_of (map counted_lent l.rest))
-    ≡ string_bytes l.fn.to ++ flat_map (group_text isolated l.look l.opened) (grouped owner_of (map counted_lent l.rows))
+    string_bytes l.to ++ flat_map (group_text isolated l.look l.opened Instances) (grouped owner_of (map counted_lent l.rest))
+    ≡ string_bytes l.fn.to ++ flat_map (group_text isolated l.look l.opened Instances) (grouped owner_of (map counted_lent l.rows))
 
 abbrev pub decreases-loop-first : goal.decreases-loop-first
 decreases-loop-first l = length l.rest
