@@ -1,7 +1,7 @@
 -- Pages on which names aren't written are equal where they agree but for names.
 use Rattle.std.proofs.Common.{◌≡◌, refl, sym, ◌∙◌, ap, ℕ, ◌+◌, ◌==◌, nat_le, Bool, true, false, if◌then◌else◌, Option, None, Some}
 use Rattle.std.proofs.Common.{List, [], ◌∷◌, ◌++◌, ◌-◌, codes, length, map, arith}
-use Rattle.std.specs.Prelude.{nat_lt, not, option_map, slice_get, unwrap_or}
+use Rattle.std.specs.Prelude.{◌&&◌, nat_lt, not, option_map, slice_get, string_bytes, unwrap_or}
 use Rattle.std.specs.List.{filter_map, flat_map, join_by}
 use Rattle.mdns_message.specs.Resource.{Body}
 use Rattle.mdns_message.specs.TextData.{strings_of}
@@ -22,22 +22,23 @@ use Rattle.mdns_page.specs.Bare.{BareLive, BareRow, bare_capture, bare_end}
 use Rattle.mdns_page.specs.Bare.{bare_group, bare_groups, bare_instances, bare_live}
 use Rattle.mdns_page.specs.Bare.{bare_row, bare_server, bare_text, is_some_filled, unsaid}
 use Rattle.mdns_page.specs.Captures.{Facts, capture_text, captures_text, each_from}
-use Rattle.mdns_page.specs.Axis.{short_text}
+use Rattle.mdns_page.specs.Axis.{drawn_if, short_text}
 use Rattle.mdns_page.specs.Group.{grouped, item}
 use Rattle.mdns_page.specs.OtherRows.{is_large}
-use Rattle.mdns_page.specs.Lanes.{lanes_for}
-use Rattle.mdns_page.specs.Lead.{about_line, ending_warning, is_ended, is_leaving, lead_text, live_line, subject_text}
-use Rattle.mdns_page.specs.Picture.{goes_on}
+use Rattle.mdns_page.specs.Lanes.{base_line, base_text, bases_text, lane_top, lanes_for}
+use Rattle.mdns_page.specs.Lead.{about_line, ending_warning, is_ended, live_line}
+use Rattle.mdns_page.specs.Picture.{goes_on, is_for}
 use Rattle.mdns_page.specs.LiveSection.{address_html, live_group, live_row, live_text, server_html, text_html, type_of}
-use Rattle.mdns_page.specs.Document.{Shown, page}
+use Rattle.mdns_page.specs.Document.{Shown, head, page}
 use Rattle.mdns_page.specs.Timeline.{Row, content_name, count_last, group_text, group_words, is_open, lives_in, owner_of, row_text}
 use Rattle.mdns_page.specs.Timeline.{timeline}
 use Rattle.mdns_page.specs.declared.kept_records.TimelinePart.{TimelinePart}
 use Rattle.mdns_page.specs.declared.kept_records.TimelinePart.TheVariants.{Addresses, Instances, Names}
+use Rattle.mdns_page.specs.Ticks.{symbols_text}
 use Rattle.mdns_page.specs.declared.look.Look.{Look}
 use Rattle.mdns_page.proofs.GroupLemmas.{grouped-all}
 use Rattle.mdns_page.proofs.LiveWordLemmas.{some-items}
-use Rattle.mdns_page.proofs.SameLists.{append-same, count-same, flat_map-alike, flat_map-same, groups-same, length-same, map-same}
+use Rattle.mdns_page.proofs.SameLists.{append-same, count-same, flat_map-alike, flat_map-same, groups-same, length-same}
 
 -- ---- captures
 
@@ -53,22 +54,37 @@ unfolding capture_text
 capture-same axis many index capture file same =
     rw (summary-same capture file same, span-same capture file same) refl
 
-each-same : (axis : Axis) (many : Bool) (index : ℕ) (captures files : List Facts) → map bare_capture captures ≡ map bare_capture files
-    → each_from (capture_text unsaid axis many) index captures ≡ each_from (capture_text unsaid axis many) index files
-each-same axis many index [] [] same = refl
-each-same axis many index [] (file ∷ files) same = cc
-each-same axis many index (capture ∷ captures) [] same = cc
-each-same axis many index (capture ∷ captures) (file ∷ files) same =
+each-same : (text : ℕ → Facts → List ℕ)
+    → ((index : ℕ) (capture file : Facts) → bare_capture capture ≡ bare_capture file → text index capture ≡ text index file)
+    → (index : ℕ) (captures files : List Facts) → map bare_capture captures ≡ map bare_capture files
+    → each_from text index captures ≡ each_from text index files
+each-same text each index [] [] same = refl
+each-same text each index [] (file ∷ files) same = cc
+each-same text each index (capture ∷ captures) [] same = cc
+each-same text each index (capture ∷ captures) (file ∷ files) same =
     let first : bare_capture capture ≡ bare_capture file = cc in
     let rest : map bare_capture captures ≡ map bare_capture files = cc in
-    let here = capture-same axis many index capture file first in
-    let others = each-same axis many (index + 1) captures files rest in cc
+    let here = each index capture file first in
+    let others = each-same text each (index + 1) captures files rest in cc
 
 captures-same : (axis : Axis) (captures files : List Facts) → map bare_capture captures ≡ map bare_capture files
     → captures_text unsaid axis captures ≡ captures_text unsaid axis files
 unfolding captures_text
 captures-same axis captures files same =
-    rw (length-same bare_capture captures files same, each-same axis (nat_lt 4 (length files)) 0 captures files same) refl
+    rw (
+      length-same bare_capture captures files same,
+      each-same (capture_text unsaid axis (nat_lt 4 (length files))) (capture-same axis (nat_lt 4 (length files))) 0 captures files same,
+    ) refl
+
+-- ---- the head
+
+head-same : (axis : Axis) (lanes : ℕ) (captures files : List Facts) → map bare_capture captures ≡ map bare_capture files
+    → head axis lanes captures ≡ head axis lanes files
+unfolding head symbols_text bases_text
+head-same axis lanes captures files same =
+    rw (each-same (base_text axis lanes)
+    (λ index capture file same. ap (drawn_if axis (base_line axis (lane_top lanes index))) (span-same capture file same)) 0 captures files
+    same) refl
 
 -- ---- the lead
 
@@ -85,7 +101,7 @@ live_line-same axis rows others same =
     let count = λ (is : Life → Bool). count_last-same is rows others same in
     rw (
       count (goes_on axis),
-      count (is_leaving axis),
+      count (λ life. goes_on axis life && is_for Goodbye life.reason),
       count (is_ended axis Goodbye),
       count (is_ended axis Flushed),
       count (is_ended axis RanOut),
@@ -97,22 +113,13 @@ about-same [] (other ∷ others) same = absurd (omega (arith, same))
 about-same (subject ∷ about) [] same = absurd (omega (arith, same))
 about-same (subject ∷ about) (other ∷ others) same =
     let rest : length about ≡ length others = omega (arith, same) in
-    rw (flat_map-alike (λ subject. codes ", " ++ subject_text unsaid subject) (λ first second. refl) about others rest) refl
+    ap (λ (text : List ℕ). codes "<p class=\"note\">Only what is about " ++ text ++ codes ".</p>\n")
+    (flat_map-alike (λ (subject : Subject). codes ", " ++ unsaid (shown (string_bytes subject.text))) (λ first second. refl) about others rest)
 
 warning-same : (capture file : Facts) → bare_capture capture ≡ bare_capture file
     → ending_warning unsaid capture ≡ ending_warning unsaid file
 unfolding ending_warning
 warning-same capture file same = rw (summary-same capture file same) refl
-
-lead-same : (axis : Axis) (about others : List Subject) (rows drawn : List Row) (captures files : List Facts) (lost : ℕ)
-    → length about ≡ length others → map bare_row rows ≡ map bare_row drawn → map bare_capture captures ≡ map bare_capture files
-    → lead_text unsaid axis about rows captures lost ≡ lead_text unsaid axis others drawn files lost
-lead-same axis about others rows drawn captures files lost same_about same_rows same_captures =
-    rw (
-      live_line-same axis rows drawn same_rows,
-      about-same about others same_about,
-      flat_map-same bare_capture (ending_warning unsaid) warning-same captures files same_captures,
-    ) refl
 
 -- ---- rows
 
@@ -303,11 +310,13 @@ page-same a b opened lasts others live now same_axis same_lost same_nothing
       same_axis,
       same_lost,
       same_nothing,
-      lead-same b.axis a.about b.about a.rows b.rows a.captures b.captures b.lost same_about rows same_captures,
+      head-same b.axis lanes a.captures b.captures same_captures,
+      live_line-same b.axis a.rows b.rows rows,
+      about-same a.about b.about same_about,
+      flat_map-same bare_capture (ending_warning unsaid) warning-same a.captures b.captures same_captures,
       captures-same b.axis a.captures b.captures same_captures,
       timeline-same b.axis lanes a.rows b.rows a.addresses b.addresses a.names b.names same_rows same_addresses same_names,
       live-same b.axis opened lasts others live now same_live,
       length-same bare_row a.rows b.rows rows,
       length-same bare_capture a.captures b.captures same_captures,
-      map-same bare_capture (λ (capture : Facts). capture.span) span-same a.captures b.captures same_captures,
     ) refl

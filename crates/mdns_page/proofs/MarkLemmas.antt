@@ -6,11 +6,14 @@ use Rattle.std.specs.List.{cons_option, filter_map}
 use Rattle.mdns_lives.specs.Lives.{AreApart, AreApartAfter}
 use Rattle.mdns_lives.specs.declared.life.Life.{Life}
 use Rattle.mdns_page.specs.Axis.{place, place_end}
-use Rattle.mdns_page.specs.Picture.{AreInOrder, bar_mark, differing, goes_on, is_for, is_same, mark, mark_of}
+use Rattle.mdns_page.specs.Picture.{AreInOrder, bar_mark, differing, goes_on, is_for, is_same, mark_of}
 use Rattle.mdns_page.specs.declared.axis.Axis.{Axis}
 use Rattle.mdns_page.specs.declared.picture.Mark.{Mark}
 use Rattle.mdns_page.specs.declared.picture.Stroke.{Stroke}
 use Rattle.mdns_page.specs.declared.picture.Stroke.TheVariants.{Bar, Server, Pin, Head, Tick, GoodbyeTick}
+
+abbrev mark : ℕ → ℕ → Mark
+mark begin end = record { begin = begin; end = end }
 
 quotient-mono : (a b unit : ℕ) → 0 < unit → a ≤ b → a / unit ≤ b / unit
 quotient-mono a b unit some low = le-div (a / unit) b unit some (let whole : a / unit * unit ≤ a = div-mul-le_self a unit in omega (arith, whole, low))

@@ -1,9 +1,9 @@
 -- Strokes as one path.
 use Rattle.std.proofs.Common.{◌≡◌, refl, ◌∙◌, ap, sym, Bool, true, false, if◌then◌else◌, Option, None, Some, List, [], ◌∷◌}
-use Rattle.std.proofs.Common.{◌++◌, ℕ, ◌+◌, ◌<◌, ◌≤◌, append_assoc, drop, get_or, length}
+use Rattle.std.proofs.Common.{◌++◌, ℕ, ◌+◌, ◌<◌, ◌≤◌, append_assoc, codes, drop, get_or, length}
 use Rattle.std.proofs.lemmas.List.{drop_all, drop_more}
 use Rattle.std.specs.List.{cons_option, filter_map, flat_map}
-use Rattle.mdns_page.specs.Picture.{differing, is_same, mark_text, path_begin, path_end, path_last, path_rest}
+use Rattle.mdns_page.specs.Picture.{differing, is_same, mark_text, path_begin, path_last, path_rest}
 use Rattle.mdns_page.specs.declared.picture.Mark.{Mark}
 use Rattle.mdns_page.specs.declared.picture.Stroke.{Stroke}
 
@@ -15,12 +15,12 @@ path-first : (stroke : Stroke) (mark : Mark) (marks : List Mark)
     → path_rest stroke None (mark ∷ marks) ≡ path_begin stroke ++ mark_text stroke mark ++ path_rest stroke (Some mark) marks
 unfolding path_rest
 path-first stroke mark marks =
-    in_pairs (path_begin stroke) (mark_text stroke mark) (flat_map (mark_text stroke) (differing (Some mark) marks)) path_end
+    in_pairs (path_begin stroke) (mark_text stroke mark) (flat_map (mark_text stroke) (differing (Some mark) marks)) (codes "\"/>")
 
 -- one that is the same as the one before
 rest_by : Stroke → Mark → Mark → List Mark → Bool → List ℕ
 rest_by stroke before mark marks same =
-    flat_map (mark_text stroke) (if same then differing (Some before) marks else mark ∷ differing (Some mark) marks) ++ path_end
+    flat_map (mark_text stroke) (if same then differing (Some before) marks else mark ∷ differing (Some mark) marks) ++ codes "\"/>"
 
 rest_by-is : (stroke : Stroke) (before mark : Mark) (marks : List Mark)
     → path_rest stroke (Some before) (mark ∷ marks) ≡ rest_by stroke before mark marks (is_same before mark)
@@ -36,7 +36,7 @@ rest_by-other : (stroke : Stroke) (before mark : Mark) (marks : List Mark)
     → rest_by stroke before mark marks false ≡ mark_text stroke mark ++ path_rest stroke (Some mark) marks
 unfolding rest_by path_rest
 rest_by-other stroke before mark marks =
-    append_assoc (mark_text stroke mark) (flat_map (mark_text stroke) (differing (Some mark) marks)) path_end
+    append_assoc (mark_text stroke mark) (flat_map (mark_text stroke) (differing (Some mark) marks)) (codes "\"/>")
 
 path-same : (stroke : Stroke) (before mark : Mark) (marks : List Mark) → is_same before mark ≡ true
     → path_rest stroke (Some before) (mark ∷ marks) ≡ path_rest stroke (Some before) marks

@@ -1,5 +1,5 @@
 -- The axis of the pictures: moments become places, and are written with as much of their dates as the page needs.
-use Rattle.std.specs.Prelude.{◌≡◌, ℕ, ◌+◌, ◌-◌, ◌/◌, ◌==◌, nat_le, min, max, Bool, if◌then◌else◌, List, [], ◌∷◌, ◌++◌, codes}
+use Rattle.std.specs.Prelude.{◌≡◌, ℕ, ◌+◌, ◌-◌, ◌/◌, ◌==◌, nat_le, min, max, Bool, if◌then◌else◌, Option, None, Some, List, [], ◌∷◌, ◌++◌}
 use Rattle.mdns_capture.specs.declared.moment.Moment.{Moment}
 use Rattle.mdns_survey.specs.declared.reading.Span.{Span}
 use Rattle.mdns_survey.specs.declared.request.AsOf.{AsOf}
@@ -21,9 +21,11 @@ place_end axis from until = max (place axis until) (place axis from + 3)
 abbrev pub is_same_date : ℕ → ℕ → Bool
 is_same_date a b = seconds_of a / 86400 == seconds_of b / 86400
 
--- the capture began to record by the end of the axis; one of a moment that is asked for may have begun later
-abbrev pub has_begun : Axis → Span → Bool
-has_begun axis span = nat_le span.first.nanos axis.end.nanos
+-- what is drawn for the time that a capture recorded; nothing where there are no packets, or only packets after the end of the axis,
+-- which may be a moment that is asked for
+abbrev pub drawn_if : Axis → (Span → List ℕ) → Option Span → List ℕ
+drawn_if axis draw None = []
+drawn_if axis draw (Some span) = if nat_le span.first.nanos axis.end.nanos then draw span else []
 
 -- ---- moments in words
 
@@ -48,11 +50,4 @@ day_text _ nanos = month_day_text nanos
 -- a moment in words, to the second: `07:28:19`, `11-22 07:28:19` or `2026-11-22 07:28:19`, as the page needs it
 unfoldable pub short_text : Dates → ℕ → List ℕ
 short_text Omitted nanos = clock_text nanos
-short_text WithoutYear nanos = month_day_text nanos ++ 32 ∷ clock_text nanos
-short_text Whole nanos = date_text nanos ++ 32 ∷ clock_text nanos
-
--- the date or the two dates of the axis: `2026-11-22`, `2026-11-22 to 2026-11-24`
-unfoldable pub days_text : Axis → List ℕ
-days_text axis =
-    date_text axis.start.nanos
-    ++ (if is_same_date axis.start.nanos axis.end.nanos then [] else codes " to " ++ date_text axis.end.nanos)
+short_text dates nanos = day_text dates nanos ++ 32 ∷ clock_text nanos

@@ -1,15 +1,14 @@
 -- The captures of a page.
-use Rattle.std.specs.Prelude.{ℕ, ◌+◌, Bool, true, if◌then◌else◌, nat_lt, Option, None, Some, List, [], ◌∷◌, ◌++◌, codes, length, map}
+use Rattle.std.specs.Prelude.{ℕ, ◌+◌, Bool, true, if◌then◌else◌, nat_lt, Option, None, Some, List, [], ◌∷◌, ◌++◌, codes, length}
 use Rattle.std.specs.Fmt.{decimal}
 use Rattle.mdns_capture.specs.Text.{ending_text}
-use Rattle.mdns_capture.specs.declared.savefile.Ending.{Ending}
 use Rattle.mdns_survey.specs.ProgramLines.{is_whole}
 use Rattle.mdns_survey.specs.declared.reading.Span.{Span}
 use Rattle.mdns_survey.specs.declared.summary.Summary.{Summary}
 use Rattle.mdns_survey.specs.declared.summary.Tally.{Tally}
 use Rattle.people_text.specs.MomentText.{millis_text}
 use Rattle.people_text.specs.Shown.{shown}
-use Rattle.mdns_page.specs.Axis.{has_begun, place, place_end, short_text}
+use Rattle.mdns_page.specs.Axis.{drawn_if, place, place_end, short_text}
 use Rattle.mdns_page.specs.Counts.{commas, count_text}
 use Rattle.mdns_page.specs.Group.{axis_picture, group, item}
 use Rattle.mdns_page.specs.declared.axis.Axis.{Axis}
@@ -24,10 +23,6 @@ pub record Facts : Type 0 where
 
 abbrev pub facts_lent : CaptureFacts → Facts
 facts_lent capture = record { name = capture.name.now; summary = capture.summary; span = capture.span }
-
--- when each capture recorded
-abbrev pub spans_of : List Facts → List (Option Span)
-spans_of captures = map (λ (capture : Facts). capture.span) captures
 
 -- a text for each capture, in order, by its index, from this one on
 abbrev pub each_from : {C : Type 0} → (ℕ → C → List ℕ) → (index : ℕ) → List C → List ℕ
@@ -46,37 +41,22 @@ sizes_text tally =
     codes "<small>" ++ count_text tally.packets (codes "packet") (codes "packets") ++ codes ", "
     ++ count_text tally.hearings (codes "hearing") (codes "hearings") ++ codes "</small>"
 
--- a stroke for the time that a capture recorded
-unfoldable pub recorded_stroke : Axis → Span → List ℕ
-recorded_stroke axis span =
-    codes "<path class=\"r\" d=\"M" ++ decimal (place axis span.first.nanos) ++ codes " 19H"
-    ++ decimal (place_end axis span.first.nanos span.last.nanos) ++ codes "\">"
-
--- the same, and what it says: that time to the millisecond
+-- a stroke for the time that a capture recorded, and what it says: that time to the millisecond
 unfoldable pub recorded_bar : Axis → Span → List ℕ
 recorded_bar axis span =
-    recorded_stroke axis span ++ codes "<title>recorded " ++ millis_text span.first.nanos ++ codes " to "
-    ++ millis_text span.last.nanos ++ codes "</title></path>"
-
--- the same; nothing where there are no packets, or only packets after the end of the axis
-abbrev pub recorded_path : Axis → Option Span → List ℕ
-recorded_path axis None = []
-recorded_path axis (Some span) = if has_begun axis span then recorded_bar axis span else []
+    codes "<path class=\"r\" d=\"M" ++ decimal (place axis span.first.nanos) ++ codes " 19H"
+    ++ decimal (place_end axis span.first.nanos span.last.nanos) ++ codes "\">" ++ codes "<title>recorded "
+    ++ millis_text span.first.nanos ++ codes " to " ++ millis_text span.last.nanos ++ codes "</title></path>"
 
 unfoldable pub recorded_picture : Axis → Option Span → List ℕ
 recorded_picture axis span =
     codes "<svg class=\"c\" viewBox=\"0 0 1000 24\" preserveAspectRatio=\"none\" aria-hidden=\"true\"><use href=\"#v\"/>"
-    ++ recorded_path axis span ++ codes "</svg>"
+    ++ drawn_if axis (recorded_bar axis) span ++ codes "</svg>"
 
 -- when a capture recorded, to the second, also where that is after the end of the axis
 abbrev pub recorded_words : Dates → Option Span → List ℕ
 recorded_words dates None = codes "no packets"
 recorded_words dates (Some span) = short_text dates span.first.nanos ++ codes " &#8211; " ++ short_text dates span.last.nanos
-
--- how a capture ends
-unfoldable pub ending_words : Ending → List ℕ
-ending_words ending =
-    if is_whole ending then codes "whole" else codes "<b class=\"warn\">" ++ ending_text ending ++ codes "</b>"
 
 -- how many packets were heard, skipped and refused
 unfoldable pub outcomes_text : Tally → List ℕ
@@ -92,8 +72,10 @@ unfoldable pub capture_text : (List ℕ → List ℕ) → Axis → (many : Bool)
 capture_text say axis many index capture =
     item (number_text many index ++ codes "&#160;" ++ say (shown capture.name) ++ sizes_text capture.summary.tally)
     (recorded_picture axis capture.span)
-    (codes "<p>" ++ recorded_words axis.dates capture.span ++ 32 ∷ ending_words capture.summary.ending ++ codes "</p>"
-    ++ outcomes_text capture.summary.tally)
+    (codes "<p>" ++ recorded_words axis.dates capture.span
+    ++ 32 ∷ (if is_whole capture.summary.ending then codes "whole"
+    else codes "<b class=\"warn\">" ++ ending_text capture.summary.ending ++ codes "</b>")
+    ++ codes "</p>" ++ outcomes_text capture.summary.tally)
 
 -- ---- the whole
 

@@ -1,50 +1,37 @@
 -- The whole page.
-use Rattle.std.specs.Prelude.{ℕ, Option, List, ◌++◌, codes, length, map}
+use Rattle.std.specs.Prelude.{ℕ, if◌then◌else◌, List, [], ◌++◌, codes, length, map}
 use Rattle.std.specs.Fmt.{decimal}
+use Rattle.std.specs.List.{flat_map}
+use Rattle.people_text.specs.MomentText.{date_text}
 use Rattle.mdns_browse.specs.declared.about.Subject.{Subject}
-use Rattle.mdns_survey.specs.declared.reading.Span.{Span}
-use Rattle.mdns_page.specs.Axis.{days_text}
-use Rattle.mdns_page.specs.Captures.{Facts, captures_text, facts_lent, spans_of}
+use Rattle.mdns_page.specs.Axis.{is_same_date}
+use Rattle.mdns_page.specs.Captures.{Facts, captures_text, facts_lent}
 use Rattle.mdns_page.specs.OtherRows.{is_large}
 use Rattle.mdns_page.specs.Lanes.{height, lanes_for}
-use Rattle.mdns_page.specs.Lead.{lead_text}
+use Rattle.mdns_page.specs.Lead.{about_line, ending_warning, live_line, lost_warning}
 use Rattle.mdns_page.specs.Ticks.{symbols_text}
 use Rattle.mdns_page.specs.Timeline.{Row, counted_lent, timeline}
 use Rattle.mdns_page.specs.declared.axis.Axis.{Axis}
 use Rattle.mdns_page.specs.declared.document.PageParts.{PageParts}
 use Rattle.mdns_page.specs.declared.style.TheConstants.{STYLE}
 
--- ---- the head of the file
+-- ---- the head
 
--- a document in UTF-8 that runs no script and loads nothing
-unfoldable pub policy : List ℕ
-policy =
+-- the title, with the day or the two days of the axis: `2026-11-22`, `2026-11-22 to 2026-11-24`
+unfoldable pub title : Axis → List ℕ
+title axis =
+    codes "Multicast DNS, " ++ date_text axis.start.nanos
+    ++ (if is_same_date axis.start.nanos axis.end.nanos then [] else codes " to " ++ date_text axis.end.nanos)
+
+-- the head of a document in UTF-8 that runs no script and loads nothing, with the height of the pictures of rows; then what the
+-- pictures share, and the heading
+unfoldable pub head : Axis → (lanes : ℕ) → List Facts → List ℕ
+head axis lanes captures =
     codes "<!doctype html>\n<html lang=\"en\"><head><meta charset=\"utf-8\">\n"
     ++ codes "<meta http-equiv=\"Content-Security-Policy\" content=\"default-src 'none'; style-src 'unsafe-inline'\">\n"
-    ++ codes "<meta name=\"viewport\" content=\"width=device-width\">\n"
-
--- the title, with the days of the captures
-unfoldable pub title : Axis → List ℕ
-title axis = codes "Multicast DNS, " ++ days_text axis
-
--- with the height of the pictures of rows
-unfoldable pub head : Axis → (lanes : ℕ) → List ℕ
-head axis lanes =
-    policy ++ codes "<title>" ++ title axis ++ codes "</title>\n<style>\n" ++ STYLE.now ++ codes "li>svg{height:"
-    ++ decimal (height lanes) ++ codes "px}\n</style></head>\n"
-
--- ---- the body
-
--- what the pictures share, and the heading
-unfoldable pub body_begin : Axis → (lanes : ℕ) → List (Option Span) → List ℕ
-body_begin axis lanes spans =
-    codes "<body>\n" ++ symbols_text axis lanes spans ++ codes "<main>\n<h1>" ++ title axis ++ codes "</h1>\n"
-
--- links to the sections
-unfoldable pub links : List ℕ
-links =
-    codes "<nav><a href=\"#captures\">Captures</a><a href=\"#timeline\">Timeline</a>"
-    ++ codes "<a href=\"#live\">What was live</a><a href=\"#nothing\">Skipped packets</a></nav>\n"
+    ++ codes "<meta name=\"viewport\" content=\"width=device-width\">\n<title>" ++ title axis ++ codes "</title>\n<style>\n" ++ STYLE.now
+    ++ codes "li>svg{height:" ++ decimal (height lanes) ++ codes "px}\n</style></head>\n<body>\n"
+    ++ symbols_text axis lanes captures ++ codes "<main>\n<h1>" ++ title axis ++ codes "</h1>\n"
 
 -- ---- the whole
 
@@ -74,11 +61,14 @@ parts_lent parts = record {
   nothing = parts.nothing.now;
 }
 
--- the page; `say` is how text of the network is written
+-- the page, with links to its sections; `say` is how text of the network is written
 abbrev pub page : (List ℕ → List ℕ) → Shown → List ℕ
 page say shown =
     let axis = shown.axis in
     let lanes = lanes_for (is_large (length shown.rows)) (length shown.captures) in
-    head axis lanes ++ body_begin axis lanes (spans_of shown.captures)
-    ++ lead_text say axis shown.about shown.rows shown.captures shown.lost ++ links ++ captures_text say axis shown.captures
-    ++ timeline say axis lanes shown.rows shown.addresses shown.names ++ shown.live ++ shown.nothing ++ codes "</main></body></html>\n"
+    head axis lanes shown.captures
+    ++ (live_line axis shown.rows ++ about_line say shown.about ++ flat_map (ending_warning say) shown.captures ++ lost_warning shown.lost)
+    ++ (codes "<nav><a href=\"#captures\">Captures</a><a href=\"#timeline\">Timeline</a>"
+    ++ codes "<a href=\"#live\">What was live</a><a href=\"#nothing\">Skipped packets</a></nav>\n")
+    ++ captures_text say axis shown.captures ++ timeline say axis lanes shown.rows shown.addresses shown.names ++ shown.live
+    ++ shown.nothing ++ codes "</main></body></html>\n"

@@ -6,31 +6,24 @@ use Rattle.mdns_page.specs.Captures.{each_from, number_text}
 use Rattle.mdns_page.specs.Counts.{commas}
 use Rattle.mdns_page.specs.Lanes.{is_goodbye}
 
--- in how many of the seconds in which a record was heard its goodbye was
-abbrev pub goodbyes : List SecondHeard → ℕ
-goodbyes seconds = count_by is_goodbye seconds
-
--- nothing where there is none
+-- how many of the seconds in which a record was heard have its goodbye; nothing where none has
 abbrev pub goodbyes_text : ℕ → List ℕ
 goodbyes_text count =
     if count == 0 then []
     else codes " (" ++ commas count ++ codes "&#160;" ++ (if count == 1 then codes "goodbye" else codes "goodbyes") ++ codes ")"
 
--- in how many seconds a capture heard a record, and its goodbye
-unfoldable pub times_text : (count ended : ℕ) → List ℕ
-times_text count ended =
-    if count == 0 then codes "<b>never</b>" else commas count ++ codes "&#215;" ++ goodbyes_text ended
-
--- the number of a capture, and how often it heard a record; a comma before each but the first
+-- the number of a capture, in how many seconds it heard a record, and its goodbye; a comma before each but the first
 unfoldable pub capture_times : (index : ℕ) → List SecondHeard → List ℕ
 capture_times index seconds =
-    (if index == 0 then [] else codes ", ") ++ number_text false index ++ codes " " ++ times_text (length seconds) (goodbyes seconds)
+    (if index == 0 then [] else codes ", ") ++ number_text false index ++ codes " "
+    ++ (if length seconds == 0 then codes "<b>never</b>"
+    else commas (length seconds) ++ codes "&#215;" ++ goodbyes_text (count_by is_goodbye seconds))
 
 -- how often the captures that heard a record did so together, and how many they are of all
 unfoldable pub together_text : (count : ℕ) → List (List SecondHeard) → List ℕ
 together_text count hearers =
     commas (sum_by (λ (seconds : List SecondHeard). length seconds) hearers) ++ codes "&#215;"
-    ++ goodbyes_text (sum_by goodbyes hearers) ++ codes " in " ++ commas (length hearers) ++ codes " of " ++ commas count
+    ++ goodbyes_text (sum_by (count_by is_goodbye) hearers) ++ codes " in " ++ commas (length hearers) ++ codes " of " ++ commas count
     ++ codes " captures"
 
 -- how often each capture heard a record; where there are many, how often those that heard it did so together

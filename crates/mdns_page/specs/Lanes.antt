@@ -1,13 +1,12 @@
 -- The lanes below the bars of a row: in which seconds each capture heard its record.
 use Rattle.std.specs.Prelude.{ℕ, ◌+◌, ◌*◌, ◌==◌, ◌||◌, nat_lt, Bool, if◌then◌else◌, Option, None, Some, List, [], ◌∷◌, ◌++◌, codes}
 use Rattle.std.specs.Fmt.{decimal}
-use Rattle.std.specs.List.{filter_map}
 use Rattle.mdns_lives.specs.declared.life.Heard.{Heard}
 use Rattle.mdns_lives.specs.declared.seconds_heard.SecondHeard.{SecondHeard}
 use Rattle.mdns_survey.specs.declared.reading.Span.{Span}
-use Rattle.mdns_page.specs.Axis.{has_begun, place, place_end}
-use Rattle.mdns_page.specs.Captures.{each_from}
-use Rattle.mdns_page.specs.Picture.{differing, mark, path_of}
+use Rattle.mdns_page.specs.Axis.{drawn_if, place, place_end}
+use Rattle.mdns_page.specs.Captures.{Facts, each_from}
+use Rattle.mdns_page.specs.Picture.{path}
 use Rattle.mdns_page.specs.declared.axis.Axis.{Axis}
 use Rattle.mdns_page.specs.declared.picture.Mark.{Mark}
 use Rattle.mdns_page.specs.declared.picture.Stroke.{Stroke}
@@ -37,7 +36,7 @@ goodbye_of second = if second.last.ttl == 0 then second.last else second.first
 
 -- the place of a hearing
 abbrev pub point : Axis → Heard → Mark
-point axis heard = mark (place axis heard.moment.nanos) (place axis heard.moment.nanos)
+point axis heard = record { begin = place axis heard.moment.nanos; end = place axis heard.moment.nanos }
 
 -- where the second has a stroke of this kind, if it has one: a tick at its first hearing, or a thick one at its goodbye
 abbrev pub second_mark : Axis → Stroke → SecondHeard → Option Mark
@@ -45,18 +44,11 @@ second_mark axis (Tick top) second = if is_goodbye second then None else Some (p
 second_mark axis (GoodbyeTick top) second = if is_goodbye second then Some (point axis (goodbye_of second)) else None
 second_mark axis _ second = None
 
--- the ticks of a kind, each place once
-unfoldable pub ticks_path : Axis → Stroke → List SecondHeard → List ℕ
-ticks_path axis stroke seconds = path_of stroke (differing None (filter_map (second_mark axis stroke) seconds))
-
 -- the ticks of a capture in its lane
 abbrev pub lane_text : Axis → (lanes index : ℕ) → List SecondHeard → List ℕ
 lane_text axis lanes index seconds =
-    let top = lane_top lanes index in ticks_path axis (Tick top) seconds ++ ticks_path axis (GoodbyeTick top) seconds
-
--- all lanes of a row
-abbrev pub lanes_text : Axis → (lanes : ℕ) → List (List SecondHeard) → List ℕ
-lanes_text axis lanes captures = if lanes == 0 then [] else each_from (lane_text axis lanes) 0 captures
+    let top = lane_top lanes index in
+    path (second_mark axis) (Tick top) seconds ++ path (second_mark axis) (GoodbyeTick top) seconds
 
 -- ---- the lines on which ticks stand
 
@@ -66,12 +58,11 @@ base_line axis top span =
     77 ∷ decimal (place axis span.first.nanos) ++ 32 ∷ decimal (top + 5) ++ 72
     ∷ decimal (place_end axis span.first.nanos span.last.nanos)
 
--- that of a capture; none where there are no packets, or only packets after the end of the axis
-abbrev pub base_text : Axis → (lanes index : ℕ) → Option Span → List ℕ
-base_text axis lanes index None = []
-base_text axis lanes index (Some span) = if has_begun axis span then base_line axis (lane_top lanes index) span else []
+-- that of a capture
+abbrev pub base_text : Axis → (lanes index : ℕ) → Facts → List ℕ
+base_text axis lanes index capture = drawn_if axis (base_line axis (lane_top lanes index)) capture.span
 
 -- the lines of all lanes as one path; nothing where there are no lanes
-unfoldable pub bases_text : Axis → (lanes : ℕ) → List (Option Span) → List ℕ
-bases_text axis lanes spans =
-    if lanes == 0 then [] else codes "<path class=\"n\" d=\"" ++ each_from (base_text axis lanes) 0 spans ++ codes "\"/>"
+unfoldable pub bases_text : Axis → (lanes : ℕ) → List Facts → List ℕ
+bases_text axis lanes captures =
+    if lanes == 0 then [] else codes "<path class=\"n\" d=\"" ++ each_from (base_text axis lanes) 0 captures ++ codes "\"/>"

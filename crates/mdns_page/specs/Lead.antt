@@ -1,7 +1,7 @@
 -- What a page begins with.
 use Rattle.std.specs.Prelude.{ℕ, ◌+◌, ◌-◌, ◌==◌, ◌&&◌, Bool, true, false, if◌then◌else◌}
 use Rattle.std.specs.Prelude.{List, [], ◌++◌, ◌∷◌, codes, string_bytes}
-use Rattle.std.specs.List.{flat_map}
+use Rattle.std.specs.List.{join_by}
 use Rattle.mdns_capture.specs.Text.{ending_text}
 use Rattle.mdns_lives.specs.declared.life.Life.{Life}
 use Rattle.mdns_lives.specs.declared.life.Reason.{Reason}
@@ -21,10 +21,6 @@ use Rattle.mdns_page.specs.declared.axis.Axis.{Axis}
 -- the life ended for this reason before the end of the captures
 abbrev pub is_ended : Axis → Reason → Life → Bool
 is_ended axis reason life = if goes_on axis life then false else is_for reason life.reason
-
--- the life goes on after the end of the captures, and its last hearing is a goodbye
-abbrev pub is_leaving : Axis → Life → Bool
-is_leaving axis life = if goes_on axis life then is_for Goodbye life.reason else false
 
 -- ---- the first line
 
@@ -51,22 +47,18 @@ unfoldable pub live_line : Axis → List Row → List ℕ
 live_line axis rows =
     codes "<p class=\"lead\">"
     ++ count_text (count_last (goes_on axis) rows) (codes "service instance was") (codes "service instances were")
-    ++ codes " live at <time>" ++ millis_text axis.end.nanos ++ codes "</time>" ++ said_text (count_last (is_leaving axis) rows)
+    ++ codes " live at <time>" ++ millis_text axis.end.nanos ++ codes "</time>" ++ said_text (count_last (λ life. goes_on axis life && is_for Goodbye life.reason) rows)
     ++ codes "." ++ others_text (count_last (is_ended axis Goodbye) rows) (count_last (is_ended axis Flushed) rows)
     (count_last (is_ended axis RanOut) rows) ++ codes "</p>\n"
 
 -- ---- what the page is about
 
--- a subject as it was given
-abbrev pub subject_text : (List ℕ → List ℕ) → Subject → List ℕ
-subject_text say subject = say (shown (string_bytes subject.text))
-
--- that only what is about some subjects is shown; nothing where there are none, since all is shown then
+-- that only what is about some subjects is shown, each as it was given; nothing where there are none, since all is shown then
 abbrev pub about_line : (List ℕ → List ℕ) → List Subject → List ℕ
 about_line say [] = []
 about_line say (first ∷ others) =
-    codes "<p class=\"note\">Only what is about " ++ subject_text say first
-    ++ flat_map (λ subject. codes ", " ++ subject_text say subject) others ++ codes ".</p>\n"
+    codes "<p class=\"note\">Only what is about "
+    ++ join_by (λ (subject : Subject). say (shown (string_bytes subject.text))) (codes ", ") (first ∷ others) ++ codes ".</p>\n"
 
 -- ---- warnings
 
@@ -83,8 +75,3 @@ lost_warning lost =
     if lost == 0 then []
     else codes "<p class=\"warn\">" ++ count_text lost (codes "packet") (codes "packets")
     ++ codes " could not be used: <a href=\"#nothing\">why</a>.</p>\n"
-
--- what a page begins with; `say` is how text of the network is written, and `lost` counts packets that lost what they said
-abbrev pub lead_text : (List ℕ → List ℕ) → Axis → List Subject → List Row → List Facts → ℕ → List ℕ
-lead_text say axis about rows captures lost =
-    live_line axis rows ++ about_line say about ++ flat_map (ending_warning say) captures ++ lost_warning lost

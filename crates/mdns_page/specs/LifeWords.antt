@@ -10,16 +10,13 @@ use Rattle.mdns_page.specs.BarTitles.{still_text}
 use Rattle.mdns_page.specs.declared.axis.Axis.{Axis}
 use Rattle.mdns_page.specs.declared.axis.Dates.TheVariants.{Omitted}
 
--- when and why a life ended, without the date if that is the one of its begin, or that it goes on
-unfoldable pub end_words : Axis → Life → List ℕ
-end_words axis life =
-    if goes_on axis life then codes "<b>" ++ still_text life.reason ++ codes "</b>"
-    else short_text (if is_same_date life.from.nanos life.until then Omitted else axis.dates) life.until
-    ++ 32 ∷ reason_text life.reason
-
--- a life: from when until when
+-- a life: from when until when, and why it ended, without the date if that is the one of its begin, or that it goes on
 unfoldable pub life_words : Axis → Life → List ℕ
-life_words axis life = codes "<p>" ++ short_text axis.dates life.from.nanos ++ codes " &#8211; " ++ end_words axis life ++ codes "</p>"
+life_words axis life =
+    codes "<p>" ++ short_text axis.dates life.from.nanos ++ codes " &#8211; "
+    ++ (if goes_on axis life then codes "<b>" ++ still_text life.reason ++ codes "</b>"
+    else short_text (if is_same_date life.from.nanos life.until then Omitted else axis.dates) life.until ++ 32 ∷ reason_text life.reason)
+    ++ codes "</p>"
 
 -- the last three lives, and how many were before, if there are any
 abbrev pub lives_words : Axis → List Life → List ℕ

@@ -25,19 +25,15 @@ is_for Goodbye Goodbye = true
 is_for Flushed Flushed = true
 is_for _ _ = false
 
--- a mark by its begin and its end
-abbrev pub mark : ℕ → ℕ → Mark
-mark begin end = record { begin = begin; end = end }
-
 -- where the life ended, if it did so for this reason
 abbrev pub end_mark : Axis → Reason → Life → Option Mark
 end_mark axis reason life =
     let end = place_end axis life.from.nanos life.until in
-    if goes_on axis life then None else (if is_for reason life.reason then Some (mark end end) else None)
+    if goes_on axis life then None else (if is_for reason life.reason then Some (record { begin = end; end = end }) else None)
 
 -- from where to where the life's bar is
 abbrev pub bar_mark : Axis → Life → Mark
-bar_mark axis life = mark (place axis life.from.nanos) (place_end axis life.from.nanos life.until)
+bar_mark axis life = record { begin = place axis life.from.nanos; end = place_end axis life.from.nanos life.until }
 
 -- where the life has a stroke of this kind, if it has one; ticks are those of hearings
 abbrev pub mark_of : Axis → Stroke → Life → Option Mark
@@ -97,27 +93,24 @@ mark_text (GoodbyeTick top) mark = codes "M" ++ decimal mark.begin ++ 32 ∷ dec
 unfoldable pub path_begin : Stroke → List ℕ
 path_begin stroke = codes "<path class=\"" ++ class_of stroke ++ codes "\" d=\""
 
-unfoldable pub path_end : List ℕ
-path_end = codes "\"/>"
-
 -- the strokes as one path; nothing where there is none
 abbrev pub path_of : Stroke → List Mark → List ℕ
 path_of stroke [] = []
-path_of stroke (mark ∷ marks) = path_begin stroke ++ flat_map (mark_text stroke) (mark ∷ marks) ++ path_end
+path_of stroke (mark ∷ marks) = path_begin stroke ++ flat_map (mark_text stroke) (mark ∷ marks) ++ codes "\"/>"
 
--- the strokes of a kind that the lives have
-unfoldable pub path : Axis → Stroke → List Life → List ℕ
-path axis stroke lives = path_of stroke (differing None (filter_map (mark_of axis stroke) lives))
+-- the strokes of a kind that lives or seconds have, by where each has one; each place once
+unfoldable pub path : {X : Type 0} → (Stroke → X → Option Mark) → Stroke → List X → List ℕ
+path mark_of stroke xs = path_of stroke (differing None (filter_map (mark_of stroke) xs))
 
 -- the rest of a path, after the last mark before these, if there was one
 unfoldable pub path_rest : Stroke → Option Mark → List Mark → List ℕ
 path_rest stroke None marks = path_of stroke (differing None marks)
-path_rest stroke (Some before) marks = flat_map (mark_text stroke) (differing (Some before) marks) ++ path_end
+path_rest stroke (Some before) marks = flat_map (mark_text stroke) (differing (Some before) marks) ++ codes "\"/>"
 
 -- what is left of it after the last mark of all, if there was one
 abbrev pub path_last : Option Mark → List ℕ
 path_last None = []
-path_last (Some before) = path_end
+path_last (Some before) = codes "\"/>"
 
 -- ---- bars with titles
 
@@ -134,4 +127,4 @@ titled_bar axis stroke life =
 
 -- the bars of lives: each with a title, or all as one path
 abbrev pub bars : Axis → Bool → Stroke → List Life → List ℕ
-bars axis titled stroke lives = if titled then flat_map (titled_bar axis stroke) lives else path axis stroke lives
+bars axis titled stroke lives = if titled then flat_map (titled_bar axis stroke) lives else path (mark_of axis) stroke lives

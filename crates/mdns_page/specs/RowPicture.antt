@@ -1,12 +1,13 @@
 -- The picture of a row.
-use Rattle.std.specs.Prelude.{ℕ, List, ◌++◌, codes}
+use Rattle.std.specs.Prelude.{ℕ, ◌==◌, if◌then◌else◌, List, [], ◌++◌, codes}
 use Rattle.std.specs.Fmt.{decimal}
 use Rattle.std.specs.List.{flat_map}
 use Rattle.mdns_lives.specs.declared.life.Life.{Life}
 use Rattle.mdns_lives.specs.declared.life.Reason.TheVariants.{RanOut, Goodbye, Flushed}
 use Rattle.mdns_lives.specs.declared.seconds_heard.SecondHeard.{SecondHeard}
-use Rattle.mdns_page.specs.Lanes.{height, lanes_text}
-use Rattle.mdns_page.specs.Picture.{bars, path}
+use Rattle.mdns_page.specs.Captures.{each_from}
+use Rattle.mdns_page.specs.Lanes.{height, lane_text}
+use Rattle.mdns_page.specs.Picture.{bars, mark_of, path}
 use Rattle.mdns_page.specs.declared.look.Look.{Look}
 use Rattle.mdns_page.specs.declared.picture.Stroke.TheVariants.{Bar, Server, Pin, Head}
 
@@ -17,6 +18,6 @@ picture look lives servers captures =
     let axis = look.axis in
     codes "<svg viewBox=\"0 0 1000 " ++ decimal (height look.lanes)
     ++ codes "\" preserveAspectRatio=\"none\" aria-hidden=\"true\"><use href=\"#g\"/>" ++ bars axis look.titled Bar lives
-    ++ flat_map (bars axis look.titled Server) servers ++ path axis (Pin Goodbye) lives ++ path axis (Head Goodbye) lives
-    ++ path axis (Pin RanOut) lives ++ path axis (Pin Flushed) lives ++ path axis (Head Flushed) lives
-    ++ lanes_text axis look.lanes captures ++ codes "</svg>"
+    ++ flat_map (bars axis look.titled Server) servers ++ path (mark_of axis) (Pin Goodbye) lives ++ path (mark_of axis) (Head Goodbye) lives
+    ++ path (mark_of axis) (Pin RanOut) lives ++ path (mark_of axis) (Pin Flushed) lives ++ path (mark_of axis) (Head Flushed) lives
+    ++ (if look.lanes == 0 then [] else each_from (lane_text axis look.lanes) 0 captures) ++ codes "</svg>"

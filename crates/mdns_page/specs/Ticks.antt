@@ -1,13 +1,13 @@
 -- The ticks of the axis.
 use Rattle.std.specs.Prelude.{ℕ, ◌+◌, ◌-◌, ◌*◌, ◌/◌, ◌%◌, ◌==◌, ◌&&◌, nat_le, nat_lt, Bool, false, if◌then◌else◌}
-use Rattle.std.specs.Prelude.{Option, List, [], ◌∷◌, ◌++◌, map, codes}
+use Rattle.std.specs.Prelude.{List, [], ◌∷◌, ◌++◌, map, codes}
 use Rattle.std.specs.Fmt.{decimal}
 use Rattle.std.specs.Int.{div_ceil}
 use Rattle.std.specs.List.{flat_map, range_with_len}
 use Rattle.mdns_capture.specs.Limits.{second}
 use Rattle.people_text.specs.MomentText.{clock_text, hours_text, seconds_of}
-use Rattle.mdns_survey.specs.declared.reading.Span.{Span}
 use Rattle.mdns_page.specs.Axis.{day_text, place}
+use Rattle.mdns_page.specs.Captures.{Facts}
 use Rattle.mdns_page.specs.Lanes.{bases_text, height}
 use Rattle.mdns_page.specs.declared.axis.Axis.{Axis}
 use Rattle.mdns_page.specs.declared.axis.Dates.{Dates}
@@ -60,11 +60,11 @@ tick_label axis step tick =
     else []
 
 -- what the pictures share: the labels, and the lines, `v` for captures and `g` for rows, with those of the lanes
-unfoldable pub symbols_text : Axis → (lanes : ℕ) → List (Option Span) → List ℕ
-symbols_text axis lanes spans =
+unfoldable pub symbols_text : Axis → (lanes : ℕ) → List Facts → List ℕ
+symbols_text axis lanes captures =
     let all = ticks axis in
     codes "<svg class=\"d\" width=\"0\" height=\"0\" aria-hidden=\"true\"><defs>" ++ codes "<symbol id=\"x\" overflow=\"visible\">"
     ++ flat_map (tick_label axis (step_of axis)) all ++ codes "</symbol>\n<g id=\"v\"><path class=\"v\" d=\""
     ++ flat_map (tick_line axis 24) all ++ codes "\"/></g>\n<g id=\"g\"><path class=\"v\" d=\""
-    ++ flat_map (tick_line axis (height lanes)) all ++ codes "\"/>" ++ bases_text axis lanes spans
+    ++ flat_map (tick_line axis (height lanes)) all ++ codes "\"/>" ++ bases_text axis lanes captures
     ++ codes "</g>\n</defs></svg>\n"

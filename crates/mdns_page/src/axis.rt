@@ -1,10 +1,10 @@
 //! The axis of the pictures: moments become places, and are written with as much of their dates as the page needs.
 
-ghost use Rattle.std.specs.Prelude.{◌≡◌, ◌<◌, ◌+◌, ◌-◌, ◌/◌, ◌++◌, max, List, OnOk};
+ghost use Rattle.std.specs.Prelude.{◌≡◌, ◌<◌, ◌+◌, ◌-◌, ◌/◌, ◌++◌, max, nat_le, List, OnOk};
 ghost use Rattle.std.specs.String.{string_bytes};
 ghost use Rattle.mdns_capture.specs.Savefile.{PacketAt};
 ghost use Rattle.mdns_survey.specs.Readings.{HaveSpans, all_moments};
-ghost use Rattle.mdns_page.specs.Axis.{IsAxis, dates_of, day_text, days_text, has_begun, is_same_date};
+ghost use Rattle.mdns_page.specs.Axis.{IsAxis, dates_of, day_text, is_same_date};
 ghost use Rattle.mdns_page.specs.Axis.{place, place_end, short_text};
 
 use mdns_capture::Moment;
@@ -95,7 +95,7 @@ impl Axis {
 
     /// Checks that a capture began to record by the end. One of a moment that is asked for may have begun later.
     pub(crate) fn has_begun(self, span: Span) -> bool
-        ensures { result ≡ has_begun self span }
+        ensures { result ≡ nat_le span.first.nanos self.end.nanos }
     {
         span.first.nanos() <= self.end.nanos()
     }
@@ -143,17 +143,4 @@ pub(crate) fn push_day(to: &mut String, dates: Dates, nanos: u64) -> Result<(), 
         Dates::Omitted | Dates::WithoutYear => push_month_day(to, nanos),
         Dates::Whole => push_date(to, nanos),
     }
-}
-
-/// Appends the date of the axis, or those of its start and its end, as `2026-11-22 to 2026-11-24`.
-#[tactic(auto, unfolding(crate::specs::Axis::days_text))]
-pub(crate) fn push_days(to: &mut String, axis: Axis) -> Result<(), Want>
-    ensures { OnOk result (string_bytes to.new ≡ string_bytes to.old ++ days_text axis) }
-{
-    push_date(to, axis.start.nanos())?;
-    if is_same_date(axis.start.nanos(), axis.end.nanos()) {
-        return Ok(());
-    }
-    to.push_str(" to ")?;
-    push_date(to, axis.end.nanos())
 }

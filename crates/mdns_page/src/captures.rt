@@ -1,10 +1,14 @@
 //! The captures of a page: what each is, when it recorded, and how it ends.
 
-ghost use Rattle.std.specs.Prelude.{◌≡◌, ◌<◌, ◌^◌, ◌++◌, length, map, nat_lt, OnOk};
+ghost use Rattle.std.specs.Prelude.{◌≡◌, ◌<◌, ◌^◌, ◌++◌, codes, if◌then◌else◌, length, map, nat_lt, OnOk};
+ghost use Rattle.std.specs.Fmt.{decimal};
 ghost use Rattle.std.specs.String.{string_bytes};
+ghost use Rattle.mdns_capture.specs.Text.{ending_text};
+ghost use Rattle.mdns_survey.specs.ProgramLines.{is_whole};
 ghost use Rattle.people_text.specs.Shown.{shown};
-ghost use Rattle.mdns_page.specs.Captures.{capture_text, captures_text, each_from, ending_words, facts_lent, number_text};
-ghost use Rattle.mdns_page.specs.Captures.{outcomes_text, recorded_bar, recorded_path, recorded_picture, recorded_stroke, recorded_words, sizes_text};
+ghost use Rattle.mdns_page.specs.Axis.{drawn_if, place, place_end};
+ghost use Rattle.mdns_page.specs.Captures.{capture_text, captures_text, each_from, facts_lent, number_text};
+ghost use Rattle.mdns_page.specs.Captures.{outcomes_text, recorded_bar, recorded_picture, recorded_words, sizes_text};
 ghost use Rattle.mdns_page.specs.Html.{isolated};
 
 use crate::axis::{Axis, Dates, push_short};
@@ -153,7 +157,7 @@ fn push_picture(to: &mut String, axis: Axis, span: Option<Span>) -> Result<(), W
 
 // Appends the stroke of that picture; nothing where there are no packets, or only packets after the end of the axis.
 fn push_recorded_path(to: &mut String, axis: Axis, span: Option<Span>) -> Result<(), Want>
-    ensures { OnOk result (string_bytes to.new ≡ string_bytes to.old ++ recorded_path axis span) }
+    ensures { OnOk result (string_bytes to.new ≡ string_bytes to.old ++ drawn_if axis (recorded_bar axis) span) }
 {
     let Some(span) = span else {
         return Ok(());
@@ -176,9 +180,10 @@ fn push_recorded_bar(to: &mut String, axis: Axis, span: Span) -> Result<(), Want
     Ok(())
 }
 
-#[tactic(auto, unfolding(crate::specs::Captures::recorded_stroke))]
 fn push_stroke(to: &mut String, axis: Axis, span: Span) -> Result<(), Want>
-    ensures { OnOk result (string_bytes to.new ≡ string_bytes to.old ++ recorded_stroke axis span) }
+    ensures { OnOk result (string_bytes to.new ≡ string_bytes to.old
+        ++ (codes "<path class=\"r\" d=\"M" ++ decimal (place axis span.first.nanos) ++ codes " 19H"
+        ++ decimal (place_end axis span.first.nanos span.last.nanos) ++ codes "\">")) }
 {
     let begin = axis.place(span.first.nanos());
     let end = axis.place_end(span.first.nanos(), span.last.nanos());
@@ -198,9 +203,9 @@ fn push_recorded_words(to: &mut String, dates: Dates, span: Option<Span>) -> Res
     push_short(to, dates, span.last.nanos())
 }
 
-#[tactic(auto, unfolding(crate::specs::Captures::ending_words))]
 fn push_ending(to: &mut String, ending: Ending) -> Result<(), Want>
-    ensures { OnOk result (string_bytes to.new ≡ string_bytes to.old ++ ending_words ending) }
+    ensures { OnOk result (string_bytes to.new ≡ string_bytes to.old ++ (if is_whole ending then codes "whole"
+        else codes "<b class=\"warn\">" ++ ending_text ending ++ codes "</b>")) }
 {
     if is_whole(ending) {
         to.push_str("whole")?;

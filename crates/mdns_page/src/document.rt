@@ -2,11 +2,11 @@
 
 ghost use Rattle.std.specs.Prelude.{◌≡◌, ◌++◌, map, OnOk};
 ghost use Rattle.std.specs.String.{string_bytes};
-ghost use Rattle.mdns_page.specs.Captures.{facts_lent, spans_of};
+ghost use Rattle.mdns_page.specs.Captures.{facts_lent};
 ghost use Rattle.mdns_page.specs.Html.{isolated};
-ghost use Rattle.mdns_page.specs.Document.{body_begin, head, links, page, parts_lent, policy, title};
+ghost use Rattle.mdns_page.specs.Document.{head, page, parts_lent, title};
 
-use crate::axis::{Axis, push_days};
+use crate::axis::{Axis, is_same_date};
 use crate::captures::{CaptureFacts, push_captures};
 use crate::lanes::{lanes_for, push_height};
 use crate::lead::push_lead;
@@ -17,6 +17,7 @@ use crate::timeline::push_timeline;
 use crate::timeline_rows::CountedRow;
 use mdns_browse::Subject;
 use mdns_message::Want;
+use people_text::moment_text::push_date;
 
 /// What a page is made of.
 #[derive(Drop)]
@@ -46,8 +47,7 @@ pub(crate) fn push_page(to: &mut String, parts: &PageParts<'_>) -> Result<(), Wa
 {
     let axis = parts.axis;
     let lanes = lanes_for(is_large(parts.rows.len()), parts.captures.len());
-    push_head(to, axis, lanes)?;
-    push_body_begin(to, axis, lanes, parts.captures)?;
+    push_head(to, axis, lanes, parts.captures)?;
     push_lead(
         to,
         axis,
@@ -56,7 +56,10 @@ pub(crate) fn push_page(to: &mut String, parts: &PageParts<'_>) -> Result<(), Wa
         parts.captures,
         parts.lost,
     )?;
-    push_links(to)?;
+    to.push_str(
+        "<nav><a href=\"#captures\">Captures</a><a href=\"#timeline\">Timeline</a>\
+         <a href=\"#live\">What was live</a><a href=\"#nothing\">Skipped packets</a></nav>\n",
+    )?;
     push_captures(to, axis, parts.captures)?;
     push_timeline(to, axis, lanes, parts.rows, parts.addresses, parts.names)?;
     to.push_str(parts.live)?;
@@ -65,54 +68,27 @@ pub(crate) fn push_page(to: &mut String, parts: &PageParts<'_>) -> Result<(), Wa
     Ok(())
 }
 
-fn push_head(to: &mut String, axis: Axis, lanes: u32) -> Result<(), Want>
-    ensures { OnOk result (string_bytes to.new ≡ string_bytes to.old ++ head axis lanes) }
-{
-    push_policy(to)?;
-    to.push_str("<title>")?;
-    push_title(to, axis)?;
-    to.push_str("</title>\n<style>\n")?;
-    to.push_str(STYLE)?;
-    to.push_str("li>svg{height:")?;
-    push_height(to, lanes)?;
-    to.push_str("px}\n</style></head>\n")?;
-    Ok(())
-}
-
-// Appends what the head begins with. The policy forbids scripts, and to load anything.
-#[tactic(auto, unfolding(crate::specs::Document::policy))]
-fn push_policy(to: &mut String) -> Result<(), Want>
-    ensures { OnOk result (string_bytes to.new ≡ string_bytes to.old ++ policy) }
-{
-    to.push_str(
-        "<!doctype html>\n<html lang=\"en\"><head><meta charset=\"utf-8\">\n\
-         <meta http-equiv=\"Content-Security-Policy\" \
-         content=\"default-src 'none'; style-src 'unsafe-inline'\">\n\
-         <meta name=\"viewport\" content=\"width=device-width\">\n",
-    )?;
-    Ok(())
-}
-
-fn push_title(to: &mut String, axis: Axis) -> Result<(), Want>
-    ensures { OnOk result (string_bytes to.new ≡ string_bytes to.old ++ title axis) }
-{
-    to.push_str("Multicast DNS, ")?;
-    push_days(to, axis)?;
-    Ok(())
-}
-
-// Appends what the body begins with: what the pictures share, and the heading.
-#[tactic(auto, unfolding(crate::specs::Document::body_begin))]
-fn push_body_begin(
+// Appends the head, whose policy forbids scripts, and to load anything; then what the pictures share, and the heading.
+fn push_head(
     to: &mut String,
     axis: Axis,
     lanes: u32,
     captures: &[CaptureFacts<'_>],
 ) -> Result<(), Want>
-    ensures { OnOk result (string_bytes to.new
-        ≡ string_bytes to.old ++ body_begin axis lanes (spans_of (map facts_lent captures.now))) }
+    ensures { OnOk result (string_bytes to.new ≡ string_bytes to.old ++ head axis lanes (map facts_lent captures.now)) }
 {
-    to.push_str("<body>\n")?;
+    to.push_str(
+        "<!doctype html>\n<html lang=\"en\"><head><meta charset=\"utf-8\">\n\
+         <meta http-equiv=\"Content-Security-Policy\" \
+         content=\"default-src 'none'; style-src 'unsafe-inline'\">\n\
+         <meta name=\"viewport\" content=\"width=device-width\">\n<title>",
+    )?;
+    push_title(to, axis)?;
+    to.push_str("</title>\n<style>\n")?;
+    to.push_str(STYLE)?;
+    to.push_str("li>svg{height:")?;
+    push_height(to, lanes)?;
+    to.push_str("px}\n</style></head>\n<body>\n")?;
     push_symbols(to, axis, lanes, captures)?;
     to.push_str("<main>\n<h1>")?;
     push_title(to, axis)?;
@@ -120,13 +96,15 @@ fn push_body_begin(
     Ok(())
 }
 
-#[tactic(auto, unfolding(crate::specs::Document::links))]
-fn push_links(to: &mut String) -> Result<(), Want>
-    ensures { OnOk result (string_bytes to.new ≡ string_bytes to.old ++ links) }
+#[tactic(auto, unfolding(crate::specs::Document::title))]
+fn push_title(to: &mut String, axis: Axis) -> Result<(), Want>
+    ensures { OnOk result (string_bytes to.new ≡ string_bytes to.old ++ title axis) }
 {
-    to.push_str(
-        "<nav><a href=\"#captures\">Captures</a><a href=\"#timeline\">Timeline</a>\
-         <a href=\"#live\">What was live</a><a href=\"#nothing\">Skipped packets</a></nav>\n",
-    )?;
-    Ok(())
+    to.push_str("Multicast DNS, ")?;
+    push_date(to, axis.start.nanos())?;
+    if is_same_date(axis.start.nanos(), axis.end.nanos()) {
+        return Ok(());
+    }
+    to.push_str(" to ")?;
+    push_date(to, axis.end.nanos())
 }

@@ -1,9 +1,12 @@
 //! How often captures heard a record, in words.
 
-ghost use Rattle.std.specs.Prelude.{◌≡◌, ◌<◌, ◌^◌, [], ◌++◌, codes, if◌then◌else◌, length, map, nat_lt, sum_by, OnOk};
+ghost use Rattle.std.specs.Prelude.{◌≡◌, ◌<◌, ◌^◌, ◌==◌, [], ◌++◌, codes, if◌then◌else◌, length, map, nat_lt, sum_by, OnOk};
 ghost use Rattle.std.specs.String.{string_bytes};
+ghost use Rattle.std.specs.List.{count_by};
 ghost use Rattle.mdns_page.specs.Captures.{each_from};
-ghost use Rattle.mdns_page.specs.HeardWords.{capture_times, goodbyes, goodbyes_text, heard_text, times_text, together_text};
+ghost use Rattle.mdns_page.specs.Counts.{commas};
+ghost use Rattle.mdns_page.specs.Lanes.{is_goodbye};
+ghost use Rattle.mdns_page.specs.HeardWords.{capture_times, goodbyes_text, heard_text, together_text};
 ghost use Rattle.mdns_page.specs.Timeline.{seconds_lent};
 
 use crate::captures::{FEW_CAPTURES, push_number};
@@ -75,7 +78,7 @@ fn times_of(captures: &[Vec<SecondHeard>]) -> u128
 
 // Returns how many of the seconds of all captures together have a goodbye.
 fn goodbyes_of(captures: &[Vec<SecondHeard>]) -> u128
-    ensures { result ≡ sum_by goodbyes (map seconds_lent captures.now) }
+    ensures { result ≡ sum_by (count_by is_goodbye) (map seconds_lent captures.now) }
 {
     let mut ended = 0;
     for seconds in captures {
@@ -86,7 +89,7 @@ fn goodbyes_of(captures: &[Vec<SecondHeard>]) -> u128
 
 // Returns how many seconds have a goodbye.
 fn goodbyes(seconds: &[SecondHeard]) -> usize
-    ensures { result ≡ goodbyes seconds.now }
+    ensures { result ≡ count_by is_goodbye seconds.now }
 {
     let mut count = 0;
     for second in seconds {
@@ -124,9 +127,9 @@ fn push_comma_unless(to: &mut String, first: bool) -> Result<(), Want>
     Ok(())
 }
 
-#[tactic(auto, unfolding(crate::specs::HeardWords::times_text))]
 fn push_times(to: &mut String, count: usize, ended: usize) -> Result<(), Want>
-    ensures { OnOk result (string_bytes to.new ≡ string_bytes to.old ++ times_text count ended) }
+    ensures { OnOk result (string_bytes to.new ≡ string_bytes to.old ++ (if count == 0 then codes "<b>never</b>"
+        else commas count ++ codes "&#215;" ++ goodbyes_text ended)) }
 {
     if count == 0 {
         to.push_str("<b>never</b>")?;

@@ -1,11 +1,13 @@
 //! The lanes below the bars of a row: a tick for each second in which a capture heard its record.
 
-ghost use Rattle.std.specs.Prelude.{◌≡◌, ◌<◌, ◌^◌, ◌++◌, if◌then◌else◌, None, Some, map, OnOk};
+ghost use Rattle.std.specs.Prelude.{◌≡◌, ◌<◌, ◌^◌, ◌==◌, [], ◌++◌, if◌then◌else◌, None, Some, map, OnOk};
 ghost use Rattle.std.specs.Fmt.{decimal};
 ghost use Rattle.std.specs.String.{string_bytes};
-ghost use Rattle.mdns_page.specs.Captures.{each_from, facts_lent, spans_of};
+ghost use Rattle.mdns_page.specs.Axis.{drawn_if};
+ghost use Rattle.mdns_page.specs.Captures.{each_from, facts_lent};
 ghost use Rattle.mdns_page.specs.Lanes.{base_line, base_text, bases_text, goodbye_of, height, is_goodbye, lane_text, lane_top, lanes_for};
-ghost use Rattle.mdns_page.specs.Lanes.{lanes_text, point, second_mark, ticks_path};
+ghost use Rattle.mdns_page.specs.Lanes.{point, second_mark};
+ghost use Rattle.mdns_page.specs.Picture.{path};
 ghost use Rattle.mdns_page.specs.Timeline.{seconds_lent};
 
 use crate::axis::Axis;
@@ -89,7 +91,7 @@ pub(crate) fn push_lanes(
     captures: &[Vec<SecondHeard>],
 ) -> Result<(), Want>
     ensures { OnOk result (string_bytes to.new
-        ≡ string_bytes to.old ++ lanes_text axis lanes (map seconds_lent captures.now)) }
+        ≡ string_bytes to.old ++ (if lanes == 0 then [] else each_from (lane_text axis lanes) 0 (map seconds_lent captures.now))) }
 {
     if lanes == 0 {
         return Ok(());
@@ -133,7 +135,7 @@ fn push_ticks_path(
     stroke: Stroke,
     seconds: &[SecondHeard],
 ) -> Result<(), Want>
-    ensures { OnOk result (string_bytes to.new ≡ string_bytes to.old ++ ticks_path axis stroke seconds.now) }
+    ensures { OnOk result (string_bytes to.new ≡ string_bytes to.old ++ path (second_mark axis) stroke seconds.now) }
 {
     let mut before = None;
     for second in seconds {
@@ -196,7 +198,7 @@ pub(crate) fn push_bases(
     captures: &[CaptureFacts<'_>],
 ) -> Result<(), Want>
     ensures { OnOk result (string_bytes to.new
-        ≡ string_bytes to.old ++ bases_text axis lanes (spans_of (map facts_lent captures.now))) }
+        ≡ string_bytes to.old ++ bases_text axis lanes (map facts_lent captures.now)) }
 {
     if lanes == 0 {
         return Ok(());
@@ -214,7 +216,7 @@ fn push_each_base(
     captures: &[CaptureFacts<'_>],
 ) -> Result<(), Want>
     ensures { OnOk result (string_bytes to.new
-        ≡ string_bytes to.old ++ each_from (base_text axis lanes) 0 (spans_of (map facts_lent captures.now))) }
+        ≡ string_bytes to.old ++ each_from (base_text axis lanes) 0 (map facts_lent captures.now)) }
 {
     for (index, capture) in captures.iter().enumerate() {
         push_base(to, axis, lanes, index, capture.span)?;
@@ -230,7 +232,7 @@ fn push_base(
     index: usize,
     span: Option<Span>,
 ) -> Result<(), Want>
-    ensures { OnOk result (string_bytes to.new ≡ string_bytes to.old ++ base_text axis lanes index span) }
+    ensures { OnOk result (string_bytes to.new ≡ string_bytes to.old ++ drawn_if axis (base_line axis (lane_top lanes index)) span) }
 {
     let Some(span) = span else {
         return Ok(());

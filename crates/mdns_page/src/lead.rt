@@ -1,14 +1,17 @@
 //! What a page begins with: how many instances were live at the end of the captures, which instances it shows, and what the
 //! captures lack.
 
-ghost use Rattle.std.specs.Prelude.{◌≡◌, ◌-◌, ◌∷◌, ◌++◌, codes, false, length, map, option_map, slice_get, unwrap_or, OnOk};
+ghost use Rattle.std.specs.Prelude.{◌≡◌, ◌-◌, ◌&&◌, ◌∷◌, ◌++◌, codes, false, length, map, option_map, slice_get, unwrap_or, OnOk};
 ghost use Rattle.std.specs.List.{flat_map};
 ghost use Rattle.std.specs.String.{string_bytes};
 ghost use Rattle.mdns_capture.specs.Text.{ending_text};
+ghost use Rattle.mdns_lives.specs.declared.life.Reason.TheVariants.{Goodbye};
+ghost use Rattle.people_text.specs.Shown.{shown};
 ghost use Rattle.mdns_page.specs.Captures.{facts_lent};
 ghost use Rattle.mdns_page.specs.Html.{isolated};
-ghost use Rattle.mdns_page.specs.Lead.{about_line, ended_text, ending_warning, is_ended, is_leaving, lead_text, live_line};
-ghost use Rattle.mdns_page.specs.Lead.{lost_warning, others_text, said_text, subject_text};
+ghost use Rattle.mdns_page.specs.Lead.{about_line, ended_text, ending_warning, is_ended, live_line, lost_warning};
+ghost use Rattle.mdns_page.specs.Lead.{others_text, said_text};
+ghost use Rattle.mdns_page.specs.Picture.{goes_on, is_for};
 ghost use Rattle.mdns_page.specs.Timeline.{count_last, counted_lent};
 
 use crate::axis::Axis;
@@ -36,7 +39,8 @@ pub(crate) fn push_lead(
     lost: u128,
 ) -> Result<(), Want>
     ensures { OnOk result (string_bytes to.new ≡ string_bytes to.old
-        ++ lead_text isolated axis about.now (map counted_lent rows.now) (map facts_lent captures.now) lost) }
+        ++ (live_line axis (map counted_lent rows.now) ++ about_line isolated about.now
+        ++ flat_map (ending_warning isolated) (map facts_lent captures.now) ++ lost_warning lost)) }
 {
     push_live_line(to, axis, rows)?;
     push_about_line(to, about)?;
@@ -86,7 +90,7 @@ fn push_said(to: &mut String, count: usize) -> Result<(), Want>
 
 // Returns how many records are live at the end of the captures, but have said goodbye.
 fn said_count(axis: Axis, rows: &[CountedRow<'_>]) -> usize
-    ensures { result ≡ count_last (is_leaving axis) (map counted_lent rows.now) }
+    ensures { result ≡ count_last (λ life. goes_on axis life && is_for Goodbye life.reason) (map counted_lent rows.now) }
 {
     let mut count = 0;
     for row in rows {
@@ -97,22 +101,12 @@ fn said_count(axis: Axis, rows: &[CountedRow<'_>]) -> usize
 
 // Checks that the last of some lives goes on, after a goodbye.
 fn has_said(axis: Axis, lives: &[Life]) -> bool
-    ensures { result ≡ unwrap_or (option_map (is_leaving axis) (slice_get lives.now (length lives.now - 1))) false }
+    ensures { result ≡ unwrap_or (option_map (λ life. goes_on axis life && is_for Goodbye life.reason) (slice_get lives.now (length lives.now - 1))) false }
 {
     match lives.last() {
-        Some(life) => is_leaving(axis, life),
+        Some(life) => goes_on(axis, life) && is_for(Reason::Goodbye, life.reason),
         None => false,
     }
-}
-
-// Checks that a life goes on after the end of the captures, and that its last hearing is a goodbye.
-fn is_leaving(axis: Axis, life: &Life) -> bool
-    ensures { result ≡ is_leaving axis life.now }
-{
-    if goes_on(axis, life) {
-        return is_for(Reason::Goodbye, life.reason);
-    }
-    false
 }
 
 // Returns how many records' last lives ended for a reason.
@@ -204,7 +198,7 @@ fn push_subjects_line(to: &mut String, first: &Subject, others: &[Subject]) -> R
 
 fn push_other_subjects(to: &mut String, others: &[Subject]) -> Result<(), Want>
     ensures { OnOk result (string_bytes to.new
-        ≡ string_bytes to.old ++ flat_map (λ subject. codes ", " ++ subject_text isolated subject) others.now) }
+        ≡ string_bytes to.old ++ flat_map (λ subject. codes ", " ++ isolated (shown (string_bytes subject.text))) others.now) }
 {
     for subject in others {
         to.push_str(", ")?;
@@ -214,7 +208,7 @@ fn push_other_subjects(to: &mut String, others: &[Subject]) -> Result<(), Want>
 }
 
 fn push_subject(to: &mut String, subject: &Subject) -> Result<(), Want>
-    ensures { OnOk result (string_bytes to.new ≡ string_bytes to.old ++ subject_text isolated subject.now) }
+    ensures { OnOk result (string_bytes to.new ≡ string_bytes to.old ++ isolated (shown (string_bytes subject.now.text))) }
 {
     push_shown_word(to, subject.text())
 }

@@ -1,12 +1,12 @@
 //! The strokes of pictures: a bar for each life, a thin one for each life of a server, and a pin where a life ended.
 
-ghost use Rattle.std.specs.Prelude.{◌≡◌, ◌++◌, [], List, IfOk, OnOk, map};
+ghost use Rattle.std.specs.Prelude.{◌≡◌, ◌++◌, [], codes, List, IfOk, OnOk, map};
 ghost use Rattle.std.specs.List.{cons_option, flat_map};
 ghost use Rattle.std.specs.String.{string_bytes};
 ghost use Rattle.mdns_page.specs.declared.picture.Mark.{Mark};
 ghost use Rattle.mdns_page.specs.declared.picture.Stroke.TheVariants.{Server};
 ghost use Rattle.mdns_page.specs.Picture.{bar_mark, bars, class_of, end_mark, goes_on, is_for, is_same, mark_of, mark_text};
-ghost use Rattle.mdns_page.specs.Picture.{path, path_begin, path_end, path_last, path_rest, title_word, titled_bar};
+ghost use Rattle.mdns_page.specs.Picture.{path, path_begin, path_last, path_rest, title_word, titled_bar};
 ghost use Rattle.mdns_page.specs.Timeline.{lives_lent};
 
 use crate::axis::Axis;
@@ -108,7 +108,7 @@ pub(crate) fn push_path(
     stroke: Stroke,
     lives: &[Life],
 ) -> Result<(), Want>
-    ensures { OnOk result (string_bytes to.new ≡ string_bytes to.old ++ path axis stroke lives.now) }
+    ensures { OnOk result (string_bytes to.new ≡ string_bytes to.old ++ path (mark_of axis) stroke lives.now) }
 {
     let mut before = None;
     for life in lives {
@@ -224,9 +224,8 @@ fn push_path_begin(to: &mut String, stroke: Stroke) -> Result<(), Want>
     Ok(())
 }
 
-#[tactic(auto, unfolding(crate::specs::Picture::path_end))]
 fn push_path_end(to: &mut String) -> Result<(), Want>
-    ensures { OnOk result (string_bytes to.new ≡ string_bytes to.old ++ path_end) }
+    ensures { OnOk result (string_bytes to.new ≡ string_bytes to.old ++ codes "\"/>") }
 {
     to.push_str("\"/>")?;
     Ok(())

@@ -3,7 +3,7 @@
 ghost use Rattle.std.specs.Prelude.{◌≡◌, ◌<◌, ◌^◌, ◌++◌, map, IfOk, OnOk};
 ghost use Rattle.std.specs.List.{flat_map};
 ghost use Rattle.std.specs.String.{string_bytes};
-ghost use Rattle.mdns_page.specs.Captures.{facts_lent, spans_of};
+ghost use Rattle.mdns_page.specs.Captures.{facts_lent};
 ghost use Rattle.mdns_page.specs.Ticks.{first_step, is_long, multiples, step_of, symbols_text};
 ghost use Rattle.mdns_page.specs.Ticks.{tick_label, tick_line, tick_text, ticks};
 
@@ -38,7 +38,7 @@ pub(crate) fn push_symbols(
     captures: &[CaptureFacts<'_>],
 ) -> Result<(), Want>
     ensures { OnOk result (string_bytes to.new
-        ≡ string_bytes to.old ++ symbols_text axis lanes (spans_of (map facts_lent captures.now))) }
+        ≡ string_bytes to.old ++ symbols_text axis lanes (map facts_lent captures.now)) }
 {
     let ticks = ticks(*to.allocator(), axis)?;
     push_labels_and_lines(to, axis, lanes, captures, ticks.as_slice())
@@ -55,7 +55,7 @@ fn push_labels_and_lines(
 ) -> Result<(), Want>
     requires { moments.now ≡ ticks axis }
     ensures { OnOk result (string_bytes to.new
-        ≡ string_bytes to.old ++ symbols_text axis lanes (spans_of (map facts_lent captures.now))) }
+        ≡ string_bytes to.old ++ symbols_text axis lanes (map facts_lent captures.now)) }
 {
     to.push_str("<svg class=\"d\" width=\"0\" height=\"0\" aria-hidden=\"true\"><defs>")?;
     to.push_str("<symbol id=\"x\" overflow=\"visible\">")?;

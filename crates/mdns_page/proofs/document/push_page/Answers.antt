@@ -1,14 +1,13 @@
 use Rattle.std.proofs.Common.{◌≡◌, ◌∙◌, ◌++◌, Bool, ℕ, ap, length, sym, codes}
 use Rattle.std.proofs.lemmas.List.{length-map}
 use Rattle.std.specs.String.{string_bytes}
-use Rattle.mdns_page.specs.Captures.{captures_text, facts_lent, spans_of}
+use Rattle.mdns_page.specs.Captures.{captures_text, facts_lent}
 use Rattle.mdns_page.specs.OtherRows.{is_large}
 use Rattle.mdns_page.specs.Html.{isolated}
 use Rattle.mdns_page.specs.Lanes.{lanes_for}
-use Rattle.mdns_page.specs.Lead.{lead_text}
-use Rattle.mdns_page.specs.Document.{body_begin, head, links, parts_lent}
+use Rattle.mdns_page.specs.Document.{head, parts_lent}
 use Rattle.mdns_page.specs.Timeline.{counted_lent, timeline}
-use Rattle.mdns_page.proofs.PartLemmas.{parts9}
+use Rattle.mdns_page.proofs.PartLemmas.{parts8}
 use Rattle.mdns_page.proofs.document.push_page.Goals as goal
 
 pub returns : goal.returns
@@ -21,13 +20,10 @@ returns c =
     c.lanes_for-lanes.ensures ∙ ap (λ (large : Bool). lanes_for large (length parts.captures.now)) c.is_large.ensures
     ∙ ap (λ (n : ℕ). lanes_for (is_large n) (length parts.captures.now)) (sym (length-map parts.rows.now counted_lent))
     ∙ ap (λ (n : ℕ). lanes_for (is_large (length shown.rows)) n) (sym (length-map parts.captures.now facts_lent)) in
-    parts9 (string_bytes c.args.to.now) (head axis lanes) (body_begin axis lanes (spans_of shown.captures))
-    (lead_text isolated axis shown.about shown.rows shown.captures shown.lost) links (captures_text isolated axis shown.captures)
-    (timeline isolated axis lanes shown.rows shown.addresses shown.names) shown.live shown.nothing (codes "</main></body></html>\n") _ _ _ _ _ _ _ _ _
-    (c.in_ok-push_head.ensures ∙ ap (λ (n : ℕ). string_bytes c.args.to.now ++ head axis n) is)
-    (c.in_ok-push_body_begin.ensures
-    ∙ ap (λ (n : ℕ). string_bytes c.push_head.new.to ++ body_begin axis n (spans_of shown.captures)) is)
-    c.in_ok-push_lead.ensures c.in_ok-push_links.ensures c.in_ok-push_captures.ensures
+    parts8 (string_bytes c.args.to.now) (head axis lanes shown.captures) _ _ (captures_text isolated axis shown.captures)
+    (timeline isolated axis lanes shown.rows shown.addresses shown.names) shown.live shown.nothing (codes "</main></body></html>\n") _ _ _ _ _ _ _ _
+    (c.in_ok-push_head.ensures ∙ ap (λ (n : ℕ). string_bytes c.args.to.now ++ head axis n shown.captures) is)
+    c.in_ok-push_lead.ensures c.in_ok-push_str.ensures.bytes c.in_ok-push_captures.ensures
     (c.in_ok-push_timeline.ensures
     ∙ ap (λ (n : ℕ). string_bytes c.push_captures.new.to ++ timeline isolated axis n shown.rows shown.addresses shown.names) is)
-    c.in_ok-push_str.ensures.bytes c.in_ok-push_str-2.ensures.bytes c.in_ok-push_str-3.ensures.bytes
+    c.in_ok-push_str-2.ensures.bytes c.in_ok-push_str-3.ensures.bytes c.in_ok-push_str-4.ensures.bytes

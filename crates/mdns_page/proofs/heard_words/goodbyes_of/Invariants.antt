@@ -1,11 +1,12 @@
 use Rattle.std.proofs.Common.{◌≡◌, ◌*◌, ◌≤◌, map, sum_by, take}
-use Rattle.mdns_page.specs.HeardWords.{goodbyes}
+use Rattle.std.specs.List.{count_by}
+use Rattle.mdns_page.specs.Lanes.{is_goodbye}
 use Rattle.mdns_page.specs.Timeline.{seconds_lent}
 use Rattle.mdns_page.proofs.heard_words.goodbyes_of.Given as goal
 
 -- the sum so far, which is less than 2 ^ 64 for each capture
 abbrev pub invariant-loop-seconds : goal.invariant-loop-seconds
 invariant-loop-seconds l = record {
-  value : l.ended ≡ sum_by goodbyes (map seconds_lent (take l.seconds-index l.captures));
+  value : l.ended ≡ sum_by (count_by is_goodbye) (map seconds_lent (take l.seconds-index l.captures));
   few : l.ended ≤ l.seconds-index * 18446744073709551615;
 }

@@ -1,8 +1,8 @@
 use Rattle.std.proofs.Common.{arith}
 use Rattle.std.proofs.lemmas.Result.{on_ok_weaker}
 use Rattle.std.specs.String.{string_bytes}
-use Rattle.mdns_page.specs.Lanes.{second_mark, ticks_path}
-use Rattle.mdns_page.specs.Picture.{path_rest}
+use Rattle.mdns_page.specs.Lanes.{second_mark}
+use Rattle.mdns_page.specs.Picture.{path, path_rest}
 use Rattle.mdns_page.proofs.PathLemmas.{path-all, path-more}
 use Rattle.mdns_page.proofs.lanes.push_ticks_path.Goals as goal
 
@@ -14,7 +14,7 @@ loop-second-preserved c =
     c.loop-second.invariant
 
 pub returns : goal.returns
-unfolding ticks_path path_rest
+unfolding path path_rest
 returns c =
     on_ok_weaker c.push_path_last.result
     (path-all (second_mark c.args.axis c.args.stroke) c.args.stroke c.args.seconds.now c.loop-second.second-index c.loop-second.before

@@ -1,11 +1,12 @@
 use Rattle.std.proofs.Common.{◌≡◌, ◌++◌, codes, take}
 use Rattle.std.specs.List.{flat_map}
 use Rattle.std.specs.String.{string_bytes}
+use Rattle.people_text.specs.Shown.{shown}
 use Rattle.mdns_page.specs.Html.{isolated}
-use Rattle.mdns_page.specs.Lead.{subject_text}
 use Rattle.mdns_page.proofs.lead.push_other_subjects.Given as goal
 
 -- the subjects so far were appended
 abbrev pub invariant-loop-subject : goal.invariant-loop-subject
 invariant-loop-subject l =
-    string_bytes l.to ≡ string_bytes l.initial.to ++ flat_map (λ subject. codes ", " ++ subject_text isolated subject) (take l.subject-index l.others)
+    string_bytes l.to
+    ≡ string_bytes l.initial.to ++ flat_map (λ subject. codes ", " ++ isolated (shown (string_bytes subject.text))) (take l.subject-index l.others)

@@ -1,8 +1,10 @@
-use Rattle.std.proofs.Common.{◌≡◌, map, take}
-use Rattle.mdns_page.specs.Lead.{is_leaving}
+use Rattle.std.proofs.Common.{◌≡◌, ◌&&◌, map, take}
+use Rattle.mdns_lives.specs.declared.life.Reason.TheVariants.{Goodbye}
+use Rattle.mdns_page.specs.Picture.{goes_on, is_for}
 use Rattle.mdns_page.specs.Timeline.{count_last, counted_lent}
 use Rattle.mdns_page.proofs.lead.said_count.Given as goal
 
 -- those of the rows so far were counted
 abbrev pub invariant-loop-row : goal.invariant-loop-row
-invariant-loop-row l = l.count ≡ count_last (is_leaving l.axis) (map counted_lent (take l.row-index l.rows))
+invariant-loop-row l =
+    l.count ≡ count_last (λ life. goes_on l.axis life && is_for Goodbye life.reason) (map counted_lent (take l.row-index l.rows))
