@@ -25,12 +25,12 @@ use Rattle.mdns_page.specs.Captures.{Facts, capture_text, captures_text, each_fr
 use Rattle.mdns_page.specs.Axis.{drawn_if, short_text}
 use Rattle.mdns_page.specs.Group.{grouped, item}
 use Rattle.mdns_page.specs.OtherRows.{is_large}
-use Rattle.mdns_page.specs.Lanes.{base_line, base_text, bases_text, lane_top, lanes_for}
+use Rattle.mdns_page.specs.Lanes.{base_line, base_text, bases_text, lane_top}
 use Rattle.mdns_page.specs.Lead.{about_line, ending_warning, is_ended, live_line}
 use Rattle.mdns_page.specs.Picture.{goes_on, is_for}
 use Rattle.mdns_page.specs.LiveSection.{address_html, live_group, live_row, live_text, server_html, text_html, type_of}
 use Rattle.mdns_page.specs.Document.{Shown, head, page}
-use Rattle.mdns_page.specs.Timeline.{Row, content_name, count_last, group_text, group_words, is_open, lives_in, owner_of, row_text}
+use Rattle.mdns_page.specs.Timeline.{Row, content_name, count_last, group_text, is_open, lives_in, owner_of, row_text}
 use Rattle.mdns_page.specs.Timeline.{timeline}
 use Rattle.mdns_page.specs.declared.kept_records.TimelinePart.{TimelinePart}
 use Rattle.mdns_page.specs.declared.kept_records.TimelinePart.TheVariants.{Addresses, Instances, Names}
@@ -78,13 +78,19 @@ captures-same axis captures files same =
 
 -- ---- the head
 
+bases-same : (axis : Axis) (lanes : ℕ) (captures files : List Facts) → map bare_capture captures ≡ map bare_capture files
+    → bases_text axis lanes captures ≡ bases_text axis lanes files
+unfolding bases_text
+bases-same axis lanes captures files same =
+    ap (λ (lines : List ℕ). if lanes == 0 then [] else codes "<path class=\"n\" d=\"" ++ lines ++ codes "\"/>")
+    (each-same (base_text axis lanes)
+    (λ index capture file same. ap (drawn_if axis (base_line axis (lane_top lanes index))) (span-same capture file same)) 0 captures files
+    same)
+
 head-same : (axis : Axis) (lanes : ℕ) (captures files : List Facts) → map bare_capture captures ≡ map bare_capture files
     → head axis lanes captures ≡ head axis lanes files
-unfolding head symbols_text bases_text
-head-same axis lanes captures files same =
-    rw (each-same (base_text axis lanes)
-    (λ index capture file same. ap (drawn_if axis (base_line axis (lane_top lanes index))) (span-same capture file same)) 0 captures files
-    same) refl
+unfolding head symbols_text
+head-same axis lanes captures files same = rw (bases-same axis lanes captures files same) refl
 
 -- ---- the lead
 
@@ -175,10 +181,12 @@ timeline-same axis lanes rows drawn addresses hosts names apart same_groups same
     let same_rows = rows-same rows drawn same_groups in
     let all_same = append-same bare_row (rows ++ addresses) (drawn ++ hosts) names apart
     (append-same bare_row rows drawn addresses hosts same_rows same_addresses) same_names in
-    let few = λ (lives : List Life). nat_le (length lives) 1000 in
-    let titled-same = ap few (flat_map-same bare_row lives_in lives-same (rows ++ addresses ++ names) (drawn ++ hosts ++ apart) all_same) in
+    let titled-same : nat_le (length (flat_map lives_in (rows ++ addresses ++ names))) 1000
+    ≡ nat_le (length (flat_map lives_in (drawn ++ hosts ++ apart))) 1000 =
+    ap (λ (lives : List Life). nat_le (length lives) 1000)
+    (flat_map-same bare_row lives_in lives-same (rows ++ addresses ++ names) (drawn ++ hosts ++ apart) all_same) in
     let look : Look =
-    record { axis = axis; titled = few (flat_map lives_in (drawn ++ hosts ++ apart)); lanes = lanes } in
+    record { axis = axis; titled = nat_le (length (flat_map lives_in (drawn ++ hosts ++ apart))) 1000; lanes = lanes } in
     let opened = is_open (length drawn + length hosts + length apart) in
     rw (
       titled-same,
@@ -302,7 +310,7 @@ pub page-same : (a b : Shown) (opened : Bool) (lasts others : List Latest) (live
 page-same a b opened lasts others live now same_axis same_lost same_nothing
     written written_too same_about same_captures same_rows same_addresses
     same_names same_live =
-    let lanes = lanes_for (is_large (length a.rows)) (length a.captures) in
+    let lanes = if is_large (length a.rows) then 0 else (if nat_lt 4 (length a.captures) then 1 else length a.captures) in
     let rows = rows-same a.rows b.rows same_rows in
     rw (
       written,

@@ -1,18 +1,20 @@
 -- In which seconds captures heard a record.
-use Rattle.std.proofs.Common.{◌≡◌, refl, sym, ap, ◌∙◌, subst, ℕ, ◌+◌, ◌<◌, Bool, true, false, List, [], ◌∷◌, ◌++◌}
+use Rattle.std.proofs.Common.{◌≡◌, refl, sym, ap, ◌∙◌, subst, ℕ, ◌+◌, ◌<◌, Bool, true, false, if◌then◌else◌, List, [], ◌∷◌, ◌++◌}
 use Rattle.std.proofs.Common.{get_or, length, map, take}
 use Rattle.std.specs.Prelude.{nat_lt}
-use Rattle.std.specs.List.{All}
+use Rattle.std.specs.List.{All, filter}
 use Rattle.std.proofs.lemmas.List.{map-append, take_more}
 use Rattle.std.proofs.lemmas.List.Elements.{All-append, All-cons, All-nil, All-same, filter-append}
 use Rattle.mdns_message.specs.declared.hearing.Hearing.{Hearing}
 use Rattle.mdns_message.specs.declared.key.Key.{Key}
+use Rattle.mdns_join.specs.declared.latest.Latest.{Latest}
+use Rattle.mdns_lives.specs.declared.life.Life.{Life}
 use Rattle.mdns_lives.specs.declared.seconds_heard.SecondHeard.{SecondHeard}
 use Rattle.mdns_lives.specs.Chronicle.{Accounts, Chronicles}
 use Rattle.mdns_lives.specs.Heard.{AreSecondsHeard}
 use Rattle.mdns_cache.specs.Live.{record_of}
 use Rattle.mdns_browse.specs.Services.{AreEach}
-use Rattle.mdns_page.specs.TimelineRows.{AreShownBy, IsCounted, shown_seconds}
+use Rattle.mdns_page.specs.TimelineRows.{AreShownBy, IsCounted}
 use Rattle.mdns_page.specs.Timeline.{Row, counted_lent}
 use Rattle.mdns_page.specs.declared.timeline_rows.CountedRow.{CountedRow}
 use Rattle.mdns_page.proofs.LiveLemmas.{each-count}
@@ -46,6 +48,9 @@ module _ {X Y : Type 0} (Is : X → Y → Type 0) where
 
 -- ---- the seconds that are shown
 
+abbrev pub shown_seconds : (many : Bool) → List (List SecondHeard) → List (List SecondHeard)
+shown_seconds many captures = if many then filter (λ seconds. nat_lt 0 (length seconds)) captures else captures
+
 shown-more : (many : Bool) (captures : List (List SecondHeard)) (seconds : List SecondHeard)
     → shown_seconds many (captures ++ seconds ∷ []) ≡ shown_seconds many captures ++ shown_seconds many (seconds ∷ [])
 shown-more true captures seconds = filter-append (λ seconds. nat_lt 0 (length seconds)) captures (seconds ∷ [])
@@ -73,6 +78,10 @@ heard-more many key captures i capture shown seconds more within at so_far last 
     }
 
 -- ---- one row more
+
+-- the record with its lives alone
+abbrev pub record_in : Row → Latest × List Life
+record_in row = (row.last, row.lives)
 
 pub row-more : (Is : Row → Type 0) (rows : List CountedRow) (row : CountedRow) (more : List CountedRow) → more ≡ rows ++ row ∷ []
     → All Is (map counted_lent rows) → Is (counted_lent row) → All Is (map counted_lent more)

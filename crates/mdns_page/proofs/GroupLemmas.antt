@@ -4,7 +4,8 @@ use Rattle.std.proofs.Common.{length, take, drop, map, get_or, arith}
 use Rattle.std.proofs.lemmas.List.{append_assoc, append-nil, at_drop_all, drop_more, drop-map, take-map}
 use Rattle.std.proofs.lemmas.Simd.{map-map}
 use Rattle.std.specs.List.{flat_map}
-use Rattle.mdns_page.specs.Group.{AreGroups, following, grouped, grouped_with, leading, same_name}
+use Rattle.mdns_browse.specs.Services.{same_text}
+use Rattle.mdns_page.specs.Group.{AreGroups, following, grouped, grouped_with, leading}
 
 -- a row, and those that follow it
 pub count-first : (n : ℕ) (owner : List ℕ) (owners : List (List ℕ)) → n ≡ following owner owners → 1 + n ≡ leading (owner ∷ owners)
@@ -30,7 +31,7 @@ module _ {R : Type 0} (owner : R → List ℕ) where
   grouped-row row [] = refl
   grouped-row row (other ∷ others) =
       ap (grouped_with owner row) (grouped-row other others)
-      ∙ grouped-before row other (after_row other others) others (grouped-row other others) (same_name (owner row) (owner other))
+      ∙ grouped-before row other (after_row other others) others (grouped-row other others) (same_text (owner row) (owner other))
 
   -- the first group, and the others
   pub grouped-first : (n : ℕ) (rows : List R) → 0 < length rows → n ≡ leading (map owner rows)
@@ -48,20 +49,20 @@ module _ {R : Type 0} (owner : R → List ℕ) where
 
   -- what follows, where the two first are of one type, or aren't
   following-by : (rs : List R) (i : ℕ) (before r : R) (same : Bool) → i < length rs → r ≡ get_or rs i r
-      → same_name (owner before) (owner r) ≡ same → following (owner before) (map owner (drop i rs))
+      → same_text (owner before) (owner r) ≡ same → following (owner before) (map owner (drop i rs))
       ≡ (if same then suc (following (owner r) (map owner (drop (i + 1) rs))) else 0)
   following-by rs i before r same within at is =
       ap (following (owner before)) (from_index rs i r within at)
       ∙ ap (λ (same : Bool). if same then suc (following (owner r) (map owner (drop (i + 1) rs))) else 0) is
 
   pub following-more : (rs : List R) (i : ℕ) (before r : R) (count : ℕ) → i < length rs → r ≡ get_or rs i r
-      → same_name (owner before) (owner r) ≡ true → count ≡ i + following (owner before) (map owner (drop i rs))
+      → same_text (owner before) (owner r) ≡ true → count ≡ i + following (owner before) (map owner (drop i rs))
       → count ≡ (i + 1) + following (owner r) (map owner (drop (i + 1) rs))
   following-more rs i before r count within at same so_far =
       omega (arith, so_far, following-by rs i before r true within at same)
 
   pub following-end : (rs : List R) (i : ℕ) (before r : R) (count : ℕ) → i < length rs → r ≡ get_or rs i r
-      → same_name (owner before) (owner r) ≡ false → count ≡ i + following (owner before) (map owner (drop i rs)) → i ≡ count
+      → same_text (owner before) (owner r) ≡ false → count ≡ i + following (owner before) (map owner (drop i rs)) → i ≡ count
   following-end rs i before r count within at apart so_far =
       omega (arith, so_far, following-by rs i before r false within at apart)
 
@@ -110,7 +111,7 @@ module _ {R : Type 0} (owner : R → List ℕ) where
       ≡ row ∷ flat_map (λ (group : List R). group) groups
   with-all row [] = refl
   with-all row ([] ∷ groups) = refl
-  with-all row ((other ∷ others) ∷ groups) = with-all_by row other others groups (same_name (owner row) (owner other))
+  with-all row ((other ∷ others) ∷ groups) = with-all_by row other others groups (same_text (owner row) (owner other))
 
   -- all rows are there, in their order
   pub grouped-all : (rows : List R) → flat_map (λ (group : List R). group) (grouped owner rows) ≡ rows
@@ -119,7 +120,7 @@ module _ {R : Type 0} (owner : R → List ℕ) where
   grouped-all (row ∷ rows) = with-all row (grouped owner rows) ∙ ap (λ rest. row ∷ rest) (grouped-all rows)
 
   with-types_by : (row other : R) (others : List R) (groups : List (List R)) (same : Bool)
-      → same_name (owner row) (owner other) ≡ same → AreGroups owner ((other ∷ others) ∷ groups)
+      → same_text (owner row) (owner other) ≡ same → AreGroups owner ((other ∷ others) ∷ groups)
       → AreGroups owner (if same then (row ∷ other ∷ others) ∷ groups else (row ∷ []) ∷ (other ∷ others) ∷ groups)
   with-types_by row other others groups true is rest = ((is, rest.0), rest.1)
   with-types_by row other others groups false is rest = (tt, rest)
@@ -128,7 +129,7 @@ module _ {R : Type 0} (owner : R → List ℕ) where
   with-types row [] rest = (tt, tt)
   with-types row ([] ∷ groups) rest = absurd rest.0
   with-types row ((other ∷ others) ∷ groups) rest =
-      with-types_by row other others groups (same_name (owner row) (owner other)) refl rest
+      with-types_by row other others groups (same_text (owner row) (owner other)) refl rest
 
   -- each group is of one type
   pub grouped-types : (rows : List R) → AreGroups owner (grouped owner rows)

@@ -17,7 +17,7 @@ use Rattle.mdns_lives.specs.Chronicle.{AreAllLives}
 use Rattle.mdns_lives.specs.declared.life.Life.{Life}
 use Rattle.mdns_browse.specs.declared.about.Subject.{Subject}
 use Rattle.mdns_browse.specs.Services.{name_if}
-use Rattle.mdns_page.specs.KeptRecords.{lasts_of, looked_up}
+use Rattle.mdns_page.specs.KeptRecords.{looked_up}
 
 -- ---- names that a record gives
 
@@ -104,10 +104,9 @@ module _ {X K : Type 0} (c : K → K → Ordering) (key : X → K) (p : X → Bo
 
 module _ (heard : List Hearing) (rows : List (Latest × List Life)) (are : AreAllLives heard rows) where
   -- some of the records, and the last hearings that are looked up
-  pub some-sorted : (p : Latest × List Life → Bool) → IsStrictlySortedBy key_cmp (map record_of (lasts_of (filter p rows)))
-  some-sorted p =
-      subst (IsStrictlySortedBy key_cmp) (sym (map-map record_of (λ (row : Latest × List Life). row.0) (filter p rows)))
-      (sorted-filter key_cmp (λ (row : Latest × List Life). record_of row.0) p rows are.ascending)
+  pub some-sorted : (p : Latest × List Life → Bool)
+      → IsStrictlySortedBy key_cmp (map (λ (row : Latest × List Life). record_of row.0) (filter p rows))
+  some-sorted p = sorted-filter key_cmp (λ (row : Latest × List Life). record_of row.0) p rows are.ascending
 
   pub looked_up-sorted : (about : List Subject) → IsStrictlySortedBy key_cmp (map record_of (looked_up about rows))
   unfolding IsStrictlySortedBy

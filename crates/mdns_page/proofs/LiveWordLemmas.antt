@@ -1,7 +1,6 @@
 -- Strings of a text, one a line, and an address.
 use Rattle.std.proofs.Common.{◌≡◌, refl, sym, ◌∙◌, ap, arith, ℕ, ◌==◌, Bool, true, false, if◌then◌else◌, List, [], ◌∷◌, ◌++◌, codes, length}
 use Rattle.std.proofs.lemmas.Bool.Decides.{nat_tests}
-use Rattle.std.proofs.lemmas.Grind.{flat_map-append}
 use Rattle.std.proofs.lemmas.List.{append-nil, append_assoc}
 use Rattle.std.specs.List.{flat_map, join_by}
 use Rattle.mdns_message.specs.Borrowed.{BorrowedBody, body_lent}
@@ -19,19 +18,16 @@ strings-cons : (bytes string after : List ℕ) → strings_of bytes ≡ string �
 unfolding shown_strings
 strings-cons bytes string after split = rw split refl
 
-further : List ℕ → List ℕ
-further word = 10 ∷ word
-
 first_after-false : {X : Type 0} (xs : List X) → first_after false xs ≡ false
 first_after-false [] = refl
 first_after-false (x ∷ xs) = refl
 
 lines-append : (first : Bool) (xs ys : List (List ℕ)) → lines first (xs ++ ys) ≡ lines first xs ++ lines (first_after first xs) ys
-lines-append true [] ys = refl
-lines-append true (x ∷ xs) ys =
-    ap (λ text. x ++ text) (flat_map-append further xs ys) ∙ sym (append_assoc x (flat_map further xs) (flat_map further ys))
-lines-append false xs ys =
-    flat_map-append further xs ys ∙ ap (λ next. flat_map further xs ++ lines next ys) (sym (first_after-false xs))
+lines-append first [] ys = refl
+lines-append first (x ∷ xs) ys =
+    ap (λ text. (if first then [] else 10 ∷ []) ++ x ++ text)
+    (lines-append false xs ys ∙ ap (λ next. lines false xs ++ lines next ys) (first_after-false xs))
+    ∙ sym (append_assoc ((if first then [] else 10 ∷ []) ++ x) (lines false xs) (lines false ys))
 
 -- a string written takes its word from what is left to write
 pub lines_left-step : (old new total bytes string after : List ℕ) (first next : Bool) → strings_of bytes ≡ string ∷ strings_of after
@@ -65,6 +61,14 @@ first_left-end bytes first last none left =
     ap (λ bytes. first_after first (shown_strings bytes)) (sym none) ∙ left
 
 -- ---- a paragraph of words
+
+further-lines : (words : List (List ℕ)) → lines false words ≡ flat_map (λ word. (10 ∷ []) ++ word) words
+further-lines [] = refl
+further-lines (word ∷ words) = ap (λ text. (10 ∷ word) ++ text) (further-lines words)
+
+pub lines-joined : (words : List (List ℕ)) → lines true words ≡ join_by (λ word. word) (10 ∷ []) words
+lines-joined [] = refl
+lines-joined (word ∷ words) = ap (λ text. word ++ text) (further-lines words)
 
 pub some-items : {X : Type 0} (x : X) (xs : List X) → (length (x ∷ xs) == 0) ≡ false
 some-items x xs = grind (arith, nat_tests)

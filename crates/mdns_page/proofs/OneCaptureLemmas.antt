@@ -156,7 +156,8 @@ module _ (readings others : List Reading) (alike : AreEach IsAlike readings othe
   table-alike : table_text readings ≡ table_text others
   unfolding table_text
   table-alike i =
-      codes "<table>\n" ++ flat_map (λ (w : Why × List ℕ). row_text (skipped-alike w.0 i) (why_text w.0) true w.1) warnings
+      codes "<table>\n" ++ flat_map (λ (warning : List ℕ × List Why). flat_map (λ (reason : Why).
+      row_text (skipped-alike reason i) (why_text reason) true warning.0) warning.1) warnings
       ++ row_text (refused-alike i) (codes "damaged message") true (codes "damaged: refused whole")
       ++ flat_map (λ (reason : Why). row_text (skipped-alike reason i) (why_text reason) false (codes "normal")) reasons
       ++ codes "</table>\n"

@@ -40,14 +40,15 @@ use Rattle.mdns_page.specs.Axis.{dates_of}
 use Rattle.mdns_page.specs.declared.axis.Axis.{Axis}
 use Rattle.mdns_page.specs.declared.kept_records.TimelinePart.{TimelinePart}
 use Rattle.mdns_page.specs.declared.kept_records.TimelinePart.TheVariants.{Addresses, Instances, Names}
-use Rattle.mdns_page.specs.TimelineRows.{IsCounted, shown_seconds}
+use Rattle.mdns_page.specs.TimelineRows.{IsCounted}
 use Rattle.mdns_page.specs.OtherRows.{is_large}
 use Rattle.mdns_page.specs.Html.{isolated}
 use Rattle.mdns_page.specs.Document.{page}
 use Rattle.mdns_page.specs.Servers.{servers_of}
 use Rattle.mdns_page.specs.KeptRecords.{AreRows, kept_of}
 use Rattle.mdns_page.specs.Page.{SurveysPage, WritesPage, live_at_end}
-use Rattle.mdns_page.specs.Timeline.{Row, is_open, record_in}
+use Rattle.mdns_page.specs.Timeline.{Row, is_open}
+use Rattle.mdns_page.proofs.CountedLemmas.{record_in, shown_seconds}
 use Rattle.mdns_page.proofs.OneCaptureLemmas.{IsAlike, are-alike, facts-alike, lost-alike, nothing-alike, one-each}
 
 -- ---- the seconds in which a record was heard

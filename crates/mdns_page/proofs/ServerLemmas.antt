@@ -9,7 +9,6 @@ use Rattle.mdns_cache.specs.Live.{record_of}
 use Rattle.mdns_lives.specs.LentLives.{row_lent}
 use Rattle.mdns_lives.specs.declared.life.Life.{Life}
 use Rattle.mdns_lives.specs.declared.lives.RecordLives.{RecordLives}
-use Rattle.mdns_page.specs.KeptRecords.{lasts_of}
 use Rattle.mdns_page.specs.Timeline.{lives_lent}
 
 -- what passes after a function is applied
@@ -24,11 +23,10 @@ filter-map {X = X} p f (x ∷ xs) =
 
 -- rows that are lent are in key order by their last hearings
 pub ascending-lent : {R : Type 0} (lent : R → Latest × List Life) (rows : List R)
-    → IsStrictlySortedBy key_cmp (map record_of (lasts_of (map lent rows)))
+    → IsStrictlySortedBy key_cmp (map (λ (row : Latest × List Life). record_of row.0) (map lent rows))
     → IsStrictlySortedBy key_cmp (map (λ r. record_of (lent r).0) rows)
 ascending-lent lent rows sorted =
-    subst (IsStrictlySortedBy key_cmp)
-    (ap (map record_of) (map-map (λ (row : Latest × List Life). row.0) lent rows) ∙ map-map record_of (λ r. (lent r).0) rows) sorted
+    subst (IsStrictlySortedBy key_cmp) (map-map (λ (row : Latest × List Life). record_of row.0) lent rows) sorted
 
 -- the lives of rows that are lent
 pub lives-lent : (rows : List RecordLives) → map lives_lent rows ≡ map (λ (row : Latest × List Life). row.1) (map row_lent rows)

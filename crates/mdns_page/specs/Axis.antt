@@ -1,5 +1,6 @@
 -- The axis of the pictures: moments become places, and are written with as much of their dates as the page needs.
-use Rattle.std.specs.Prelude.{◌≡◌, ℕ, ◌+◌, ◌-◌, ◌/◌, ◌==◌, nat_le, min, max, Bool, if◌then◌else◌, Option, None, Some, List, [], ◌∷◌, ◌++◌}
+use Rattle.std.specs.Prelude.{◌≡◌, ℕ, ◌+◌, ◌-◌, ◌/◌, ◌==◌, nat_le, min, max, Bool, if◌then◌else◌}
+use Rattle.std.specs.Prelude.{Option, None, Some, List, [], ◌∷◌, ◌++◌}
 use Rattle.mdns_capture.specs.declared.moment.Moment.{Moment}
 use Rattle.mdns_survey.specs.declared.reading.Span.{Span}
 use Rattle.mdns_survey.specs.declared.request.AsOf.{AsOf}
@@ -21,19 +22,16 @@ place_end axis from until = max (place axis until) (place axis from + 3)
 abbrev pub is_same_date : ℕ → ℕ → Bool
 is_same_date a b = seconds_of a / 86400 == seconds_of b / 86400
 
--- what is drawn for the time that a capture recorded; nothing where there are no packets, or only packets after the end of the axis,
--- which may be a moment that is asked for
+-- what is drawn for the time that a capture recorded; nothing where it has no packets, or only packets after the end of the axis
 abbrev pub drawn_if : Axis → (Span → List ℕ) → Option Span → List ℕ
 drawn_if axis draw None = []
 drawn_if axis draw (Some span) = if nat_le span.first.nanos axis.end.nanos then draw span else []
 
 -- ---- moments in words
 
--- how much of their dates moments need of which these are the first and the last: none if both are of one date, the month and
--- the day if they are of one year, and the year else
+-- how much of their dates moments from the first to the last need: nothing if these are of one date, and no year if of one year
 abbrev pub dates_of : (first last : ℕ) → Dates
-dates_of first last =
-    if is_same_date first last then Omitted else (if year_at first == year_at last then WithoutYear else Whole)
+dates_of first last = if is_same_date first last then Omitted else (if year_at first == year_at last then WithoutYear else Whole)
 
 -- The axis of captures with packets at these moments. The first moment of the page is its start, and the last is its end or
 -- the latest packet, where captures recorded past the moment that is asked for: a page tells when each recorded.

@@ -1,7 +1,6 @@
 -- What bars say of lives.
 use Rattle.std.specs.Prelude.{◌≡◌, ◌+◌, ◌-◌, ◌<◌, Bool, if◌then◌else◌, List, ℕ, ◌++◌, Option, None, Some, codes}
 use Rattle.mdns_lives.specs.declared.life.Life.{Life}
-use Rattle.mdns_lives.specs.declared.life.Reason.{Reason}
 use Rattle.mdns_browse.specs.LifeText.{open_text, reason_text}
 use Rattle.people_text.specs.MomentText.{duration_text, millis_text}
 
@@ -10,13 +9,9 @@ abbrev pub IsLess : (count number : ℕ) → Option ℕ → Type 0
 IsLess count number None = count < number
 IsLess count number (Some rest) = rest + number ≡ count
 
--- what is said of a life that goes on after the end of the captures, and will end for this reason unless it is heard again
-abbrev pub still_text : Reason → List ℕ
-still_text reason = codes "still " ++ open_text reason
-
 -- the title of a life's bar: from when until when, to the millisecond, how long that is, and why it ended, or that it goes on
 unfoldable pub life_title : Bool → Life → List ℕ
 life_title goes_on life =
     millis_text life.from.nanos ++ codes " to " ++ millis_text life.until ++ codes ", "
     ++ duration_text (life.until - life.from.nanos) ++ codes ": "
-    ++ (if goes_on then still_text life.reason else reason_text life.reason)
+    ++ (if goes_on then codes "still " ++ open_text life.reason else reason_text life.reason)

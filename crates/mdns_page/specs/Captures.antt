@@ -66,8 +66,7 @@ outcomes_text tally =
 
 -- ---- rows
 
--- a capture's number, the name of its file, and how much is in it, when it recorded, how it ends, and what its packets were; `say` is
--- how text of the network is written
+-- a capture: its number, file and sizes, when it recorded, how it ends, and what its packets were; `say` writes text of the network
 unfoldable pub capture_text : (List ℕ → List ℕ) → Axis → (many : Bool) → (index : ℕ) → Facts → List ℕ
 capture_text say axis many index capture =
     item (number_text many index ++ codes "&#160;" ++ say (shown capture.name) ++ sizes_text capture.summary.tally)

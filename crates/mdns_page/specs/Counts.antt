@@ -1,5 +1,5 @@
 -- Counts in words.
-use Rattle.std.specs.Prelude.{ℕ, ◌%◌, ◌==◌, ◌&&◌, nat_lt, Bool, if◌then◌else◌, List, [], ◌∷◌, ◌++◌, codes, length}
+use Rattle.std.specs.Prelude.{ℕ, ◌%◌, ◌==◌, ◌&&◌, nat_lt, if◌then◌else◌, List, [], ◌∷◌, ◌++◌, length}
 use Rattle.std.specs.Fmt.{decimal}
 
 -- digits in groups of three, counted from the right, with commas between them
@@ -15,7 +15,3 @@ commas number = in_threes (decimal number)
 -- a count, and the word for one or the word for more
 unfoldable pub count_text : ℕ → (one many : List ℕ) → List ℕ
 count_text count one many = commas count ++ 32 ∷ (if count == 1 then one else many)
-
--- the same, and how many of them are live
-unfoldable pub live_count_text : (count live : ℕ) → (one many : List ℕ) → List ℕ
-live_count_text count live one many = count_text count one many ++ codes ", " ++ commas live ++ codes " live"

@@ -1,5 +1,5 @@
 -- The whole page.
-use Rattle.std.specs.Prelude.{ℕ, if◌then◌else◌, List, [], ◌++◌, codes, length, map}
+use Rattle.std.specs.Prelude.{ℕ, nat_lt, if◌then◌else◌, List, [], ◌++◌, codes, length, map}
 use Rattle.std.specs.Fmt.{decimal}
 use Rattle.std.specs.List.{flat_map}
 use Rattle.people_text.specs.MomentText.{date_text}
@@ -7,7 +7,7 @@ use Rattle.mdns_browse.specs.declared.about.Subject.{Subject}
 use Rattle.mdns_page.specs.Axis.{is_same_date}
 use Rattle.mdns_page.specs.Captures.{Facts, captures_text, facts_lent}
 use Rattle.mdns_page.specs.OtherRows.{is_large}
-use Rattle.mdns_page.specs.Lanes.{height, lanes_for}
+use Rattle.mdns_page.specs.Lanes.{height}
 use Rattle.mdns_page.specs.Lead.{about_line, ending_warning, live_line, lost_warning}
 use Rattle.mdns_page.specs.Ticks.{symbols_text}
 use Rattle.mdns_page.specs.Timeline.{Row, counted_lent, timeline}
@@ -29,8 +29,8 @@ unfoldable pub head : Axis → (lanes : ℕ) → List Facts → List ℕ
 head axis lanes captures =
     codes "<!doctype html>\n<html lang=\"en\"><head><meta charset=\"utf-8\">\n"
     ++ codes "<meta http-equiv=\"Content-Security-Policy\" content=\"default-src 'none'; style-src 'unsafe-inline'\">\n"
-    ++ codes "<meta name=\"viewport\" content=\"width=device-width\">\n<title>" ++ title axis ++ codes "</title>\n<style>\n" ++ STYLE.now
-    ++ codes "li>svg{height:" ++ decimal (height lanes) ++ codes "px}\n</style></head>\n<body>\n"
+    ++ codes "<meta name=\"viewport\" content=\"width=device-width\">\n<title>" ++ title axis ++ codes "</title>\n<style>\n"
+    ++ STYLE.now ++ codes "li>svg{height:" ++ decimal (height lanes) ++ codes "px}\n</style></head>\n<body>\n"
     ++ symbols_text axis lanes captures ++ codes "<main>\n<h1>" ++ title axis ++ codes "</h1>\n"
 
 -- ---- the whole
@@ -61,13 +61,14 @@ parts_lent parts = record {
   nothing = parts.nothing.now;
 }
 
--- the page, with links to its sections; `say` is how text of the network is written
+-- the page, with links to its sections; pictures have a lane for each capture, or one for all where there are many, and none on a
+-- large page; `say` is how text of the network is written
 abbrev pub page : (List ℕ → List ℕ) → Shown → List ℕ
 page say shown =
-    let axis = shown.axis in
-    let lanes = lanes_for (is_large (length shown.rows)) (length shown.captures) in
-    head axis lanes shown.captures
-    ++ (live_line axis shown.rows ++ about_line say shown.about ++ flat_map (ending_warning say) shown.captures ++ lost_warning shown.lost)
+    let axis = shown.axis in let count = length shown.captures in
+    let lanes = if is_large (length shown.rows) then 0 else (if nat_lt 4 count then 1 else count) in
+    head axis lanes shown.captures ++ (live_line axis shown.rows ++ about_line say shown.about
+    ++ flat_map (ending_warning say) shown.captures ++ lost_warning shown.lost)
     ++ (codes "<nav><a href=\"#captures\">Captures</a><a href=\"#timeline\">Timeline</a>"
     ++ codes "<a href=\"#live\">What was live</a><a href=\"#nothing\">Skipped packets</a></nav>\n")
     ++ captures_text say axis shown.captures ++ timeline say axis lanes shown.rows shown.addresses shown.names ++ shown.live

@@ -1,23 +1,17 @@
 -- Groups of rows, and rows.
 use Rattle.std.specs.Prelude.{◌≡◌, ℕ, suc, Bool, true, if◌then◌else◌, List, [], ◌∷◌, ◌++◌, codes}
-use Rattle.std.specs.Cmp.Lexicographic.{slice_cmp}
-use Rattle.std.specs.Ordering.{is_eq, nat_cmp}
-use Rattle.dns_name.specs.Name.{folded}
+use Rattle.mdns_browse.specs.Services.{same_text}
 
 -- ---- rows in groups by type, which is the owner of a record that gives an instance
-
--- the names are equal but for the case of ASCII letters (RFC 6762, section 16)
-abbrev pub same_name : List ℕ → List ℕ → Bool
-same_name name other = is_eq (slice_cmp nat_cmp (folded name) (folded other))
 
 -- groups with a row more before them: it joins the first one, if it is of that type
 abbrev pub grouped_with : {R : Type 0} → (R → List ℕ) → R → List (List R) → List (List R)
 grouped_with owner row [] = (row ∷ []) ∷ []
 grouped_with owner row ([] ∷ groups) = (row ∷ []) ∷ groups
 grouped_with owner row ((other ∷ others) ∷ groups) =
-    if same_name (owner row) (owner other) then (row ∷ other ∷ others) ∷ groups else (row ∷ []) ∷ (other ∷ others) ∷ groups
+    if same_text (owner row) (owner other) then (row ∷ other ∷ others) ∷ groups else (row ∷ []) ∷ (other ∷ others) ∷ groups
 
--- the rows in groups by type: rows of one type that stand together are a group
+-- the rows in groups by type: rows of one type that stand together are a group; case doesn't count (RFC 6762, section 16)
 unfoldable pub grouped : {R : Type 0} → (R → List ℕ) → List R → List (List R)
 grouped owner [] = []
 grouped owner (row ∷ rows) = grouped_with owner row (grouped owner rows)
@@ -26,7 +20,7 @@ grouped owner (row ∷ rows) = grouped_with owner row (grouped owner rows)
 abbrev pub AreOfOneType : {R : Type 0} → (R → List ℕ) → List R → Type 0
 AreOfOneType owner [] = ⊥
 AreOfOneType owner (row ∷ []) = Unit {0}
-AreOfOneType owner (row ∷ other ∷ rows) = (same_name (owner row) (owner other) ≡ true) × AreOfOneType owner (other ∷ rows)
+AreOfOneType owner (row ∷ other ∷ rows) = (same_text (owner row) (owner other) ≡ true) × AreOfOneType owner (other ∷ rows)
 
 -- no group is empty, and each is of one type
 abbrev pub AreGroups : {R : Type 0} → (R → List ℕ) → List (List R) → Type 0
@@ -41,7 +35,7 @@ first_owner owner (row ∷ rows) = owner row
 -- how many owners at the front are equal to this one, each compared with the one before it
 abbrev pub following : List ℕ → List (List ℕ) → ℕ
 following owner [] = 0
-following owner (other ∷ others) = if same_name owner other then suc (following other others) else 0
+following owner (other ∷ others) = if same_text owner other then suc (following other others) else 0
 
 -- how many rows with these owners the first group has
 abbrev pub leading : List (List ℕ) → ℕ

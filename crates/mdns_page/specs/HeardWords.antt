@@ -1,5 +1,5 @@
 -- How often each capture heard a record, in words.
-use Rattle.std.specs.Prelude.{ℕ, ◌+◌, ◌==◌, nat_lt, Bool, false, if◌then◌else◌, List, [], ◌∷◌, ◌++◌, codes, length, sum_by}
+use Rattle.std.specs.Prelude.{ℕ, ◌+◌, ◌==◌, nat_lt, false, if◌then◌else◌, List, [], ◌++◌, codes, length, sum_by}
 use Rattle.std.specs.List.{count_by}
 use Rattle.mdns_lives.specs.declared.seconds_heard.SecondHeard.{SecondHeard}
 use Rattle.mdns_page.specs.Captures.{each_from, number_text}
@@ -23,8 +23,8 @@ capture_times index seconds =
 unfoldable pub together_text : (count : ℕ) → List (List SecondHeard) → List ℕ
 together_text count hearers =
     commas (sum_by (λ (seconds : List SecondHeard). length seconds) hearers) ++ codes "&#215;"
-    ++ goodbyes_text (sum_by (count_by is_goodbye) hearers) ++ codes " in " ++ commas (length hearers) ++ codes " of " ++ commas count
-    ++ codes " captures"
+    ++ goodbyes_text (sum_by (count_by is_goodbye) hearers) ++ codes " in " ++ commas (length hearers)
+    ++ codes " of " ++ commas count ++ codes " captures"
 
 -- how often each capture heard a record; where there are many, how often those that heard it did so together
 unfoldable pub heard_text : (count : ℕ) → List (List SecondHeard) → List ℕ

@@ -1,5 +1,5 @@
 -- The records of a page.
-use Rattle.std.specs.Prelude.{◌≡◌, Bool, ◌||◌, if◌then◌else◌, is_some, Option, ℕ, List, [], ◌∷◌, map}
+use Rattle.std.specs.Prelude.{◌≡◌, Bool, ◌||◌, if◌then◌else◌, is_some, List, [], ◌∷◌, map}
 use Rattle.std.specs.List.{All, filter}
 use Rattle.mdns_message.specs.Parts.{address_of, service_of}
 use Rattle.mdns_message.specs.declared.hearing.Hearing.{Hearing}
@@ -12,24 +12,19 @@ use Rattle.mdns_page.specs.declared.kept_records.TimelinePart.{TimelinePart}
 use Rattle.mdns_page.specs.declared.kept_records.TimelinePart.TheVariants.{Addresses, Instances, Names}
 use Rattle.mdns_page.specs.TimelineRows.{IsCounted}
 use Rattle.mdns_page.specs.Servers.{servers_of}
-use Rattle.mdns_page.specs.Timeline.{Row, record_in}
-
--- the last hearings of rows
-abbrev pub lasts_of : List (Latest × List Life) → List Latest
-lasts_of rows = map (λ (row : Latest × List Life). row.0) rows
+use Rattle.mdns_page.specs.Timeline.{Row}
 
 -- the last hearings in which instances are looked up: those of all records, live or not; none without subjects, where each is kept
 abbrev pub looked_up : List Subject → List (Latest × List Life) → List Latest
 looked_up [] rows = []
-looked_up (subject ∷ about) rows = lasts_of rows
+looked_up (subject ∷ about) rows = map (λ (row : Latest × List Life). row.0) rows
 
 -- the record gives an instance that is about one of the subjects by these last hearings
 abbrev pub is_drawn : List Subject → List Latest → Latest → Bool
 is_drawn about lasts last = is_some (name_if (keeps_heard about lasts) (instance_given last))
 
--- the page keeps the record: one that gives an instance about the subjects, one that is about them itself and is of an address or
--- points from a service type to a name that isn't one label and the type, and each SRV record, whose lives stand in the row of its
--- instance
+-- the page keeps a record that gives an instance about the subjects, one about them that is of an address or points from a service type
+-- to a name that isn't one label and the type, and each SRV record, whose lives stand in the row of its instance
 abbrev pub is_kept : List Subject → List Latest → Latest → Bool
 is_kept about lasts last =
     if is_some (instance_given last) then is_drawn about lasts last
@@ -50,6 +45,6 @@ is_of Names last = is_some (other_given last)
 -- its record, by the hearings of each; a large page has only those of instances.
 pub record AreRows (kind : TimelinePart) (large : Bool) (each : List (List Hearing)) (kept : List (Latest × List Life)) (rows : List Row)
     : Type 0 where
-  pub are : map record_in rows ≡ filter (λ row. is_of kind row.0) (if large then [] else kept)
+  pub are : map (λ (row : Row). (row.last, row.lives)) rows ≡ filter (λ row. is_of kind row.0) (if large then [] else kept)
   pub counted : All (IsCounted each) rows
   pub served : All (λ (row : Row). row.servers ≡ servers_of kept (body_of row.last)) rows

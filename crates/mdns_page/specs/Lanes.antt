@@ -12,10 +12,6 @@ use Rattle.mdns_page.specs.declared.picture.Mark.{Mark}
 use Rattle.mdns_page.specs.declared.picture.Stroke.{Stroke}
 use Rattle.mdns_page.specs.declared.picture.Stroke.TheVariants.{Tick, GoodbyeTick}
 
--- how many lanes a picture has: one for each capture, or one for all where there are many; on a large page none
-abbrev pub lanes_for : (large : Bool) (captures : ℕ) → ℕ
-lanes_for large captures = if large then 0 else (if nat_lt 4 captures then 1 else captures)
-
 -- the height of a picture with so many lanes
 abbrev pub height : ℕ → ℕ
 height lanes = 24 + 8 * lanes

@@ -33,8 +33,7 @@ ended_text first count how =
 unfoldable pub others_text : (goodbyes flushed expired : ℕ) → List ℕ
 others_text goodbyes flushed expired =
     let others = goodbyes + flushed + expired in
-    if others == 0 then []
-    else 32 ∷ count_text others (codes "other had") (codes "others had") ++ codes " ended before: "
+    if others == 0 then [] else 32 ∷ count_text others (codes "other had") (codes "others had") ++ codes " ended before: "
     ++ ended_text true goodbyes (codes "by goodbye") ++ ended_text (goodbyes == 0) flushed (codes "by flush")
     ++ ended_text ((goodbyes == 0) && (flushed == 0)) expired (codes "expired") ++ codes "."
 
@@ -47,8 +46,9 @@ unfoldable pub live_line : Axis → List Row → List ℕ
 live_line axis rows =
     codes "<p class=\"lead\">"
     ++ count_text (count_last (goes_on axis) rows) (codes "service instance was") (codes "service instances were")
-    ++ codes " live at <time>" ++ millis_text axis.end.nanos ++ codes "</time>" ++ said_text (count_last (λ life. goes_on axis life && is_for Goodbye life.reason) rows)
-    ++ codes "." ++ others_text (count_last (is_ended axis Goodbye) rows) (count_last (is_ended axis Flushed) rows)
+    ++ codes " live at <time>" ++ millis_text axis.end.nanos ++ codes "</time>"
+    ++ said_text (count_last (λ life. goes_on axis life && is_for Goodbye life.reason) rows) ++ codes "."
+    ++ others_text (count_last (is_ended axis Goodbye) rows) (count_last (is_ended axis Flushed) rows)
     (count_last (is_ended axis RanOut) rows) ++ codes "</p>\n"
 
 -- ---- what the page is about
@@ -72,6 +72,5 @@ ending_warning say capture =
 -- that packets lost what they said; nothing where there are none
 unfoldable pub lost_warning : ℕ → List ℕ
 lost_warning lost =
-    if lost == 0 then []
-    else codes "<p class=\"warn\">" ++ count_text lost (codes "packet") (codes "packets")
+    if lost == 0 then [] else codes "<p class=\"warn\">" ++ count_text lost (codes "packet") (codes "packets")
     ++ codes " could not be used: <a href=\"#nothing\">why</a>.</p>\n"

@@ -7,10 +7,10 @@ key_entry strokes words =
     codes "<span><svg class=\"k\" viewBox=\"0 0 26 16\" preserveAspectRatio=\"none\" aria-hidden=\"true\">" ++ strokes
     ++ codes "</svg>" ++ words ++ codes "</span>"
 
--- what the strokes of a row's own lives mean
-unfoldable pub key_lives : List ℕ
-key_lives =
-    key_entry (codes "<path class=\"b\" d=\"M0 9H26\"/>") (codes "live")
+-- what all strokes mean; none are those of lanes where there are no lanes
+unfoldable pub key : (lanes : ℕ) → List ℕ
+key lanes =
+    codes "<p class=\"key\">" ++ key_entry (codes "<path class=\"b\" d=\"M0 9H26\"/>") (codes "live")
     ++ 32 ∷ key_entry
     (codes "<path class=\"b\" d=\"M0 9H20\"/><path class=\"m1\" d=\"M20 2V14\"/><path class=\"h1\" d=\"M20 2h.01\"/>")
     (codes "ended by goodbye")
@@ -18,17 +18,8 @@ key_lives =
     ++ 32 ∷ key_entry
     (codes "<path class=\"b\" d=\"M0 9H20\"/><path class=\"m3\" d=\"M20 2V14\"/><path class=\"h3\" d=\"M20 2h.01\"/>")
     (codes "flushed by other data")
-
--- what the strokes of lanes mean
-unfoldable pub key_ticks : List ℕ
-key_ticks =
-    32 ∷ key_entry
-    (codes "<path class=\"n\" d=\"M0 11H26\"/><path class=\"t\" d=\"M4 6v5M9 6v5M20 6v5\"/>") (codes "heard, while recording")
-    ++ 32 ∷ key_entry (codes "<path class=\"n\" d=\"M0 11H26\"/><path class=\"z\" d=\"M13 6v5\"/>") (codes "goodbye heard")
-
--- what all strokes mean; none are those of lanes where there are no lanes
-unfoldable pub key : (lanes : ℕ) → List ℕ
-key lanes =
-    codes "<p class=\"key\">" ++ key_lives
     ++ 32 ∷ key_entry (codes "<path class=\"s\" d=\"M0 9H26\"/>") (codes "its server (SRV) live")
-    ++ (if lanes == 0 then [] else key_ticks) ++ codes "</p>\n"
+    ++ (if lanes == 0 then [] else 32 ∷ key_entry
+    (codes "<path class=\"n\" d=\"M0 11H26\"/><path class=\"t\" d=\"M4 6v5M9 6v5M20 6v5\"/>") (codes "heard, while recording")
+    ++ 32 ∷ key_entry (codes "<path class=\"n\" d=\"M0 11H26\"/><path class=\"z\" d=\"M13 6v5\"/>") (codes "goodbye heard"))
+    ++ codes "</p>\n"

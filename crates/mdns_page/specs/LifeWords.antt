@@ -2,11 +2,10 @@
 use Rattle.std.specs.Prelude.{ℕ, ◌-◌, ◌==◌, if◌then◌else◌, List, [], ◌∷◌, ◌++◌, codes, drop, length}
 use Rattle.std.specs.List.{flat_map}
 use Rattle.mdns_lives.specs.declared.life.Life.{Life}
-use Rattle.mdns_browse.specs.LifeText.{reason_text}
+use Rattle.mdns_browse.specs.LifeText.{open_text, reason_text}
 use Rattle.mdns_page.specs.Axis.{is_same_date, short_text}
 use Rattle.mdns_page.specs.Counts.{commas}
 use Rattle.mdns_page.specs.Picture.{goes_on}
-use Rattle.mdns_page.specs.BarTitles.{still_text}
 use Rattle.mdns_page.specs.declared.axis.Axis.{Axis}
 use Rattle.mdns_page.specs.declared.axis.Dates.TheVariants.{Omitted}
 
@@ -14,13 +13,12 @@ use Rattle.mdns_page.specs.declared.axis.Dates.TheVariants.{Omitted}
 unfoldable pub life_words : Axis → Life → List ℕ
 life_words axis life =
     codes "<p>" ++ short_text axis.dates life.from.nanos ++ codes " &#8211; "
-    ++ (if goes_on axis life then codes "<b>" ++ still_text life.reason ++ codes "</b>"
-    else short_text (if is_same_date life.from.nanos life.until then Omitted else axis.dates) life.until ++ 32 ∷ reason_text life.reason)
-    ++ codes "</p>"
+    ++ (if goes_on axis life then codes "<b>" ++ (codes "still " ++ open_text life.reason) ++ codes "</b>"
+    else short_text (if is_same_date life.from.nanos life.until then Omitted else axis.dates) life.until
+    ++ 32 ∷ reason_text life.reason) ++ codes "</p>"
 
 -- the last three lives, and how many were before, if there are any
 abbrev pub lives_words : Axis → List Life → List ℕ
 lives_words axis lives =
-    let earlier = length lives - 3 in
-    (if earlier == 0 then [] else codes "<small>" ++ commas earlier ++ codes " earlier</small>")
+    let earlier = length lives - 3 in (if earlier == 0 then [] else codes "<small>" ++ commas earlier ++ codes " earlier</small>")
     ++ flat_map (life_words axis) (drop earlier lives)

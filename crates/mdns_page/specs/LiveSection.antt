@@ -47,8 +47,8 @@ text_html say text =
 unfoldable pub live_row : (List ℕ → List ℕ) → Axis → InstanceRow → List ℕ
 live_row say axis row =
     item (say (shown_instance row.instance.name) ++ given_words axis row.given)
-    (codes "<div>" ++ (if length row.instance.servers == 0 then codes "<p>unresolved</p>" else flat_map (server_html say) row.instance.servers)
-    ++ codes "</div>") (flat_map (text_html say) row.instance.texts)
+    (codes "<div>" ++ (if length row.instance.servers == 0 then codes "<p>unresolved</p>"
+    else flat_map (server_html say) row.instance.servers) ++ codes "</div>") (flat_map (text_html say) row.instance.texts)
 
 -- ---- groups
 

@@ -1,6 +1,5 @@
 -- The pieces of instances as rows of a page.
 use Rattle.std.specs.Prelude.{◌≡◌, ℕ, if◌then◌else◌, Bool, true, false, List, [], ◌∷◌, ◌++◌, codes, string_bytes}
-use Rattle.std.specs.List.{flat_map, join_by}
 use Rattle.mdns_message.specs.Resource.{Body}
 use Rattle.people_text.specs.Shown.{name_shown}
 use Rattle.mdns_browse.specs.RecordShown.{shown_instance}
@@ -15,9 +14,10 @@ use Rattle.mdns_page.specs.LiveSection.{address_html, given_words, server_line, 
 abbrev pub address_after : (first : Bool) → Body → List ℕ
 address_after first address = (if first then [] else 32 ∷ []) ++ address_html address
 
--- words, one a line; with others before them unless they are the first
+-- words, one a line; after others unless the first of them is the first of all
 abbrev pub lines : (first : Bool) → List (List ℕ) → List ℕ
-lines first words = if first then join_by (λ word. word) (10 ∷ []) words else flat_map (λ word. 10 ∷ word) words
+lines first [] = []
+lines first (word ∷ words) = (if first then [] else 10 ∷ []) ++ word ++ lines false words
 
 -- the text of a piece; `first` tells whether an address is the first of its server
 abbrev pub piece_html : (List ℕ → List ℕ) → Axis → Bool → Piece → List ℕ

@@ -18,6 +18,7 @@ picture look lives servers captures =
     let axis = look.axis in
     codes "<svg viewBox=\"0 0 1000 " ++ decimal (height look.lanes)
     ++ codes "\" preserveAspectRatio=\"none\" aria-hidden=\"true\"><use href=\"#g\"/>" ++ bars axis look.titled Bar lives
-    ++ flat_map (bars axis look.titled Server) servers ++ path (mark_of axis) (Pin Goodbye) lives ++ path (mark_of axis) (Head Goodbye) lives
-    ++ path (mark_of axis) (Pin RanOut) lives ++ path (mark_of axis) (Pin Flushed) lives ++ path (mark_of axis) (Head Flushed) lives
+    ++ flat_map (bars axis look.titled Server) servers ++ path (mark_of axis) (Pin Goodbye) lives
+    ++ path (mark_of axis) (Head Goodbye) lives ++ path (mark_of axis) (Pin RanOut) lives
+    ++ path (mark_of axis) (Pin Flushed) lives ++ path (mark_of axis) (Head Flushed) lives
     ++ (if look.lanes == 0 then [] else each_from (lane_text axis look.lanes) 0 captures) ++ codes "</svg>"

@@ -11,12 +11,11 @@ use Rattle.mdns_page.specs.Captures.{Facts}
 use Rattle.mdns_page.specs.Lanes.{bases_text, height}
 use Rattle.mdns_page.specs.declared.axis.Axis.{Axis}
 use Rattle.mdns_page.specs.declared.axis.Dates.{Dates}
-use Rattle.mdns_page.specs.declared.axis.Dates.TheVariants.{Omitted, WithoutYear, Whole}
+use Rattle.mdns_page.specs.declared.axis.Dates.TheVariants.{Whole}
 
 -- numbers of seconds between two ticks
 unfoldable pub steps : List ℕ
-steps =
-    1 ∷ 2 ∷ 5 ∷ 10 ∷ 15 ∷ 30 ∷ 60 ∷ 120 ∷ 300 ∷ 600 ∷ 900 ∷ 1800 ∷ 3600 ∷ 7200 ∷ 10800 ∷ 21600 ∷ 43200 ∷ []
+steps = 1 ∷ 2 ∷ 5 ∷ 10 ∷ 15 ∷ 30 ∷ 60 ∷ 120 ∷ 300 ∷ 600 ∷ 900 ∷ 1800 ∷ 3600 ∷ 7200 ∷ 10800 ∷ 21600 ∷ 43200 ∷ []
 
 -- the first step that is longer than a seventh of the span, in seconds; else the least number of whole days that is
 abbrev pub first_step : ℕ → List ℕ → ℕ
@@ -28,8 +27,7 @@ step_of axis = first_step ((axis.end.nanos - axis.start.nanos) / second) steps
 
 -- the multiples of a number from `low` to `high`, in ascending order
 unfoldable pub multiples : ℕ → ℕ → ℕ → List ℕ
-multiples step low high =
-    let first = div_ceil low step in map (λ k. k * step) (range_with_len first (high / step + 1 - first))
+multiples step low high = let first = div_ceil low step in map (λ k. k * step) (range_with_len first (high / step + 1 - first))
 
 -- the moments that have a tick: each multiple of the step since 1970, from the start to the end
 unfoldable pub ticks : Axis → List ℕ
@@ -42,8 +40,7 @@ tick_line axis high tick = 77 ∷ decimal (place axis tick) ++ codes " 0V" ++ de
 -- a date at midnight, else a time of day, with seconds where the step isn't a whole number of minutes
 unfoldable pub tick_text : Dates → ℕ → ℕ → List ℕ
 tick_text dates step tick =
-    if seconds_of tick % 86400 == 0 then day_text dates tick
-    else (if nat_lt step 60 then clock_text tick else hours_text tick)
+    if seconds_of tick % 86400 == 0 then day_text dates tick else (if nat_lt step 60 then clock_text tick else hours_text tick)
 
 -- a date with its year takes so much room that narrow windows show each second one alone
 abbrev pub is_long : Dates → ℕ → Bool

@@ -13,7 +13,7 @@ use Rattle.mdns_lives.specs.declared.seconds_heard.SecondHeard.{SecondHeard}
 use Rattle.people_text.specs.Shown.{name_shown}
 use Rattle.mdns_browse.specs.RecordShown.{shown_address, shown_instance}
 use Rattle.mdns_cache.specs.LentRecords.{last_lent}
-use Rattle.mdns_page.specs.Counts.{live_count_text}
+use Rattle.mdns_page.specs.Counts.{commas, count_text}
 use Rattle.mdns_page.specs.Group.{axis_picture, first_owner, group, grouped, item}
 use Rattle.mdns_page.specs.HeardWords.{heard_text}
 use Rattle.mdns_page.specs.OtherRows.{is_large}
@@ -37,10 +37,6 @@ pub record Row : Type 0 where
   pub servers : List (List Life)
   pub captures : ℕ
   pub heard : List (List SecondHeard)
-
--- the record with its lives alone
-abbrev pub record_in : Row → Latest × List Life
-record_in row = (row.last, row.lives)
 
 -- the seconds in which a capture heard a record
 abbrev pub seconds_lent : Vec SecondHeard → List SecondHeard
@@ -81,8 +77,7 @@ content_name say Instances owner (content.Name name) = say (shown_instance name)
 content_name say _ owner (content.Name name) = say (name_shown name)
 content_name say part owner _ = []
 
--- a record: what it names, how often each capture heard it, the picture of its lives and those of its servers, and its own lives in
--- words
+-- a record: what it names, how often each capture heard it, the picture of its and its servers' lives, and its own in words
 unfoldable pub row_text : (List ℕ → List ℕ) → TimelinePart → Look → Row → List ℕ
 row_text say part look row =
     item (content_name say part (owner_of row) (content_of row.last.resource.body) ++ heard_text row.captures row.heard)
@@ -96,17 +91,18 @@ group_name Instances rows = name_shown (first_owner owner_of rows)
 group_name Addresses rows = codes "Addresses of hosts"
 group_name Names rows = codes "Names that aren't one label and the type"
 
--- how many rows a group has, and how many of their records are live
-abbrev pub group_words : TimelinePart → (count live : ℕ) → List ℕ
-group_words Instances count live = live_count_text count live (codes "instance") (codes "instances")
-group_words Addresses count live = live_count_text count live (codes "address") (codes "addresses")
-group_words Names count live = live_count_text count live (codes "name") (codes "names")
+-- how many rows a group has
+abbrev pub group_count : TimelinePart → ℕ → List ℕ
+group_count Instances count = count_text count (codes "instance") (codes "instances")
+group_count Addresses count = count_text count (codes "address") (codes "addresses")
+group_count Names count = count_text count (codes "name") (codes "names")
 
--- the instances of a type, all addresses of hosts, or all names that aren't one label and the type
+-- the instances of a type, the addresses of all hosts, or all names that aren't one label and the type, and how many are live
 unfoldable pub group_text : (List ℕ → List ℕ) → Look → (opened : Bool) → TimelinePart → List Row → List ℕ
 group_text say look opened part rows =
     group opened (say (group_name part rows)) axis_picture
-    (group_words part (length rows) (count_last (goes_on look.axis) rows)) (flat_map (row_text say part look) rows)
+    (group_count part (length rows) ++ codes ", " ++ commas (count_last (goes_on look.axis) rows) ++ codes " live")
+    (flat_map (row_text say part look) rows)
 
 -- the same; nothing where there are none
 abbrev pub others_text : (List ℕ → List ℕ) → Look → (opened : Bool) → TimelinePart → List Row → List ℕ
@@ -131,8 +127,8 @@ timeline_begin titled large lanes =
     ++ codes "and names that are not one label and the type are left out." else [])
     ++ codes "</p>\n" ++ key lanes ++ codes "<div class=\"g\">\n"
 
--- the timeline of some instances, and of some addresses and other names, all in key order, with so many lanes, and with titles of bars
--- where the pictures have at most 1,000 lives; `say` is how text of the network is written
+-- the timeline of instances, addresses and other names, all in key order, with so many lanes; bars have titles where there are at
+-- most 1,000 lives in the pictures of all rows together; `say` is how text of the network is written
 abbrev pub timeline : (List ℕ → List ℕ) → Axis → (lanes : ℕ) → (rows addresses names : List Row) → List ℕ
 timeline say axis lanes rows addresses names =
     let titled = nat_le (length (flat_map lives_in (rows ++ addresses ++ names))) 1000 in

@@ -9,16 +9,12 @@ use Rattle.mdns_lives.specs.Heard.{AreSecondsHeard}
 use Rattle.mdns_lives.specs.declared.seconds_heard.SecondHeard.{SecondHeard}
 use Rattle.mdns_page.specs.Timeline.{Row}
 
--- of the seconds of each capture those that are shown: where there are many captures, only those of captures that heard the record
-abbrev pub shown_seconds : (many : Bool) → List (List SecondHeard) → List (List SecondHeard)
-shown_seconds many captures = if many then filter (λ seconds. nat_lt 0 (length seconds)) captures else captures
-
--- Of the seconds in which each capture heard the record, by its hearings, those that are shown. Hosts say a record at most once a
--- second (RFC 6762, section 6).
+-- The seconds in which each capture heard the record, by its hearings; where there are many captures, only those of captures that
+-- heard it. Hosts say a record at most once a second (RFC 6762, section 6).
 pub record AreShownBy (many : Bool) (each : List (List Hearing)) (key : Key) (heard : List (List SecondHeard)) : Type 0 where
   pub all : List (List SecondHeard)
   pub are : AreEach (λ hearings seconds. AreSecondsHeard hearings key seconds) each all
-  pub shown : heard ≡ shown_seconds many all
+  pub shown : heard ≡ (if many then filter (λ seconds. nat_lt 0 (length seconds)) all else all)
 
 -- the row counts the captures, and has the seconds of its record; of more than four captures only of those that heard it
 pub record IsCounted (each : List (List Hearing)) (row : Row) : Type 0 where

@@ -1,11 +1,11 @@
 //! What bars say of lives.
 
-ghost use Rattle.std.specs.Prelude.{◌≡◌, ◌≤◌, ◌++◌, if◌then◌else◌, length, map, nat_le, OnOk};
+ghost use Rattle.std.specs.Prelude.{◌≡◌, ◌++◌, codes, if◌then◌else◌, length, map, nat_le, OnOk};
 ghost use Rattle.std.specs.List.{flat_map};
 ghost use Rattle.std.specs.String.{string_bytes};
-ghost use Rattle.mdns_browse.specs.LifeText.{reason_text};
+ghost use Rattle.mdns_browse.specs.LifeText.{open_text, reason_text};
 ghost use Rattle.mdns_page.specs.Timeline.{counted_lent, lives_in, lives_lent};
-ghost use Rattle.mdns_page.specs.BarTitles.{IsLess, life_title, still_text};
+ghost use Rattle.mdns_page.specs.BarTitles.{IsLess, life_title};
 
 use crate::timeline_rows::CountedRow;
 use mdns_lives::{Life, Reason, RecordLives};
@@ -101,7 +101,7 @@ pub(crate) fn push_life_title(to: &mut String, goes_on: bool, life: &Life) -> Re
 
 // Returns why a life ended, or that it goes on.
 fn end_word(goes_on: bool, reason: Reason) -> &'static str
-    ensures { result.now ≡ (if goes_on then still_text reason else reason_text reason) }
+    ensures { result.now ≡ (if goes_on then codes "still " ++ open_text reason else reason_text reason) }
 {
     if goes_on {
         return open_word(reason);
@@ -112,7 +112,7 @@ fn end_word(goes_on: bool, reason: Reason) -> &'static str
 /// Returns what is said of a life that goes on after the end of the captures: a flush or a goodbye ends it, unless the
 /// record is heard again.
 pub(crate) fn open_word(reason: Reason) -> &'static str
-    ensures { result.now ≡ still_text reason }
+    ensures { result.now ≡ codes "still " ++ open_text reason }
 {
     match reason {
         Reason::RanOut => "still live",

@@ -3,7 +3,7 @@
 ghost use Rattle.std.specs.Prelude.{◌≡◌, ◌<◌, ◌+◌, ◌∷◌, [], ◌++◌, OnOk};
 ghost use Rattle.std.specs.String.{string_bytes};
 ghost use Rattle.dns_name.specs.Name.{three_digits};
-ghost use Rattle.mdns_page.specs.Counts.{commas, count_text, live_count_text};
+ghost use Rattle.mdns_page.specs.Counts.{commas, count_text};
 
 use mdns_message::Want;
 
@@ -15,24 +15,6 @@ pub(crate) fn push_count(to: &mut String, count: u128, one: &str, many: &str) ->
     push_commas(to, count)?;
     to.push(' ')?;
     to.push_str(if count == 1 { one } else { many })?;
-    Ok(())
-}
-
-/// Appends such a count, and how many of those are live: `12 instances, 3 live`.
-#[tactic(auto, unfolding(crate::specs::Counts::live_count_text))]
-pub(crate) fn push_live_count(
-    to: &mut String,
-    count: usize,
-    live: usize,
-    one: &str,
-    many: &str,
-) -> Result<(), Want>
-    ensures { OnOk result (string_bytes to.new ≡ string_bytes to.old ++ live_count_text count live one.now many.now) }
-{
-    push_count(to, count as u128, one, many)?;
-    to.push_str(", ")?;
-    push_commas(to, live as u128)?;
-    to.push_str(" live")?;
     Ok(())
 }
 

@@ -1,11 +1,11 @@
 //! The lanes below the bars of a row: a tick for each second in which a capture heard its record.
 
-ghost use Rattle.std.specs.Prelude.{◌≡◌, ◌<◌, ◌^◌, ◌==◌, [], ◌++◌, if◌then◌else◌, None, Some, map, OnOk};
+ghost use Rattle.std.specs.Prelude.{◌≡◌, ◌<◌, ◌^◌, ◌==◌, [], ◌++◌, if◌then◌else◌, None, Some, map, nat_lt, OnOk};
 ghost use Rattle.std.specs.Fmt.{decimal};
 ghost use Rattle.std.specs.String.{string_bytes};
 ghost use Rattle.mdns_page.specs.Axis.{drawn_if};
 ghost use Rattle.mdns_page.specs.Captures.{each_from, facts_lent};
-ghost use Rattle.mdns_page.specs.Lanes.{base_line, base_text, bases_text, goodbye_of, height, is_goodbye, lane_text, lane_top, lanes_for};
+ghost use Rattle.mdns_page.specs.Lanes.{base_line, base_text, bases_text, goodbye_of, height, is_goodbye, lane_text, lane_top};
 ghost use Rattle.mdns_page.specs.Lanes.{point, second_mark};
 ghost use Rattle.mdns_page.specs.Picture.{path};
 ghost use Rattle.mdns_page.specs.Timeline.{seconds_lent};
@@ -28,7 +28,7 @@ const BASE: u64 = 5;
 
 /// Returns how many lanes a picture has: one for each capture, or one for all where there are many; on a large page none.
 pub(crate) fn lanes_for(large: bool, captures: usize) -> u32
-    ensures { result ≡ lanes_for large captures }
+    ensures { result ≡ (if large then 0 else (if nat_lt 4 captures then 1 else captures)) }
 {
     if large {
         return 0;

@@ -6,10 +6,9 @@ ghost use Rattle.std.specs.String.{string_bytes};
 ghost use Rattle.mdns_page.specs.Counts.{commas};
 ghost use Rattle.mdns_page.specs.LifeWords.{life_words, lives_words};
 ghost use Rattle.mdns_page.specs.Axis.{is_same_date, short_text};
-ghost use Rattle.mdns_page.specs.BarTitles.{still_text};
 ghost use Rattle.mdns_page.specs.Picture.{goes_on};
 ghost use Rattle.mdns_page.specs.declared.axis.Dates.TheVariants.{Omitted};
-ghost use Rattle.mdns_browse.specs.LifeText.{reason_text};
+ghost use Rattle.mdns_browse.specs.LifeText.{open_text, reason_text};
 
 use crate::axis::{Axis, Dates, is_same_date, push_short};
 use crate::bar_titles::{open_word, reason_word};
@@ -68,7 +67,7 @@ fn push_life(to: &mut String, axis: Axis, life: &Life) -> Result<(), Want>
 
 fn push_end(to: &mut String, axis: Axis, life: &Life) -> Result<(), Want>
     ensures { OnOk result (string_bytes to.new ≡ string_bytes to.old
-        ++ (if goes_on axis life.now then codes "<b>" ++ still_text life.now.reason ++ codes "</b>"
+        ++ (if goes_on axis life.now then codes "<b>" ++ (codes "still " ++ open_text life.now.reason) ++ codes "</b>"
         else short_text (if is_same_date life.now.from.nanos life.now.until then Omitted else axis.dates) life.now.until
         ++ 32 ∷ reason_text life.now.reason)) }
 {

@@ -1,7 +1,8 @@
 //! Rows by the owners of their records: rows of one type stand together.
 
 ghost use Rattle.std.specs.Prelude.{◌≡◌, ◌≤◌, ℕ, List, length, map};
-ghost use Rattle.mdns_page.specs.Group.{following, same_name};
+ghost use Rattle.mdns_browse.specs.Services.{same_text};
+ghost use Rattle.mdns_page.specs.Group.{following};
 
 use dns_name::fold::folded_cmp;
 use mdns_message::Name;
@@ -34,8 +35,9 @@ pub(crate) fn following_len<'a, R: Owned>(first: &'a R, others: &'a [R]) -> usiz
 }
 
 // Checks that two names are equal but for the case of ASCII letters.
+#[tactic(auto, unfolding(mdns_browse::specs::Services::same_text))]
 fn same_name(name: &Name, other: &Name) -> bool
-    ensures { result ≡ same_name name.now other.now }
+    ensures { result ≡ same_text name.now other.now }
 {
     folded_cmp(name.wire(), other.wire()).is_eq()
 }

@@ -1,6 +1,6 @@
 //! The strokes of pictures: a bar for each life, a thin one for each life of a server, and a pin where a life ended.
 
-ghost use Rattle.std.specs.Prelude.{◌≡◌, ◌++◌, [], codes, List, IfOk, OnOk, map};
+ghost use Rattle.std.specs.Prelude.{◌≡◌, ◌++◌, codes, List, IfOk, OnOk, map};
 ghost use Rattle.std.specs.List.{cons_option, flat_map};
 ghost use Rattle.std.specs.String.{string_bytes};
 ghost use Rattle.mdns_page.specs.declared.picture.Mark.{Mark};

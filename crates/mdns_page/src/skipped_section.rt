@@ -65,7 +65,7 @@ fn push_table(to: &mut String, readings: &[Reading]) -> Result<(), Want>
 
 fn push_warnings(to: &mut String, readings: &[Reading]) -> Result<(), Want>
     ensures { OnOk result (string_bytes to.new
-        ≡ string_bytes to.old ++ flat_map (skipped_row readings.now true) warnings) }
+        ≡ string_bytes to.old ++ flat_map (λ warning. flat_map (skipped_row readings.now true warning.0) warning.1) warnings) }
 {
     push_warning(
         to,
@@ -86,7 +86,7 @@ fn push_warnings(to: &mut String, readings: &[Reading]) -> Result<(), Want>
 
 fn push_warning(to: &mut String, readings: &[Reading], why: Why, meaning: &str) -> Result<(), Want>
     ensures { OnOk result (string_bytes to.new
-        ≡ string_bytes to.old ++ skipped_row readings.now true (why, meaning.now)) }
+        ≡ string_bytes to.old ++ skipped_row readings.now true meaning.now why) }
 {
     push_row(
         to,
@@ -110,9 +110,10 @@ fn push_damaged(to: &mut String, readings: &[Reading]) -> Result<(), Want>
     )
 }
 
+#[tactic(auto, unfolding(crate::specs::SkippedSection::others))]
 fn push_others(to: &mut String, readings: &[Reading]) -> Result<(), Want>
     ensures { OnOk result (string_bytes to.new
-        ≡ string_bytes to.old ++ flat_map (λ why. skipped_row readings.now false (why, codes "normal")) others) }
+        ≡ string_bytes to.old ++ flat_map (skipped_row readings.now false (codes "normal")) others) }
 {
     push_other(to, readings, Why::Query)?;
     push_other(to, readings, Why::Frame(Cause::Port))?;
@@ -124,7 +125,7 @@ fn push_others(to: &mut String, readings: &[Reading]) -> Result<(), Want>
 
 fn push_other(to: &mut String, readings: &[Reading], why: Why) -> Result<(), Want>
     ensures { OnOk result (string_bytes to.new
-        ≡ string_bytes to.old ++ skipped_row readings.now false (why, codes "normal")) }
+        ≡ string_bytes to.old ++ skipped_row readings.now false (codes "normal") why) }
 {
     push_row(
         to,

@@ -1,19 +1,20 @@
 //! The timeline: a row for each instance that was heard, in groups by type, one for each address of a host, and one for each
 //! name that isn't one label and its type.
 
-ghost use Rattle.std.specs.Prelude.{◌≡◌, ◌+◌, [], ◌++◌, ◌<◌, if◌then◌else◌, length, map, OnOk};
+ghost use Rattle.std.specs.Prelude.{◌≡◌, ◌+◌, [], ◌++◌, ◌<◌, codes, if◌then◌else◌, length, map, OnOk};
 ghost use Rattle.std.specs.List.{flat_map};
 ghost use Rattle.std.specs.String.{string_bytes};
+ghost use Rattle.mdns_page.specs.Counts.{commas};
 ghost use Rattle.mdns_page.specs.Group.{first_owner, grouped};
 ghost use Rattle.mdns_page.specs.Html.{isolated};
 ghost use Rattle.people_text.specs.Shown.{name_shown};
-ghost use Rattle.mdns_page.specs.Timeline.{counted_lent, group_name, group_text, group_words, is_open, others_text, owner_of, timeline};
+ghost use Rattle.mdns_page.specs.Timeline.{counted_lent, group_count, group_name, group_text, is_open, others_text, owner_of, timeline};
 ghost use Rattle.mdns_page.specs.Timeline.{timeline_begin};
 ghost use Rattle.mdns_page.specs.declared.kept_records.TimelinePart.TheVariants.{Instances};
 
 use crate::axis::Axis;
 use crate::bar_titles::are_titled;
-use crate::counts::push_live_count;
+use crate::counts::{push_commas, push_count};
 use crate::group::{push_axis_picture, push_group_begin};
 use crate::html::push_isolated;
 use crate::kept_records::TimelinePart;
@@ -183,18 +184,30 @@ fn push_type_name(
     push_whole_name(to, scratch, &first.last.resource.owner.borrowed())
 }
 
+// Appends how many rows a group has, and how many of them are of live records.
 fn push_group_words(
     to: &mut String,
     part: TimelinePart,
     count: usize,
     live: usize,
 ) -> Result<(), Want>
-    ensures { OnOk result (string_bytes to.new ≡ string_bytes to.old ++ group_words part count live) }
+    ensures { OnOk result (string_bytes to.new
+        ≡ string_bytes to.old ++ (group_count part count ++ codes ", " ++ commas live ++ codes " live")) }
+{
+    push_group_count(to, part, count)?;
+    to.push_str(", ")?;
+    push_commas(to, live as u128)?;
+    to.push_str(" live")?;
+    Ok(())
+}
+
+fn push_group_count(to: &mut String, part: TimelinePart, count: usize) -> Result<(), Want>
+    ensures { OnOk result (string_bytes to.new ≡ string_bytes to.old ++ group_count part count) }
 {
     match part {
-        TimelinePart::Instances => push_live_count(to, count, live, "instance", "instances"),
-        TimelinePart::Addresses => push_live_count(to, count, live, "address", "addresses"),
-        TimelinePart::Names => push_live_count(to, count, live, "name", "names"),
+        TimelinePart::Instances => push_count(to, count as u128, "instance", "instances"),
+        TimelinePart::Addresses => push_count(to, count as u128, "address", "addresses"),
+        TimelinePart::Names => push_count(to, count as u128, "name", "names"),
     }
 }
 

@@ -1,18 +1,20 @@
 //! The rows of the timeline: records with their lives, those of their servers, and the seconds in which captures heard them.
 
-ghost use Rattle.std.specs.Prelude.{◌≡◌, ◌++◌, ◌∷◌, [], List, IfOk, OnOk, length, map, nat_lt};
+ghost use Rattle.std.specs.Prelude.{◌≡◌, ◌++◌, ◌∷◌, [], if◌then◌else◌, List, IfOk, OnOk, length, map, nat_lt};
 ghost use Rattle.std.specs.List.{All, filter};
 ghost use Rattle.std.specs.List.Sorted.{IsStrictlySortedBy};
 ghost use Rattle.mdns_message.specs.Resource.{key_cmp, key_of};
 ghost use Rattle.mdns_message.specs.declared.hearing.Hearing.{Hearing};
 ghost use Rattle.mdns_cache.specs.Live.{record_of};
 ghost use Rattle.mdns_browse.specs.Services.{AreEach, body_of};
+ghost use Rattle.mdns_join.specs.declared.latest.Latest.{Latest};
+ghost use Rattle.mdns_lives.specs.declared.life.Life.{Life};
 ghost use Rattle.mdns_lives.specs.Chronicle.{Chronicles};
 ghost use Rattle.mdns_lives.specs.LentLives.{row_lent};
-ghost use Rattle.mdns_page.specs.TimelineRows.{AreShownBy, IsCounted, shown_seconds};
-ghost use Rattle.mdns_page.specs.KeptRecords.{is_of, lasts_of};
+ghost use Rattle.mdns_page.specs.TimelineRows.{AreShownBy, IsCounted};
+ghost use Rattle.mdns_page.specs.KeptRecords.{is_of};
 ghost use Rattle.mdns_page.specs.Servers.{servers_of};
-ghost use Rattle.mdns_page.specs.Timeline.{counted_lent, record_in, seconds_lent};
+ghost use Rattle.mdns_page.specs.Timeline.{Row, counted_lent, seconds_lent};
 
 use crate::captures::FEW_CAPTURES;
 use crate::kept_records::{TimelinePart, is_of};
@@ -43,11 +45,12 @@ pub(crate) fn counted_rows<'a>(
     captures: &[Lives],
 ) -> Result<Vec<CountedRow<'a>>, Want>
     ensures records { IfOk result (λ rows.
-        map record_in (map counted_lent rows.items) ≡ filter (λ row. is_of kind row.0) (map row_lent records.now)) }
+        map (λ (row : Row). (row.last, row.lives)) (map counted_lent rows.items)
+        ≡ filter (λ row. is_of kind row.0) (map row_lent records.now)) }
     ensures heard { IfOk result (λ rows. (each : List (List Hearing)) → AreEach Chronicles captures.now each
         → All (IsCounted each) (map counted_lent rows.items)) }
-    ensures servers { IfOk result (λ rows. IsStrictlySortedBy key_cmp (map record_of (lasts_of (map row_lent servers.now)))
-        → All (λ row. row.servers ≡ servers_of (map row_lent servers.now) (body_of row.last)) (map counted_lent rows.items)) }
+    ensures servers { IfOk result (λ rows. IsStrictlySortedBy key_cmp (map (λ (row : Latest × List Life). record_of row.0) (map row_lent servers.now))
+        → All (λ (row : Row). row.servers ≡ servers_of (map row_lent servers.now) (body_of row.last)) (map counted_lent rows.items)) }
 {
     let mut rows = Vec::new(alloc);
     for record in records {
@@ -66,10 +69,10 @@ fn counted_row<'a>(
     servers: &'a [RecordLives<'a>],
     captures: &[Lives],
 ) -> Result<CountedRow<'a>, Want>
-    ensures record { IfOk result (λ row. record_in (counted_lent row) ≡ row_lent «record».now) }
+    ensures record { IfOk result (λ row. ((counted_lent row).last, (counted_lent row).lives) ≡ row_lent «record».now) }
     ensures heard { IfOk result (λ row. (each : List (List Hearing)) → AreEach Chronicles captures.now each
         → IsCounted each (counted_lent row)) }
-    ensures servers { IfOk result (λ row. IsStrictlySortedBy key_cmp (map record_of (lasts_of (map row_lent servers.now)))
+    ensures servers { IfOk result (λ row. IsStrictlySortedBy key_cmp (map (λ (row : Latest × List Life). record_of row.0) (map row_lent servers.now))
         → (counted_lent row).servers ≡ servers_of (map row_lent servers.now) (body_of (counted_lent row).last)) }
 {
     let heard = heard_by(alloc, captures, record.last.resource)?;
@@ -105,7 +108,8 @@ fn push_shown(
     seconds: Vec<SecondHeard>,
 ) -> Result<(), Want>
     ensures { OnOk result (map seconds_lent to.new.items
-        ≡ map seconds_lent to.old.items ++ shown_seconds many (seconds_lent seconds ∷ [])) }
+        ≡ map seconds_lent to.old.items ++ (if many then filter (λ some. nat_lt 0 (length some)) (seconds_lent seconds ∷ [])
+        else seconds_lent seconds ∷ [])) }
 {
     if many && seconds.is_empty() {
         return Ok(());

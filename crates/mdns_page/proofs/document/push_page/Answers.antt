@@ -1,10 +1,9 @@
-use Rattle.std.proofs.Common.{◌≡◌, ◌∙◌, ◌++◌, Bool, ℕ, ap, length, sym, codes}
+use Rattle.std.proofs.Common.{◌≡◌, ◌∙◌, ◌++◌, Bool, ℕ, ap, if◌then◌else◌, length, nat_lt, sym, codes}
 use Rattle.std.proofs.lemmas.List.{length-map}
 use Rattle.std.specs.String.{string_bytes}
 use Rattle.mdns_page.specs.Captures.{captures_text, facts_lent}
 use Rattle.mdns_page.specs.OtherRows.{is_large}
 use Rattle.mdns_page.specs.Html.{isolated}
-use Rattle.mdns_page.specs.Lanes.{lanes_for}
 use Rattle.mdns_page.specs.Document.{head, parts_lent}
 use Rattle.mdns_page.specs.Timeline.{counted_lent, timeline}
 use Rattle.mdns_page.proofs.PartLemmas.{parts8}
@@ -15,6 +14,7 @@ returns c =
     let parts = c.args.parts.now in
     let shown = parts_lent parts in
     let axis = parts.axis in
+    let lanes_for = λ (large : Bool) (captures : ℕ). if large then 0 else (if nat_lt 4 captures then 1 else captures) in
     let lanes = lanes_for (is_large (length shown.rows)) (length shown.captures) in
     let is : c.lanes_for-lanes.result ≡ lanes =
     c.lanes_for-lanes.ensures ∙ ap (λ (large : Bool). lanes_for large (length parts.captures.now)) c.is_large.ensures

@@ -1,11 +1,11 @@
 use Rattle.std.proofs.Common.{[], ◌∷◌, codes}
 use Rattle.std.specs.String.{string_bytes}
-use Rattle.mdns_page.specs.Legend.{key_entry, key_ticks}
+use Rattle.mdns_page.specs.Legend.{key_entry}
 use Rattle.mdns_page.proofs.PartLemmas.{parts4}
 use Rattle.mdns_page.proofs.legend.push_key_ticks.Goals as goal
 
 pub returns : goal.returns
-unfolding key_ticks key_entry
+unfolding key_entry
 returns c =
     parts4 (string_bytes c.args.to.now) (32 ∷ [])
     (key_entry (codes "<path class=\"n\" d=\"M0 11H26\"/><path class=\"t\" d=\"M4 6v5M9 6v5M20 6v5\"/>")

@@ -4,7 +4,7 @@ use Rattle.std.specs.String.{string_bytes}
 use Rattle.mdns_browse.specs.RecordShown.{shown_strings}
 use Rattle.mdns_page.specs.Html.{isolated}
 use Rattle.mdns_page.specs.LiveSheet.{lines}
-use Rattle.mdns_page.proofs.LiveWordLemmas.{none-paragraph, some-paragraph}
+use Rattle.mdns_page.proofs.LiveWordLemmas.{lines-joined, none-paragraph, some-paragraph}
 use Rattle.mdns_page.proofs.live_words.push_text.Goals as goal
 
 pub returns-then-none : goal.returns-then-none
@@ -17,7 +17,8 @@ pub returns : goal.returns
 returns c =
     let shown : c.as_str.result.now ≡ lines true (shown_strings c.args.text.now) = search rules in
     on_ok_weaker c.push_paragraph.result
-    (λ written. written ∙ ap (λ (text : List ℕ). string_bytes c.args.to.now ++ (codes "<p>" ++ isolated text ++ codes "</p>")) shown
+    (λ written. written ∙ ap (λ (text : List ℕ). string_bytes c.args.to.now ++ (codes "<p>" ++ isolated text ++ codes "</p>"))
+    (shown ∙ lines-joined (shown_strings c.args.text.now))
     ∙ ap (λ (text : List ℕ). string_bytes c.args.to.now ++ text)
     (sym (some-paragraph isolated (shown_strings c.args.text.now) (sym c.in_ok-none.ensures.none ∙ c.if-none.false))))
     c.push_paragraph.ensures

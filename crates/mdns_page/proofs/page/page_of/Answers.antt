@@ -13,7 +13,7 @@ use Rattle.mdns_browse.specs.Services.{AreEach}
 use Rattle.mdns_page.specs.Captures.{facts_lent}
 use Rattle.mdns_page.specs.OtherRows.{is_large}
 use Rattle.mdns_page.specs.Html.{isolated}
-use Rattle.mdns_page.specs.KeptRecords.{AreRows, is_kept, is_of, kept_of, lasts_of, looked_up}
+use Rattle.mdns_page.specs.KeptRecords.{AreRows, is_kept, is_of, kept_of, looked_up}
 use Rattle.mdns_page.specs.SkippedSection.{nothing_text}
 use Rattle.mdns_page.specs.Document.{Shown, page}
 use Rattle.mdns_page.specs.Page.{live_at_end}
@@ -43,7 +43,8 @@ returns c = λ each heard chronicled all latest.
     let kept : records ≡ kept_of about walk =
     ap (map row_lent) c.as_slice-records.ensures.value ∙ c.in_ok-kept.ensures (subst Sorted (sym looked) sorted)
     ∙ ap (λ (ls : List Latest). filter (λ (row : Latest × List Life). is_kept about ls row.0) walk) looked in
-    let in_order = subst (λ (rs : List (Latest × List Life)). Sorted (lasts_of rs)) (sym kept)
+    let in_order = subst (λ (rs : List (Latest × List Life)). IsStrictlySortedBy key_cmp (map (λ (row : Latest × List Life). record_of row.0) rs))
+    (sym kept)
     (some-sorted heard walk lives (λ (row : Latest × List Life). is_kept about (looked_up about walk) row.0)) in
     let captures = subst (λ (captures : List Accounts). AreEach Chronicles captures each) (sym c.as_slice-each.ensures.value) chronicled in
     let count : c.len.result ≡ length rows =

@@ -1,8 +1,10 @@
 use Rattle.std.proofs.lemmas.Result.{IfOk-weaker}
+use Rattle.mdns_page.specs.SkippedSection.{warnings}
 use Rattle.mdns_page.proofs.NothingLemmas.{ten-rows}
 use Rattle.mdns_page.proofs.skipped_section.push_warnings.Goals as goal
 
 pub returns : goal.returns
+unfolding warnings
 returns c =
     IfOk-weaker c.push_warning-10.result _ _
     (λ _ written. ten-rows _ _ _ _ _ _ _ _ _ _ _ _ _ _ _ _ _ _ _ _ _ c.in_ok-push_warning.ensures

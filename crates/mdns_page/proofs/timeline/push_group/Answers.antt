@@ -1,7 +1,8 @@
-use Rattle.std.proofs.Common.{◌∙◌, ◌++◌, ℕ, ap, length, map, sym}
+use Rattle.std.proofs.Common.{◌∙◌, ◌++◌, ℕ, ap, codes, length, map, sym}
 use Rattle.std.proofs.lemmas.List.{length-map}
 use Rattle.std.specs.String.{string_bytes}
-use Rattle.mdns_page.specs.Timeline.{counted_lent, group_text, group_words}
+use Rattle.mdns_page.specs.Counts.{commas}
+use Rattle.mdns_page.specs.Timeline.{counted_lent, group_count, group_text}
 use Rattle.mdns_page.proofs.PartLemmas.{parts8}
 use Rattle.mdns_page.proofs.timeline.push_group.Goals as goal
 
@@ -12,6 +13,8 @@ returns c =
     parts8 _ _ _ _ _ _ _ _ _ _ _ _ _ _ _ _ _ c.in_ok-push_group_begin.ensures c.in_ok-push_group_name.ensures
     c.in_ok-push_axis_picture.ensures c.in_ok-push_str.ensures.bytes
     (c.in_ok-push_group_words.ensures
-    ∙ ap (λ (n : ℕ). before ++ group_words c.args.part n c.live_rows.result) (sym (length-map c.args.rows.now counted_lent))
-    ∙ ap (λ (n : ℕ). before ++ group_words c.args.part (length (map counted_lent c.args.rows.now)) n) c.live_rows.ensures)
+    ∙ ap (λ (n : ℕ). before ++ (group_count c.args.part n ++ codes ", " ++ commas c.live_rows.result ++ codes " live"))
+    (sym (length-map c.args.rows.now counted_lent))
+    ∙ ap (λ (n : ℕ). before ++ (group_count c.args.part (length (map counted_lent c.args.rows.now)) ++ codes ", " ++ commas n ++ codes " live"))
+    c.live_rows.ensures)
     c.in_ok-push_str-2.ensures.bytes c.in_ok-push_rows.ensures c.in_ok-push_str-3.ensures.bytes

@@ -7,8 +7,8 @@ use Rattle.mdns_browse.specs.Services.{body_of}
 use Rattle.mdns_page.specs.TimelineRows.{IsCounted}
 use Rattle.mdns_page.specs.KeptRecords.{is_of}
 use Rattle.mdns_page.specs.Servers.{servers_of}
-use Rattle.mdns_page.specs.Timeline.{Row, counted_lent, record_in}
-use Rattle.mdns_page.proofs.CountedLemmas.{row-more}
+use Rattle.mdns_page.specs.Timeline.{Row, counted_lent}
+use Rattle.mdns_page.proofs.CountedLemmas.{record_in, row-more}
 use Rattle.mdns_page.proofs.KeptLemmas.{kept-more}
 use Rattle.mdns_page.proofs.timeline_rows.counted_rows.Goals as goal
 

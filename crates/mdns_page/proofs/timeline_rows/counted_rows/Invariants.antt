@@ -4,19 +4,22 @@ use Rattle.std.specs.List.Sorted.{IsStrictlySortedBy}
 use Rattle.mdns_message.specs.declared.hearing.Hearing.{Hearing}
 use Rattle.mdns_message.specs.Resource.{key_cmp}
 use Rattle.mdns_cache.specs.Live.{record_of}
+use Rattle.mdns_join.specs.declared.latest.Latest.{Latest}
+use Rattle.mdns_lives.specs.declared.life.Life.{Life}
 use Rattle.mdns_lives.specs.Chronicle.{Chronicles}
 use Rattle.mdns_lives.specs.LentLives.{row_lent}
 use Rattle.mdns_browse.specs.Services.{AreEach, body_of}
 use Rattle.mdns_page.specs.TimelineRows.{IsCounted}
-use Rattle.mdns_page.specs.KeptRecords.{is_of, lasts_of}
+use Rattle.mdns_page.specs.KeptRecords.{is_of}
 use Rattle.mdns_page.specs.Servers.{servers_of}
-use Rattle.mdns_page.specs.Timeline.{Row, counted_lent, record_in}
+use Rattle.mdns_page.specs.Timeline.{Row, counted_lent}
 use Rattle.mdns_page.proofs.timeline_rows.counted_rows.Given as goal
 
 -- the rows of the records so far
 abbrev pub invariant-loop-record : goal.invariant-loop-record
 invariant-loop-record l =
-    (map record_in (map counted_lent l.rows.items) ≡ filter (λ row. is_of l.kind row.0) (map row_lent (take l.record-index l.records)))
+    (map (λ (row : Row). (row.last, row.lives)) (map counted_lent l.rows.items)
+    ≡ filter (λ row. is_of l.kind row.0) (map row_lent (take l.record-index l.records)))
     × ((each : List (List Hearing)) → AreEach Chronicles l.captures each → All (IsCounted each) (map counted_lent l.rows.items))
-    × (IsStrictlySortedBy key_cmp (map record_of (lasts_of (map row_lent l.servers)))
+    × (IsStrictlySortedBy key_cmp (map (λ (row : Latest × List Life). record_of row.0) (map row_lent l.servers))
     → All (λ (row : Row). row.servers ≡ servers_of (map row_lent l.servers) (body_of row.last)) (map counted_lent l.rows.items))
