@@ -154,9 +154,9 @@ module _ (each : List (List Hearing)) (rows : List (Latest × List Life)) where
       (All-tail (IsServed rows) x xs served) (All-tail (IsServed rows) y ys other) in
       λ i. row i ∷ rest i
 
-one-rows : (kind : TimelinePart) (large : Bool) (each : List (List Hearing)) (kept : List (Latest × List Life)) (xs ys : List Row)
-    → AreRows kind large each kept xs → AreRows kind large each kept ys → xs ≡ ys
-one-rows kind large each kept xs ys are too =
+one-rows : (part : TimelinePart) (large : Bool) (each : List (List Hearing)) (kept : List (Latest × List Life)) (xs ys : List Row)
+    → AreRows part large each kept xs → AreRows part large each kept ys → xs ≡ ys
+one-rows part large each kept xs ys are too =
     one-drawn each kept xs ys (are.are ∙ sym too.are) are.counted too.counted are.served too.served
 
 -- ---- the page by the hearings
@@ -167,11 +167,11 @@ module _ (one_lives : OneLives) where
       → WritesPage about names readings each heard axis text → WritesPage about names more each heard axis other → text ≡ other
   one-written about names readings more each heard axis text other alike first second =
       let rows : second.rows ≡ first.rows = one_lives heard heard second.rows first.rows (same_itself heard) second.lives first.lives in
-      let own = λ (kind : TimelinePart) (large was : Bool) (xs ys : List Row) (same : was ≡ large)
-      (are : AreRows kind large each (kept_of about first.rows) xs) (too : AreRows kind was each (kept_of about second.rows) ys).
-      one-rows kind large each (kept_of about first.rows) xs ys are
-      (subst (λ (l : Bool). AreRows kind l each (kept_of about first.rows) ys) same
-      (subst (λ (rs : List (Latest × List Life)). AreRows kind was each (kept_of about rs) ys) rows too)) in
+      let own = λ (part : TimelinePart) (large was : Bool) (xs ys : List Row) (same : was ≡ large)
+      (are : AreRows part large each (kept_of about first.rows) xs) (too : AreRows part was each (kept_of about second.rows) ys).
+      one-rows part large each (kept_of about first.rows) xs ys are
+      (subst (λ (l : Bool). AreRows part l each (kept_of about first.rows) ys) same
+      (subst (λ (rs : List (Latest × List Life)). AreRows part was each (kept_of about rs) ys) rows too)) in
       let instances : first.instances ≡ second.instances =
       own Instances false false first.instances second.instances refl first.are_instances second.are_instances in
       let large : is_large (length second.instances) ≡ is_large (length first.instances) =

@@ -43,8 +43,8 @@ is_of Names last = is_some (other_given last)
 
 -- The rows are those of this part of the timeline, each with the lives of its name's servers, and with how often each capture heard
 -- its record, by the hearings of each; a large page has only those of instances.
-pub record AreRows (kind : TimelinePart) (large : Bool) (each : List (List Hearing)) (kept : List (Latest × List Life)) (rows : List Row)
+pub record AreRows (part : TimelinePart) (large : Bool) (each : List (List Hearing)) (kept : List (Latest × List Life)) (rows : List Row)
     : Type 0 where
-  pub are : map (λ (row : Row). (row.last, row.lives)) rows ≡ filter (λ row. is_of kind row.0) (if large then [] else kept)
+  pub are : map (λ (row : Row). (row.last, row.lives)) rows ≡ filter (λ row. is_of part row.0) (if large then [] else kept)
   pub counted : All (IsCounted each) rows
   pub served : All (λ (row : Row). row.servers ≡ servers_of kept (body_of row.last)) rows

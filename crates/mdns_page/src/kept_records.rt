@@ -111,10 +111,10 @@ fn is_apart(last: &Last<'_>) -> bool
 }
 
 /// Checks that a record has its row in a part of the timeline.
-pub(crate) fn is_of(kind: TimelinePart, last: &Last<'_>) -> bool
-    ensures { result ≡ is_of kind (last_lent last.now) }
+pub(crate) fn is_of(part: TimelinePart, last: &Last<'_>) -> bool
+    ensures { result ≡ is_of part (last_lent last.now) }
 {
-    match kind {
+    match part {
         TimelinePart::Instances => instance_of(last).is_some(),
         TimelinePart::Addresses => has_address(&last.resource.body),
         TimelinePart::Names => other_of(last).is_some(),

@@ -39,14 +39,14 @@ pub(crate) struct CountedRow<'a> {
 /// Makes the rows of a part of the timeline, of some records, each with its servers, by the hearings of each capture.
 pub(crate) fn counted_rows<'a>(
     alloc: Global,
-    kind: TimelinePart,
+    part: TimelinePart,
     records: &'a [RecordLives<'a>],
     servers: &'a [RecordLives<'a>],
     captures: &[Lives],
 ) -> Result<Vec<CountedRow<'a>>, Want>
     ensures records { IfOk result (λ rows.
         map (λ (row : Row). (row.last, row.lives)) (map counted_lent rows.items)
-        ≡ filter (λ row. is_of kind row.0) (map row_lent records.now)) }
+        ≡ filter (λ row. is_of part row.0) (map row_lent records.now)) }
     ensures heard { IfOk result (λ rows. (each : List (List Hearing)) → AreEach Chronicles captures.now each
         → All (IsCounted each) (map counted_lent rows.items)) }
     ensures servers { IfOk result (λ rows. IsStrictlySortedBy key_cmp (map (λ (row : Latest × List Life). record_of row.0) (map row_lent servers.now))
@@ -54,7 +54,7 @@ pub(crate) fn counted_rows<'a>(
 {
     let mut rows = Vec::new(alloc);
     for record in records {
-        if !is_of(kind, &record.last) {
+        if !is_of(part, &record.last) {
             continue;
         }
         rows.push(counted_row(alloc, record, servers, captures)?)?;

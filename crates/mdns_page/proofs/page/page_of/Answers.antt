@@ -52,9 +52,9 @@ returns c = λ each heard chronicled all latest.
     let few : map row_lent c.unless_large-few.result.now ≡ (if is_large (length rows) then [] else records) =
     c.unless_large-few.ensures
     ∙ ap (λ (large : Bool). if large then [] else records) (c.is_large.ensures ∙ ap is_large count) in
-    let are = λ (kind : TimelinePart) (large : Bool) (made : List Row) (own : AreRows kind large each records made).
-    subst (λ (rs : List (Latest × List Life)). AreRows kind large each rs made) kept own in
-    let filtered = λ (kind : TimelinePart). ap (filter (λ (row : Latest × List Life). is_of kind row.0)) few in
+    let are = λ (part : TimelinePart) (large : Bool) (made : List Row) (own : AreRows part large each records made).
+    subst (λ (rs : List (Latest × List Life)). AreRows part large each rs made) kept own in
+    let filtered = λ (part : TimelinePart). ap (filter (λ (row : Latest × List Life). is_of part row.0)) few in
     let count_rows : c.len-2.result ≡ length rows =
     c.len-2.ensures ∙ c.in_ok-rows.rows.ok.0 ∙ sym (length-map c.in_ok-rows.rows.items counted_lent) in
     let count_addresses : c.len-3.result ≡ length addresses =

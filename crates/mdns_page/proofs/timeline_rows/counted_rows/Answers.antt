@@ -12,10 +12,10 @@ use Rattle.mdns_page.proofs.CountedLemmas.{record_in, row-more}
 use Rattle.mdns_page.proofs.KeptLemmas.{kept-more}
 use Rattle.mdns_page.proofs.timeline_rows.counted_rows.Goals as goal
 
--- a record that isn't of the kind
+-- a record of another part
 pub loop-record-preserved-then-not-is_of : goal.loop-record-preserved-then-not-is_of
 loop-record-preserved-then-not-is_of c =
-    let keep = λ (row : Latest × List Life). is_of c.args.kind row.0 in
+    let keep = λ (row : Latest × List Life). is_of c.args.part row.0 in
     let so_far = c.loop-record.invariant in (
       sym (append-nil _)
           ∙ ap (λ kept. map record_in (map counted_lent c.loop-record.rows.items) ++ cond kept (row_lent c.record-item.result ∷ []) [])
@@ -28,7 +28,7 @@ loop-record-preserved-then-not-is_of c =
 
 pub loop-record-preserved : goal.loop-record-preserved
 loop-record-preserved c =
-    let keep = λ (row : Latest × List Life). is_of c.args.kind row.0 in
+    let keep = λ (row : Latest × List Life). is_of c.args.part row.0 in
     let rows = c.loop-record.rows.items in
     let so_far = c.loop-record.invariant in
     let row = c.in_ok-counted_row.field-0 in
