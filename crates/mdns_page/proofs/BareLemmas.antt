@@ -150,9 +150,9 @@ row-same part look row other same =
     ∙ sym (name-bare part (owner_of other) other.last.resource.body) in
     let lives : row.lives ≡ other.lives = ap (λ (bare : BareRow). bare.1) same in
     let servers : row.servers ≡ other.servers = ap (λ (bare : BareRow). bare.2) same in
-    let captures : row.captures ≡ other.captures = ap (λ (bare : BareRow). bare.3) same in
+    let count : row.capture_count ≡ other.capture_count = ap (λ (bare : BareRow). bare.3) same in
     let heard : row.heard ≡ other.heard = ap (λ (bare : BareRow). bare.4) same in
-    rw (name, lives, servers, captures, heard) refl
+    rw (name, lives, servers, count, heard) refl
 
 lives-same : (row other : Row) → bare_row row ≡ bare_row other → lives_in row ≡ lives_in other
 lives-same row other same = ap (λ (bare : BareRow). bare.1 ++ flat_map (λ (lives : List Life). lives) bare.2) same

@@ -56,16 +56,16 @@ shown-more : (many : Bool) (captures : List (List SecondHeard)) (seconds : List 
 shown-more true captures seconds = filter-append (λ seconds. nat_lt 0 (length seconds)) captures (seconds ∷ [])
 shown-more false captures seconds = refl
 
--- those of one capture more
-pub heard-more : (many : Bool) (key : Key) (captures : List Accounts) (i : ℕ) (capture : Accounts) (shown : List (List SecondHeard))
-    (seconds : List SecondHeard) (more : List (List SecondHeard)) → i < length captures → capture ≡ get_or captures i capture
-    → ((each : List (List Hearing)) → AreEach Chronicles (take i captures) each → AreShownBy many each key shown)
-    → ((heard : List Hearing) → Chronicles capture heard → AreSecondsHeard heard key seconds)
+-- those of one chronicle more
+pub heard-more : (many : Bool) (key : Key) (chronicles : List Accounts) (i : ℕ) (chronicle : Accounts) (shown : List (List SecondHeard))
+    (seconds : List SecondHeard) (more : List (List SecondHeard)) → i < length chronicles → chronicle ≡ get_or chronicles i chronicle
+    → ((each : List (List Hearing)) → AreEach Chronicles (take i chronicles) each → AreShownBy many each key shown)
+    → ((heard : List Hearing) → Chronicles chronicle heard → AreSecondsHeard heard key seconds)
     → more ≡ shown ++ shown_seconds many (seconds ∷ [])
-    → (each : List (List Hearing)) → AreEach Chronicles (take (i + 1) captures) each → AreShownBy many each key more
-heard-more many key captures i capture shown seconds more within at so_far last pushed each are =
-    let taken = take_more captures i capture within ∙ ap (λ (c : Accounts). take i captures ++ c ∷ []) (sym at) in
-    let pairs = each-last Chronicles (take i captures) capture each
+    → (each : List (List Hearing)) → AreEach Chronicles (take (i + 1) chronicles) each → AreShownBy many each key more
+heard-more many key chronicles i chronicle shown seconds more within at so_far last pushed each are =
+    let taken = take_more chronicles i chronicle within ∙ ap (λ (c : Accounts). take i chronicles ++ c ∷ []) (sym at) in
+    let pairs = each-last Chronicles (take i chronicles) chronicle each
     (subst (λ (cs : List Accounts). AreEach Chronicles cs each) taken are) in
     let before = so_far pairs.before pairs.are in
     record {
@@ -91,12 +91,12 @@ row-more Is rows row more pushed all is =
     (All-append Is (map counted_lent rows) (counted_lent row ∷ []) all (All-cons Is (counted_lent row) [] is (All-nil Is)))
 
 -- a row that has the seconds counts the captures
-pub row-counted : (captures : List Accounts) (row : Row) → row.captures ≡ length captures
-    → ((each : List (List Hearing)) → AreEach Chronicles captures each
-    → AreShownBy (nat_lt 4 (length captures)) each (record_of row.last) row.heard)
-    → (each : List (List Hearing)) → AreEach Chronicles captures each → IsCounted each row
-row-counted captures row count heard each are =
-    let same = each-count Chronicles captures each are in
+pub row-counted : (chronicles : List Accounts) (row : Row) → row.capture_count ≡ length chronicles
+    → ((each : List (List Hearing)) → AreEach Chronicles chronicles each
+    → AreShownBy (nat_lt 4 (length chronicles)) each (record_of row.last) row.heard)
+    → (each : List (List Hearing)) → AreEach Chronicles chronicles each → IsCounted each row
+row-counted chronicles row count heard each are =
+    let same = each-count Chronicles chronicles each are in
     record {
       count = count ∙ same;
       heard = subst (λ (n : ℕ). AreShownBy (nat_lt 4 n) each (record_of row.last) row.heard) same (heard each are);

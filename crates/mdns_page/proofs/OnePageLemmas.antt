@@ -128,7 +128,7 @@ module _ (each : List (List Hearing)) (rows : List (Latest × List Life)) where
   one-row a b same counted too served other =
       let last : a.last ≡ b.last = ap (λ (row : Latest × List Life). row.0) same in
       let lives : a.lives ≡ b.lives = ap (λ (row : Latest × List Life). row.1) same in
-      let captures : a.captures ≡ b.captures = counted.count ∙ sym too.count in
+      let count : a.capture_count ≡ b.capture_count = counted.count ∙ sym too.count in
       let shown = counted.heard in
       let again = too.heard in
       let seconds : shown.all ≡ again.all =
@@ -138,7 +138,7 @@ module _ (each : List (List Hearing)) (rows : List (Latest × List Life)) where
       let heard : a.heard ≡ b.heard = shown.shown ∙ ap (shown_seconds (nat_lt 4 (length each))) seconds ∙ sym again.shown in
       let servers : a.servers ≡ b.servers =
       served ∙ ap (λ (l : Latest). servers_of rows (body_of l)) last ∙ sym other in
-      λ i. record { last = last i; lives = lives i; servers = servers i; captures = captures i; heard = heard i }
+      λ i. record { last = last i; lives = lives i; servers = servers i; capture_count = count i; heard = heard i }
 
   one-drawn : (xs ys : List Row) → map record_in xs ≡ map record_in ys → All (IsCounted each) xs → All (IsCounted each) ys
       → All (IsServed rows) xs → All (IsServed rows) ys → xs ≡ ys

@@ -35,7 +35,7 @@ BareRow = Option Address × List Life × List (List Life) × ℕ × List (List S
 -- all but the names in the record
 abbrev pub bare_row : Row → BareRow
 bare_row row =
-    (address_of row.last.resource.body, row.lives, row.servers, row.captures, row.heard)
+    (address_of row.last.resource.body, row.lives, row.servers, row.capture_count, row.heard)
 
 -- the same of rows in groups by type
 abbrev pub bare_groups : List Row → List (List BareRow)

@@ -14,11 +14,11 @@ use Rattle.mdns_page.specs.declared.picture.Stroke.TheVariants.{Bar, Server, Pin
 -- the picture of some lives, in order of time: a bar for each, those of servers, for each that ended a pin that tells why, and in
 -- which seconds each capture heard the record
 abbrev pub picture : Look → List Life → (servers : List (List Life)) → List (List SecondHeard) → List ℕ
-picture look lives servers captures =
+picture look lives servers heard =
     let axis = look.axis in
     codes "<svg viewBox=\"0 0 1000 " ++ decimal (height look.lanes)
     ++ codes "\" preserveAspectRatio=\"none\" aria-hidden=\"true\"><use href=\"#g\"/>" ++ bars axis look.titled Bar lives
     ++ flat_map (bars axis look.titled Server) servers ++ path (mark_of axis) (Pin Goodbye) lives
     ++ path (mark_of axis) (Head Goodbye) lives ++ path (mark_of axis) (Pin RanOut) lives
     ++ path (mark_of axis) (Pin Flushed) lives ++ path (mark_of axis) (Head Flushed) lives
-    ++ (if look.lanes == 0 then [] else each_from (lane_text axis look.lanes) 0 captures) ++ codes "</svg>"
+    ++ (if look.lanes == 0 then [] else each_from (lane_text axis look.lanes) 0 heard) ++ codes "</svg>"

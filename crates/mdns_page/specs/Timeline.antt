@@ -35,7 +35,7 @@ pub record Row : Type 0 where
   pub last : Latest
   pub lives : List Life
   pub servers : List (List Life)
-  pub captures : ℕ
+  pub capture_count : ℕ
   pub heard : List (List SecondHeard)
 
 -- the seconds in which a capture heard a record
@@ -51,7 +51,7 @@ counted_lent row = record {
   last = last_lent row.record.now.last;
   lives = row.record.now.lives.items;
   servers = map lives_lent row.servers.now;
-  captures = row.captures;
+  capture_count = row.capture_count;
   heard = map seconds_lent row.heard.items;
 }
 
@@ -80,7 +80,7 @@ content_name say part owner _ = []
 -- a record: what it names, how often each capture heard it, the picture of its and its servers' lives, and its own in words
 unfoldable pub row_text : (List ℕ → List ℕ) → TimelinePart → Look → Row → List ℕ
 row_text say part look row =
-    item (content_name say part (owner_of row) (content_of row.last.resource.body) ++ heard_text row.captures row.heard)
+    item (content_name say part (owner_of row) (content_of row.last.resource.body) ++ heard_text row.capture_count row.heard)
     (picture look row.lives row.servers row.heard) (lives_words look.axis row.lives)
 
 -- ---- groups

@@ -18,5 +18,5 @@ pub record AreShownBy (many : Bool) (each : List (List Hearing)) (key : Key) (he
 
 -- the row counts the captures, and has the seconds of its record; of more than four captures only of those that heard it
 pub record IsCounted (each : List (List Hearing)) (row : Row) : Type 0 where
-  pub count : row.captures ≡ length each
+  pub count : row.capture_count ≡ length each
   pub heard : AreShownBy (nat_lt 4 (length each)) each (record_of row.last) row.heard

@@ -15,42 +15,46 @@ use crate::lanes::is_goodbye;
 use mdns_lives::SecondHeard;
 use mdns_message::Want;
 
-/// Appends how often each of `captures` captures heard a record, by the seconds in which each did, in order; where
+/// Appends how often each of `capture_count` captures heard a record, by the seconds in which each did, in order; where
 /// there are many, how often those that heard it did so together.
 #[tactic(auto, unfolding(crate::specs::HeardWords::heard_text))]
 pub(crate) fn push_heard(
     to: &mut String,
-    captures: usize,
+    capture_count: usize,
     heard: &[Vec<SecondHeard>],
 ) -> Result<(), Want>
     ensures { OnOk result (string_bytes to.new
-        ≡ string_bytes to.old ++ heard_text captures (map seconds_lent heard.now)) }
+        ≡ string_bytes to.old ++ heard_text capture_count (map seconds_lent heard.now)) }
 {
     to.push_str("<small>heard ")?;
-    push_times_words(to, captures, heard)?;
+    push_times_words(to, capture_count, heard)?;
     to.push_str("</small>")?;
     Ok(())
 }
 
 fn push_times_words(
     to: &mut String,
-    captures: usize,
+    capture_count: usize,
     heard: &[Vec<SecondHeard>],
 ) -> Result<(), Want>
     ensures { OnOk result (string_bytes to.new ≡ string_bytes to.old
-        ++ (if nat_lt 4 captures then together_text captures (map seconds_lent heard.now)
+        ++ (if nat_lt 4 capture_count then together_text capture_count (map seconds_lent heard.now)
         else each_from capture_times 0 (map seconds_lent heard.now))) }
 {
-    if captures > FEW_CAPTURES {
-        return push_together(to, captures, heard);
+    if capture_count > FEW_CAPTURES {
+        return push_together(to, capture_count, heard);
     }
     push_each(to, heard)
 }
 
 #[tactic(auto, unfolding(crate::specs::HeardWords::together_text))]
-fn push_together(to: &mut String, captures: usize, hearers: &[Vec<SecondHeard>]) -> Result<(), Want>
+fn push_together(
+    to: &mut String,
+    capture_count: usize,
+    hearers: &[Vec<SecondHeard>],
+) -> Result<(), Want>
     ensures { OnOk result (string_bytes to.new
-        ≡ string_bytes to.old ++ together_text captures (map seconds_lent hearers.now)) }
+        ≡ string_bytes to.old ++ together_text capture_count (map seconds_lent hearers.now)) }
 {
     let times = times_of(hearers);
     let ended = goodbyes_of(hearers);
@@ -60,28 +64,28 @@ fn push_together(to: &mut String, captures: usize, hearers: &[Vec<SecondHeard>])
     to.push_str(" in ")?;
     push_commas(to, hearers.len() as u128)?;
     to.push_str(" of ")?;
-    push_commas(to, captures as u128)?;
+    push_commas(to, capture_count as u128)?;
     to.push_str(" captures")?;
     Ok(())
 }
 
 // Returns how often all captures together heard a record.
-fn times_of(captures: &[Vec<SecondHeard>]) -> u128
-    ensures { result ≡ sum_by length (map seconds_lent captures.now) }
+fn times_of(heard: &[Vec<SecondHeard>]) -> u128
+    ensures { result ≡ sum_by length (map seconds_lent heard.now) }
 {
     let mut times = 0;
-    for seconds in captures {
+    for seconds in heard {
         times += seconds.len() as u128;
     }
     times
 }
 
 // Returns how many of the seconds of all captures together have a goodbye.
-fn goodbyes_of(captures: &[Vec<SecondHeard>]) -> u128
-    ensures { result ≡ sum_by (count_by is_goodbye) (map seconds_lent captures.now) }
+fn goodbyes_of(heard: &[Vec<SecondHeard>]) -> u128
+    ensures { result ≡ sum_by (count_by is_goodbye) (map seconds_lent heard.now) }
 {
     let mut ended = 0;
-    for seconds in captures {
+    for seconds in heard {
         ended += goodbyes(seconds.as_slice()) as u128;
     }
     ended
@@ -98,10 +102,10 @@ fn goodbyes(seconds: &[SecondHeard]) -> usize
     count
 }
 
-fn push_each(to: &mut String, captures: &[Vec<SecondHeard>]) -> Result<(), Want>
-    ensures { OnOk result (string_bytes to.new ≡ string_bytes to.old ++ each_from capture_times 0 (map seconds_lent captures.now)) }
+fn push_each(to: &mut String, heard: &[Vec<SecondHeard>]) -> Result<(), Want>
+    ensures { OnOk result (string_bytes to.new ≡ string_bytes to.old ++ each_from capture_times 0 (map seconds_lent heard.now)) }
 {
-    for (index, seconds) in captures.iter().enumerate() {
+    for (index, seconds) in heard.iter().enumerate() {
         push_capture_times(to, index, seconds.as_slice())?;
     }
     Ok(())

@@ -88,27 +88,27 @@ pub(crate) fn push_lanes(
     to: &mut String,
     axis: Axis,
     lanes: u32,
-    captures: &[Vec<SecondHeard>],
+    heard: &[Vec<SecondHeard>],
 ) -> Result<(), Want>
     ensures { OnOk result (string_bytes to.new
-        ≡ string_bytes to.old ++ (if lanes == 0 then [] else each_from (lane_text axis lanes) 0 (map seconds_lent captures.now))) }
+        ≡ string_bytes to.old ++ (if lanes == 0 then [] else each_from (lane_text axis lanes) 0 (map seconds_lent heard.now))) }
 {
     if lanes == 0 {
         return Ok(());
     }
-    push_each_lane(to, axis, lanes, captures)
+    push_each_lane(to, axis, lanes, heard)
 }
 
 fn push_each_lane(
     to: &mut String,
     axis: Axis,
     lanes: u32,
-    captures: &[Vec<SecondHeard>],
+    heard: &[Vec<SecondHeard>],
 ) -> Result<(), Want>
     ensures { OnOk result (string_bytes to.new
-        ≡ string_bytes to.old ++ each_from (lane_text axis lanes) 0 (map seconds_lent captures.now)) }
+        ≡ string_bytes to.old ++ each_from (lane_text axis lanes) 0 (map seconds_lent heard.now)) }
 {
-    for (index, seconds) in captures.iter().enumerate() {
+    for (index, seconds) in heard.iter().enumerate() {
         push_lane(to, axis, lanes, index, seconds.as_slice())?;
     }
     Ok(())

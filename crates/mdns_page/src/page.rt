@@ -103,11 +103,11 @@ fn page_of(
     let heard = heard_rows(alloc, chronicled.all.walk(), about)?;
     let kept = kept_rows(alloc, chronicled.all.walk(), heard.as_slice(), about)?;
     let records = kept.as_slice();
-    let each = chronicled.captures.as_slice();
-    let rows = counted_rows(alloc, TimelinePart::Instances, records, records, each)?;
+    let chronicles = chronicled.captures.as_slice();
+    let rows = counted_rows(alloc, TimelinePart::Instances, records, records, chronicles)?;
     let few = unless_large(is_large(rows.len()), records);
-    let addresses = counted_rows(alloc, TimelinePart::Addresses, few, records, each)?;
-    let others = counted_rows(alloc, TimelinePart::Names, few, records, each)?;
+    let addresses = counted_rows(alloc, TimelinePart::Addresses, few, records, chronicles)?;
+    let others = counted_rows(alloc, TimelinePart::Names, few, records, chronicles)?;
     let opened = is_open(rows.len(), addresses.len(), others.len());
     let live = live_of(
         alloc,

@@ -104,11 +104,11 @@ fn push_name(
 ) -> Result<(), Want>
     ensures { OnOk result (string_bytes to.new ≡ string_bytes to.old
         ++ (content_name isolated part (owner_of (counted_lent row.now)) (content_of (counted_lent row.now).last.resource.body)
-        ++ heard_text row.now.captures (map seconds_lent row.now.heard.items))) }
+        ++ heard_text row.now.capture_count (map seconds_lent row.now.heard.items))) }
 {
     let record = row.record;
     push_record_name(to, scratch, part, record.last.resource)?;
-    push_heard(to, row.captures, row.heard.as_slice())
+    push_heard(to, row.capture_count, row.heard.as_slice())
 }
 
 // Appends what a record names, by way of `scratch`: an instance or another whole name, or a host with its address; nothing

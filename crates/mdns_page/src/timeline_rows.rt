@@ -30,7 +30,7 @@ pub(crate) struct CountedRow<'a> {
     /// The SRV records of the instance that it gives, in key order.
     pub(crate) servers: &'a [RecordLives<'a>],
     /// How many captures there are.
-    pub(crate) captures: usize,
+    pub(crate) capture_count: usize,
     /// Of each capture, in order, the whole seconds in which it heard the record; where there are many captures, only of those
     /// that heard it, since a list for each row and capture would take much memory.
     pub(crate) heard: Vec<Vec<SecondHeard>>,
@@ -42,12 +42,12 @@ pub(crate) fn counted_rows<'a>(
     part: TimelinePart,
     records: &'a [RecordLives<'a>],
     servers: &'a [RecordLives<'a>],
-    captures: &[Lives],
+    chronicles: &[Lives],
 ) -> Result<Vec<CountedRow<'a>>, Want>
     ensures records { IfOk result (λ rows.
         map (λ (row : Row). (row.last, row.lives)) (map counted_lent rows.items)
         ≡ filter (λ row. is_of part row.0) (map row_lent records.now)) }
-    ensures heard { IfOk result (λ rows. (each : List (List Hearing)) → AreEach Chronicles captures.now each
+    ensures heard { IfOk result (λ rows. (each : List (List Hearing)) → AreEach Chronicles chronicles.now each
         → All (IsCounted each) (map counted_lent rows.items)) }
     ensures servers { IfOk result (λ rows. IsStrictlySortedBy key_cmp (map (λ (row : Latest × List Life). record_of row.0) (map row_lent servers.now))
         → All (λ (row : Row). row.servers ≡ servers_of (map row_lent servers.now) (body_of row.last)) (map counted_lent rows.items)) }
@@ -57,7 +57,7 @@ pub(crate) fn counted_rows<'a>(
         if !is_of(part, &record.last) {
             continue;
         }
-        rows.push(counted_row(alloc, record, servers, captures)?)?;
+        rows.push(counted_row(alloc, record, servers, chronicles)?)?;
     }
     Ok(rows)
 }
@@ -67,19 +67,19 @@ fn counted_row<'a>(
     alloc: Global,
     record: &'a RecordLives<'a>,
     servers: &'a [RecordLives<'a>],
-    captures: &[Lives],
+    chronicles: &[Lives],
 ) -> Result<CountedRow<'a>, Want>
     ensures record { IfOk result (λ row. ((counted_lent row).last, (counted_lent row).lives) ≡ row_lent «record».now) }
-    ensures heard { IfOk result (λ row. (each : List (List Hearing)) → AreEach Chronicles captures.now each
+    ensures heard { IfOk result (λ row. (each : List (List Hearing)) → AreEach Chronicles chronicles.now each
         → IsCounted each (counted_lent row)) }
     ensures servers { IfOk result (λ row. IsStrictlySortedBy key_cmp (map (λ (row : Latest × List Life). record_of row.0) (map row_lent servers.now))
         → (counted_lent row).servers ≡ servers_of (map row_lent servers.now) (body_of (counted_lent row).last)) }
 {
-    let heard = heard_by(alloc, captures, record.last.resource)?;
+    let heard = heard_by(alloc, chronicles, record.last.resource)?;
     Ok(CountedRow {
         record,
         servers: servers_of(servers, &record.last.resource.body),
-        captures: captures.len(),
+        capture_count: chronicles.len(),
         heard,
     })
 }
@@ -87,16 +87,16 @@ fn counted_row<'a>(
 // Returns the whole seconds in which each capture heard a record; where there are many captures, of those that heard it.
 fn heard_by(
     alloc: Global,
-    captures: &[Lives],
+    chronicles: &[Lives],
     resource: &Resource,
 ) -> Result<Vec<Vec<SecondHeard>>, Want>
-    ensures { IfOk result (λ heard. (each : List (List Hearing)) → AreEach Chronicles captures.now each
-        → AreShownBy (nat_lt 4 (length captures.now)) each (key_of resource.now) (map seconds_lent heard.items)) }
+    ensures { IfOk result (λ heard. (each : List (List Hearing)) → AreEach Chronicles chronicles.now each
+        → AreShownBy (nat_lt 4 (length chronicles.now)) each (key_of resource.now) (map seconds_lent heard.items)) }
 {
-    let many = captures.len() > FEW_CAPTURES;
+    let many = chronicles.len() > FEW_CAPTURES;
     let mut heard = Vec::new(alloc);
-    for capture in captures {
-        push_shown(&mut heard, many, capture.seconds_heard(resource)?)?;
+    for chronicle in chronicles {
+        push_shown(&mut heard, many, chronicle.seconds_heard(resource)?)?;
     }
     Ok(heard)
 }

@@ -7,6 +7,6 @@ use Rattle.mdns_page.proofs.heard_words.goodbyes_of.Given as goal
 -- the sum so far, which is less than 2 ^ 64 for each capture
 abbrev pub invariant-loop-seconds : goal.invariant-loop-seconds
 invariant-loop-seconds l = record {
-  value : l.ended ≡ sum_by (count_by is_goodbye) (map seconds_lent (take l.seconds-index l.captures));
+  value : l.ended ≡ sum_by (count_by is_goodbye) (map seconds_lent (take l.seconds-index l.heard));
   few : l.ended ≤ l.seconds-index * 18446744073709551615;
 }

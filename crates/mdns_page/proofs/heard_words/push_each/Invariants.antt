@@ -8,5 +8,5 @@ use Rattle.mdns_page.proofs.heard_words.push_each.Given as goal
 -- the words of the captures before the index were appended
 abbrev pub invariant-loop-index : goal.invariant-loop-index
 invariant-loop-index l =
-    string_bytes l.to ++ each_from capture_times l.index (map seconds_lent (drop l.index l.captures))
-    ≡ string_bytes l.initial.to ++ each_from capture_times 0 (map seconds_lent l.captures)
+    string_bytes l.to ++ each_from capture_times l.index (map seconds_lent (drop l.index l.heard))
+    ≡ string_bytes l.initial.to ++ each_from capture_times 0 (map seconds_lent l.heard)

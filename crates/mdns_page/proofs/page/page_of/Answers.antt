@@ -46,7 +46,8 @@ returns c = λ each heard chronicled all latest.
     let in_order = subst (λ (rs : List (Latest × List Life)). IsStrictlySortedBy key_cmp (map (λ (row : Latest × List Life). record_of row.0) rs))
     (sym kept)
     (some-sorted heard walk lives (λ (row : Latest × List Life). is_kept about (looked_up about walk) row.0)) in
-    let captures = subst (λ (captures : List Accounts). AreEach Chronicles captures each) (sym c.as_slice-each.ensures.value) chronicled in
+    let chronicles = subst (λ (chronicles : List Accounts). AreEach Chronicles chronicles each) (sym c.as_slice-chronicles.ensures.value)
+    chronicled in
     let count : c.len.result ≡ length rows =
     c.len.ensures ∙ c.in_ok-rows.rows.ok.0 ∙ sym (length-map c.in_ok-rows.rows.items counted_lent) in
     let few : map row_lent c.unless_large-few.result.now ≡ (if is_large (length rows) then [] else records) =
@@ -85,19 +86,19 @@ returns c = λ each heard chronicled all latest.
       instances = rows;
       are_instances = are Instances _ rows (record {
         are = c.in_ok-rows.ensures.records;
-        counted = c.in_ok-rows.ensures.heard each captures;
+        counted = c.in_ok-rows.ensures.heard each chronicles;
         served = c.in_ok-rows.ensures.servers in_order;
       });
       addresses = addresses;
       are_addresses = are Addresses _ addresses (record {
         are = c.in_ok-addresses.ensures.records ∙ filtered Addresses;
-        counted = c.in_ok-addresses.ensures.heard each captures;
+        counted = c.in_ok-addresses.ensures.heard each chronicles;
         served = c.in_ok-addresses.ensures.servers in_order;
       });
       others = others;
       are_others = are Names _ others (record {
         are = c.in_ok-others.ensures.records ∙ filtered Names;
-        counted = c.in_ok-others.ensures.heard each captures;
+        counted = c.in_ok-others.ensures.heard each chronicles;
         served = c.in_ok-others.ensures.servers in_order;
       });
       written = c.in_ok-push_page.ensures ∙ ap (λ (text : List ℕ). text ++ page isolated shown) c.new-text.ensures.bytes

@@ -20,6 +20,6 @@ abbrev pub invariant-loop-record : goal.invariant-loop-record
 invariant-loop-record l =
     (map (λ (row : Row). (row.last, row.lives)) (map counted_lent l.rows.items)
     ≡ filter (λ row. is_of l.part row.0) (map row_lent (take l.record-index l.records)))
-    × ((each : List (List Hearing)) → AreEach Chronicles l.captures each → All (IsCounted each) (map counted_lent l.rows.items))
+    × ((each : List (List Hearing)) → AreEach Chronicles l.chronicles each → All (IsCounted each) (map counted_lent l.rows.items))
     × (IsStrictlySortedBy key_cmp (map (λ (row : Latest × List Life). record_of row.0) (map row_lent l.servers))
     → All (λ (row : Row). row.servers ≡ servers_of (map row_lent l.servers) (body_of row.last)) (map counted_lent l.rows.items))

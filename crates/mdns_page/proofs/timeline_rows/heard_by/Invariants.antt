@@ -8,6 +8,6 @@ use Rattle.mdns_page.specs.Timeline.{seconds_lent}
 use Rattle.mdns_page.proofs.timeline_rows.heard_by.Given as goal
 
 -- the seconds of the captures so far
-abbrev pub invariant-loop-capture : goal.invariant-loop-capture
-invariant-loop-capture l = (each : List (List Hearing)) → AreEach Chronicles (take l.capture-index l.captures) each
+abbrev pub invariant-loop-chronicle : goal.invariant-loop-chronicle
+invariant-loop-chronicle l = (each : List (List Hearing)) → AreEach Chronicles (take l.chronicle-index l.chronicles) each
     → AreShownBy l.many each (key_of l.resource) (map seconds_lent l.heard.items)
