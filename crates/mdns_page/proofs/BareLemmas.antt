@@ -303,11 +303,11 @@ live-same axis opened lasts others given more same =
 -- ---- the whole
 
 pub page-same : (a b : Shown) (opened : Bool) (lasts others : List Latest) (live now : List GivenRow) → a.axis ≡ b.axis → a.lost ≡ b.lost
-    → a.nothing ≡ b.nothing → a.live ≡ live_text unsaid a.axis opened lasts live → b.live ≡ live_text unsaid b.axis opened others now
+    → a.skipped ≡ b.skipped → a.live ≡ live_text unsaid a.axis opened lasts live → b.live ≡ live_text unsaid b.axis opened others now
     → length a.about ≡ length b.about → map bare_capture a.captures ≡ map bare_capture b.captures
     → bare_groups a.rows ≡ bare_groups b.rows → map bare_row a.addresses ≡ map bare_row b.addresses
     → map bare_row a.names ≡ map bare_row b.names → bare_instances lasts live ≡ bare_instances others now → page unsaid a ≡ page unsaid b
-page-same a b opened lasts others live now same_axis same_lost same_nothing
+page-same a b opened lasts others live now same_axis same_lost same_skipped
     written written_too same_about same_captures same_rows same_addresses
     same_names same_live =
     let lanes = if is_large (length a.rows) then 0 else (if nat_lt 4 (length a.captures) then 1 else length a.captures) in
@@ -317,7 +317,7 @@ page-same a b opened lasts others live now same_axis same_lost same_nothing
       written_too,
       same_axis,
       same_lost,
-      same_nothing,
+      same_skipped,
       head-same b.axis lanes a.captures b.captures same_captures,
       live_line-same b.axis a.rows b.rows rows,
       about-same a.about b.about same_about,

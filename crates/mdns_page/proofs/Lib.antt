@@ -8,7 +8,7 @@ mod LaneLemmas
 pub mod LiveLemmas
 pub mod LiveWordLemmas
 mod MarkLemmas
-mod NothingLemmas
+mod SkippedLemmas
 mod OneCaptureLemmas
 mod OnePageLemmas
 mod PartLemmas

@@ -19,7 +19,7 @@ use Rattle.mdns_survey.specs.Surveys.{AllLeft}
 use Rattle.mdns_survey.specs.Reasons.{row_of}
 use Rattle.mdns_survey.proofs.LossLemmas.{NeverBoth, SkipsByCause, no-cause}
 use Rattle.mdns_survey.proofs.OutcomeLemmas.{OnePayload}
-use Rattle.mdns_page.specs.SkippedSection.{nothing_text, others as reasons, row_text, table_text, warnings}
+use Rattle.mdns_page.specs.SkippedSection.{skipped_text, others as reasons, row_text, table_text, warnings}
 use Rattle.mdns_page.specs.Page.{facts_of}
 
 -- ---- why packets are skipped
@@ -162,8 +162,8 @@ module _ (readings others : List Reading) (alike : AreEach IsAlike readings othe
       ++ flat_map (λ (reason : Why). row_text (skipped-alike reason i) (why_text reason) false (codes "normal")) reasons
       ++ codes "</table>\n"
 
-  pub nothing-alike : nothing_text readings ≡ nothing_text others
-  unfolding nothing_text
-  nothing-alike i =
+  pub section-alike : skipped_text readings ≡ skipped_text others
+  unfolding skipped_text
+  section-alike i =
       codes "<h2 id=\"nothing\">Skipped and refused packets</h2>\n"
       ++ (if untold-alike i == 0 then codes "<p class=\"note\">None.</p>\n" else table-alike i)

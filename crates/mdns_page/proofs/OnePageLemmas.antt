@@ -49,7 +49,7 @@ use Rattle.mdns_page.specs.KeptRecords.{AreRows, kept_of}
 use Rattle.mdns_page.specs.Page.{SurveysPage, WritesPage, live_at_end}
 use Rattle.mdns_page.specs.Timeline.{Row, is_open}
 use Rattle.mdns_page.proofs.CountedLemmas.{record_in, shown_seconds}
-use Rattle.mdns_page.proofs.OneCaptureLemmas.{IsAlike, are-alike, facts-alike, lost-alike, nothing-alike, one-each}
+use Rattle.mdns_page.proofs.OneCaptureLemmas.{IsAlike, are-alike, facts-alike, lost-alike, section-alike, one-each}
 
 -- ---- the seconds in which a record was heard
 
@@ -189,7 +189,7 @@ module _ (one_lives : OneLives) where
         addresses = addresses i;
         names = others i;
         live = live_at_end about axis (is_open (length (instances i) + length (addresses i) + length (others i))) (sym rows i);
-        nothing = nothing-alike readings more alike i;
+        skipped = section-alike readings more alike i;
       })
       ∙ sym second.written
 

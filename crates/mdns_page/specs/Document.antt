@@ -46,7 +46,7 @@ pub record Shown : Type 0 where
   pub addresses : List Row
   pub names : List Row
   pub live : List ℕ
-  pub nothing : List ℕ
+  pub skipped : List ℕ
 
 abbrev pub parts_lent : PageParts → Shown
 parts_lent parts = record {
@@ -58,7 +58,7 @@ parts_lent parts = record {
   addresses = map counted_lent parts.addresses.now;
   names = map counted_lent parts.names.now;
   live = parts.live.now;
-  nothing = parts.nothing.now;
+  skipped = parts.skipped.now;
 }
 
 -- the page, with links to its sections; pictures have a lane for each capture, or one for all where there are many, and none on a
@@ -72,4 +72,4 @@ page say shown =
     ++ (codes "<nav><a href=\"#captures\">Captures</a><a href=\"#timeline\">Timeline</a>"
     ++ codes "<a href=\"#live\">What was live</a><a href=\"#nothing\">Skipped packets</a></nav>\n")
     ++ captures_text say axis shown.captures ++ timeline say axis lanes shown.rows shown.addresses shown.names ++ shown.live
-    ++ shown.nothing ++ codes "</main></body></html>\n"
+    ++ shown.skipped ++ codes "</main></body></html>\n"

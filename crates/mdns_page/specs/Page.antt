@@ -26,7 +26,7 @@ use Rattle.mdns_page.specs.OtherRows.{is_large}
 use Rattle.mdns_page.specs.Html.{isolated}
 use Rattle.mdns_page.specs.KeptRecords.{AreRows, is_drawn, kept_of, looked_up}
 use Rattle.mdns_page.specs.LiveSection.{live_text}
-use Rattle.mdns_page.specs.SkippedSection.{nothing_text}
+use Rattle.mdns_page.specs.SkippedSection.{skipped_text}
 use Rattle.mdns_page.specs.Document.{page}
 use Rattle.mdns_page.specs.Timeline.{Row, is_open}
 
@@ -89,7 +89,7 @@ pub record WritesPage (about : List Subject) (names : List (List ℕ)) (readings
     addresses = addresses;
     names = others;
     live = live_at_end about axis (is_open (length instances + length addresses + length others)) rows;
-    nothing = nothing_text readings;
+    skipped = skipped_text readings;
   })
 
 -- The text is the page on all captures, from their earliest packet to their end, by those hearings that count.

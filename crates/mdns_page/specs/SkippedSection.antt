@@ -46,8 +46,8 @@ table_text readings =
     ++ flat_map (skipped_row readings false (codes "normal")) others ++ codes "</table>\n"
 
 -- the table, or that no packet of any capture was skipped or refused, under its heading
-unfoldable pub nothing_text : List Reading → List ℕ
-nothing_text readings =
+unfoldable pub skipped_text : List Reading → List ℕ
+skipped_text readings =
     codes "<h2 id=\"nothing\">Skipped and refused packets</h2>\n"
     ++ (if sum_by (λ reading. reading.summary.tally.skipped + reading.summary.tally.refused) readings == 0
     then codes "<p class=\"note\">None.</p>\n" else table_text readings)

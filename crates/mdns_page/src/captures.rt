@@ -23,7 +23,8 @@ use mdns_survey::{Summary, Tally};
 use people_text::moment_text::push_millis;
 use people_text::shown::push_shown;
 
-/// The most captures that have circled digits for their numbers, and ticks for what they heard.
+/// The most captures that rows keep apart. With more, their numbers aren't circled, all share one lane, and a row counts those
+/// that heard it together.
 pub(crate) const FEW_CAPTURES: usize = 4;
 
 /// The circled digit one.

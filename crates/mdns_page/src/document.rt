@@ -19,7 +19,7 @@ use mdns_browse::Subject;
 use mdns_message::Want;
 use people_text::moment_text::push_date;
 
-/// What a page is made of.
+/// The parts of a page: what was read, the rows of its timeline, and the texts of two sections.
 #[derive(Drop)]
 pub(crate) struct PageParts<'a> {
     pub(crate) axis: Axis,
@@ -37,8 +37,8 @@ pub(crate) struct PageParts<'a> {
     pub(crate) names: &'a [CountedRow<'a>],
     /// The section on what was live at the end, which is appended as it is.
     pub(crate) live: &'a str,
-    /// That on the packets that told nothing, too.
-    pub(crate) nothing: &'a str,
+    /// The section on the packets that were skipped or refused, likewise.
+    pub(crate) skipped: &'a str,
 }
 
 /// Appends the page: one HTML file without scripts that loads nothing.
@@ -63,7 +63,7 @@ pub(crate) fn push_page(to: &mut String, parts: &PageParts<'_>) -> Result<(), Wa
     push_captures(to, axis, parts.captures)?;
     push_timeline(to, axis, lanes, parts.rows, parts.addresses, parts.names)?;
     to.push_str(parts.live)?;
-    to.push_str(parts.nothing)?;
+    to.push_str(parts.skipped)?;
     to.push_str("</main></body></html>\n")?;
     Ok(())
 }

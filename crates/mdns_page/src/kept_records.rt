@@ -20,7 +20,7 @@ use mdns_lives::{LivesWalk, RecordLives};
 use mdns_message::Want;
 use std::alloc::Global;
 
-/// Which records have rows in a part of the timeline.
+/// A part of the timeline, by the records that have rows in it.
 #[derive(Clone, Copy)]
 pub(crate) enum TimelinePart {
     /// Those that give an instance.

@@ -108,7 +108,7 @@ pub fn counts()
 /// nothing, two pages are equal whose subjects are as many and whose captures, rows and live instances agree in all else.
 pub fn names()
     ensures { (a b : Shown) (opened : Bool) (lasts others : List Latest) (live now : List GivenRow) → a.axis ≡ b.axis → a.lost ≡ b.lost
-        → a.nothing ≡ b.nothing → a.live ≡ live_text unsaid a.axis opened lasts live
+        → a.skipped ≡ b.skipped → a.live ≡ live_text unsaid a.axis opened lasts live
         → b.live ≡ live_text unsaid b.axis opened others now → length a.about ≡ length b.about
         → map bare_capture a.captures ≡ map bare_capture b.captures → bare_groups a.rows ≡ bare_groups b.rows
         → map bare_row a.addresses ≡ map bare_row b.addresses → map bare_row a.names ≡ map bare_row b.names

@@ -2,7 +2,7 @@
 
 use crate::axis::Axis;
 
-/// How all rows of a page are drawn.
+/// What the pictures of all rows of a page share.
 #[derive(Clone, Copy)]
 pub(crate) struct Look {
     pub(crate) axis: Axis,

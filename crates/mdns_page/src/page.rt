@@ -20,7 +20,7 @@ use crate::document::{PageParts, push_page};
 use crate::kept_records::{TimelinePart, is_drawn, kept_rows, unless_large};
 use crate::live_section::push_live;
 use crate::other_rows::is_large;
-use crate::skipped_section::push_nothing;
+use crate::skipped_section::push_skipped;
 use crate::timeline::is_open;
 use crate::timeline_rows::counted_rows;
 use mdns_browse::about::Subject;
@@ -117,8 +117,8 @@ fn page_of(
         opened,
         about,
     )?;
-    let mut nothing = String::new(alloc);
-    push_nothing(&mut nothing, readings)?;
+    let mut skipped = String::new(alloc);
+    push_skipped(&mut skipped, readings)?;
     let mut text = String::new(alloc);
     let captures = facts_of(alloc, names, readings)?;
     let parts = PageParts {
@@ -130,7 +130,7 @@ fn page_of(
         addresses: addresses.as_slice(),
         names: others.as_slice(),
         live: live.as_str(),
-        nothing: nothing.as_str(),
+        skipped: skipped.as_str(),
     };
     push_page(&mut text, &parts)?;
     Ok(text)

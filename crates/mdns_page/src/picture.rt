@@ -19,7 +19,7 @@ use mdns_message::Want;
 pub(crate) enum Stroke {
     /// A bar from the begin of a life to its end.
     Bar,
-    /// The same of an SRV record of the row's instance.
+    /// Such a bar for a life of a server, which is an SRV record of the row's instance.
     Server,
     /// An upright line where a life ended for this reason.
     Pin(Reason),

@@ -4,7 +4,7 @@ ghost use Rattle.std.specs.Prelude.{◌≡◌, ◌+◌, ◌==◌, ◌++◌, if�
 ghost use Rattle.std.specs.List.{flat_map};
 ghost use Rattle.std.specs.String.{string_bytes};
 ghost use Rattle.mdns_survey.specs.Readings.{refused_in};
-ghost use Rattle.mdns_page.specs.SkippedSection.{nothing_text, others, row_text, skipped_row, table_text, warnings};
+ghost use Rattle.mdns_page.specs.SkippedSection.{skipped_text, others, row_text, skipped_row, table_text, warnings};
 
 use crate::counts::push_commas;
 use mdns_capture::Cause;
@@ -20,9 +20,9 @@ const UNLESS_TOLD: &str = "what it told is missing, unless another message told 
 const BROKEN: &str = "a broken sender, or a damaged capture";
 
 /// Appends how many packets of all captures were skipped or refused, for each reason, and what it means.
-#[tactic(auto, unfolding(crate::specs::SkippedSection::nothing_text))]
-pub(crate) fn push_nothing(to: &mut String, readings: &[Reading]) -> Result<(), Want>
-    ensures { OnOk result (string_bytes to.new ≡ string_bytes to.old ++ nothing_text readings.now) }
+#[tactic(auto, unfolding(crate::specs::SkippedSection::skipped_text))]
+pub(crate) fn push_skipped(to: &mut String, readings: &[Reading]) -> Result<(), Want>
+    ensures { OnOk result (string_bytes to.new ≡ string_bytes to.old ++ skipped_text readings.now) }
 {
     to.push_str("<h2 id=\"nothing\">Skipped and refused packets</h2>\n")?;
     push_packets(to, readings)

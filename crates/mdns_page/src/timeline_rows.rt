@@ -23,7 +23,7 @@ use mdns_lives::{Lives, RecordLives, SecondHeard};
 use mdns_message::{Resource, Want};
 use std::alloc::Global;
 
-/// A record that was heard, with its lives.
+/// A row of the timeline: a record with its lives, those of its servers, and how often each capture heard it.
 #[derive(Drop)]
 pub(crate) struct CountedRow<'a> {
     pub(crate) record: &'a RecordLives<'a>,

@@ -14,7 +14,7 @@ use Rattle.mdns_page.specs.Captures.{facts_lent}
 use Rattle.mdns_page.specs.OtherRows.{is_large}
 use Rattle.mdns_page.specs.Html.{isolated}
 use Rattle.mdns_page.specs.KeptRecords.{AreRows, is_kept, is_of, kept_of, looked_up}
-use Rattle.mdns_page.specs.SkippedSection.{nothing_text}
+use Rattle.mdns_page.specs.SkippedSection.{skipped_text}
 use Rattle.mdns_page.specs.Document.{Shown, page}
 use Rattle.mdns_page.specs.Page.{live_at_end}
 use Rattle.mdns_page.specs.Timeline.{Row, counted_lent, is_open}
@@ -77,7 +77,7 @@ returns c = λ each heard chronicled all latest.
       addresses = map counted_lent c.as_slice-5.result.now;
       names = map counted_lent c.as_slice-6.result.now;
       live = c.as_str.result.now;
-      nothing = c.as_str-2.result.now;
+      skipped = c.as_str-2.result.now;
     } in
     record {
       latest = latest;
@@ -111,7 +111,7 @@ returns c = λ each heard chronicled all latest.
             addresses = ap (map counted_lent) c.as_slice-5.ensures.value i;
             names = ap (map counted_lent) c.as_slice-6.ensures.value i;
             live = (c.as_str.ensures.value ∙ live) i;
-            nothing = (c.as_str-2.ensures.value ∙ c.in_ok-push_nothing.ensures
-                ∙ ap (λ (none : List ℕ). none ++ nothing_text c.args.readings.now) c.new-nothing.ensures.bytes) i;
+            skipped = (c.as_str-2.ensures.value ∙ c.in_ok-push_skipped.ensures
+                ∙ ap (λ (none : List ℕ). none ++ skipped_text c.args.readings.now) c.new-skipped.ensures.bytes) i;
           });
     }

@@ -1,6 +1,6 @@
 use Rattle.std.proofs.lemmas.Result.{IfOk-weaker}
 use Rattle.mdns_page.specs.SkippedSection.{warnings}
-use Rattle.mdns_page.proofs.NothingLemmas.{ten-rows}
+use Rattle.mdns_page.proofs.SkippedLemmas.{ten-rows}
 use Rattle.mdns_page.proofs.skipped_section.push_warnings.Goals as goal
 
 pub returns : goal.returns
