@@ -153,16 +153,6 @@ group_by_parts opened owner rows old begun walked new begin walk axis end = reco
 
 -- ---- the section
 
-pub type_by_parts : (old begin name middle words_begin words words_end a b c d e new : List ℕ) → a ≡ old ++ begin → b ≡ a ++ name
-    → c ≡ b ++ middle → d ≡ c ++ words_begin → e ≡ d ++ words → new ≡ e ++ words_end
-    → new ≡ old ++ (begin ++ name ++ middle ++ words_begin ++ words ++ words_end)
-type_by_parts old begin name middle words_begin words words_end a b c d e new one two three four five six =
-    rw (six, five, four, three, two, one) (simp append_assoc)
-
-pub servers_end_by_parts : (old none close last a b new : List ℕ) → a ≡ old ++ none → b ≡ a ++ close → new ≡ b ++ last
-    → new ≡ old ++ ((none ++ close ++ last) ++ [])
-servers_end_by_parts old none close last a b new one two three = rw (three, two, one) (simp (append_assoc, append-nil))
-
 -- what the section begins with
 abbrev live_begin : Axis → List ℕ
 live_begin axis =

@@ -1,9 +1,8 @@
 -- The ticks of an axis.
 use Rattle.std.proofs.Common.{◌≡◌, refl, sym, ◌∙◌, ap, ℕ, ◌+◌, ◌-◌, ◌*◌, ◌/◌, ◌<◌, ◌≤◌, Bool, true, false, cond}
-use Rattle.std.proofs.Common.{List, [], ◌∷◌, ◌++◌, length, map, drop, get_or, nat_lt, ◌↔◌, arith, add-mul, lt_of_mul-lt-mul_right, mul-le-mul_right, div-mul-le_self}
+use Rattle.std.proofs.Common.{List, [], ◌∷◌, ◌++◌, length, map, nat_lt, ◌↔◌, arith, add-mul, lt_of_mul-lt-mul_right, mul-le-mul_right, div-mul-le_self}
 use Rattle.std.proofs.lemmas.Bool.Decides.{nat_tests}
 use Rattle.std.proofs.lemmas.Grind.{div_ceil_times}
-use Rattle.std.proofs.lemmas.List.{drop_more, drop_all}
 use Rattle.std.proofs.lemmas.List.FromFn.{get_or-map-range_with_len, length-map-range_with_len, map-range_with_len_more}
 use Rattle.std.proofs.lemmas.Nat.{div_below, le-div}
 use Rattle.std.specs.Int.{div_ceil}
@@ -13,27 +12,6 @@ use Rattle.mdns_page.specs.declared.axis.Axis.{Axis}
 use Rattle.mdns_page.specs.Ticks.{first_step, multiples, step_of, steps, ticks}
 
 -- ---- the first step that is long enough
-
-step-next : (steps : List ℕ) (i step : ℕ) → i < length steps → step ≡ get_or steps i step → drop i steps ≡ step ∷ drop (i + 1) steps
-step-next steps i step within at = drop_more steps i step within ∙ ap (λ x. x ∷ drop (i + 1) steps) (sym at)
-
-pub step-passed : (span i step : ℕ) (steps : List ℕ) → i < length steps → step ≡ get_or steps i step → 7 * step ≤ span
-    → first_step span (drop i steps) ≡ first_step span steps → first_step span (drop (i + 1) steps) ≡ first_step span steps
-step-passed span i step steps within at short before =
-    let test : nat_lt span (7 * step) ≡ false = grind (arith, nat_tests) in
-    let here : first_step span (step ∷ drop (i + 1) steps) ≡ first_step span (drop (i + 1) steps) = rw test refl in
-    sym here ∙ ap (first_step span) (sym (step-next steps i step within at)) ∙ before
-
-pub step-found : (span i step : ℕ) (steps : List ℕ) → i < length steps → step ≡ get_or steps i step → span < 7 * step
-    → first_step span (drop i steps) ≡ first_step span steps → step ≡ first_step span steps
-step-found span i step steps within at long before =
-    let test : nat_lt span (7 * step) ≡ true = grind (arith, nat_tests) in
-    let here : first_step span (step ∷ drop (i + 1) steps) ≡ step = rw test refl in
-    sym here ∙ ap (first_step span) (sym (step-next steps i step within at)) ∙ before
-
-pub step-none : (span i : ℕ) (steps : List ℕ) → length steps ≤ i → first_step span (drop i steps) ≡ first_step span steps
-    → 86400 * (span / 604800 + 1) ≡ first_step span steps
-step-none span i steps past before = ap (first_step span) (sym (drop_all i steps past)) ∙ before
 
 step-covers : (span : ℕ) (steps : List ℕ) → span < 7 * first_step span steps
 step-covers span [] = omega arith

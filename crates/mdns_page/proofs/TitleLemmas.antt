@@ -2,7 +2,6 @@
 use Rattle.std.proofs.Common.{◌≡◌, sym, ◌∙◌, ap, subst, ℕ, ◌+◌, ◌-◌, ◌<◌, ◌≤◌, Bool, nat_le, is_some, Option, None, Some}
 use Rattle.std.proofs.Common.{List, ◌++◌, length, map, take, get_or, arith}
 use Rattle.std.proofs.lemmas.Bool.Decides.{nat_tests}
-use Rattle.std.proofs.lemmas.Grind.{flat_map-append}
 use Rattle.std.proofs.lemmas.List.{length-append}
 use Rattle.std.proofs.lemmas.List.Folds.{flat_map-map, length-flat_map-take}
 use Rattle.std.specs.List.{flat_map}
@@ -42,24 +41,6 @@ pub less-parts : (count own more all : ℕ) (left : Option ℕ) → own ≤ coun
     → IsLess count all left
 less-parts count own more all None few parts is = omega (arith, few, parts, is)
 less-parts count own more all (Some rest) few parts is = omega (arith, few, parts, is)
-
--- ---- the rows of several lists
-
--- what is left after the rows of a list more
-pub less-more : (rows others : List Row) (count left : ℕ) (rest : Option ℕ) → IsLess count (length (flat_map lives_in rows)) (Some left)
-    → IsLess left (length (flat_map lives_in others)) rest → IsLess count (length (flat_map lives_in (rows ++ others))) rest
-less-more rows others count left rest first second =
-    let both = ap length (flat_map-append lives_in rows others) ∙ length-append (flat_map lives_in rows) (flat_map lives_in others) in
-    let counted : left + length (flat_map lives_in rows) ≡ count = first in
-    less-parts count (length (flat_map lives_in rows)) (length (flat_map lives_in others)) (length (flat_map lives_in (rows ++ others))) rest
-    (omega (arith, counted)) both
-    (subst (λ n. IsLess n (length (flat_map lives_in others)) rest) (omega (arith, counted)) second)
-
--- nothing is left after the rows of a list more, where nothing was left before
-pub less-none : (rows others : List Row) (count : ℕ) → IsLess count (length (flat_map lives_in rows)) None
-    → IsLess count (length (flat_map lives_in (rows ++ others))) None
-less-none rows others count few =
-    omega (arith, few, ap length (flat_map-append lives_in rows others), length-append (flat_map lives_in rows) (flat_map lives_in others))
 
 -- all have few lives, if some count is left
 pub few-by : (n : ℕ) (left : Option ℕ) (is : Bool) → is ≡ is_some left → IsLess 1000 n left → is ≡ nat_le n 1000
