@@ -14,7 +14,8 @@ use Rattle.mdns_survey.specs.Span.{joined_spans, span_at, span_of}
 use Rattle.mdns_survey.proofs.SpanLemmas.{span-both}
 use Rattle.mdns_browse.specs.declared.report.Form.{Form}
 use Rattle.mdns_trace.specs.declared.span_line.Spanned.{Spanned}
-use Rattle.mdns_trace.specs.TraceJson.{span_text}
+use Rattle.mdns_trace.specs.Entry.{span_entry}
+use Rattle.mdns_trace.specs.EntryText.{entry_text}
 use Rattle.mdns_trace.specs.SpanLine.{IsSpanned, hearing_moments}
 use Rattle.mdns_trace.specs.SpanWritten.{SpansCapture}
 
@@ -65,7 +66,7 @@ hearings-more outcomes outcome old more so_far here =
 
 -- the line that was made of a span is that of its capture
 pub line-made : (form : Form) (file : List ℕ) (left : Option (List ℕ)) (spanned : Spanned) (line : List ℕ) (P : List ℕ → Type 0)
-    → IsSpanned left spanned → line ≡ span_text form file spanned → P line
+    → IsSpanned left spanned → line ≡ entry_text form file (span_entry spanned) → P line
     → IfSome left (λ bytes. (text : List ℕ) × SpansCapture form file bytes spanned.reading.summary text × P text)
 line-made form file None spanned line P is made holds = tt
 line-made form file (Some bytes) spanned line P is made holds =
@@ -73,7 +74,7 @@ line-made form file (Some bytes) spanned line P is made holds =
 
 -- of that line a prefix went out where the write failed
 pub line-broken : (form : Form) (file : List ℕ) (left old new : Option (List ℕ)) (spanned : Spanned) (line : List ℕ)
-    → IsSpanned left spanned → line ≡ span_text form file spanned → AppendsPrefix old new line
+    → IsSpanned left spanned → line ≡ entry_text form file (span_entry spanned) → AppendsPrefix old new line
     → IfSome left
     (λ bytes. (summary : Summary) × ((text : List ℕ) × SpansCapture form file bytes summary text × AppendsPrefix old new text))
 line-broken form file None old new spanned line is made written = tt

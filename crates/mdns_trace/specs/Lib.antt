@@ -2,12 +2,16 @@ pub mod TraceAnswer
 pub mod TraceFaults
 pub mod EachFile
 pub mod Flaw
+pub mod Entry
+pub mod EntryText
 pub mod Inquiry
 pub mod HearingLine
 pub mod Loss
+pub mod MomentMember
 pub mod TraceJson
 pub mod PacketLine
 pub mod TraceColumns
+pub mod TraceLines
 pub mod SpanLine
 pub mod SpanWritten
 pub mod Trace

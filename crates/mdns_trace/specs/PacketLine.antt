@@ -5,10 +5,10 @@ use Rattle.mdns_message.specs.declared.fault.MessageFault.{MessageFault}
 use Rattle.mdns_message.specs.declared.fault.MessageFault.TheVariants as fault
 use Rattle.mdns_capture.specs.Text.{moment_text}
 use Rattle.mdns_capture.specs.Savefile.{PacketAt}
-use Rattle.mdns_survey.specs.declared.outcome.Found.{Found}
-use Rattle.mdns_survey.specs.declared.outcome.Found.TheVariants as found
 use Rattle.mdns_survey.specs.ProgramLines.{◌<>◌}
-use Rattle.mdns_survey.specs.Reasons.{row_of}
+use Rattle.mdns_survey.specs.Why.{why_text}
+use Rattle.mdns_trace.specs.declared.entry.Untold.{Untold}
+use Rattle.mdns_trace.specs.declared.entry.Untold.TheVariants as untold
 
 -- The fault of a damaged message in words, and its offset from the message's first byte. The last three are no damage, so
 -- that no packet is refused for them.
@@ -35,16 +35,12 @@ fault_at other = 0
 abbrev pub place_text : List ℕ → PacketAt → List ℕ
 place_text file packet = moment_text packet.moment.nanos <> codes " " <> file <> codes " " <> decimal packet.at
 
--- a response without a record that is listed: of class IN, and of a type that `RecordType` has
-abbrev pub silence_text : List ℕ
-silence_text = codes "heard no listed record"
-
 -- what came of a packet that told nothing, and the cause
-abbrev pub found_text : Found → List ℕ
-found_text (found.Skipped why) = codes "skipped " <> (row_of why).words
-found_text (found.Refused damage) = codes "refused " <> fault_text damage <> codes " at " <> decimal (fault_at damage)
-found_text (found.Heard source message) = silence_text
+abbrev pub untold_text : Untold → List ℕ
+untold_text (untold.Skipped why) = codes "skipped " <> why_text why
+untold_text (untold.Refused damage) = codes "refused " <> fault_text damage <> codes " at " <> decimal (fault_at damage)
+untold_text untold.Unlisted = codes "heard no listed record"
 
 -- the line of a packet that told nothing, in a file of that name, with its line feed
-unfoldable pub packet_line : List ℕ → PacketAt → List ℕ → List ℕ
-packet_line file packet words = place_text file packet <> codes " " <> words <> 10 ∷ []
+unfoldable pub packet_line : List ℕ → PacketAt → Untold → List ℕ
+packet_line file packet untold = place_text file packet <> codes " " <> untold_text untold <> 10 ∷ []

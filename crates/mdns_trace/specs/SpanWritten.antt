@@ -7,7 +7,8 @@ use Rattle.mdns_survey.specs.declared.summary.Summary.{Summary}
 use Rattle.mdns_trace.specs.declared.span_line.Spanned.{Spanned}
 use Rattle.mdns_trace.specs.declared.trace.TraceFault.{TraceFault}
 use Rattle.mdns_trace.specs.declared.trace.TraceFault.TheVariants.{Listen, Write}
-use Rattle.mdns_trace.specs.TraceJson.{span_text}
+use Rattle.mdns_trace.specs.Entry.{span_entry}
+use Rattle.mdns_trace.specs.EntryText.{entry_text}
 use Rattle.mdns_trace.specs.SpanLine.{IsSpanned}
 
 -- the text is the line of a capture with that summary, in that form
@@ -15,7 +16,7 @@ pub record SpansCapture (form : Form) (file bytes : List ℕ) (summary : Summary
   pub spanned : Spanned
   pub is : IsSpanned (Some bytes) spanned
   pub counts : summary ≡ spanned.reading.summary
-  pub line : text ≡ span_text form file spanned
+  pub line : text ≡ entry_text form file (span_entry spanned)
 
 -- WHAT WENT OUT BEFORE A FAULT
 

@@ -11,9 +11,8 @@ use Rattle.mdns_capture.specs.Stream.{OneMoreFailed}
 use Rattle.mdns_capture.specs.declared.stream.Sink.{Ghosts}
 use Rattle.mdns_capture.specs.Source.{IsSourceOf}
 use Rattle.mdns_message.specs.declared.fault.MessageFault.{MessageFault}
+use Rattle.mdns_message.specs.declared.hearing.Hearing.{Hearing}
 use Rattle.mdns_survey.specs.declared.listen.ListenFault.TheVariants.{Begin, Memory}
-use Rattle.mdns_survey.specs.declared.outcome.Found.{Found}
-use Rattle.mdns_survey.specs.declared.outcome.Found.TheVariants as found
 use Rattle.mdns_survey.specs.declared.outcome.Why.{Why}
 use Rattle.mdns_survey.specs.declared.reading.ReadingFault.{ReadingFault}
 use Rattle.mdns_survey.specs.declared.reading.ReadingFault.TheVariants as reading
@@ -21,15 +20,21 @@ use Rattle.mdns_survey.specs.declared.summary.Summary.{Summary}
 use Rattle.mdns_survey.specs.Outcomes.{Outcome, skipped, refused, heard, AllCome, CaptureTells, Counts}
 use Rattle.mdns_survey.specs.Reading.{CaptureBegins}
 use Rattle.mdns_survey.specs.Why.{IsRefusedFor, IsSkippedFor}
+use Rattle.mdns_trace.specs.declared.entry.Untold.{Untold}
+use Rattle.mdns_trace.specs.declared.entry.Untold.TheVariants as untold
 use Rattle.mdns_trace.specs.declared.inquiry.Trace.{Trace}
 use Rattle.mdns_trace.specs.declared.inquiry.Trace.TheVariants.{Hearings, Packets, Spans}
 use Rattle.mdns_trace.specs.declared.trace.Lines.{Lines}
 use Rattle.mdns_trace.specs.declared.trace.TraceFault.{TraceFault}
 use Rattle.mdns_trace.specs.declared.trace.TraceFault.TheVariants.{Listen, Write}
-use Rattle.mdns_trace.specs.TraceJson.{found_members, hearing_text, packet_text, silence_members}
-use Rattle.mdns_trace.specs.PacketLine.{found_text, silence_text}
+use Rattle.mdns_trace.specs.Entry.{hearing_entry, packet_entry}
+use Rattle.mdns_trace.specs.EntryText.{entry_text}
 
 -- WHAT A CAPTURE'S LINES ARE
+
+-- the lines of a hearing from that address
+abbrev pub hearing_text : Form → List ℕ → SourceAddress → Hearing → List ℕ
+hearing_text form file source hearing = entry_text form file (hearing_entry source hearing)
 
 -- The text is the lines of the hearings of a packet that comes to that outcome, in order, each with the address from
 -- which the frame was sent: of those hearings whose record is about one of the subjects, and of all where there are none.
@@ -40,17 +45,18 @@ AreHearingLines about form file packet (heard hearings) text =
     (source : SourceAddress) × IsSourceOf packet.frame source
     × (text ≡ flat_map (hearing_text form file source) (filter (λ hearing. keeps_record about hearing.heard) hearings))
 
--- the line of a packet of which this was found, and the cause
-abbrev pub text_of_found : Form → List ℕ → PacketAt → Found → List ℕ
-text_of_found form file packet told = packet_text form file packet (found_text told) (found_members told)
+-- the line of a packet that told nothing
+abbrev pub packet_text : Form → List ℕ → PacketAt → Untold → List ℕ
+packet_text form file packet untold = entry_text form file (packet_entry packet untold)
 
--- The text is the line of a packet that told nothing, and says why; nothing where it has hearings.
+-- The text is the line of a packet that told nothing, and says why; nothing where it has hearings. A response tells nothing
+-- without a record that is listed: of class IN, and of a type that `RecordType` has.
 abbrev pub IsPacketLine : Form → List ℕ → PacketAt → Outcome → List ℕ → Type 0
 IsPacketLine form file packet skipped text =
-    (why : Why) × IsSkippedFor packet.frame why × (text ≡ text_of_found form file packet (found.Skipped why))
+    (why : Why) × IsSkippedFor packet.frame why × (text ≡ packet_text form file packet (untold.Skipped why))
 IsPacketLine form file packet refused text =
-    (damage : MessageFault) × IsRefusedFor packet.frame damage × (text ≡ text_of_found form file packet (found.Refused damage))
-IsPacketLine form file packet (heard []) text = text ≡ packet_text form file packet silence_text silence_members
+    (damage : MessageFault) × IsRefusedFor packet.frame damage × (text ≡ packet_text form file packet (untold.Refused damage))
+IsPacketLine form file packet (heard []) text = text ≡ packet_text form file packet untold.Unlisted
 IsPacketLine form file packet (heard (hearing ∷ hearings)) text = text ≡ []
 
 -- The text is the lines of a packet that comes to that outcome. A span is of a whole file, so no packet has lines of it.

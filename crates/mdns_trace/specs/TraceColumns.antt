@@ -1,4 +1,4 @@
--- Hearings, packets and time spans in readable columns, for people: the moments to the millisecond, the addresses short, and
+-- Entries in readable columns, for people: the moments to the millisecond, the addresses short, and
 -- the names and texts as they were sent.
 use Rattle.std.specs.Prelude.{ℕ, List, [], ◌∷◌, ◌++◌, ◌==◌, if◌then◌else◌, Option, Some, None, codes}
 use Rattle.std.specs.Fmt.{decimal}
@@ -13,8 +13,12 @@ use Rattle.mdns_capture.specs.Savefile.{PacketAt}
 use Rattle.mdns_message.specs.declared.hearing.Hearing.{Hearing}
 use Rattle.mdns_message.specs.Resource.{type_name, type_of}
 use Rattle.mdns_survey.specs.declared.reading.Span.{Span}
+use Rattle.mdns_trace.specs.declared.entry.Untold.{Untold}
 use Rattle.mdns_trace.specs.declared.span_line.Spanned.{Spanned}
+use Rattle.mdns_trace.specs.Entry.{Entry, hearing_entry, packet_entry, span_entry, file_entry}
 use Rattle.mdns_trace.specs.HearingLine.{flush_text}
+use Rattle.mdns_trace.specs.PacketLine.{untold_text}
+use Rattle.mdns_trace.specs.Verdict.{verdict_text}
 
 -- HEARINGS
 
@@ -39,10 +43,11 @@ hearing_row file source hearing =
 -- PACKETS
 
 -- the line of a packet that told nothing, in a file of that name: the moment, the file, the offset of its header there, and
--- these words
-unfoldable pub packet_row : List ℕ → PacketAt → List ℕ → List ℕ
-packet_row file packet words =
-    millis_text packet.moment.nanos ++ codes "  " ++ file ++ codes "  " ++ decimal packet.at ++ codes "  " ++ words ++ 10 ∷ []
+-- why
+unfoldable pub packet_row : List ℕ → PacketAt → Untold → List ℕ
+packet_row file packet untold =
+    millis_text packet.moment.nanos ++ codes "  " ++ file ++ codes "  " ++ decimal packet.at ++ codes "  "
+    ++ untold_text untold ++ 10 ∷ []
 
 -- SPANS
 
@@ -56,3 +61,12 @@ unfoldable pub span_row : List ℕ → Spanned → List ℕ
 span_row file spanned =
     file ++ codes "  packets " ++ bounds_shown spanned.reading.span ++ codes "  hearings " ++ bounds_shown spanned.hearings
     ++ codes "  snap " ++ decimal spanned.reading.snap_length ++ 10 ∷ []
+
+-- ENTRIES
+
+-- what a file is stands in lines of words
+abbrev pub entry_columns : List ℕ → Entry → List ℕ
+entry_columns file (hearing_entry source hearing) = hearing_row file source hearing
+entry_columns file (packet_entry packet untold) = packet_row file packet untold
+entry_columns file (span_entry spanned) = span_row file spanned
+entry_columns file (file_entry verdict) = verdict_text file verdict

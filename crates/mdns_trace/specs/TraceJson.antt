@@ -1,25 +1,19 @@
--- Hearings, packets and time spans as JSON (RFC 8259): one object a line.
+-- Entries as JSON (RFC 8259): one object a line.
 use Rattle.std.specs.Prelude.{ℕ, List, [], ◌∷◌, ◌++◌, Option, Some, None, codes, decimal}
-use Rattle.mdns_browse.specs.declared.report.Form.{Form}
-use Rattle.mdns_browse.specs.declared.report.Form.TheVariants.{Lines, Json, Pretty}
 use Rattle.mdns_browse.specs.Json.{json_bool, json_member, json_object, json_string, resource_members}
 use Rattle.mdns_capture.specs.declared.source_address.SourceAddress.{SourceAddress}
 use Rattle.mdns_capture.specs.Savefile.{PacketAt}
-use Rattle.mdns_capture.specs.Text.{moment_text}
 use Rattle.mdns_message.specs.declared.hearing.Hearing.{Hearing}
-use Rattle.mdns_survey.specs.declared.outcome.Found.{Found}
-use Rattle.mdns_survey.specs.declared.outcome.Found.TheVariants as found
 use Rattle.mdns_survey.specs.declared.reading.Span.{Span}
-use Rattle.mdns_survey.specs.Reasons.{row_of}
+use Rattle.mdns_survey.specs.Why.{why_text}
+use Rattle.mdns_trace.specs.declared.entry.Untold.{Untold}
+use Rattle.mdns_trace.specs.declared.entry.Untold.TheVariants as untold
 use Rattle.mdns_trace.specs.declared.span_line.Spanned.{Spanned}
-use Rattle.mdns_trace.specs.HearingLine.{address_text, hearing_line}
-use Rattle.mdns_trace.specs.PacketLine.{fault_at, fault_text, packet_line}
-use Rattle.mdns_trace.specs.TraceColumns.{hearing_row, packet_row, span_row}
-use Rattle.mdns_trace.specs.SpanLine.{span_line}
-
--- a member that is a moment: a string, so that no reader rounds it
-unfoldable pub moment_member : List ℕ → ℕ → List ℕ
-moment_member name nanos = json_member name (json_string (moment_text nanos))
+use Rattle.mdns_trace.specs.Entry.{Entry, hearing_entry, packet_entry, span_entry, file_entry}
+use Rattle.mdns_trace.specs.HearingLine.{address_text}
+use Rattle.mdns_trace.specs.MomentMember.{moment_member}
+use Rattle.mdns_trace.specs.PacketLine.{fault_at, fault_text}
+use Rattle.mdns_trace.specs.VerdictJson.{verdict_json}
 
 -- HEARINGS
 
@@ -34,12 +28,6 @@ hearing_json file source hearing =
     ++ json_member (codes "ttl") (decimal hearing.ttl)
     ∷ json_member (codes "flush") (json_bool hearing.flush) ∷ [])) ++ 10 ∷ []
 
--- the same in a form
-abbrev pub hearing_text : Form → List ℕ → SourceAddress → Hearing → List ℕ
-hearing_text Lines file source hearing = hearing_line file source hearing
-hearing_text Pretty file source hearing = hearing_row file source hearing
-hearing_text Json file source hearing = hearing_json file source hearing
-
 -- PACKETS
 
 -- what came of a packet, and why
@@ -47,30 +35,21 @@ abbrev pub status_members : List ℕ → List ℕ → List (List ℕ)
 status_members status cause =
     json_member (codes "status") (json_string status) ∷ json_member (codes "cause") (json_string cause) ∷ []
 
-abbrev pub silence_members : List (List ℕ)
-silence_members = status_members (codes "heard") (codes "no listed record")
-
 -- what came of a packet that told nothing, and the cause; of a damaged message also the offset of its fault
-abbrev pub found_members : Found → List (List ℕ)
-found_members (found.Skipped why) = status_members (codes "skipped") (row_of why).words
-found_members (found.Refused damage) =
+abbrev pub untold_members : Untold → List (List ℕ)
+untold_members (untold.Skipped why) = status_members (codes "skipped") (why_text why)
+untold_members (untold.Refused damage) =
     status_members (codes "refused") (fault_text damage) ++ json_member (codes "at") (decimal (fault_at damage)) ∷ []
-found_members (found.Heard source message) = silence_members
+untold_members untold.Unlisted = status_members (codes "heard") (codes "no listed record")
 
--- the line of a packet that told nothing: the moment, the file, the offset of its header there, and these members
-unfoldable pub packet_json : List ℕ → PacketAt → List (List ℕ) → List ℕ
-packet_json file packet members =
+-- the line of a packet that told nothing: the moment, the file, the offset of its header there, and why
+unfoldable pub packet_json : List ℕ → PacketAt → Untold → List ℕ
+packet_json file packet untold =
     json_object
     (moment_member (codes "moment") packet.moment.nanos
     ∷ json_member (codes "file") (json_string file)
     ∷ json_member (codes "offset") (decimal packet.at)
-    ∷ members) ++ 10 ∷ []
-
--- the same in a form: with these words, or with these members
-abbrev pub packet_text : Form → List ℕ → PacketAt → List ℕ → List (List ℕ) → List ℕ
-packet_text Lines file packet words members = packet_line file packet words
-packet_text Pretty file packet words members = packet_row file packet words
-packet_text Json file packet words members = packet_json file packet members
+    ∷ untold_members untold) ++ 10 ∷ []
 
 -- SPANS
 
@@ -91,8 +70,10 @@ span_members spanned =
 unfoldable pub span_json : List ℕ → Spanned → List ℕ
 span_json file spanned = json_object (json_member (codes "file") (json_string file) ∷ span_members spanned) ++ 10 ∷ []
 
--- the same in a form
-abbrev pub span_text : Form → List ℕ → Spanned → List ℕ
-span_text Lines file spanned = span_line file spanned
-span_text Pretty file spanned = span_row file spanned
-span_text Json file spanned = span_json file spanned
+-- ENTRIES
+
+abbrev pub entry_json : List ℕ → Entry → List ℕ
+entry_json file (hearing_entry source hearing) = hearing_json file source hearing
+entry_json file (packet_entry packet untold) = packet_json file packet untold
+entry_json file (span_entry spanned) = span_json file spanned
+entry_json file (file_entry verdict) = verdict_json file verdict

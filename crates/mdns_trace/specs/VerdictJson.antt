@@ -1,8 +1,6 @@
 -- What each of several files is, as JSON (RFC 8259): one object a line, which says what the lines of words say.
 use Rattle.std.specs.Prelude.{◌≡◌, ℕ, ◌==◌, Bool, if◌then◌else◌, List, [], ◌∷◌, ◌++◌, length, Option, Some, None, codes, decimal}
 use Rattle.std.specs.List.{flat_map}
-use Rattle.mdns_browse.specs.declared.report.Form.{Form}
-use Rattle.mdns_browse.specs.declared.report.Form.TheVariants.{Lines, Json, Pretty}
 use Rattle.mdns_browse.specs.Json.{first_after, json_array, json_member, json_object, json_string, parted}
 use Rattle.mdns_capture.specs.Text.{ending_text}
 use Rattle.mdns_survey.specs.declared.reading.Reading.{Reading}
@@ -16,8 +14,8 @@ use Rattle.mdns_trace.specs.declared.verdict.Verdict.TheVariants.{Capture, Other
 use Rattle.mdns_trace.specs.Flaw.{cure_text, link_name}
 use Rattle.mdns_trace.specs.declared.loss.Loss.{Loss}
 use Rattle.mdns_trace.specs.Loss.{cure_of, losses, lost_to, words_of}
-use Rattle.mdns_trace.specs.TraceJson.{moment_member}
-use Rattle.mdns_trace.specs.Verdict.{early_cure, is_silent, silent_cure, unopened_cure, unread_cure, verdict_text}
+use Rattle.mdns_trace.specs.MomentMember.{moment_member}
+use Rattle.mdns_trace.specs.Verdict.{early_cure, is_silent, silent_cure, unopened_cure, unread_cure}
 
 -- WHAT A FILE IS
 
@@ -126,9 +124,3 @@ verdict_json file verdict =
     (json_member (codes "file") (json_string file)
     ∷ json_member (codes "is") (json_string (is_word verdict))
     ∷ verdict_members verdict) ++ 10 ∷ []
-
--- the lines of a file of that name in a form
-abbrev pub file_text : Form → List ℕ → Verdict → List ℕ
-file_text Lines file verdict = verdict_text file verdict
-file_text Pretty file verdict = verdict_text file verdict
-file_text Json file verdict = verdict_json file verdict

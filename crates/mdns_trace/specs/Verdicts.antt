@@ -21,7 +21,8 @@ use Rattle.mdns_trace.specs.declared.trace.TraceFault.{TraceFault}
 use Rattle.mdns_trace.specs.declared.trace.TraceFault.TheVariants.{Listen, Write}
 use Rattle.mdns_trace.specs.EachFile.{StopsAmong, WritesEach}
 use Rattle.mdns_trace.specs.Verdict.{IsVerdict, is_silent}
-use Rattle.mdns_trace.specs.VerdictJson.{file_text}
+use Rattle.mdns_trace.specs.Entry.{file_entry}
+use Rattle.mdns_trace.specs.EntryText.{entry_text}
 
 -- no write failed
 abbrev pub IsUnfailed : {W : Type 0} → SinkGhosts W → W → W → Type 0
@@ -31,7 +32,7 @@ IsUnfailed sink old new = (sink.failures new ≡ sink.failures old) × (IsTrue (
 pub record WritesVerdict {R W : Type 0} (source : SourceGhosts R) (sink : SinkGhosts W) (form : Form) (name : List ℕ)
     (reader : Option R) (old new : W) (verdict : Verdict) : Type 0 where
   pub is : IsVerdict source reader verdict
-  pub written : Appends (sink.written old) (sink.written new) (file_text form (string_text name) verdict)
+  pub written : Appends (sink.written old) (sink.written new) (entry_text form (string_text name) (file_entry verdict))
   pub unfailed : IsUnfailed sink old new
 
 -- A prefix of the lines of a file was written; then a write failed, of a sink that isn't steady.
@@ -39,7 +40,7 @@ pub record BreaksVerdict {R W : Type 0} (source : SourceGhosts R) (sink : SinkGh
     (reader : Option R) (old new : W) : Type 0 where
   pub verdict : Verdict
   pub is : IsVerdict source reader verdict
-  pub prefix : AppendsPrefix (sink.written old) (sink.written new) (file_text form (string_text name) verdict)
+  pub prefix : AppendsPrefix (sink.written old) (sink.written new) (entry_text form (string_text name) (file_entry verdict))
   pub failed : OneMoreFailed (sink.failures old) (sink.failures new)
   pub unsteady : IsTrue (sink.steady old) → ⊥
 

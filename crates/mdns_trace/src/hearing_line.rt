@@ -1,21 +1,12 @@
 //! The lines of hearings.
 
 ghost use Rattle.std.specs.Prelude.{◌≡◌, ◌++◌, ◌∷◌, [], OnOk, string_bytes};
-ghost use Rattle.std.specs.List.{filter, flat_map};
-ghost use Rattle.mdns_browse.specs.About.{keeps_record};
 ghost use Rattle.mdns_message.specs.Borrowed.{hearing_lent};
 ghost use Rattle.mdns_trace.specs.HearingLine.{address_text, hearing_line, life_text};
-ghost use Rattle.mdns_trace.specs.TraceJson.{hearing_text};
 
-use crate::inquiry::Wanted;
-use crate::trace_columns::push_hearing_row;
-use crate::trace_json::push_hearing_json;
-use mdns_browse::about::keeps_record;
 use mdns_browse::format::{push_ipv4, push_ipv6, push_nanos, push_resource};
-use mdns_browse::report::Form;
 use mdns_capture::SourceAddress;
-use mdns_message::{BorrowedHearing, MessageReader, Want};
-use std::alloc::Global;
+use mdns_message::{BorrowedHearing, Want};
 
 /// Appends an address as the data of A and AAAA records is written: four decimal numbers with dots, or eight groups of
 /// four lower case hexadecimal digits with colons. After `Want` nothing is promised of `to`.
@@ -68,44 +59,4 @@ pub fn push_hearing_line(
     push_origin(to, file, source)?;
     push_resource(to, &hearing.heard)?;
     push_life(to, hearing)
-}
-
-/// Appends the line of each hearing of a message whose record is about one of the subjects, in order; of each hearing
-/// where there are no subjects.
-pub(crate) fn push_hearing_lines(
-    wanted: Wanted<'_>,
-    form: Form,
-    to: &mut String,
-    source: &SourceAddress,
-    message: &MessageReader,
-) -> Result<(), Want>
-    ensures { OnOk result (string_bytes to.new
-        ≡ string_bytes to.old ++ flat_map (hearing_text form wanted.entry.file.now source.now)
-        (filter (λ hearing. keeps_record wanted.entry.about.now hearing.heard) message.now)) }
-{
-    let mut scratch = String::new(wanted.alloc);
-    for hearing in message {
-        if keeps_record(wanted.about, &hearing.heard, &mut scratch)? {
-            push_hearing(wanted.alloc, form, to, wanted.file, source, &hearing)?;
-        }
-    }
-    Ok(())
-}
-
-fn push_hearing(
-    alloc: Global,
-    form: Form,
-    to: &mut String,
-    file: &str,
-    source: &SourceAddress,
-    hearing: &BorrowedHearing<'_>,
-) -> Result<(), Want>
-    ensures { OnOk result (string_bytes to.new
-        ≡ string_bytes to.old ++ hearing_text form file.now source.now (hearing_lent hearing.now)) }
-{
-    match form {
-        Form::Lines => push_hearing_line(to, file, source, hearing),
-        Form::Pretty => push_hearing_row(alloc, to, file, source, hearing),
-        Form::Json => push_hearing_json(alloc, to, file, source, hearing),
-    }
 }

@@ -4,7 +4,7 @@ use mdns_browse::about::Subject;
 use mdns_browse::report::Form;
 use std::alloc::Global;
 
-/// What is written of captures, and in which form: one JSON object a line (RFC 8259), or else lines of words.
+/// What is written of captures, and in which form.
 #[derive(Clone, Copy)]
 pub enum Trace {
     /// A line for each hearing of a record.

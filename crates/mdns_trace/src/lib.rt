@@ -4,17 +4,21 @@
 #![tactic(auto)]
 
 pub mod each_file;
+mod entry;
+mod entry_text;
 mod flaw;
 mod headed;
 pub mod hearing_line;
 pub mod inquiry;
 mod loss;
+mod moment_member;
 mod packet_line;
 mod span_line;
 pub mod trace;
 pub mod trace_answer;
 mod trace_columns;
 mod trace_json;
+mod trace_lines;
 mod verdict;
 mod verdict_json;
 pub mod verdicts;

@@ -2,17 +2,12 @@
 
 ghost use Rattle.std.specs.Prelude.{◌≡◌, ◌++◌, OnOk, string_bytes};
 ghost use Rattle.mdns_capture.specs.Capture.{packet_lent};
-ghost use Rattle.mdns_trace.specs.PacketLine.{fault_at, fault_text, found_text, packet_line, place_text};
-ghost use Rattle.mdns_trace.specs.Trace.{text_of_found};
+ghost use Rattle.mdns_trace.specs.PacketLine.{fault_at, fault_text, packet_line, place_text, untold_text};
 
-use crate::trace_columns::push_packet_row;
-use crate::trace_json::push_packet_json;
+use crate::entry::Untold;
 use mdns_browse::format::push_nanos;
-use mdns_browse::report::Form;
 use mdns_capture::Packet;
 use mdns_message::{MessageFault, Want};
-use mdns_survey::outcome::Found;
-use std::alloc::Global;
 
 /// Returns the fault of a damaged message in words.
 pub(crate) fn fault_words(fault: MessageFault) -> &'static str
@@ -56,51 +51,33 @@ fn push_place(to: &mut String, file: &str, packet: &Packet<'_>) -> Result<(), Wa
 }
 
 /// Appends what came of a packet that told nothing, and the cause. After `Want` nothing is promised of `to`.
-pub(crate) fn push_found(to: &mut String, found: &Found) -> Result<(), Want>
-    ensures { OnOk result (string_bytes to.new ≡ string_bytes to.old ++ found_text found.now) }
+pub(crate) fn push_untold(to: &mut String, untold: Untold) -> Result<(), Want>
+    ensures { OnOk result (string_bytes to.new ≡ string_bytes to.old ++ untold_text untold) }
 {
-    match *found {
-        Found::Skipped(why) => write!(to, "skipped {}", why.words())?,
-        Found::Refused(fault) => {
+    match untold {
+        Untold::Skipped(why) => write!(to, "skipped {}", why.words())?,
+        Untold::Refused(fault) => {
             write!(to, "refused {} at {}", fault_words(fault), fault_at(fault))?;
         }
-        Found::Heard { .. } => to.push_str("heard no listed record")?,
+        Untold::Unlisted => to.push_str("heard no listed record")?,
     }
     Ok(())
 }
 
+/// Appends the line of a packet that told nothing in `file`, whose name is written as it is.
 #[tactic(auto, unfolding(crate::specs::PacketLine::packet_line))]
-fn push_packet_line(
+pub(crate) fn push_packet_line(
     to: &mut String,
     file: &str,
     packet: &Packet<'_>,
-    found: &Found,
+    untold: Untold,
 ) -> Result<(), Want>
     ensures { OnOk result (string_bytes to.new
-        ≡ string_bytes to.old ++ packet_line file.now (packet_lent packet.now) (found_text found.now)) }
+        ≡ string_bytes to.old ++ packet_line file.now (packet_lent packet.now) untold) }
 {
     push_place(to, file, packet)?;
     to.push(' ')?;
-    push_found(to, found)?;
+    push_untold(to, untold)?;
     to.push('\n')?;
     Ok(())
-}
-
-/// Appends the line of a packet that told nothing, in a form.
-pub(crate) fn push_packet(
-    alloc: Global,
-    form: Form,
-    to: &mut String,
-    file: &str,
-    packet: &Packet<'_>,
-    found: &Found,
-) -> Result<(), Want>
-    ensures { OnOk result (string_bytes to.new
-        ≡ string_bytes to.old ++ text_of_found form file.now (packet_lent packet.now) found.now) }
-{
-    match form {
-        Form::Lines => push_packet_line(to, file, packet, found),
-        Form::Pretty => push_packet_row(to, file, packet, found),
-        Form::Json => push_packet_json(alloc, to, file, packet, found),
-    }
 }

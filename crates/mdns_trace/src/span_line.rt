@@ -8,13 +8,12 @@ ghost use Rattle.mdns_survey.specs.Outcomes.{ComesTo, hearings_of_outcome};
 ghost use Rattle.mdns_survey.specs.Listen.{HasListenFault, IsNoReadFault, outcome_of};
 ghost use Rattle.mdns_survey.specs.Span.{span_of};
 ghost use Rattle.mdns_trace.specs.TraceFaults.{Stops, WritesLines};
-ghost use Rattle.mdns_trace.specs.TraceJson.{span_text};
 ghost use Rattle.mdns_trace.specs.SpanLine.{IsSpanned, bounds_text, hearing_moments, span_line};
 ghost use Rattle.mdns_trace.specs.SpanWritten.{LeavesSpan, SpansCapture};
 
-use crate::trace::{TraceFault, word_of};
-use crate::trace_columns::push_span_row;
-use crate::trace_json::push_span_json;
+use crate::entry::Entry;
+use crate::entry_text::text_of;
+use crate::trace::TraceFault;
 use mdns_browse::format::push_nanos;
 use mdns_browse::report::Form;
 use mdns_capture::{Broken, Moment, Packet, Sink, Source, write_whole};
@@ -65,7 +64,7 @@ pub(crate) fn write_span<R: Source + Drop, W: Sink>(
         Ok(spanned) => spanned,
         Err(fault) => return Err(TraceFault::Listen(fault)),
     };
-    let line = match line_of(alloc, form, name, &spanned) {
+    let line = match text_of(alloc, form, name, &Entry::Span(&spanned)) {
         Ok(line) => line,
         Err(Want) => return Err(TraceFault::Listen(ListenFault::Memory)),
     };
@@ -122,20 +121,6 @@ fn span_of_found(moment: Moment, found: &Found) -> Option<Span>
         Found::Heard { message, .. } if !message.is_empty() => Some(Span::at(moment)),
         _ => None,
     }
-}
-
-// Makes the line of a file from its name.
-fn line_of(alloc: Global, form: Form, name: &str, spanned: &Spanned) -> Result<String, Want>
-    ensures { IfOk result (λ line. string_bytes line ≡ span_text form (string_text name.now) spanned.now) }
-{
-    let file = word_of(alloc, name)?;
-    let mut line = String::new(alloc);
-    match form {
-        Form::Lines => push_span_line(&mut line, file.as_str(), spanned)?,
-        Form::Pretty => push_span_row(&mut line, file.as_str(), spanned)?,
-        Form::Json => push_span_json(alloc, &mut line, file.as_str(), spanned)?,
-    }
-    Ok(line)
 }
 
 /// Appends the line of a file with that span. The name of `file` is written as it is. After `Want` nothing is promised of

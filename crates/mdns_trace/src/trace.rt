@@ -2,6 +2,8 @@
 
 ghost use Rattle.std.specs.Prelude.{◌≡◌, ◌++◌, [], ℕ, List, IfErr, IfOk, OnErr, OnOk, is_ok, string_bytes};
 ghost use Rattle.std.specs.Io.KnownBytes.{Appends};
+ghost use Rattle.std.specs.List.{filter, flat_map};
+ghost use Rattle.mdns_browse.specs.About.{keeps_record};
 ghost use Rattle.mdns_capture.specs.Calls.{WritesWell};
 ghost use Rattle.mdns_capture.specs.Capture.{packet_lent};
 ghost use Rattle.mdns_message.specs.TextData.{string_text};
@@ -11,17 +13,17 @@ ghost use Rattle.mdns_survey.specs.Why.{SaysWhy};
 ghost use Rattle.mdns_trace.specs.TraceFaults.{Stops, WritesLines};
 ghost use Rattle.mdns_trace.specs.declared.inquiry.Trace.TheVariants.{Hearings};
 ghost use Rattle.mdns_trace.specs.Inquiry.{StopsTrace, WritesTrace};
-ghost use Rattle.mdns_trace.specs.Trace.{AddsLines, IsPacketLine, LeavesLines, TracesCapture, trace_fault};
+ghost use Rattle.mdns_trace.specs.Trace.{AddsLines, IsPacketLine, LeavesLines, TracesCapture, hearing_text, packet_text, trace_fault};
 
-use crate::hearing_line::push_hearing_lines;
+use crate::entry::{Entry, Untold};
+use crate::entry_text::push_entry;
 use crate::inquiry::{Trace, Wanted};
-use crate::packet_line::push_packet;
 use crate::span_line::write_span;
-use mdns_browse::about::Subject;
+use mdns_browse::about::{Subject, keeps_record};
 use mdns_browse::report::Form;
-use mdns_capture::{BeginFault, Broken, Packet, Sink, Source, write_whole};
-use mdns_message::Want;
+use mdns_capture::{BeginFault, Broken, Packet, Sink, Source, SourceAddress, write_whole};
 use mdns_message::text_data::push_string;
+use mdns_message::{MessageReader, Want};
 use mdns_survey::listen::ListenFault;
 use mdns_survey::outcome::Found;
 use mdns_survey::reading::{Consumer, ReadingFault, read_capture};
@@ -227,6 +229,32 @@ fn print_hearings(
     }
 }
 
+// Appends the line of each hearing of a message whose record is about one of the subjects, in order; of each hearing
+// where there are no subjects.
+fn push_hearing_lines(
+    wanted: Wanted<'_>,
+    form: Form,
+    to: &mut String,
+    source: &SourceAddress,
+    message: &MessageReader,
+) -> Result<(), Want>
+    ensures { OnOk result (string_bytes to.new
+        ≡ string_bytes to.old ++ flat_map (hearing_text form wanted.entry.file.now source.now)
+        (filter (λ hearing. keeps_record wanted.entry.about.now hearing.heard) message.now)) }
+{
+    let mut scratch = String::new(wanted.alloc);
+    for hearing in message {
+        if keeps_record(wanted.about, &hearing.heard, &mut scratch)? {
+            let entry = Entry::Hearing {
+                source,
+                hearing: &hearing,
+            };
+            push_entry(wanted.alloc, form, to, wanted.file, &entry)?;
+        }
+    }
+    Ok(())
+}
+
 // Appends the line of a packet, if it told nothing.
 fn print_why(
     wanted: Wanted<'_>,
@@ -241,22 +269,31 @@ fn print_why(
         × (string_bytes text.new ≡ string_bytes text.old ++ lines)) }
 {
     match found {
-        Found::Skipped(_) | Found::Refused(_) => push_packet(
-            wanted.alloc,
-            form,
-            text,
-            wanted.file,
-            packet,
-            found,
-        ),
+        Found::Skipped(why) => print_untold(wanted, form, packet, Untold::Skipped(*why), text),
+        Found::Refused(fault) => print_untold(wanted, form, packet, Untold::Refused(*fault), text),
         Found::Heard { message, .. } => {
             if message.is_empty() {
-                push_packet(wanted.alloc, form, text, wanted.file, packet, found)
+                print_untold(wanted, form, packet, Untold::Unlisted, text)
             } else {
                 Ok(())
             }
         }
     }
+}
+
+// Appends the line of a packet that told nothing.
+fn print_untold(
+    wanted: Wanted<'_>,
+    form: Form,
+    packet: &Packet<'_>,
+    untold: Untold,
+    text: &mut String,
+) -> Result<(), Want>
+    ensures { OnOk result (string_bytes text.new
+        ≡ string_bytes text.old ++ packet_text form wanted.entry.file.now (packet_lent packet.now) untold) }
+{
+    let entry = Entry::Packet { packet, untold };
+    push_entry(wanted.alloc, form, text, wanted.file, &entry)
 }
 
 // Writes a text that has grown to a piece, and empties it.

@@ -1,4 +1,4 @@
-//! Hearings, packets and time spans in readable columns, for people.
+//! Entries in readable columns, for people.
 
 ghost use Rattle.std.specs.Prelude.{◌≡◌, ◌++◌, ◌==◌, ◌∷◌, [], OnOk, codes, decimal, if◌then◌else◌, string_bytes};
 ghost use Rattle.mdns_browse.specs.Columns.{padded};
@@ -6,24 +6,41 @@ ghost use Rattle.mdns_browse.specs.RecordShown.{shown_record};
 ghost use Rattle.mdns_capture.specs.Capture.{packet_lent};
 ghost use Rattle.mdns_message.specs.Borrowed.{hearing_lent, resource_lent};
 ghost use Rattle.mdns_message.specs.Resource.{type_name, type_of};
-ghost use Rattle.mdns_trace.specs.PacketLine.{found_text};
-ghost use Rattle.mdns_trace.specs.TraceColumns.{bounds_shown, hearing_row, packet_row, said_text, source_shown, span_row};
+ghost use Rattle.mdns_trace.specs.Entry.{entry_lent};
+ghost use Rattle.mdns_trace.specs.TraceColumns.{bounds_shown, entry_columns, hearing_row, packet_row, said_text, source_shown, span_row};
 
-use crate::packet_line::push_found;
+use crate::entry::{Entry, Untold};
+use crate::packet_line::push_untold;
 use crate::span_line::Spanned;
+use crate::verdict::push_verdict;
 use mdns_browse::format::push_ipv4;
 use mdns_browse::{push_padded, push_shown_record};
 use mdns_capture::{Packet, SourceAddress};
 use mdns_message::{BorrowedHearing, BorrowedResource, Want};
-use mdns_survey::outcome::Found;
 use mdns_survey::reading::Span;
 use people_text::address::push_ipv6_short;
 use people_text::moment_text::push_millis;
 use std::alloc::Global;
 
-/// Appends the line of a hearing that came from `source` and was captured in `file`, whose name is written as it is.
+/// Appends the line of an entry of `file`, whose name is written as it is; what a file is stands in lines of words.
+pub(crate) fn push_entry_columns(
+    alloc: Global,
+    to: &mut String,
+    file: &str,
+    entry: &Entry<'_>,
+) -> Result<(), Want>
+    ensures { OnOk result (string_bytes to.new ≡ string_bytes to.old ++ entry_columns file.now (entry_lent entry.now)) }
+{
+    match *entry {
+        Entry::Hearing { source, hearing } => push_hearing_row(alloc, to, file, source, hearing),
+        Entry::Packet { packet, untold } => push_packet_row(to, file, packet, untold),
+        Entry::Span(spanned) => push_span_row(to, file, spanned),
+        Entry::File(verdict) => push_verdict(to, file, verdict),
+    }
+}
+
 #[tactic(auto, unfolding(crate::specs::TraceColumns::hearing_row))]
-pub(crate) fn push_hearing_row(
+fn push_hearing_row(
     alloc: Global,
     to: &mut String,
     file: &str,
@@ -99,27 +116,25 @@ fn push_file_and_record(
     Ok(())
 }
 
-/// Appends the line of a packet that told nothing in `file`, whose name is written as it is.
 #[tactic(auto, unfolding(crate::specs::TraceColumns::packet_row))]
-pub(crate) fn push_packet_row(
+fn push_packet_row(
     to: &mut String,
     file: &str,
     packet: &Packet<'_>,
-    found: &Found,
+    untold: Untold,
 ) -> Result<(), Want>
     ensures { OnOk result (string_bytes to.new
-        ≡ string_bytes to.old ++ packet_row file.now (packet_lent packet.now) (found_text found.now)) }
+        ≡ string_bytes to.old ++ packet_row file.now (packet_lent packet.now) untold) }
 {
     push_millis(to, packet.moment.nanos())?;
     write!(to, "  {file}  {}  ", packet.at)?;
-    push_found(to, found)?;
+    push_untold(to, untold)?;
     to.push('\n')?;
     Ok(())
 }
 
-/// Appends the line of a file with that span. The name of `file` is written as it is.
 #[tactic(auto, unfolding(crate::specs::TraceColumns::span_row))]
-pub(crate) fn push_span_row(to: &mut String, file: &str, spanned: &Spanned) -> Result<(), Want>
+fn push_span_row(to: &mut String, file: &str, spanned: &Spanned) -> Result<(), Want>
     ensures { OnOk result (string_bytes to.new ≡ string_bytes to.old ++ span_row file.now spanned.now) }
 {
     write!(to, "{file}  packets ")?;

@@ -1,27 +1,45 @@
-//! Hearings, packets and time spans as JSON (RFC 8259): one object a line.
+//! Entries as JSON (RFC 8259): one object a line.
 
 ghost use Rattle.std.specs.Prelude.{◌≡◌, ◌++◌, OnOk, codes, false, string_bytes};
 ghost use Rattle.mdns_browse.specs.Json.{comma_unless, json_bool, json_member, json_string, parted};
 ghost use Rattle.mdns_capture.specs.Capture.{packet_lent};
 ghost use Rattle.mdns_message.specs.Borrowed.{hearing_lent};
 ghost use Rattle.mdns_trace.specs.HearingLine.{address_text};
-ghost use Rattle.mdns_trace.specs.TraceJson.{bounds_json, found_members, hearing_json};
-ghost use Rattle.mdns_trace.specs.TraceJson.{moment_member, packet_json, span_json, span_members, status_members};
+ghost use Rattle.mdns_trace.specs.Entry.{entry_lent};
+ghost use Rattle.mdns_trace.specs.TraceJson.{bounds_json, entry_json, hearing_json, packet_json, span_json, span_members};
+ghost use Rattle.mdns_trace.specs.TraceJson.{status_members, untold_members};
 
+use crate::entry::{Entry, Untold};
 use crate::hearing_line::push_address;
+use crate::moment_member::push_moment_member;
 use crate::packet_line::{fault_at, fault_words};
 use crate::span_line::Spanned;
-use mdns_browse::format::push_nanos;
+use crate::verdict_json::push_verdict_json;
 use mdns_browse::json::{push_json_name, push_number_member, push_text_member};
 use mdns_browse::push_resource_members;
-use mdns_capture::{Moment, Packet, SourceAddress};
+use mdns_capture::{Packet, SourceAddress};
 use mdns_message::{BorrowedHearing, Want};
-use mdns_survey::outcome::Found;
 use mdns_survey::reading::Span;
 use std::alloc::Global;
 
-/// Appends the object of a hearing, and ends the line.
-pub(crate) fn push_hearing_json(
+/// Appends the object of an entry of `file`, whose name is written as it is, and ends the line.
+pub(crate) fn push_entry_json(
+    alloc: Global,
+    to: &mut String,
+    file: &str,
+    entry: &Entry<'_>,
+) -> Result<(), Want>
+    ensures { OnOk result (string_bytes to.new ≡ string_bytes to.old ++ entry_json file.now (entry_lent entry.now)) }
+{
+    match *entry {
+        Entry::Hearing { source, hearing } => push_hearing_json(alloc, to, file, source, hearing),
+        Entry::Packet { packet, untold } => push_packet_json(alloc, to, file, packet, untold),
+        Entry::Span(spanned) => push_span_json(alloc, to, file, spanned),
+        Entry::File(verdict) => push_verdict_json(alloc, to, file, verdict),
+    }
+}
+
+fn push_hearing_json(
     alloc: Global,
     to: &mut String,
     file: &str,
@@ -42,23 +60,6 @@ pub(crate) fn push_hearing_json(
     Ok(())
 }
 
-/// Appends a member that is a moment.
-#[tactic(auto, unfolding(crate::specs::TraceJson::moment_member))]
-pub(crate) fn push_moment_member(
-    alloc: Global,
-    to: &mut String,
-    first: bool,
-    name: &str,
-    moment: Moment,
-) -> Result<(), Want>
-    ensures { OnOk result (string_bytes to.new
-        ≡ string_bytes to.old ++ (comma_unless first ++ moment_member name.now moment.nanos)) }
-{
-    let mut text = String::new(alloc);
-    push_nanos(&mut text, moment.nanos())?;
-    push_text_member(to, first, name, text.as_str())
-}
-
 fn push_source_member(alloc: Global, to: &mut String, source: &SourceAddress) -> Result<(), Want>
     ensures { OnOk result (string_bytes to.new ≡ string_bytes to.old
         ++ (comma_unless false ++ json_member (codes "source") (json_string (address_text source.now)))) }
@@ -77,38 +78,37 @@ fn push_flush_member(to: &mut String, flush: bool) -> Result<(), Want>
     Ok(())
 }
 
-/// Appends the object of a packet that told nothing, and ends the line.
 #[tactic(auto, unfolding(crate::specs::TraceJson::packet_json, mdns_browse::specs::Json::parted))]
-pub(crate) fn push_packet_json(
+fn push_packet_json(
     alloc: Global,
     to: &mut String,
     file: &str,
     packet: &Packet<'_>,
-    found: &Found,
+    untold: Untold,
 ) -> Result<(), Want>
     ensures { OnOk result (string_bytes to.new
-        ≡ string_bytes to.old ++ packet_json file.now (packet_lent packet.now) (found_members found.now)) }
+        ≡ string_bytes to.old ++ packet_json file.now (packet_lent packet.now) untold) }
 {
     to.push('{')?;
     push_moment_member(alloc, to, true, "moment", packet.moment)?;
     push_text_member(to, false, "file", file)?;
     push_number_member(to, false, "offset", packet.at)?;
-    push_found_members(to, found)?;
+    push_untold_members(to, untold)?;
     to.push_str("}\n")?;
     Ok(())
 }
 
 #[tactic(auto, unfolding(mdns_browse::specs::Json::parted))]
-fn push_found_members(to: &mut String, found: &Found) -> Result<(), Want>
-    ensures { OnOk result (string_bytes to.new ≡ string_bytes to.old ++ parted false (found_members found.now)) }
+fn push_untold_members(to: &mut String, untold: Untold) -> Result<(), Want>
+    ensures { OnOk result (string_bytes to.new ≡ string_bytes to.old ++ parted false (untold_members untold)) }
 {
-    match *found {
-        Found::Skipped(why) => push_status(to, "skipped", why.words()),
-        Found::Refused(fault) => {
+    match untold {
+        Untold::Skipped(why) => push_status(to, "skipped", why.words()),
+        Untold::Refused(fault) => {
             push_status(to, "refused", fault_words(fault))?;
             push_number_member(to, false, "at", fault_at(fault) as u64)
         }
-        Found::Heard { .. } => push_status(to, "heard", "no listed record"),
+        Untold::Unlisted => push_status(to, "heard", "no listed record"),
     }
 }
 
@@ -121,14 +121,8 @@ fn push_status(to: &mut String, status: &str, cause: &str) -> Result<(), Want>
     push_text_member(to, false, "cause", cause)
 }
 
-/// Appends the object of a time span, and ends the line.
 #[tactic(auto, unfolding(crate::specs::TraceJson::span_json, mdns_browse::specs::Json::parted))]
-pub(crate) fn push_span_json(
-    alloc: Global,
-    to: &mut String,
-    file: &str,
-    spanned: &Spanned,
-) -> Result<(), Want>
+fn push_span_json(alloc: Global, to: &mut String, file: &str, spanned: &Spanned) -> Result<(), Want>
     ensures { OnOk result (string_bytes to.new ≡ string_bytes to.old ++ span_json file.now spanned.now) }
 {
     to.push('{')?;

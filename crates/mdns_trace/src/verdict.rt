@@ -2,20 +2,16 @@
 
 ghost use Rattle.std.specs.Prelude.{◌≡◌, ◌++◌, IfOk, IfSome, OnOk, Some, string_bytes};
 ghost use Rattle.std.specs.Io.KnownBytes.{prepend_known};
-ghost use Rattle.mdns_message.specs.TextData.{string_text};
+ghost use Rattle.mdns_survey.specs.ProgramLines.{is_whole};
 ghost use Rattle.mdns_trace.specs.Flaw.{cure_text, head_of, what_text};
 ghost use Rattle.mdns_trace.specs.Verdict.{IsVerdict, IsVerdictOf, capture_front, capture_line, capture_text, early_cure};
 ghost use Rattle.mdns_trace.specs.Verdict.{early_text, is_silent, silent_text, unusable_line, verdict_for, verdict_text};
-ghost use Rattle.mdns_trace.specs.VerdictJson.{file_text};
 
 use crate::flaw::{Flaw, cure_words, flaw_of, push_what};
 use crate::headed::{Headed, read_head};
 use crate::loss::{LOSSES, push_losses};
 use crate::span_line::{push_bounds, read_spanned};
-use crate::trace::word_of;
-use crate::verdict_json::push_verdict_json;
 use mdns_browse::format::push_nanos;
-use mdns_browse::report::Form;
 use mdns_capture::savefile::FILE_HEADER;
 use mdns_capture::{BeginFault, Broken, Ending, Source};
 use mdns_message::Want;
@@ -90,38 +86,8 @@ fn verdict_for(fault: ListenFault, head: &[u8]) -> Result<Verdict, Want>
     }
 }
 
-/// Makes the lines of a file of that name in a form.
-pub(crate) fn lines_of(
-    alloc: Global,
-    form: Form,
-    name: &str,
-    verdict: &Verdict,
-) -> Result<String, Want>
-    ensures { IfOk result (λ lines. string_bytes lines ≡ file_text form (string_text name.now) verdict.now) }
-{
-    let file = word_of(alloc, name)?;
-    let mut lines = String::new(alloc);
-    push_file(alloc, form, &mut lines, file.as_str(), verdict)?;
-    Ok(lines)
-}
-
-// Appends the lines of a file in a form. Its name is written as it is.
-fn push_file(
-    alloc: Global,
-    form: Form,
-    to: &mut String,
-    file: &str,
-    verdict: &Verdict,
-) -> Result<(), Want>
-    ensures { OnOk result (string_bytes to.new ≡ string_bytes to.old ++ file_text form file.now verdict.now) }
-{
-    match form {
-        Form::Lines | Form::Pretty => push_verdict(to, file, verdict),
-        Form::Json => push_verdict_json(alloc, to, file, verdict),
-    }
-}
-
-fn push_verdict(to: &mut String, file: &str, verdict: &Verdict) -> Result<(), Want>
+/// Appends the lines of words of a file, whose name is written as it is.
+pub(crate) fn push_verdict(to: &mut String, file: &str, verdict: &Verdict) -> Result<(), Want>
     ensures { OnOk result (string_bytes to.new ≡ string_bytes to.old ++ verdict_text file.now verdict.now) }
 {
     match *verdict {

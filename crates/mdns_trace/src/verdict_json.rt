@@ -10,7 +10,7 @@ ghost use Rattle.mdns_trace.specs.VerdictJson.{silent_after, silent_members, tal
 
 use crate::flaw::{Flaw, cure_words, link_name};
 use crate::loss::{LOSSES, Loss};
-use crate::trace_json::push_moment_member;
+use crate::moment_member::push_moment_member;
 use crate::verdict::{
     SILENT_CURE, UNOPENED_CURE, UNREAD_CURE, Verdict, is_silent, push_early_cure,
 };

@@ -7,8 +7,10 @@ ghost use Rattle.mdns_trace.specs.Verdicts.{IsAnsweredFiles, IsRefusedFiles, Sto
 ghost use Rattle.mdns_trace.specs.Verdicts.{are_usable, is_sound, is_usable, status_of, survey_fault};
 
 use crate::each_file::{FilesFault, Scribe, write_each};
+use crate::entry::Entry;
+use crate::entry_text::text_of;
 use crate::trace::TraceFault;
-use crate::verdict::{Verdict, is_silent, judge, lines_of};
+use crate::verdict::{Verdict, is_silent, is_whole, judge};
 use mdns_browse::report::Form;
 use mdns_capture::{Broken, Sink, Source, write_whole};
 use mdns_survey::error_lines::refuse;
@@ -21,8 +23,7 @@ use std::alloc::Global;
 /// Writes to `out` what each file is, and what to do about it, in order, and returns the verdicts. `readers` are the
 /// files' readers, `None` for a file that can't be opened; `names` are the files' names.
 ///
-/// In the form `Json` each file has one line, an object (RFC 8259) that says what its lines of words say. A file that
-/// isn't a capture, or of which a read failed, has a line as any other, and the files after it follow.
+/// A file that isn't a capture, or of which a read failed, is written of as any other, and the files after it follow.
 ///
 /// # Errors
 ///
@@ -70,7 +71,7 @@ impl<R: Source + Drop, W: Sink> Scribe<Option<R>, W> for Judge {
         let Ok(verdict) = judge(alloc, reader) else {
             return Err(TraceFault::Listen(ListenFault::Memory));
         };
-        let Ok(lines) = lines_of(alloc, self.form, name, &verdict) else {
+        let Ok(lines) = text_of(alloc, self.form, name, &Entry::File(&verdict)) else {
             return Err(TraceFault::Listen(ListenFault::Memory));
         };
         match write_whole(out, lines.as_bytes()) {

@@ -5,7 +5,7 @@ use Rattle.mdns_trace.proofs.span_line.write_span.Goals as goal
 
 pub returns-in-Ok-write_whole-clause-written : goal.returns-in-Ok-write_whole-clause-written
 returns-in-Ok-write_whole-clause-written g c = record {
-  lines = line-made _ _ _ _ _ _ c.in-Ok.ensures.spanned (c.as_bytes.ensures.value ∙ c.in-Ok-line_of.ensures)
+  lines = line-made _ _ _ _ _ _ c.in-Ok.ensures.spanned (c.as_bytes.ensures.value ∙ c.in-Ok-text_of.ensures)
       c.in-Ok-write_whole.ensures.whole;
   over = c.in-Ok.ensures.over;
   unfailed = c.in-Ok-write_whole.ensures.well.unfailed;
@@ -18,6 +18,6 @@ returns-clause-stops g c = record {
   spares_reader = λ steady. tt;
   spares_writer = λ steady write. false≢true (c.in-Err-write_whole.ensures.well.answers steady);
   counts = c.in-Err-write_whole.ensures.well.failed;
-  leaves = line-broken _ _ _ _ _ _ _ c.in-Ok.ensures.spanned (c.as_bytes.ensures.value ∙ c.in-Ok-line_of.ensures)
+  leaves = line-broken _ _ _ _ _ _ _ c.in-Ok.ensures.spanned (c.as_bytes.ensures.value ∙ c.in-Ok-text_of.ensures)
       c.in-Err-write_whole.ensures.prefix;
 }

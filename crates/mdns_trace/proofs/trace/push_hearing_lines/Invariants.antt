@@ -2,8 +2,8 @@ use Rattle.std.proofs.Common.{◌≡◌, ◌++◌}
 use Rattle.std.specs.List.{filter, flat_map}
 use Rattle.std.specs.String.{string_bytes}
 use Rattle.mdns_browse.specs.About.{keeps_record}
-use Rattle.mdns_trace.specs.TraceJson.{hearing_text}
-use Rattle.mdns_trace.proofs.hearing_line.push_hearing_lines.Given as goal
+use Rattle.mdns_trace.specs.Trace.{hearing_text}
+use Rattle.mdns_trace.proofs.trace.push_hearing_lines.Given as goal
 
 -- the lines that were appended, and those of the hearings that are left and kept
 abbrev pub invariant-loop-hearing : goal.invariant-loop-hearing
