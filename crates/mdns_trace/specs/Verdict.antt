@@ -1,4 +1,4 @@
--- What each of several files is, and the lines that say so.
+-- The verdict on a file: what it is, and the lines of words that say so.
 use Rattle.std.specs.Prelude.{◌≡◌, ℕ, ◌==◌, ◌&&◌, Bool, IsTrue, not, if◌then◌else◌, List, [], ◌∷◌, ◌++◌, Option, Some, None}
 use Rattle.std.specs.Prelude.{IfSome, codes, decimal}
 use Rattle.std.specs.List.{flat_map}

@@ -1,4 +1,4 @@
--- What each of several files is, as JSON (RFC 8259): one object a line, which says what the lines of words say.
+-- The verdict on a file as JSON (RFC 8259): one object a line, which says what the lines of words say.
 use Rattle.std.specs.Prelude.{◌≡◌, ℕ, ◌==◌, Bool, if◌then◌else◌, List, [], ◌∷◌, ◌++◌, length, Option, Some, None, codes, decimal}
 use Rattle.std.specs.List.{flat_map}
 use Rattle.mdns_browse.specs.Json.{first_after, json_array, json_member, json_object, json_string, parted}

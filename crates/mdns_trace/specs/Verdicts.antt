@@ -1,4 +1,4 @@
--- The lines of several files, each of which says what its file is, and the exit status.
+-- A run over files: the verdicts on them, which are written, and the exit status.
 use Rattle.std.specs.Prelude.{◌≡◌, ℕ, ◌&&◌, Bool, false, true, not, IsTrue, if◌then◌else◌, List, [], ◌∷◌, Option, codes}
 use Rattle.std.specs.List.{list_all}
 use Rattle.std.specs.Io.KnownBytes.{Appends}

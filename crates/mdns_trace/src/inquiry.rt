@@ -4,7 +4,7 @@ use mdns_browse::about::Subject;
 use mdns_browse::report::Form;
 use std::alloc::Global;
 
-/// What is written of captures, and in which form.
+/// What is written of captures, in a form.
 #[derive(Clone, Copy)]
 pub enum Trace {
     /// A line for each hearing of a record.
@@ -37,6 +37,6 @@ pub(crate) struct Wanted<'a> {
 pub enum Inquiry {
     /// What captures say of records.
     Trace(Trace),
-    /// What each file is, and what to do about it, in which form.
+    /// What each file is, and what to do about it, in a form.
     Files(Form),
 }

@@ -1,4 +1,4 @@
-//! What a file is, and the lines that say so.
+//! The verdict on a file: finding what it is, and the lines of words that say so.
 
 ghost use Rattle.std.specs.Prelude.{◌≡◌, ◌++◌, IfOk, IfSome, OnOk, Some, string_bytes};
 ghost use Rattle.std.specs.Io.KnownBytes.{prepend_known};
@@ -8,8 +8,8 @@ ghost use Rattle.mdns_trace.specs.Verdict.{IsVerdict, IsVerdictOf, capture_front
 ghost use Rattle.mdns_trace.specs.Verdict.{early_text, is_silent, silent_text, unusable_line, verdict_for, verdict_text};
 
 use crate::flaw::{Flaw, cure_words, flaw_of, push_what};
-use crate::headed::{Headed, read_head};
 use crate::loss::{LOSSES, push_losses};
+use crate::peeked::{Peeked, read_head};
 use crate::span_line::{push_bounds, read_spanned};
 use mdns_browse::format::push_nanos;
 use mdns_capture::savefile::FILE_HEADER;
@@ -59,17 +59,17 @@ fn judge_opened<R: Source + Drop>(alloc: Global, mut reader: R) -> Result<Verdic
 {
     let mut head = [0; FILE_HEADER];
     match read_head(&mut reader, &mut head) {
-        Ok(count) => judge_headed(alloc, &head[..count], reader),
+        Ok(count) => judge_peeked(alloc, &head[..count], reader),
         Err(Broken) => Ok(Verdict::Unread),
     }
 }
 
 // Reads a file whose first bytes were read before, and finds what it is.
-fn judge_headed<R: Source + Drop>(alloc: Global, head: &[u8], inner: R) -> Result<Verdict, Want>
+fn judge_peeked<R: Source + Drop>(alloc: Global, head: &[u8], inner: R) -> Result<Verdict, Want>
     requires { IfSome (R.remaining inner) (λ rest. head_of (head.now ++ rest) ≡ head.now) }
     ensures { IfOk result (IsVerdictOf (prepend_known head.now (R.remaining inner)) (R.steady inner)) }
 {
-    match read_spanned(alloc, Headed { head, inner }) {
+    match read_spanned(alloc, Peeked { head, inner }) {
         Ok(spanned) => Ok(Verdict::Capture(spanned.reading)),
         Err(fault) => verdict_for(fault, head),
     }

@@ -1,4 +1,4 @@
-//! What each of several files is, as JSON (RFC 8259): one object a line.
+//! The verdict on a file as JSON (RFC 8259): one object a line.
 
 ghost use Rattle.std.specs.Prelude.{◌≡◌, ◌∷◌, ◌++◌, [], if◌then◌else◌, IfOk, OnOk, codes, false, string_bytes, true};
 ghost use Rattle.std.specs.List.{flat_map};

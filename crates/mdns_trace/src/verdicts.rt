@@ -1,4 +1,4 @@
-//! Writing what each of several files is, past files that can't be used.
+//! A run over files: the verdict on each, past those that can't be used, and the exit status.
 
 ghost use Rattle.std.specs.Prelude.{◌≡◌, ◌⊎◌, ◌≤◌, IfErr, IfOk, length, map, string_bytes};
 ghost use Rattle.mdns_capture.specs.Output.{writing};

@@ -1,4 +1,4 @@
-//! Readers whose first bytes were read before.
+//! Readers of which the first bytes were read before.
 
 ghost use Rattle.std.specs.Prelude.{◌<◌, is_ok, IfOk, length, take};
 ghost use Rattle.std.specs.Io.{ReadsAtMost};
@@ -9,17 +9,17 @@ use mdns_capture::{Broken, Source};
 
 /// A reader that gives the bytes of `head`, and then those of `inner`.
 #[derive(Drop)]
-pub(crate) struct Headed<'a, R> {
+pub(crate) struct Peeked<'a, R> {
     pub head: &'a [u8],
     pub inner: R,
 }
 
-impl<R: Source> Source for Headed<'_, R> {
-    ghost remaining = { λ headed. prepend_known headed.head.now (R.remaining headed.inner) };
+impl<R: Source> Source for Peeked<'_, R> {
+    ghost remaining = { λ peeked. prepend_known peeked.head.now (R.remaining peeked.inner) };
 
-    ghost steady = { λ headed. R.steady headed.inner };
+    ghost steady = { λ peeked. R.steady peeked.inner };
 
-    ghost failures = { λ headed. R.failures headed.inner };
+    ghost failures = { λ peeked. R.failures peeked.inner };
 
     fn read(&mut self, to: &mut [u8]) -> Result<usize, Broken> {
         if self.head.is_empty() {

@@ -1,6 +1,6 @@
 use Rattle.std.proofs.Common.{rules}
 use Rattle.mdns_capture.proofs.FillLemmas.{Consumes-filled}
-use Rattle.mdns_trace.proofs.headed.read_head.Goals as goal
+use Rattle.mdns_trace.proofs.peeked.read_head.Goals as goal
 
 pub loop-at-preserved : goal.loop-at-preserved
 loop-at-preserved g c = record {

@@ -2,7 +2,7 @@ use Rattle.std.proofs.Common.{◌∙◌, ap, length, sym, List, ℕ}
 use Rattle.std.specs.Bool.{◌==◌}
 use Rattle.std.proofs.lemmas.Bool.{false≢true}
 use Rattle.mdns_trace.proofs.VerdictLemmas.{head-read}
-use Rattle.mdns_trace.proofs.headed.HeadedSource.read.Goals as goal
+use Rattle.mdns_trace.proofs.peeked.PeekedSource.read.Goals as goal
 
 pub returns-clause-bytes : goal.returns-clause-bytes
 returns-clause-bytes g c =

@@ -1,7 +1,7 @@
 use Rattle.std.proofs.Common.{◌-◌, ◌≤◌, length, take, true}
 use Rattle.std.specs.Io.KnownBytes.{Consumes}
 use Rattle.mdns_capture.specs.Calls.{ReadsWell}
-use Rattle.mdns_trace.proofs.headed.read_head.Given as goal
+use Rattle.mdns_trace.proofs.peeked.read_head.Given as goal
 
 -- the bytes so far are at the front
 abbrev pub invariant-loop-at : goal.invariant-loop-at
