@@ -1,13 +1,15 @@
 -- Lemmas on tables of subcommands, and on the flags that ask for forms.
-use Rattle.std.proofs.Common.{◌≡◌, ◌∙◌, ◌⊎◌, ◌++◌, ◌∷◌, ap, refl, subst, inl, inr, map, codes, List, [], Option, Some, None, Err}
+use Rattle.std.proofs.Common.{◌≡◌, ◌∙◌, ◌⊎◌, ◌++◌, ◌∷◌, ap, subst, inl, inr, map, codes, List, [], Option, Some, None, Err}
+use Rattle.std.proofs.Common.{drop, get_or, length, take, take-append-drop}
 use Rattle.clap.specs.Words.{Row, Text, one_of}
 use Rattle.mdns_browse.specs.declared.report.Form.{Form}
 use Rattle.command_line.specs.declared.line.Takes.{Takes}
 use Rattle.command_line.specs.declared.line.Takes.TheVariants as takes
 use Rattle.command_line.specs.declared.options.Both.{Both}
 use Rattle.command_line.specs.declared.options.Options.{Options}
-use Rattle.command_line.specs.Line.{AsksForm, Flags, GivesForm, GivesForms, HasOneForm, HasOptions, HasText, IsGiven, Matches}
-use Rattle.command_line.specs.CommandLine.{GivesAfter, GivesTwo, IsNamed, both_given, form_flags}
+use Rattle.command_line.specs.Line.{AsksForm, AsksOneOf, Flags, GivesForm, GivesForms, HasOneForm, HasOptions, HasText, IsGiven, Matches}
+use Rattle.command_line.specs.Line.{Table}
+use Rattle.command_line.specs.CommandLine.{GivesAfter, GivesTwo, both_given, form_flags}
 
 -- what is asked for by other words
 pub asks-also : {A B : Type 0} (P : Text → List Row → A → Type 0) (Q : Text → List Row → B → Type 0) (a : A) (b : B)
@@ -17,33 +19,18 @@ asks-also P Q a b also None names asks = asks
 asks-also P Q a b also (Some m) names asks = (also m.0 m.1 asks.0, asks.1)
 
 -- a row of the table is named so and asked for, with the options of the flags that it takes
-abbrev pub IsOneOf : {T : Type 0} → List (Text × Flags × T) → Text → List Row → T × Options → Type 0
+abbrev pub IsOneOf : {T : Type 0} → Table T → Text → List Row → T × Options → Type 0
 IsOneOf [] name rows asked = ⊥
 IsOneOf (row ∷ table) name rows asked =
     ((name ≡ row.0) × (asked.0 ≡ row.2) × HasOptions row.1 rows asked.1) ⊎ IsOneOf table name rows asked
 
--- subcommands that take the same flags, as a table
-abbrev pub table_with : {A T : Type 0} → Flags → (A → T) → List (Text × A) → List (Text × Flags × T)
-table_with flags make = map (λ row. (row.0, flags, make row.1))
-
-pub one-of-both : {T : Type 0} (first more : List (Text × Flags × T)) (name : Text) (rows : List Row) (asked : T × Options)
-    → IsOneOf (first ++ more) name rows asked → IsOneOf first name rows asked ⊎ IsOneOf more name rows asked
-one-of-both [] more name rows asked is = inr is
-one-of-both (row ∷ first) more name rows asked (inl is) = inl (inl is)
-one-of-both {T} (row ∷ first) more name rows asked (inr is) = go (one-of-both first more name rows asked is)
-  where
-    go : IsOneOf first name rows asked ⊎ IsOneOf more name rows asked → IsOneOf (row ∷ first) name rows asked ⊎ IsOneOf more name rows asked
-    go (inl here) = inl (inr here)
-    go (inr there) = inr there
-
-pub one-of-named : {A T : Type 0} (flags : Flags) (make : A → T) (table : List (Text × A)) (name : Text) (rows : List Row)
-    (asked : T × Options) → IsOneOf (table_with flags make table) name rows asked
-    → (own : A) × IsNamed table name own × (asked.0 ≡ make own) × HasOptions flags rows asked.1
-one-of-named flags make [] name rows asked is = absurd is
-one-of-named flags make (row ∷ table) name rows asked (inl is) = (row.1, inl (is.0, refl), is.1, is.2)
-one-of-named flags make (row ∷ table) name rows asked (inr is) =
-    let (own, named, same, has) = one-of-named flags make table name rows asked is in
-    (own, inr named, same, has)
+-- such a row asks for all that is made of what it asks for and of these options
+pub one-asked : {T A : Type 0} (Makes : Flags → List Row → T → A → Type 0) (made : A) (table : Table T) (name : Text) (rows : List Row)
+    (asked : T × Options) → ((flags : Flags) (own : T) → asked.0 ≡ own → HasOptions flags rows asked.1 → Makes flags rows own made)
+    → IsOneOf table name rows asked → AsksOneOf Makes table name rows made
+one-asked Makes made [] name rows asked makes is = absurd is
+one-asked Makes made (row ∷ table) name rows asked makes (inl own) = inl (own.0, makes row.1 row.2 own.1 own.2)
+one-asked Makes made (row ∷ table) name rows asked makes (inr own) = inr (one-asked Makes made table name rows asked makes own)
 
 -- ---- two flags that ask for forms
 
@@ -85,9 +72,54 @@ abbrev pub Known : List Row → Options → Type 0
 Known rows options = HasText (codes "at") rows options.at × HasText (codes "before") rows options.before
     × ((both : Both) → options.form ≡ Err both → GivesForms form_flags rows both)
 
--- all flags of these that ask for forms are `form_flags`
-abbrev pub IsWithin : List Row → Flags → Type 0
-IsWithin rows flags = (both : Both) → GivesForms flags rows both → GivesForms form_flags rows both
+known : (rows : List Row) (flags : Flags) (options : Options) → ((both : Both) → GivesForms flags rows both → GivesForms form_flags rows both)
+    → HasOptions flags rows options → Known rows options
+known rows flags options within has = (has.1, has.2, λ both is. within both (subst (HasOneForm flags rows) is has.3))
 
-pub known : (rows : List Row) (flags : Flags) → IsWithin rows flags → (options : Options) → HasOptions flags rows options → Known rows options
-known rows flags within options has = (has.1, has.2, λ both is. within both (subst (HasOneForm flags rows) is has.3))
+-- ---- tables of which each subcommand takes the first of the flags that ask for forms, after its other flags
+
+abbrev unless_form : Takes → Flags → Flags → Flags
+unless_form (takes.Nothing form) here rest = here
+unless_form other here rest = rest
+
+-- the flags from the first that asks for a form
+abbrev pub from_forms : Flags → Flags
+from_forms [] = []
+from_forms (flag ∷ flags) = unless_form flag.1 ((flag.0, flag.1) ∷ flags) (from_forms flags)
+
+from-forms : (flags : Flags) (rows : List Row) (both : Both) → GivesForms flags rows both → GivesForms (from_forms flags) rows both
+from-forms [] rows both gives = gives
+from-forms (flag ∷ flags) rows both gives = go flag.1 gives (from-forms flags rows both)
+  where
+    go : (own : Takes) → GivesForms ((flag.0, own) ∷ flags) rows both
+        → (GivesForms flags rows both → GivesForms (from_forms flags) rows both)
+        → GivesForms (unless_form own ((flag.0, own) ∷ flags) (from_forms flags)) rows both
+    go (takes.Nothing form) here rest = here
+    go takes.Seconds (inl here) rest = absurd here.1.1
+    go takes.Seconds (inr more) rest = rest more
+    go takes.Moment (inl here) rest = absurd here.1.1
+    go takes.Moment (inr more) rest = rest more
+    go takes.Words (inl here) rest = absurd here.1.1
+    go takes.Words (inr more) rest = rest more
+
+-- the first of all flags that ask for forms, as many as these have
+abbrev pub first_forms : Flags → Flags
+first_forms flags = take (length (from_forms flags)) form_flags
+
+within : (rows : List Row) (flags : Flags) → from_forms flags ≡ first_forms flags → (both : Both) → GivesForms flags rows both
+    → GivesForms form_flags rows both
+within rows flags same both gives =
+    let count = length (from_forms flags) in
+    let first = subst (λ (some : Flags). GivesForms some rows both) same (from-forms flags rows both gives) in
+    subst (λ (all : Flags). GivesForms all rows both) (take-append-drop count form_flags)
+    (forms-more (take count form_flags) (drop count form_flags) rows both first)
+
+abbrev pub AreFirst : {T : Type 0} → Table T → Type 0
+AreFirst {T} table = map (λ (row : Text × Flags × T). from_forms row.1) table ≡ map (λ (row : Text × Flags × T). first_forms row.1) table
+
+pub all-known : {T : Type 0} (table : Table T) → AreFirst table → (name : Text) (rows : List Row) (asked : T × Options)
+    → IsOneOf table name rows asked → Known rows asked.1
+all-known [] are name rows asked is = absurd is
+all-known (row ∷ table) are name rows asked (inl own) =
+    known rows row.1 asked.1 (within rows row.1 (ap (λ (all : List Flags). get_or all 0 []) are)) own.2
+all-known (row ∷ table) are name rows asked (inr own) = all-known table (ap (λ (all : List Flags). drop 1 all) are) name rows asked own

@@ -2,9 +2,8 @@
 use Rattle.std.specs.Prelude.{◌≡◌, ◌⊎◌, ◌&&◌, ◌++◌, ◌∷◌, Bool, List, Option, Some, None, IsSomeAnd, codes, map}
 use Rattle.std.specs.Prelude.{if◌then◌else◌, nat_le, string_bytes, true, false, []}
 use Rattle.std.specs.List.{list_all}
-use Rattle.clap.specs.Words.{App, Row, Text, fault_of, first_of, one_of, subcommand_of}
+use Rattle.clap.specs.Words.{App, Row, Text, fault_of, first_of, subcommand_of}
 use Rattle.mdns_capture.specs.declared.moment.Moment.{Moment}
-use Rattle.mdns_lives.specs.declared.life.Which.{Which}
 use Rattle.mdns_lives.specs.declared.life.Which.TheVariants as which
 use Rattle.mdns_browse.specs.declared.report.Ask.{Ask}
 use Rattle.mdns_browse.specs.declared.report.Ask.TheVariants as ask
@@ -14,19 +13,21 @@ use Rattle.mdns_survey.specs.declared.request.What.{What}
 use Rattle.mdns_survey.specs.declared.request.What.TheVariants as what
 use Rattle.mdns_survey.specs.declared.request.AsOf.{AsOf}
 use Rattle.mdns_survey.specs.declared.request.AsOf.TheVariants.{Newest, At, Before}
-use Rattle.mdns_survey.specs.declared.request.Request.{Request}
-use Rattle.mdns_survey.specs.declared.request.Request.TheVariants.{Report, Lives, Check}
+use Rattle.mdns_survey.specs.declared.request.Request.TheVariants as request
 use Rattle.mdns_trace.specs.declared.inquiry.Inquiry.{Inquiry}
 use Rattle.mdns_trace.specs.declared.inquiry.Inquiry.TheVariants as inquiry
 use Rattle.mdns_trace.specs.declared.inquiry.Trace.TheVariants as trace
 use Rattle.command_line.specs.declared.line.Takes.{Takes}
 use Rattle.command_line.specs.declared.line.Takes.TheVariants as takes
+use Rattle.command_line.specs.declared.mdnsmerge.Asks.{Asks}
+use Rattle.command_line.specs.declared.mdnsmerge.Asks.TheVariants as asks
+use Rattle.command_line.specs.declared.mdnsmerge.Scope.{Scope}
 use Rattle.command_line.specs.declared.words.WordsFault.TheVariants.{Refused}
 use Rattle.command_line.specs.declared.words.AskFault.{AskFault}
 use Rattle.command_line.specs.declared.words.AskFault.TheVariants.{Words}
 use Rattle.command_line.specs.declared.words.Task.{Task}
 use Rattle.command_line.specs.declared.words.Task.TheVariants.{Survey, Page}
-use Rattle.command_line.specs.Line.{Flags, HasForm, IsGiven, IsMomentOf, line_of, texts_of, words_of}
+use Rattle.command_line.specs.Line.{AsksOneOf, Flags, HasForm, HasSeconds, IsGiven, Table, line_with, texts_of, words_of}
 use Rattle.command_line.specs.Moments.{IsMomentText}
 
 -- ---- the flags
@@ -51,14 +52,15 @@ people_forms = (codes "pretty", takes.Nothing form.Pretty) ∷ []
 abbrev pub form_flags : Flags
 form_flags = common_forms ++ people_forms
 
--- the flags of a report that `told` reads, and of a report and of lives that `asked` does
+-- the flags of a report that `told` reads
 abbrev pub told_flags : Flags
 told_flags = (codes "at", takes.Seconds) ∷ []
 
+-- the flags of what is written in a form, as of a moment
 abbrev pub report_flags : Flags
 report_flags = at_flag ∷ before_flag ∷ about_flag ∷ form_flags
 
--- the flags of a page
+-- the flags of what has one form, as of a moment
 abbrev pub page_flags : Flags
 page_flags = at_flag ∷ before_flag ∷ about_flag ∷ []
 
@@ -72,38 +74,35 @@ hearings_flags = about_flag ∷ form_flags
 abbrev pub reports : List (Text × Ask)
 reports = (codes "records", ask.Records) ∷ (codes "types", ask.Types) ∷ (codes "instances", ask.Instances) ∷ []
 
--- the subcommand of all lives, and those of some
-abbrev pub lives : List (Text × Which)
-lives = (codes "lives", which.All) ∷ (codes "changes", which.Changes) ∷ []
-
--- the subcommand of this name asks for it, by such a list
-abbrev pub IsNamed : {A : Type 0} → List (Text × A) → Text → A → Type 0
-IsNamed [] name own = ⊥
-IsNamed (row ∷ rows) name own = ((name ≡ row.0) × (own ≡ row.1)) ⊎ IsNamed rows name own
-
--- the subcommands of such a list, which take these flags
-abbrev pub taking : {A : Type 0} → Flags → List (Text × A) → List (Text × Flags)
-taking flags = map (λ row. (row.0, flags))
-
--- the reports, which take these flags, others, and the check
-abbrev pub merge_line : Bool → Flags → List (Text × Flags) → App
-merge_line has_version flags others =
-    line_of (codes "mdnsmerge") has_version (taking flags reports ++ (others ++ (codes "check", []) ∷ []))
+-- the subcommands that `told` reads: the reports, and the check
+abbrev pub whats : Table (Option Ask)
+whats = map (λ row. (row.0, told_flags, Some row.1)) reports ++ (codes "check", [], None) ∷ []
 
 abbrev pub command_line : App
-command_line = merge_line false told_flags []
+command_line = line_with (codes "mdnsmerge") false whats
+
+-- the subcommands that `asked` reads
+abbrev pub tasks : Table Asks
+tasks = map (λ row. (row.0, report_flags, asks.Report row.1)) reports
+    ++ (codes "lives", report_flags, asks.Lives which.All)
+    ∷ (codes "changes", report_flags, asks.Lives which.Changes)
+    ∷ (codes "page", page_flags, asks.Page)
+    ∷ (codes "check", [], asks.Check) ∷ []
 
 abbrev pub command_line_with_past : App
-command_line_with_past = merge_line true report_flags (taking report_flags lives ++ (codes "page", page_flags) ∷ [])
+command_line_with_past = line_with (codes "mdnsmerge") true tasks
 
 abbrev pub what_of : Option Ask → Option Moment → What
 what_of (Some ask) at = what.Report ask at
 what_of None at = what.Check
 
--- a subcommand with these matches asks for `what`
+-- what a subcommand asks for and the moment that its flags give make this
+abbrev pub MakesWhat : Flags → List Row → Option Ask → What → Type 0
+MakesWhat flags rows own asked = (at : Option Moment) × HasSeconds flags rows at × (asked ≡ what_of own at)
+
+-- a subcommand with these matches asks for this
 abbrev pub AsksWhat : Text → List Row → What → Type 0
-AsksWhat name rows (what.Report ask at) = IsNamed reports name ask × IsMomentOf (one_of (codes "at") rows) at
-AsksWhat name rows what.Check = name ≡ codes "check"
+AsksWhat = AsksOneOf MakesWhat whats
 
 -- the text is given, and names the moment
 abbrev pub Names : Option Text → Moment → Type 0
@@ -116,22 +115,28 @@ GivesAsOf at before Newest = (at ≡ None) × (before ≡ None)
 GivesAsOf at before (At moment) = Names at moment × (before ≡ None)
 GivesAsOf at before (Before moment) = (at ≡ None) × Names before moment
 
--- a subcommand with these matches makes the request: a report, lives, or the check
-abbrev pub AsksRequest : Text → List Row → Request → Type 0
-AsksRequest name rows (Report query) = IsNamed reports name query.ask × HasForm report_flags rows query.form
-    × GivesAsOf (first_of (codes "at") rows) (first_of (codes "before") rows) query.as_of
-    × (texts_of query.about ≡ words_of (codes "about") rows)
-AsksRequest name rows (Lives query) = IsNamed lives name query.which × HasForm report_flags rows query.form
-    × GivesAsOf (first_of (codes "at") rows) (first_of (codes "before") rows) query.as_of
-    × (texts_of query.about ≡ words_of (codes "about") rows)
-AsksRequest name rows Check = name ≡ codes "check"
+-- the form, the moment and the subjects that these flags give
+abbrev pub GivesScope : Flags → List Row → Scope → Type 0
+GivesScope flags rows scope = HasForm flags rows scope.form
+    × GivesAsOf (first_of (codes "at") rows) (first_of (codes "before") rows) scope.as_of
+    × (texts_of scope.about ≡ words_of (codes "about") rows)
 
--- the same of a task: such a request, or a page
+-- what a subcommand asks for, as the options say
+abbrev pub task_of : Asks → Scope → Task
+task_of (asks.Report ask) scope =
+    Survey (request.Report (record { ask = ask; form = scope.form; as_of = scope.as_of; about = scope.about }))
+task_of (asks.Lives which) scope =
+    Survey (request.Lives (record { which = which; form = scope.form; as_of = scope.as_of; about = scope.about }))
+task_of asks.Page scope = Page scope.as_of scope.about
+task_of asks.Check scope = Survey request.Check
+
+-- what a subcommand asks for and what its flags give make the task
+abbrev pub MakesTask : Flags → List Row → Asks → Task → Type 0
+MakesTask flags rows own task = (scope : Scope) × GivesScope flags rows scope × (task ≡ task_of own scope)
+
+-- a subcommand with these matches asks for this
 abbrev pub AsksTask : Text → List Row → Task → Type 0
-AsksTask name rows (Survey request) = AsksRequest name rows request
-AsksTask name rows (Page as_of about) = (name ≡ codes "page")
-    × GivesAsOf (first_of (codes "at") rows) (first_of (codes "before") rows) as_of
-    × (texts_of about ≡ words_of (codes "about") rows)
+AsksTask = AsksOneOf MakesTask tasks
 
 -- clap finds no fault in the words, but they are refused with this line, since the matches are such
 abbrev pub IsRefusedFor : (List Row → Text → Type 0) → App → List Text → AskFault → Type 0
@@ -179,15 +184,15 @@ GivesNoMoment program rows line =
 
 -- ---- `mdnswhy`
 
--- the subcommands, each with its flags and what it asks for where no flag asks for a form
-abbrev pub inquiries : List (Text × Flags × Inquiry)
+-- the subcommands, each with what it asks for where no flag asks for a form
+abbrev pub inquiries : Table Inquiry
 inquiries = (codes "hearings", hearings_flags, inquiry.Trace (trace.Hearings form.Lines))
     ∷ (codes "packets", form_flags, inquiry.Trace (trace.Packets form.Lines))
     ∷ (codes "spans", form_flags, inquiry.Trace (trace.Spans form.Lines))
     ∷ (codes "files", common_forms, inquiry.Files form.Lines) ∷ []
 
 abbrev pub why_line : App
-why_line = line_of (codes "mdnswhy") true (map (λ (row : Text × Flags × Inquiry). (row.0, row.1)) inquiries)
+why_line = line_with (codes "mdnswhy") true inquiries
 
 -- the same in a form
 abbrev pub in_form : Inquiry → Form → Inquiry
@@ -196,11 +201,10 @@ in_form (inquiry.Trace (trace.Packets own)) form = inquiry.Trace (trace.Packets 
 in_form (inquiry.Trace (trace.Spans own)) form = inquiry.Trace (trace.Spans form)
 in_form (inquiry.Files own) form = inquiry.Files form
 
--- a subcommand of these with these matches asks for it, in the form that its flags ask for
-abbrev pub AsksOneOf : List (Text × Flags × Inquiry) → Text → List Row → Inquiry → Type 0
-AsksOneOf [] name rows asked = ⊥
-AsksOneOf (row ∷ rest) name rows asked =
-    ((name ≡ row.0) × ((form : Form) × HasForm row.1 rows form × (asked ≡ in_form row.2 form))) ⊎ AsksOneOf rest name rows asked
+-- what a subcommand asks for, in the form that its flags ask for
+abbrev pub MakesInquiry : Flags → List Row → Inquiry → Inquiry → Type 0
+MakesInquiry flags rows own asked = (form : Form) × HasForm flags rows form × (asked ≡ in_form own form)
 
+-- a subcommand with these matches asks for this
 abbrev pub AsksInquiry : Text → List Row → Inquiry → Type 0
-AsksInquiry = AsksOneOf inquiries
+AsksInquiry = AsksOneOf MakesInquiry inquiries

@@ -67,6 +67,10 @@ shape_of name flags = record (new_shape name) { rules = rules_of flags ++ file_r
 abbrev pub app_of_shape : Shape → App
 app_of_shape shape = record { top = shape; subs = [] }
 
+-- the subcommands of a command line: of each its name, its flags, and what it asks for
+abbrev pub Table : Type 0 → Type 0
+Table T = List (Text × Flags × T)
+
 abbrev pub has_none : List (Text × Flags) → Bool
 has_none [] = true
 has_none (x ∷ xs) = false
@@ -82,6 +86,10 @@ line_of name has_version subcommands = record {
   };
   subs = map (λ subcommand. shape_of subcommand.0 subcommand.1) subcommands;
 }
+
+-- the command line of a table
+abbrev pub line_with : {T : Type 0} → Text → Bool → Table T → App
+line_with name has_version table = line_of name has_version (map (λ row. (row.0, row.1)) table)
 
 -- the tables of the code
 abbrev pub flags_of : List Flag → Flags
@@ -200,6 +208,12 @@ AsksIn [] name rows asked = ⊥
 AsksIn (subcommand ∷ rest) name rows asked =
     ((name ≡ subcommand.name.now) × (asked.0 ≡ subcommand.asks) × HasOptions (flags_of subcommand.flags.now) rows asked.1)
     ⊎ AsksIn rest name rows asked
+
+-- a subcommand of a table has this name; what its flags give and what it asks for make this
+abbrev pub AsksOneOf : {T A : Type 0} → (Flags → List Row → T → A → Type 0) → Table T → Text → List Row → A → Type 0
+AsksOneOf Makes [] name rows asked = ⊥
+AsksOneOf Makes (row ∷ table) name rows asked =
+    ((name ≡ row.0) × Makes row.1 rows row.2 asked) ⊎ AsksOneOf Makes table name rows asked
 
 -- the words of all uses of an option, in their order
 abbrev pub words_of : Text → List Row → List Text

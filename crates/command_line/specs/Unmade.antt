@@ -1,38 +1,24 @@
--- What options make, and why they make no task.
+-- What options give, and why they make no task.
 use Rattle.std.specs.Prelude.{◌≡◌, ◌≢◌, ◌⊎◌, Option, Some, None, Ok, Err, List, codes, option_map}
 use Rattle.std.specs.Borrow.{Bor}
 use Rattle.clap.specs.Words.{Text}
 use Rattle.mdns_capture.specs.declared.moment.Moment.{Moment}
-use Rattle.mdns_survey.specs.declared.request.Request.{Request}
-use Rattle.mdns_survey.specs.declared.request.Request.TheVariants.{Report, Lives, Check}
 use Rattle.mdns_browse.specs.declared.about.Subject.{Subject}
-use Rattle.command_line.specs.declared.mdnsmerge.Asks.{Asks}
-use Rattle.command_line.specs.declared.mdnsmerge.Asks.TheVariants as asks
+use Rattle.command_line.specs.declared.mdnsmerge.Scope.{Scope}
 use Rattle.command_line.specs.declared.options.Both.{Both}
 use Rattle.command_line.specs.declared.options.Options.{Options}
 use Rattle.command_line.specs.declared.unmade.Unmade.{Unmade}
 use Rattle.command_line.specs.declared.unmade.Unmade.TheVariants as unmade
-use Rattle.command_line.specs.declared.words.Task.{Task}
-use Rattle.command_line.specs.declared.words.Task.TheVariants.{Survey, Page}
 use Rattle.command_line.specs.CommandLine.{GivesAsOf, both_given, no_moment}
 use Rattle.command_line.specs.Moments.{IsMomentText}
 
 abbrev pub text_of : Option (Bor Text) → Option Text
 text_of = option_map (λ t. t.now)
 
--- a report or lives with these options, about these, or the check, is the request
-abbrev pub MakesRequest : Asks → Options → List Subject → Request → Type 0
-MakesRequest own options about (Report query) = (own ≡ asks.Report query.ask) × (options.form ≡ Ok query.form)
-    × GivesAsOf (text_of options.at) (text_of options.before) query.as_of × (query.about ≡ about)
-MakesRequest own options about (Lives query) = (own ≡ asks.Lives query.which) × (options.form ≡ Ok query.form)
-    × GivesAsOf (text_of options.at) (text_of options.before) query.as_of × (query.about ≡ about)
-MakesRequest own options about Check = own ≡ asks.Check
-
--- such a request is the task, or a page with these options, about these
-abbrev pub Makes : Asks → Options → List Subject → Task → Type 0
-Makes own options about (Survey request) = MakesRequest own options about request
-Makes own options about (Page as_of own_about) = (own ≡ asks.Page)
-    × GivesAsOf (text_of options.at) (text_of options.before) as_of × (own_about ≡ about)
+-- these options give the scope, about these
+abbrev pub MakesScope : Options → List Subject → Scope → Type 0
+MakesScope options about scope = (options.form ≡ Ok scope.form)
+    × GivesAsOf (text_of options.at) (text_of options.before) scope.as_of × (scope.about ≡ about)
 
 -- this text is given by the option of this name, and by no other
 abbrev pub IsAlone : Text → Text → Options → Type 0

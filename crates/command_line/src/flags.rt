@@ -49,10 +49,10 @@ const PRETTY: Flag = Flag {
     help: "Readable columns, for people",
 };
 
-/// The flags of a report, and of lives, that `asked` reads.
+/// The flags of what is written in a form, as of a moment.
 pub(crate) const REPORT_FLAGS: &[Flag] = with_forms!([AT, BEFORE, ABOUT], [PRETTY]);
 
-/// The flags of a page.
+/// The flags of what has one form, as of a moment.
 pub(crate) const PAGE_FLAGS: &[Flag] = &[AT, BEFORE, ABOUT];
 
 /// The flags of the hearings, of another trace, and of what is said of files.

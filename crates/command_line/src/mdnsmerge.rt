@@ -6,8 +6,8 @@ ghost use Rattle.command_line.specs.Line.{IsAsked};
 ghost use Rattle.command_line.specs.Faults.{IsUnasked, IsUntold};
 ghost use Rattle.command_line.specs.CommandLine.{AsksTask, AsksWhat, GivesAsOf, GivesBoth, GivesNoMoment, GivesTwo};
 ghost use Rattle.command_line.specs.CommandLine.{IsRefusedFor, at_flag, before_flag, command_line};
-ghost use Rattle.command_line.specs.CommandLine.{command_line_with_past, form_flags, what_of};
-ghost use Rattle.command_line.specs.Unmade.{Makes, MakesNone, text_of};
+ghost use Rattle.command_line.specs.CommandLine.{command_line_with_past, form_flags, task_of, what_of};
+ghost use Rattle.command_line.specs.Unmade.{MakesNone, MakesScope, text_of};
 
 use crate::flags::{AT, AT_SECONDS, BEFORE, PAGE_FLAGS, REPORT_FLAGS};
 use crate::help;
@@ -17,7 +17,7 @@ use crate::options::{Both, Options};
 use crate::read::read;
 use crate::unmade::{Unmade, refusal_of};
 use crate::words::{AskFault, Asked, Task, Told, WordsFault};
-use mdns_browse::report::Ask;
+use mdns_browse::report::{Ask, Form};
 use mdns_capture::Moment;
 use mdns_survey::request::{AsOf, LivesQuery, Query, Request, Subjects, What, Which};
 use std::alloc::Global;
@@ -29,6 +29,14 @@ enum Asks {
     Lives(Which),
     Page,
     Check,
+}
+
+/// What the options of a subcommand give. Those that it doesn't take count as not given.
+#[derive(Drop)]
+struct Scope {
+    form: Form,
+    as_of: AsOf,
+    about: Subjects,
 }
 
 /// The subcommands: the reports, which take these flags, others, and `check`. `$report` makes of an `Ask` what its
@@ -153,8 +161,8 @@ fn what_of(ask: Option<Ask>, at: Option<Moment>) -> What
 
 /// Reads the words of a command line of `mdnsmerge`, of which the first is the program's name.
 ///
-/// It is what `told` reads, or a subcommand of lives or `page` and one or more files. All but `check` take `--at` or
-/// `--before`, and `--about WORD`, any number of times; all but `page` and `check` also the flag of a form. `--version`
+/// It is a subcommand and its flags, and then one or more files. A subcommand whose answer depends on a moment takes `--at`
+/// or `--before`, and `--about WORD`, any number of times; one that has several forms also the flag of a form. `--version`
 /// asks for the version. `--at MOMENT` and `--before MOMENT` take seconds since 1970, with up to nine digits of a fraction, or
 /// a date and time of RFC 3339 with its zone; a space may be in place of the `T`, and the second may be left out. A leap
 /// second, `23:59:60`, names no moment.
@@ -186,42 +194,51 @@ fn read_asked(alloc: Global, words: &[String]) -> Result<Asked<Task>, AskFault>
 {
     let asked = read(alloc, &ASKED, words)?;
     let ((asks, options), about) = asked.what;
-    match task_of(asks, options, about) {
-        Ok(what) => Ok(Asked {
-            what,
+    match scope_of(options, about) {
+        Ok(scope) => Ok(Asked {
+            what: task_of(asks, scope),
             names: asked.names,
         }),
         Err(unmade) => Err(AskFault::Words(refusal_of(alloc, "mdnsmerge", unmade))),
     }
 }
 
-// Returns the task.
-fn task_of(asks: Asks, options: Options<'_>, about: Subjects) -> Result<Task, Unmade<'_>>
-    ensures ok { IfOk result (Makes asks options.entry about) }
+// Returns what the options give, about these subjects.
+fn scope_of(options: Options<'_>, about: Subjects) -> Result<Scope, Unmade<'_>>
+    ensures ok { IfOk result (MakesScope options.entry about) }
     ensures err { IfErr result (MakesNone options.entry) }
 {
+    Ok(Scope {
+        form: options.form?,
+        as_of: as_of(options)?,
+        about,
+    })
+}
+
+// Returns the task.
+fn task_of(asks: Asks, scope: Scope) -> Task
+    ensures { result ≡ task_of asks scope }
+{
+    let Scope { form, as_of, about } = scope;
     match asks {
-        Asks::Report(ask) => Ok(Task::Survey(Request::Report(Query {
+        Asks::Report(ask) => Task::Survey(Request::Report(Query {
             ask,
-            form: options.form?,
-            as_of: as_of(options)?,
+            form,
+            as_of,
             about,
-        }))),
-        Asks::Lives(which) => Ok(Task::Survey(Request::Lives(LivesQuery {
+        })),
+        Asks::Lives(which) => Task::Survey(Request::Lives(LivesQuery {
             which,
-            form: options.form?,
-            as_of: as_of(options)?,
+            form,
+            as_of,
             about,
-        }))),
-        Asks::Page => Ok(Task::Page {
-            as_of: as_of(options)?,
-            about,
-        }),
-        Asks::Check => Ok(Task::Survey(Request::Check)),
+        })),
+        Asks::Page => Task::Page { as_of, about },
+        Asks::Check => Task::Survey(Request::Check),
     }
 }
 
-// Returns as of when a report or page is made.
+// Returns as of when the answer is made.
 fn as_of(options: Options<'_>) -> Result<AsOf, Unmade<'_>>
     ensures ok { IfOk result (GivesAsOf (text_of options.entry.at) (text_of options.entry.before)) }
     ensures err { IfErr result (MakesNone options.entry) }

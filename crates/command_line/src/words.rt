@@ -22,7 +22,7 @@ pub struct Asked<T> {
 /// What a command line of `mdnsmerge` asks for.
 #[derive(Drop)]
 pub enum Task {
-    /// A report, lives or a check.
+    /// What is asked of all captures together, or of each.
     Survey(Request),
     /// A page.
     Page { as_of: AsOf, about: Subjects },

@@ -1,7 +1,7 @@
 use Rattle.std.proofs.Common.{rules, map, string_bytes}
-use Rattle.command_line.specs.CommandLine.{AsksTask, command_line_with_past}
+use Rattle.command_line.specs.CommandLine.{AsksTask, command_line_with_past, task_of}
 use Rattle.command_line.specs.Line.{IsAsked}
-use Rattle.command_line.specs.Unmade.{Makes, MakesNone}
+use Rattle.command_line.specs.Unmade.{MakesNone, MakesScope}
 use Rattle.command_line.proofs.MergeLemmas.{AsksAsked, task-asked, unmade-refused}
 use Rattle.command_line.proofs.TableLemmas.{asks-also}
 use Rattle.command_line.proofs.mdnsmerge.read_asked.Goals as goal
@@ -11,9 +11,9 @@ returns-in-Ok-clause-asked c =
     let what = c.in_ok-asked.asked.what in
     let words = map string_bytes c.args.words.now in
     let asked : IsAsked AsksAsked command_line_with_past words c.in_ok-asked.asked = c.in_ok-asked.ensures.asked in
-    let task = c.in-Ok.what in
-    let makes : Makes what.0.0 what.0.1 what.1 task = search rules in
-    (asked.0, asks-also AsksAsked AsksTask what task (task-asked what task makes) _ _ asked.1)
+    let scope = c.in-Ok.scope in
+    let gives : MakesScope what.0.1 what.1 scope = search rules in
+    (asked.0, rw c.task_of.ensures (asks-also AsksAsked AsksTask what (task_of what.0.0 scope) (task-asked what scope gives) _ _ asked.1))
 
 pub returns-in-Err-clause-unasked : goal.returns-in-Err-clause-unasked
 returns-in-Err-clause-unasked c =

@@ -1,4 +1,4 @@
-use Rattle.std.proofs.Common.{rules, ◌≡◌, map, string_bytes, subst}
+use Rattle.std.proofs.Common.{map, string_bytes, subst}
 use Rattle.clap.specs.Words.{fault_of}
 use Rattle.clap.specs.declared.error.kind.ErrorKind.TheVariants.{DisplayVersion}
 use Rattle.command_line.specs.Line.{IsAsked}
@@ -13,8 +13,7 @@ pub returns-in-Ok-clause-told : goal.returns-in-Ok-clause-told
 returns-in-Ok-clause-told c =
     let what = c.in-Ok.asked.what in
     let asked : IsAsked AsksTold command_line (map string_bytes c.args.words.now) c.in-Ok.asked = c.in-Ok.ensures.asked in
-    let is : c.what_of.result ≡ what_of what.0.0 what.0.1.seconds = search rules in
-    (asked.0, asks-also AsksTold AsksWhat what c.what_of.result (what-asked what c.what_of.result is) _ _ asked.1)
+    (asked.0, rw c.what_of.ensures (asks-also AsksTold AsksWhat what (what_of what.0.0 what.0.1.seconds) (what-asked what) _ _ asked.1))
 
 pub returns-in-Err-Version-clause-untold : goal.returns-in-Err-Version-clause-untold
 returns-in-Err-Version-clause-untold c =
