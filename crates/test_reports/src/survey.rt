@@ -4,12 +4,12 @@ use crate::asserts::{holds, no_row_failed};
 use crate::listen::fault_of;
 use crate::requests::PACKET;
 use crate::slow::{FAILING_CALLS, Trial, passes_unread, two_names};
-use mdns_browse::report::{Ask, Form};
+use crate::words::words_of;
+use command_line::{Task, asked};
+use mdns_browse::report::Ask;
 use mdns_page::page::Page;
 use mdns_survey::survey::{SurveyFault, survey};
-use mdns_survey::{
-    AsOf, ListenFault, LivesQuery, Query, Subjects, Which, survey_query, survey_with,
-};
+use mdns_survey::{AsOf, ListenFault, Request, Subjects, survey_query, survey_with};
 use std::alloc::Global;
 use test_values::lines::AT_100;
 use test_values::streams::{SlowReader, SlowWriter, slow_writer};
@@ -56,41 +56,24 @@ fn a_failed_write_leaves_a_prefix_of_the_report(rt: HostRuntime) {
 #[derive(Clone, Copy)]
 enum Call {
     Survey,
-    Query(Ask, Form),
-    Lives(Which, Form),
-    Page,
+    /// The one that answers this command line of `mdnsmerge`.
+    Answer(&'static [&'static str]),
 }
 
 const CALLS: &[Call] = &[
     Call::Survey,
-    Call::Query(Ask::Records, Form::Lines),
-    Call::Query(Ask::Types, Form::Pretty),
-    Call::Query(Ask::Instances, Form::Json),
-    Call::Lives(Which::All, Form::Lines),
-    Call::Lives(Which::Changes, Form::Pretty),
-    Call::Page,
+    Call::Answer(&["mdnsmerge", "records", "a"]),
+    Call::Answer(&["mdnsmerge", "types", "--pretty", "a"]),
+    Call::Answer(&["mdnsmerge", "instances", "--json", "a"]),
+    Call::Answer(&["mdnsmerge", "lives", "a"]),
+    Call::Answer(&["mdnsmerge", "changes", "--pretty", "a"]),
+    Call::Answer(&["mdnsmerge", "page", "a"]),
 ];
-
-fn query_of(alloc: Global, ask: Ask, form: Form) -> Query {
-    Query {
-        ask,
-        form,
-        as_of: AsOf::Newest,
-        about: Subjects::new(Vec::new(alloc)),
-    }
-}
-
-fn lives_of(alloc: Global, which: Which, form: Form) -> LivesQuery {
-    LivesQuery {
-        which,
-        form,
-        as_of: AsOf::Newest,
-        about: Subjects::new(Vec::new(alloc)),
-    }
-}
 
 fn page_fault(
     alloc: Global,
+    as_of: AsOf,
+    about: Subjects,
     readers: Vec<SlowReader<'_>>,
     out: &mut SlowWriter,
 ) -> Option<SurveyFault> {
@@ -99,10 +82,32 @@ fn page_fault(
     };
     let page = Page {
         names: names.as_slice(),
-        as_of: AsOf::Newest,
-        about: Subjects::new(Vec::new(alloc)),
+        as_of,
+        about,
     };
     survey_with(alloc, readers, page, out).err()
+}
+
+fn task_fault(
+    alloc: Global,
+    task: Task,
+    readers: Vec<SlowReader<'_>>,
+    out: &mut SlowWriter,
+) -> Option<SurveyFault> {
+    match task {
+        Task::Survey(Request::Report(query)) => survey_query(alloc, readers, query, out).err(),
+        Task::Survey(Request::Lives(lives)) => survey_with(alloc, readers, lives, out).err(),
+        Task::Survey(Request::Check) => None,
+        Task::Page { as_of, about } => page_fault(alloc, as_of, about, readers, out),
+    }
+}
+
+fn task_of(alloc: Global, line: &[&str]) -> Option<Task> {
+    let words = words_of(alloc, line).ok()?;
+    match asked(alloc, words) {
+        Ok(asked) => Some(asked.what),
+        Err(_) => None,
+    }
 }
 
 fn fault_by(
@@ -113,13 +118,7 @@ fn fault_by(
 ) -> Option<SurveyFault> {
     match call {
         Call::Survey => survey(alloc, readers, Ask::Records, None, out).err(),
-        Call::Query(ask, form) => {
-            survey_query(alloc, readers, query_of(alloc, ask, form), out).err()
-        }
-        Call::Lives(which, form) => {
-            survey_with(alloc, readers, lives_of(alloc, which, form), out).err()
-        }
-        Call::Page => page_fault(alloc, readers, out),
+        Call::Answer(line) => task_fault(alloc, task_of(alloc, line)?, readers, out),
     }
 }
 

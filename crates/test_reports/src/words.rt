@@ -95,7 +95,8 @@ fn is_untold(fault: &WordsFault, meaning: Meaning) -> Result<bool, Want> {
     }
 }
 
-fn words_of(alloc: Global, line: &[&str]) -> Result<Vec<String>, Want> {
+/// Copies of the words of a command line.
+pub(crate) fn words_of(alloc: Global, line: &[&str]) -> Result<Vec<String>, Want> {
     let mut words = Vec::new(alloc);
     for word in line {
         push_name(alloc, &mut words, word)?;
