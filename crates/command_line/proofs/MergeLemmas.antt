@@ -4,7 +4,7 @@ use Rattle.std.specs.Prelude.{IsSomeAnd}
 use Rattle.clap.specs.Words.{App, Row, Text, fault_of, first_of, subcommand_of}
 use Rattle.mdns_browse.specs.declared.report.Ask.{Ask}
 use Rattle.mdns_survey.specs.declared.request.AsOf.{AsOf}
-use Rattle.mdns_browse.specs.declared.about.Subject.{Subject}
+use Rattle.command_line.specs.declared.lists.Lists.{Lists}
 use Rattle.command_line.specs.declared.mdnsmerge.Asks.{Asks}
 use Rattle.command_line.specs.declared.mdnsmerge.Scope.{Scope}
 use Rattle.command_line.specs.declared.options.Options.{Options}
@@ -13,20 +13,20 @@ use Rattle.command_line.specs.declared.unmade.Unmade.TheVariants as unmade
 use Rattle.command_line.specs.declared.words.WordsFault.{WordsFault}
 use Rattle.command_line.specs.declared.words.WordsFault.TheVariants.{Memory, Help, Refused}
 use Rattle.command_line.specs.declared.words.AskFault.TheVariants.{Words}
-use Rattle.command_line.specs.Line.{AsksAbout, Flags, HasOneForm, HasOptions, Matches, texts_of}
+use Rattle.command_line.specs.Line.{AsksWithLists, Flags, HasLists, HasOneForm, HasOptions, Matches}
 use Rattle.command_line.specs.Faults.{IsRefusal, IsUnasked}
 use Rattle.command_line.specs.CommandLine.{AsksTask, AsksWhat, GivesAsOf, GivesBoth, GivesNoMoment, GivesTwo, IsRefusedFor, MakesTask}
 use Rattle.command_line.specs.CommandLine.{MakesWhat, at_flag, before_flag, both_given, form_flags, no_moment, task_of, tasks, what_of, whats}
 use Rattle.command_line.specs.Unmade.{MakesNone, MakesScope, text_of, unmade_text}
 use Rattle.command_line.proofs.TableLemmas.{IsOneOf, Known, all-known, gives-two, one-asked}
 
-abbrev pub AsksTold : Text → List Row → (Option Ask × Options) × List Subject → Type 0
-AsksTold = AsksAbout (IsOneOf whats)
+abbrev pub AsksTold : Text → List Row → (Option Ask × Options) × Lists → Type 0
+AsksTold = AsksWithLists (IsOneOf whats)
 
-abbrev pub AsksAsked : Text → List Row → (Asks × Options) × List Subject → Type 0
-AsksAsked = AsksAbout (IsOneOf tasks)
+abbrev pub AsksAsked : Text → List Row → (Asks × Options) × Lists → Type 0
+AsksAsked = AsksWithLists (IsOneOf tasks)
 
-pub what-asked : (asked : (Option Ask × Options) × List Subject) (name : Text) (rows : List Row) → AsksTold name rows asked
+pub what-asked : (asked : (Option Ask × Options) × Lists) (name : Text) (rows : List Row) → AsksTold name rows asked
     → AsksWhat name rows (what_of asked.0.0 asked.0.1.seconds)
 what-asked asked name rows is_told =
     one-asked MakesWhat (what_of asked.0.0 asked.0.1.seconds) whats name rows asked.0 makes is_told.0
@@ -43,7 +43,7 @@ as-of-asked rows flags options as_of has gives =
     subst (λ (at : Option Text). GivesAsOf at (first_of (codes "before") rows) as_of) has.1
     (subst (λ (before : Option Text). GivesAsOf (text_of options.at) before as_of) has.2 gives)
 
-pub task-asked : (asked : (Asks × Options) × List Subject) (scope : Scope) → MakesScope asked.0.1 asked.1 scope
+pub task-asked : (asked : (Asks × Options) × Lists) (scope : Scope) → MakesScope asked.0.1 asked.1 scope
     → (name : Text) (rows : List Row) → AsksAsked name rows asked → AsksTask name rows (task_of asked.0.0 scope)
 task-asked asked scope gives name rows is_asked =
     one-asked MakesTask (task_of asked.0.0 scope) tasks name rows asked.0 makes is_asked.0
@@ -55,7 +55,7 @@ task-asked asked scope gives name rows is_asked =
       (
         subst (HasOneForm flags rows) gives.0 has.3,
         as-of-asked rows flags asked.0.1 scope.as_of has gives.1,
-        ap texts_of gives.2 ∙ is_asked.1,
+        subst (HasLists rows) (sym gives.2) is_asked.1,
       ),
       ap (λ (asks : Asks). task_of asks scope) same,
     )
@@ -83,14 +83,14 @@ why-refused options (unmade.NoMoment name text) (inr before, never) rows has lin
       (sym has.1 ∙ before.2, sym has.0 ∙ before.1, never, is ∙ ap (λ (n : Text). no_moment merge n text.now) before.0),
     )))
 
-some-refused : (asked : (Asks × Options) × List Subject) (names : List Text) (unmade : Unmade) → MakesNone asked.0.1 unmade
+some-refused : (asked : (Asks × Options) × Lists) (names : List Text) (unmade : Unmade) → MakesNone asked.0.1 unmade
     → (matched : Option (Text × List Row)) → Matches AsksAsked matched asked names → (line : Text) → line ≡ unmade_text merge unmade
     → IsSomeAnd matched (λ (m : Text × List Row). Refuses m.1 line)
 some-refused asked names unmade none None is_asked line is = absurd is_asked
 some-refused asked names unmade none (Some m) is_asked line is =
     why-refused asked.0.1 unmade none m.1 (all-known tasks refl m.0 m.1 asked.0 is_asked.0.0) line is
 
-pub unmade-refused : (line : App) (words : List Text) (asked : (Asks × Options) × List Subject) (names : List Text) (unmade : Unmade)
+pub unmade-refused : (line : App) (words : List Text) (asked : (Asks × Options) × Lists) (names : List Text) (unmade : Unmade)
     (fault : WordsFault) → fault_of line words ≡ [] → Matches AsksAsked (subcommand_of line words) asked names
     → MakesNone asked.0.1 unmade → IsRefusal (unmade_text merge unmade) fault
     → IsUnasked (fault_of line words) (Words fault) ⊎ IsRefusedFor (GivesBoth merge at_flag before_flag) line words (Words fault)

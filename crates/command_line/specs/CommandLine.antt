@@ -27,7 +27,7 @@ use Rattle.command_line.specs.declared.words.AskFault.{AskFault}
 use Rattle.command_line.specs.declared.words.AskFault.TheVariants.{Words}
 use Rattle.command_line.specs.declared.words.Task.{Task}
 use Rattle.command_line.specs.declared.words.Task.TheVariants.{Survey, Page}
-use Rattle.command_line.specs.Line.{AsksOneOf, Flags, HasForm, HasSeconds, IsGiven, Table, line_with, texts_of, words_of}
+use Rattle.command_line.specs.Line.{AsksOneOf, Flags, HasForm, HasLists, HasSeconds, IsGiven, Table, line_with}
 use Rattle.command_line.specs.Moments.{IsMomentText}
 
 -- ---- the flags
@@ -40,6 +40,10 @@ before_flag = (codes "before", takes.Moment)
 
 abbrev pub about_flag : Text × Takes
 about_flag = (codes "about", takes.Words)
+
+-- the flags of words
+abbrev pub word_flags : Flags
+word_flags = about_flag ∷ []
 
 -- the flags that ask for the forms that every output has
 abbrev pub common_forms : Flags
@@ -58,15 +62,15 @@ told_flags = (codes "at", takes.Seconds) ∷ []
 
 -- the flags of what is written in a form, as of a moment
 abbrev pub report_flags : Flags
-report_flags = at_flag ∷ before_flag ∷ about_flag ∷ form_flags
+report_flags = at_flag ∷ before_flag ∷ (word_flags ++ form_flags)
 
 -- the flags of what has one form, as of a moment
 abbrev pub page_flags : Flags
-page_flags = at_flag ∷ before_flag ∷ about_flag ∷ []
+page_flags = at_flag ∷ before_flag ∷ word_flags
 
 -- the flags of the hearings; those of the other traces are `form_flags`, and those of the files `common_forms`
 abbrev pub hearings_flags : Flags
-hearings_flags = about_flag ∷ form_flags
+hearings_flags = word_flags ++ form_flags
 
 -- ---- `mdnsmerge`
 
@@ -115,19 +119,19 @@ GivesAsOf at before Newest = (at ≡ None) × (before ≡ None)
 GivesAsOf at before (At moment) = Names at moment × (before ≡ None)
 GivesAsOf at before (Before moment) = (at ≡ None) × Names before moment
 
--- the form, the moment and the subjects that these flags give
+-- the form, the moment and the words that these flags give
 abbrev pub GivesScope : Flags → List Row → Scope → Type 0
 GivesScope flags rows scope = HasForm flags rows scope.form
     × GivesAsOf (first_of (codes "at") rows) (first_of (codes "before") rows) scope.as_of
-    × (texts_of scope.about ≡ words_of (codes "about") rows)
+    × HasLists rows scope.lists
 
 -- what a subcommand asks for, as the options say
 abbrev pub task_of : Asks → Scope → Task
 task_of (asks.Report ask) scope =
-    Survey (request.Report (record { ask = ask; form = scope.form; as_of = scope.as_of; about = scope.about }))
+    Survey (request.Report (record { ask = ask; form = scope.form; as_of = scope.as_of; about = scope.lists.about }))
 task_of (asks.Lives which) scope =
-    Survey (request.Lives (record { which = which; form = scope.form; as_of = scope.as_of; about = scope.about }))
-task_of asks.Page scope = Page scope.as_of scope.about
+    Survey (request.Lives (record { which = which; form = scope.form; as_of = scope.as_of; about = scope.lists.about }))
+task_of asks.Page scope = Page scope.as_of scope.lists.about
 task_of asks.Check scope = Survey request.Check
 
 -- what a subcommand asks for and what its flags give make the task

@@ -22,6 +22,7 @@ use Rattle.command_line.specs.declared.line.Line.{Line}
 use Rattle.command_line.specs.declared.line.Subcommand.{Subcommand}
 use Rattle.command_line.specs.declared.options.Both.{Both}
 use Rattle.command_line.specs.declared.options.Options.{Options}
+use Rattle.command_line.specs.declared.lists.Lists.{Lists}
 use Rattle.mdns_browse.specs.declared.about.Subject.{Subject}
 use Rattle.command_line.specs.declared.words.Asked.{Asked}
 
@@ -219,15 +220,23 @@ AsksOneOf Makes (row ∷ table) name rows asked =
 abbrev pub words_of : Text → List Row → List Text
 words_of name rows = unwrap_or (all_of name rows) []
 
--- the same, about the words of `--about`
-abbrev pub AsksWith : {A : Type 0} → (Text → List Row → A → Type 0) → Text → List Row → A × List Text → Type 0
-AsksWith Asks name rows asked = Asks name rows asked.0 × (asked.1 ≡ words_of (codes "about") rows)
-
 abbrev pub texts_of : List Subject → List Text
 texts_of = map (λ subject. string_bytes subject.text)
 
+-- The words of the options that can be repeated.
+pub record HasLists (rows : List Row) (lists : Lists) : Type 0 where
+  pub about : texts_of lists.about ≡ words_of (codes "about") rows
+
+-- a subcommand with these matches asks for the first of two; the second is the matches, or the words of such options, or those
+-- of `--about`
+abbrev pub AsksWithRows : {A : Type 0} → (Text → List Row → A → Type 0) → Text → List Row → A × List Row → Type 0
+AsksWithRows Asks name rows asked = Asks name rows asked.0 × (asked.1 ≡ rows)
+
+abbrev pub AsksWithLists : {A : Type 0} → (Text → List Row → A → Type 0) → Text → List Row → A × Lists → Type 0
+AsksWithLists Asks name rows asked = Asks name rows asked.0 × HasLists rows asked.1
+
 abbrev pub AsksAbout : {A : Type 0} → (Text → List Row → A → Type 0) → Text → List Row → A × List Subject → Type 0
-AsksAbout Asks name rows asked = AsksWith Asks name rows (asked.0, texts_of asked.1)
+AsksAbout Asks name rows asked = Asks name rows asked.0 × (texts_of asked.1 ≡ words_of (codes "about") rows)
 
 -- the subcommand that was matched asks for this, of these files
 abbrev pub Matches : {A : Type 0} → (Text → List Row → A → Type 0) → Option (Text × List Row) → A → List Text → Type 0

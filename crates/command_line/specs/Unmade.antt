@@ -1,9 +1,9 @@
 -- What options give, and why they make no task.
-use Rattle.std.specs.Prelude.{◌≡◌, ◌≢◌, ◌⊎◌, Option, Some, None, Ok, Err, List, codes, option_map}
+use Rattle.std.specs.Prelude.{◌≡◌, ◌≢◌, ◌⊎◌, Option, Some, None, Ok, Err, codes, option_map}
 use Rattle.std.specs.Borrow.{Bor}
 use Rattle.clap.specs.Words.{Text}
 use Rattle.mdns_capture.specs.declared.moment.Moment.{Moment}
-use Rattle.mdns_browse.specs.declared.about.Subject.{Subject}
+use Rattle.command_line.specs.declared.lists.Lists.{Lists}
 use Rattle.command_line.specs.declared.mdnsmerge.Scope.{Scope}
 use Rattle.command_line.specs.declared.options.Both.{Both}
 use Rattle.command_line.specs.declared.options.Options.{Options}
@@ -15,10 +15,10 @@ use Rattle.command_line.specs.Moments.{IsMomentText}
 abbrev pub text_of : Option (Bor Text) → Option Text
 text_of = option_map (λ t. t.now)
 
--- these options give the scope, about these
-abbrev pub MakesScope : Options → List Subject → Scope → Type 0
-MakesScope options about scope = (options.form ≡ Ok scope.form)
-    × GivesAsOf (text_of options.at) (text_of options.before) scope.as_of × (scope.about ≡ about)
+-- these options give the scope, with these words
+abbrev pub MakesScope : Options → Lists → Scope → Type 0
+MakesScope options lists scope = (options.form ≡ Ok scope.form)
+    × GivesAsOf (text_of options.at) (text_of options.before) scope.as_of × (scope.lists ≡ lists)
 
 -- this text is given by the option of this name, and by no other
 abbrev pub IsAlone : Text → Text → Options → Type 0

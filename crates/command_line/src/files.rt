@@ -1,13 +1,11 @@
-//! The files of a command line, and the words that it is about.
+//! The files of a command line.
 
 ghost use Rattle.std.specs.Prelude.{◌≡◌, false, IfOk, map, string_bytes};
 ghost use Rattle.clap.specs.Words.{rule_of};
-ghost use Rattle.command_line.specs.Line.{file_rule, texts_of};
+ghost use Rattle.command_line.specs.Line.{file_rule};
 
 use clap::Arg;
-use mdns_browse::about::Subject;
 use mdns_message::Want;
-use mdns_survey::request::Subjects;
 use std::alloc::Global;
 
 /// One or more files.
@@ -30,15 +28,4 @@ pub(crate) fn names_of(alloc: Global, files: &[&str]) -> Result<Vec<String>, Wan
         names.push(String::from_str(alloc, file)?)?;
     }
     Ok(names)
-}
-
-/// Copies of words, as what is asked about.
-pub(crate) fn subjects_of(alloc: Global, words: &[&str]) -> Result<Subjects, Want>
-    ensures { IfOk result (λ about. texts_of about ≡ map (λ word. word.now) words.now) }
-{
-    let mut about = Vec::new(alloc);
-    for word in words {
-        about.push(Subject::new(String::from_str(alloc, word)?))?;
-    }
-    Ok(Subjects::new(about))
 }

@@ -6,12 +6,14 @@ use mdns_browse::report::Form;
 pub(crate) const AT: Flag = Flag {
     name: "at",
     takes: Takes::Moment,
+    value: "MOMENT",
     help: "As of seconds since 1970, or a date and time with zone",
 };
 
 /// The `--at` of `told`.
 pub(crate) const AT_SECONDS: Flag = Flag {
     takes: Takes::Seconds,
+    value: "SECONDS",
     help: "As of seconds since 1970 [default: the newest hearing]",
     ..AT
 };
@@ -19,12 +21,14 @@ pub(crate) const AT_SECONDS: Flag = Flag {
 pub(crate) const BEFORE: Flag = Flag {
     name: "before",
     takes: Takes::Moment,
+    value: "MOMENT",
     help: "Only what was heard before that moment, as of it",
 };
 
 pub(crate) const ABOUT: Flag = Flag {
     name: "about",
     takes: Takes::Words,
+    value: "WORD",
     help: "Only what is about a name, word or address; repeatable",
 };
 
@@ -36,6 +40,7 @@ macro_rules! with_forms {
             Flag {
                 name: "json",
                 takes: Takes::Nothing(Form::Json),
+                value: "",
                 help: "One JSON object a line",
             },
             $($last,)*
@@ -43,20 +48,28 @@ macro_rules! with_forms {
     };
 }
 
+/// The same, of an output about words: some, those of words, those of forms, and others.
+macro_rules! with_words {
+    ([$($first:expr),*], [$($last:expr),*]) => {
+        with_forms!([$($first,)* ABOUT], [$($last),*])
+    };
+}
+
 const PRETTY: Flag = Flag {
     name: "pretty",
     takes: Takes::Nothing(Form::Pretty),
+    value: "",
     help: "Readable columns, for people",
 };
 
 /// The flags of what is written in a form, as of a moment.
-pub(crate) const REPORT_FLAGS: &[Flag] = with_forms!([AT, BEFORE, ABOUT], [PRETTY]);
+pub(crate) const REPORT_FLAGS: &[Flag] = with_words!([AT, BEFORE], [PRETTY]);
 
 /// The flags of what has one form, as of a moment.
 pub(crate) const PAGE_FLAGS: &[Flag] = &[AT, BEFORE, ABOUT];
 
 /// The flags of the hearings, of another trace, and of what is said of files.
-pub(crate) const HEARINGS_FLAGS: &[Flag] = with_forms!([ABOUT], [PRETTY]);
+pub(crate) const HEARINGS_FLAGS: &[Flag] = with_words!([], [PRETTY]);
 
 pub(crate) const TRACE_FLAGS: &[Flag] = with_forms!([], [PRETTY]);
 

@@ -30,11 +30,12 @@ pub struct Subcommand<T> {
     pub asks: T,
 }
 
-/// A flag: its name, what it takes, and its line of help.
+/// A flag: its name, what it takes and how its help calls that, and its line of help.
 #[derive(Clone, Copy)]
 pub struct Flag {
     pub name: &'static str,
     pub takes: Takes,
+    pub value: &'static str,
     pub help: &'static str,
 }
 
@@ -103,8 +104,8 @@ fn arg_of<'a>(alloc: Global, flag: Flag) -> Arg<'a>
     let arg = Arg::new(alloc, flag.name).long(flag.name).help(flag.help);
     match flag.takes {
         Takes::Nothing(_) => arg.action(ArgAction::SetTrue),
-        Takes::Seconds => arg.value_name("SECONDS").value_parser(value_parser!(u32)),
-        Takes::Moment => arg.value_name("MOMENT"),
-        Takes::Words => arg.action(ArgAction::Append).value_name("WORD"),
+        Takes::Seconds => arg.value_name(flag.value).value_parser(value_parser!(u32)),
+        Takes::Moment => arg.value_name(flag.value),
+        Takes::Words => arg.action(ArgAction::Append).value_name(flag.value),
     }
 }

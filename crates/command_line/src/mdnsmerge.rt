@@ -12,6 +12,7 @@ ghost use Rattle.command_line.specs.Unmade.{MakesNone, MakesScope, text_of};
 use crate::flags::{AT, AT_SECONDS, BEFORE, PAGE_FLAGS, REPORT_FLAGS};
 use crate::help;
 use crate::line::{Line, Subcommand};
+use crate::lists::Lists;
 use crate::moments::moment_of_text;
 use crate::options::{Both, Options};
 use crate::read::read;
@@ -19,7 +20,7 @@ use crate::unmade::{Unmade, refusal_of};
 use crate::words::{AskFault, Asked, Task, Told, WordsFault};
 use mdns_browse::report::{Ask, Form};
 use mdns_capture::Moment;
-use mdns_survey::request::{AsOf, LivesQuery, Query, Request, Subjects, What, Which};
+use mdns_survey::request::{AsOf, LivesQuery, Query, Request, What, Which};
 use std::alloc::Global;
 
 /// What a subcommand of `asked` asks for.
@@ -36,7 +37,7 @@ enum Asks {
 struct Scope {
     form: Form,
     as_of: AsOf,
-    about: Subjects,
+    lists: Lists,
 }
 
 /// The subcommands: the reports, which take these flags, others, and `check`. `$report` makes of an `Ask` what its
@@ -193,8 +194,8 @@ fn read_asked(alloc: Global, words: &[String]) -> Result<Asked<Task>, AskFault>
         ⊎ IsRefusedFor (GivesNoMoment (codes "mdnsmerge")) command_line_with_past (map string_bytes words.now) fault) }
 {
     let asked = read(alloc, &ASKED, words)?;
-    let ((asks, options), about) = asked.what;
-    match scope_of(options, about) {
+    let ((asks, options), lists) = asked.what;
+    match scope_of(options, lists) {
         Ok(scope) => Ok(Asked {
             what: task_of(asks, scope),
             names: asked.names,
@@ -203,15 +204,15 @@ fn read_asked(alloc: Global, words: &[String]) -> Result<Asked<Task>, AskFault>
     }
 }
 
-// Returns what the options give, about these subjects.
-fn scope_of(options: Options<'_>, about: Subjects) -> Result<Scope, Unmade<'_>>
-    ensures ok { IfOk result (MakesScope options.entry about) }
+// Returns what the options give, with these words.
+fn scope_of(options: Options<'_>, lists: Lists) -> Result<Scope, Unmade<'_>>
+    ensures ok { IfOk result (MakesScope options.entry lists) }
     ensures err { IfErr result (MakesNone options.entry) }
 {
     Ok(Scope {
         form: options.form?,
         as_of: as_of(options)?,
-        about,
+        lists,
     })
 }
 
@@ -219,7 +220,8 @@ fn scope_of(options: Options<'_>, about: Subjects) -> Result<Scope, Unmade<'_>>
 fn task_of(asks: Asks, scope: Scope) -> Task
     ensures { result ≡ task_of asks scope }
 {
-    let Scope { form, as_of, about } = scope;
+    let Scope { form, as_of, lists } = scope;
+    let Lists { about } = lists;
     match asks {
         Asks::Report(ask) => Task::Survey(Request::Report(Query {
             ask,

@@ -75,10 +75,10 @@ fn read_why(alloc: Global, words: &[String]) -> Result<Asked<(Inquiry, Subjects)
         ⊎ IsRefusedFor (GivesTwo (codes "mdnswhy") form_flags) why_line (map string_bytes words.now) fault) }
 {
     let asked = read(alloc, &WHY_ASKED, words)?;
-    let ((inquiry, options), about) = asked.what;
+    let ((inquiry, options), lists) = asked.what;
     match options.form {
         Ok(form) => Ok(Asked {
-            what: (in_form(inquiry, form), about),
+            what: (in_form(inquiry, form), lists.about),
             names: asked.names,
         }),
         Err(both) => Err(AskFault::Words(refusal_of(alloc, "mdnswhy", Unmade::Both(both)))),

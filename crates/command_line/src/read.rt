@@ -2,22 +2,21 @@
 
 ghost use Rattle.std.specs.Prelude.{◌≡◌, ◌≢◌, [], List, None, IfErr, IfOk, IfSome, map, string_bytes, true};
 ghost use Rattle.clap.specs.Words.{Text, fault_of, found_of, rows_of, subcommand_rows_of};
-ghost use Rattle.command_line.specs.Line.{AsksAbout, AsksIn, AsksWith, IsAsked, Matches, app_of_line, is_readable};
+ghost use Rattle.command_line.specs.Line.{AsksIn, AsksWithLists, AsksWithRows, IsAsked, Matches, app_of_line, is_readable};
 ghost use Rattle.command_line.specs.Faults.{IsUnasked};
 ghost use Rattle.command_line.specs.declared.options.Options.{Options};
 
 use crate::clap_fault::fault_of;
-use crate::files::{names_of, subjects_of};
-use crate::flags::ABOUT;
+use crate::files::names_of;
 use crate::line::{Line, Subcommand, command_of};
+use crate::lists::{Lists, lists_of};
 use crate::options::{Options, options_of};
 use crate::words::{AskFault, Asked, WordsFault};
 use clap::ArgMatches;
-use mdns_survey::request::Subjects;
 use std::alloc::Global;
 
 /// Reads the words of a command line, of which the first is the program's name: what the subcommand asks for, its
-/// options, and the words of `--about`.
+/// options, and the words of those that can be repeated.
 ///
 /// # Errors
 ///
@@ -27,9 +26,9 @@ pub(crate) fn read<'a, T: Copy>(
     alloc: Global,
     line: &Line<T>,
     words: &'a [String],
-) -> Result<Asked<((T, Options<'a>), Subjects)>, AskFault>
+) -> Result<Asked<((T, Options<'a>), Lists)>, AskFault>
     requires { is_readable line.now ≡ true }
-    ensures asked { IfOk result (IsAsked (AsksAbout (AsksIn line.now.subcommands.now)) (app_of_line line.now)
+    ensures asked { IfOk result (IsAsked (AsksWithLists (AsksIn line.now.subcommands.now)) (app_of_line line.now)
         (map string_bytes words.now)) }
     ensures files { IfOk result (λ asked. asked.names.items ≢ []) }
     ensures unasked { IfErr result (IsUnasked (fault_of (app_of_line line.now) (map string_bytes words.now))) }
@@ -41,32 +40,31 @@ pub(crate) fn read<'a, T: Copy>(
         Ok(matches) => matches,
         Err(error) => return Err(fault_of(alloc, &error)),
     };
-    let Some((what, about, files)) = matched(line.subcommands, &matches) else {
+    let Some((what, given, files)) = matched(line.subcommands, &matches) else {
         unreachable!()
     };
-    let about = subjects_of(alloc, about)?;
+    let lists = lists_of(alloc, given)?;
     let names = names_of(alloc, files)?;
     Ok(Asked {
-        what: (what, about),
+        what: (what, lists),
         names,
     })
 }
 
-// Returns what the matches ask for, about which words, and of which files.
+// Returns what the matches ask for, the matches of the subcommand, and the files.
 fn matched<'m, 'a, T: Copy>(
     subcommands: &[Subcommand<T>],
     matches: &'m ArgMatches<'a>,
-) -> Option<((T, Options<'a>), &'m [&'a str], &'m [&'a str])>
-    ensures some { IfSome result (λ p. Matches (AsksWith (AsksIn subcommands.now)) (subcommand_rows_of matches.now)
-        (p.0, map (λ word. word.now) p.1.now) (map (λ file. file.now) p.2.now)) }
+) -> Option<((T, Options<'a>), &'m ArgMatches<'a>, &'m [&'a str])>
+    ensures some { IfSome result (λ p. Matches (AsksWithRows (AsksIn subcommands.now)) (subcommand_rows_of matches.now)
+        (p.0, rows_of (found_of p.1.now)) (map (λ file. file.now) p.2.now)) }
     ensures none { result ≡ None → (what : _) (names : List Text)
         → Matches (AsksIn subcommands.now) (subcommand_rows_of matches.now) what names → ⊥ }
 {
     let (name, given) = matches.subcommand()?;
     let asked = asks_of(subcommands, name, given)?;
-    let about = given.get_strs(ABOUT.name).unwrap_or(&[]);
     let files = given.get_strs("FILE")?;
-    Some((asked, about, files))
+    Some((asked, given, files))
 }
 
 // Returns what the subcommand of this name asks for, with the options that are given. `None` where no subcommand has the

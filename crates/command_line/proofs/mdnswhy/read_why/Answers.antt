@@ -13,7 +13,7 @@ returns-in-Ok-clause-asked c =
     let is : what.0.1.form ≡ Ok c.in-Ok.form = search rules in (
       asked.0,
       rw c.in_form.ensures
-          (asks-also AsksWhy (AsksAbout AsksInquiry) what (in_form what.0.0 c.in-Ok.form, what.1) (inquiry-asked what c.in-Ok.form is)
+          (asks-also AsksWhy (AsksAbout AsksInquiry) what (in_form what.0.0 c.in-Ok.form, what.1.about) (inquiry-asked what c.in-Ok.form is)
           _ _ asked.1),
     )
 

@@ -1,11 +1,11 @@
 use Rattle.std.proofs.Common.{◌≡◌, ◌∙◌, ap, refl, sym, subst, map, string_bytes, List, Option}
 use Rattle.clap.proofs.WalkLemmas.{both}
 use Rattle.clap.specs.Kinds.{HasKind}
-use Rattle.clap.specs.Words.{App, Kinds, Row, Text, app_of, fault_of, is_simple, is_simple_and_free, subcommand_of}
+use Rattle.clap.specs.Words.{App, Kinds, Row, Text, app_of, fault_of, found_of, is_simple, is_simple_and_free, rows_of, subcommand_of}
 use Rattle.command_line.proofs.LineLemmas.{unasked-by-kind}
 use Rattle.command_line.proofs.TableLemmas.{asks-also}
 use Rattle.command_line.proofs.ReadLemmas.{faultless, good-asks, good-files}
-use Rattle.command_line.specs.Line.{AsksAbout, AsksIn, AsksWith, Matches, app_of_line, texts_of}
+use Rattle.command_line.specs.Line.{AsksIn, AsksWithLists, AsksWithRows, HasLists, Matches, app_of_line}
 use Rattle.command_line.proofs.read.read.Goals as goal
 
 pub returns-in-Err-clause-unasked : goal.returns-in-Err-clause-unasked
@@ -39,19 +39,22 @@ returns-clause-asked g c =
     let simple = ap is_simple line ∙ (both _ _ free).0 in
     let matched = (c.in-Ok-try_get_matches_from.ensures.matches simple).1 ∙ ap (λ (a : App). subcommand_of a words) line in
     let none = sym (ap (λ (a : App). fault_of a words) line) ∙ c.in-Ok-try_get_matches_from.ensures.kinds (ap is_simple_and_free line ∙ free) in
-    let Asks = AsksWith (AsksIn table) in
+    let Asks = AsksWithRows (AsksIn table) in
+    let own = rows_of (found_of c.in-Some.given.now) in
     let asks =
-    subst (λ (m : Option (Text × List Row)). Matches Asks m (c.in-Some.what, map (λ word. word.now) c.in-Some.about.now)
-    (map (λ file. file.now) c.in-Some.files.now)) matched c.in-Some.ensures.some in
+    subst (λ (m : Option (Text × List Row)). Matches Asks m (c.in-Some.what, own) (map (λ file. file.now) c.in-Some.files.now)) matched
+    c.in-Some.ensures.some in
     let reached = subcommand_of (app_of_line c.args.line.now) words in
-    let MatchesThem = λ (about names : List Text). Matches Asks reached (c.in-Some.what, about) names in
-    let about = subst (λ (ws : List Text). MatchesThem ws (map (λ file. file.now) c.in-Some.files.now)) (sym c.in_ok-about.ensures) asks in
-    let all = subst (MatchesThem (texts_of c.in_ok-about.about)) (sym c.in_ok-names.ensures) about in
-    (none, asks-also Asks (AsksAbout (AsksIn table)) _ (c.in-Some.what, c.in_ok-about.about) (λ name rows is. is) _ _ all)
+    let all = subst (λ (names : List Text). Matches Asks reached (c.in-Some.what, own) names) (sym c.in_ok-names.ensures) asks in
+    let lists : HasLists own c.in_ok-lists.lists = c.in_ok-lists.ensures in (
+      none,
+      asks-also Asks (AsksWithLists (AsksIn table)) (c.in-Some.what, own) (c.in-Some.what, c.in_ok-lists.lists)
+          (λ name rows is. (is.0, subst (λ (rs : List Row). HasLists rs c.in_ok-lists.lists) is.1 lists)) _ _ all,
+    )
 
 pub returns-clause-files : goal.returns-clause-files
 returns-clause-files g c empty =
     let asked = returns-clause-asked g c in
     let good = faultless c.args.line.now c.requires (map string_bytes c.args.words.now) asked.0 in
-    good-files (AsksAbout (AsksIn c.args.line.now.subcommands.now)) c.args.line.now.subcommands.now _ good _ _ asked.1
+    good-files (AsksWithLists (AsksIn c.args.line.now.subcommands.now)) c.args.line.now.subcommands.now _ good _ _ asked.1
     (ap (map string_bytes) empty)

@@ -1,6 +1,6 @@
 use Rattle.std.proofs.Common.{◌≡◌, map, take}
 use Rattle.command_line.specs.Line.{texts_of}
-use Rattle.command_line.proofs.files.subjects_of.Given as goal
+use Rattle.command_line.proofs.lists.subjects_of.Given as goal
 
 -- the words so far
 abbrev pub invariant-loop-word : goal.invariant-loop-word
