@@ -34,7 +34,7 @@ LISTS = {
 
 # What all pages say at their end.
 END = """\
-Exit: 0 printed, whole; 1 printed, some cut or damaged; 2 refused: mdnswhy files
+Exit: 0 printed; 1 printed, but a file is damaged; 2 refused (run mdnswhy files)
 To record: tcpdump -i eth0 -U -w a.pcap udp port 5353
 """
 

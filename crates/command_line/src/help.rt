@@ -16,7 +16,7 @@ macro_rules! page {
         concat!(
             $own,
             "\n\n\
-Exit: 0 printed, whole; 1 printed, some cut or damaged; 2 refused: mdnswhy files
+Exit: 0 printed; 1 printed, but a file is damaged; 2 refused (run mdnswhy files)
 To record: tcpdump -i eth0 -U -w a.pcap udp port 5353"
         )
     };
