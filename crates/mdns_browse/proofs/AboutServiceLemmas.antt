@@ -1,5 +1,4 @@
 -- What service instances are about subjects.
-use Rattle.std.proofs.Common.{arith}
 use Rattle.std.proofs.Common.{◌≡◌, refl, sym, ◌∙◌, ap, ℕ, ◌+◌, ◌<◌, ◌≤◌, Bool, false, true, ◌||◌, List, [], ◌∷◌}
 use Rattle.std.proofs.Common.{◌++◌, Option, None, Some, option_map, length, map, take, get_or, string_bytes}
 use Rattle.std.proofs.lemmas.Bool.{or_from}

@@ -11,7 +11,6 @@ use Rattle.mdns_message.specs.declared.parts.Address.{Address}
 use Rattle.mdns_message.specs.declared.parts.Address.TheVariants.{V4, V6}
 use Rattle.mdns_message.specs.declared.parts.Content.{Content}
 use Rattle.mdns_message.specs.declared.parts.Content.TheVariants as content
-use Rattle.mdns_message.specs.declared.parts.Service.{Service}
 use Rattle.people_text.specs.Address.{ipv6_short}
 use Rattle.people_text.specs.Shown.{name_shown, shown}
 use Rattle.mdns_browse.specs.RecordText.{ipv4_text}

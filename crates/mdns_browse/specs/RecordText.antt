@@ -14,7 +14,6 @@ use Rattle.mdns_message.specs.declared.parts.Address.{Address}
 use Rattle.mdns_message.specs.declared.parts.Address.TheVariants.{V4, V6}
 use Rattle.mdns_message.specs.declared.parts.Content.{Content}
 use Rattle.mdns_message.specs.declared.parts.Content.TheVariants as content
-use Rattle.mdns_message.specs.declared.parts.Service.{Service}
 use Rattle.mdns_browse.specs.declared.instance.Instance.{Instance}
 use Rattle.mdns_browse.specs.declared.instance.Server.{Server}
 use Rattle.mdns_browse.specs.declared.data_words.Word.{Word}

@@ -157,9 +157,9 @@ module _ (readings others : List Reading) (alike : AreEach IsAlike readings othe
   unfolding table_text
   table-alike i =
       codes "<table>\n" ++ flat_map (λ (warning : List ℕ × List Why). flat_map (λ (reason : Why).
-      row_text (skipped-alike reason i) (why_text reason) true warning.0) warning.1) warnings
+      row_text (skipped-alike reason i) (row_of reason).words true warning.0) warning.1) warnings
       ++ row_text (refused-alike i) (codes "damaged message") true (codes "damaged: refused whole")
-      ++ flat_map (λ (reason : Why). row_text (skipped-alike reason i) (why_text reason) false (codes "normal")) reasons
+      ++ flat_map (λ (reason : Why). row_text (skipped-alike reason i) (row_of reason).words false (codes "normal")) reasons
       ++ codes "</table>\n"
 
   pub section-alike : skipped_text readings ≡ skipped_text others

@@ -36,7 +36,7 @@ row_text count cause bold meaning =
 
 -- the row of the packets that were skipped for a reason
 abbrev pub skipped_row : List Reading → (bold : Bool) → (meaning : List ℕ) → Why → List ℕ
-skipped_row readings bold meaning reason = row_text (skipped_in reason readings) (why_text reason) bold meaning
+skipped_row readings bold meaning reason = row_text (skipped_in reason readings) (row_of reason).words bold meaning
 
 -- a row for each reason of some packet, first for those that need attention, damaged messages among them
 unfoldable pub table_text : List Reading → List ℕ

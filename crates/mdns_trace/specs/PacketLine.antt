@@ -6,7 +6,7 @@ use Rattle.mdns_message.specs.declared.fault.MessageFault.TheVariants as fault
 use Rattle.mdns_capture.specs.Text.{moment_text}
 use Rattle.mdns_capture.specs.Savefile.{PacketAt}
 use Rattle.mdns_survey.specs.ProgramLines.{◌<>◌}
-use Rattle.mdns_survey.specs.Why.{why_text}
+use Rattle.mdns_survey.specs.Reasons.{row_of}
 use Rattle.mdns_trace.specs.declared.entry.Untold.{Untold}
 use Rattle.mdns_trace.specs.declared.entry.Untold.TheVariants as untold
 
@@ -37,7 +37,7 @@ place_text file packet = moment_text packet.moment.nanos <> codes " " <> file <>
 
 -- what came of a packet that told nothing, and the cause
 abbrev pub untold_text : Untold → List ℕ
-untold_text (untold.Skipped why) = codes "skipped " <> why_text why
+untold_text (untold.Skipped why) = codes "skipped " <> (row_of why).words
 untold_text (untold.Refused damage) = codes "refused " <> fault_text damage <> codes " at " <> decimal (fault_at damage)
 untold_text untold.Unlisted = codes "heard no listed record"
 

@@ -5,7 +5,7 @@ use Rattle.mdns_capture.specs.declared.source_address.SourceAddress.{SourceAddre
 use Rattle.mdns_capture.specs.Savefile.{PacketAt}
 use Rattle.mdns_message.specs.declared.hearing.Hearing.{Hearing}
 use Rattle.mdns_survey.specs.declared.reading.Span.{Span}
-use Rattle.mdns_survey.specs.Why.{why_text}
+use Rattle.mdns_survey.specs.Reasons.{row_of}
 use Rattle.mdns_trace.specs.declared.entry.Untold.{Untold}
 use Rattle.mdns_trace.specs.declared.entry.Untold.TheVariants as untold
 use Rattle.mdns_trace.specs.declared.span_line.Spanned.{Spanned}
@@ -37,7 +37,7 @@ status_members status cause =
 
 -- what came of a packet that told nothing, and the cause; of a damaged message also the offset of its fault
 abbrev pub untold_members : Untold → List (List ℕ)
-untold_members (untold.Skipped why) = status_members (codes "skipped") (why_text why)
+untold_members (untold.Skipped why) = status_members (codes "skipped") (row_of why).words
 untold_members (untold.Refused damage) =
     status_members (codes "refused") (fault_text damage) ++ json_member (codes "at") (decimal (fault_at damage)) ∷ []
 untold_members untold.Unlisted = status_members (codes "heard") (codes "no listed record")

@@ -10,7 +10,7 @@ use crate::each_file::{FilesFault, Scribe, write_each};
 use crate::entry::Entry;
 use crate::entry_text::text_of;
 use crate::trace::TraceFault;
-use crate::verdict::{Verdict, is_silent, is_whole, judge};
+use crate::verdict::{Verdict, is_silent, judge};
 use mdns_browse::report::Form;
 use mdns_capture::{Broken, Sink, Source, write_whole};
 use mdns_survey::error_lines::refuse;
