@@ -1,5 +1,5 @@
 -- How often each capture heard a record, in words.
-use Rattle.std.specs.Prelude.{ℕ, ◌+◌, ◌==◌, nat_lt, false, if◌then◌else◌, List, [], ◌++◌, codes, length, sum_by}
+use Rattle.std.specs.Prelude.{ℕ, ◌==◌, nat_lt, false, if◌then◌else◌, List, [], ◌++◌, codes, length, sum_by}
 use Rattle.std.specs.List.{count_by}
 use Rattle.mdns_lives.specs.declared.seconds_heard.SecondHeard.{SecondHeard}
 use Rattle.mdns_page.specs.Captures.{each_from, number_text}

@@ -41,7 +41,7 @@ second_mark axis (GoodbyeTick top) second = if is_goodbye second then Some (poin
 second_mark axis _ second = None
 
 -- the ticks of a capture in its lane
-abbrev pub lane_text : Axis → (lanes index : ℕ) → List SecondHeard → List ℕ
+unfoldable pub lane_text : Axis → (lanes index : ℕ) → List SecondHeard → List ℕ
 lane_text axis lanes index seconds =
     let top = lane_top lanes index in
     path (second_mark axis) (Tick top) seconds ++ path (second_mark axis) (GoodbyeTick top) seconds

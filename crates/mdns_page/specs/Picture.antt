@@ -126,5 +126,5 @@ titled_bar axis stroke life =
     ++ life_title (goes_on axis life) life ++ codes "</title></path>"
 
 -- the bars of lives: each with a title, or all as one path
-abbrev pub bars : Axis → Bool → Stroke → List Life → List ℕ
+unfoldable pub bars : Axis → Bool → Stroke → List Life → List ℕ
 bars axis titled stroke lives = if titled then flat_map (titled_bar axis stroke) lives else path (mark_of axis) stroke lives

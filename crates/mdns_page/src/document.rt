@@ -1,7 +1,9 @@
 //! The whole page.
 
-ghost use Rattle.std.specs.Prelude.{◌≡◌, ◌++◌, map, OnOk};
+ghost use Rattle.std.specs.Prelude.{◌≡◌, ◌++◌, [], codes, if◌then◌else◌, map, OnOk};
 ghost use Rattle.std.specs.String.{string_bytes};
+ghost use Rattle.people_text.specs.MomentText.{date_text};
+ghost use Rattle.mdns_page.specs.Axis.{is_same_date};
 ghost use Rattle.mdns_page.specs.Captures.{facts_lent};
 ghost use Rattle.mdns_page.specs.Html.{isolated};
 ghost use Rattle.mdns_page.specs.Document.{head, page, parts_lent, title};
@@ -102,6 +104,15 @@ fn push_title(to: &mut String, axis: Axis) -> Result<(), Want>
 {
     to.push_str("Multicast DNS, ")?;
     push_date(to, axis.start.nanos())?;
+    push_last_day(to, axis)?;
+    Ok(())
+}
+
+// Appends the day on which the axis ends, where it isn't that on which it starts.
+fn push_last_day(to: &mut String, axis: Axis) -> Result<(), Want>
+    ensures { OnOk result (string_bytes to.new ≡ string_bytes to.old
+        ++ (if is_same_date axis.start.nanos axis.end.nanos then [] else codes " to " ++ date_text axis.end.nanos)) }
+{
     if is_same_date(axis.start.nanos(), axis.end.nanos()) {
         return Ok(());
     }

@@ -114,6 +114,7 @@ fn push_each_lane(
     Ok(())
 }
 
+#[tactic(auto, unfolding(crate::specs::Lanes::lane_text))]
 fn push_lane(
     to: &mut String,
     axis: Axis,

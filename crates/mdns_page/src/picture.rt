@@ -55,6 +55,7 @@ pub(crate) fn push_servers(
 }
 
 /// Appends the bars of some lives, each with a title, or all as one path.
+#[tactic(auto, unfolding(crate::specs::Picture::bars))]
 pub(crate) fn push_bars(
     to: &mut String,
     axis: Axis,
