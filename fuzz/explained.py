@@ -10,7 +10,7 @@ from causes import DAMAGED, LOSSES, causes_of
 from commands import TRACES
 from lines import TYPE, Unreadable, labels_of, moment_of, wire_of
 from pretty import pretty_text
-from program import Answer, expect
+from program import Answer, expect, expect_same
 from words import moment_text
 
 HEARING = re.compile(rf"(\d+\.\d{{9}}) (\S+) (\S+) ((\S+) ({TYPE})((?: [!-~]+)*)) ttl (\d+)(?: flush)?")
@@ -45,7 +45,7 @@ class Explained:
         """What is printed of captures that are no refusal; the status and the endings are as they must be."""
         case, answer = self.case, self.program.run(trace, *form, *names)
         endings = case.ending_lines(names).replace("mdnsmerge: ", "mdnswhy: ")
-        expect(answer == Answer(case.status(names), answer.out, endings), "mdnswhy", trace, *form, *names, "\nanswered", answer)
+        expect_same(answer, Answer(case.status(names), answer.out, endings), "mdnswhy", trace, *form, *names)
         return answer.out
 
     def refusals(self):
@@ -56,7 +56,7 @@ class Explained:
             out = "".join(self.answer(trace, [name]) for name in case.names[:first])
             answer = self.program.run(trace, *case.names)
             fault = case.fault.replace("mdnsmerge: ", "mdnswhy: ")
-            expect(answer == Answer(2, out, fault), "mdnswhy", trace, *case.names, "\nanswered", answer)
+            expect_same(answer, Answer(2, out, fault), "mdnswhy", trace, *case.names)
 
     def agree(self):
         """All lines, of each capture and of all together."""
@@ -112,13 +112,13 @@ class Explained:
                  "hearings", *bounds([heard.moment for heard in hearings]),
                  "snap", str(savefile.snapshot_length(self.case.captures[name]))]
         expected = " ".join(words) + "\n"
-        expect(text == expected, "mdnswhy spans", name, "\nanswered", text, "\nexpected", expected)
+        expect_same(text, expected, "mdnswhy spans", name)
 
     def for_people(self, name, texts):
         """What `--pretty` prints follows from the lines."""
         for trace, text in texts.items():
             pretty, expected = self.answer(trace, [name], "--pretty"), pretty_text(trace, text)
-            expect(pretty == expected, "mdnswhy", trace, "--pretty", name, "\nanswered", pretty, "\nexpected", expected)
+            expect_same(pretty, expected, "mdnswhy", trace, "--pretty", name)
 
     def packets_of(self, name):
         """The moments and offsets of the packets of a capture."""

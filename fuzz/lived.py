@@ -7,7 +7,7 @@ from explained import record_key
 from hearings import hearings_of
 from lines import moment_of
 from lives import changes_in, lives_text, rows_of
-from program import Finding, expect
+from program import Finding, expect, expect_same
 from savefile import moment_of as packet_moment
 from wire import SECOND
 from words import moment_text
@@ -63,7 +63,7 @@ class Lived:
             asked = [*words, form] if form else words
             text = self.case.report(asked, self.case.names)
             expected = lives_text(rows, end, as_json=bool(form))
-            expect(text == expected, *asked, "\nanswered", text, "\nexpected", expected)
+            expect_same(text, expected, *asked)
         return text
 
     def expect_records(self, lives, end):
@@ -71,7 +71,7 @@ class Lived:
         expected = "".join(f"{life[1]} {life[3]}\n" for life in lives if life[5] == "live")
         words = ["records", "--at", moment_text(end)]
         text = self.case.report(words, self.case.names)
-        expect(text == expected, *words, "\nanswered", text, "\nand these lives go on", expected)
+        expect_same(text, expected, *words, "beside the lives that go on")
 
     def later(self):
         """As of a moment no earlier than the newest hearing."""
@@ -109,12 +109,12 @@ class Lived:
         names = self.case.rng.choice(self.case.variants)
         for ask, expected in (("lives", self.text), ("changes", self.changed)):
             text = self.case.report([ask], names)
-            expect(text == expected, ask, *names, "\nanswered", text, "\nexpected", expected)
+            expect_same(text, expected, ask, *names)
 
     def compare(self, other):
         """Another program that does the same prints the same lives."""
         answer = other.run("--lives", *self.case.names)
-        expect(answer.out == self.text, "the other program answered", answer.out, "\nand this one", self.text)
+        expect_same(answer.out, self.text, "the other program")
 
 
 def lives_in(text):

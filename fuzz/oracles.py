@@ -12,7 +12,7 @@ from explained import Explained
 from lived import Lived
 from lines import Unreadable, instances_text, lines_of, types_text
 from pages import Paged
-from program import Answer, Finding, expect
+from program import Answer, Finding, expect, expect_same
 from read_json import ASKED, read_back as read_json_back
 from told import Told
 from wire import SECOND
@@ -93,7 +93,7 @@ class Case:
 
     def expect_answer(self, answer, status, out, err, *words):
         expected = Answer(status, out, err)
-        expect(answer == expected, *words, "\nanswered", answer, "\nexpected", expected)
+        expect_same(answer, expected, *words)
 
     def report(self, words, names):
         """The text of a report that must be printed; its status and its endings are as they must be."""
@@ -165,7 +165,7 @@ class Case:
         """The types and the instances follow from the records that are live."""
         for ask, expected in (("types", types_text(lines)), ("instances", instances_text(lines))):
             text = self.report([ask, *at], self.names)
-            expect(text == expected, ask, *at, "\nanswered", text, "\nexpected", expected)
+            expect_same(text, expected, ask, *at)
 
     def as_json(self):
         """A report as JSON, read back, has the lines of the report."""
@@ -175,7 +175,7 @@ class Case:
             read = read_json_back(text, names, lines_of_one)
         except ValueError as fault:
             raise Finding(ask, "--json: no JSON:", fault) from None
-        expect(read == expected, ask, "--json\nanswered", text, "\nexpected", expected)
+        expect_same(read, expected, ask, "--json")
 
     def early(self, newest):
         """A moment before the newest hearing is refused."""
@@ -198,7 +198,7 @@ class Case:
         live = [line for line in lines if line.until > second * SECOND]
         text = self.report(["records", *at], self.names)
         expected = "".join(f"{line.text}\n" for line in live)
-        expect(text == expected, "records", *at, "\nanswered", text, "\nexpected", expected)
+        expect_same(text, expected, "records", *at)
         if self.rng.random() < 0.3:
             self.services(live, at)
 
@@ -236,7 +236,7 @@ class Case:
 
     def expect_same(self, names):
         text = self.report(["records"], names)
-        expect(text == self.records, "records", *names, "\nanswered", text, "\nexpected", self.records)
+        expect_same(text, self.records, "records", *names)
 
     def past(self):
         """What was heard before a moment is what the packets before it tell, as of it. All packets are read for it."""
@@ -249,7 +249,7 @@ class Case:
         text = self.report([ask, "--before", str(second)], self.names)
         before = [self.add_part(f"before-{name}", self.packets_before(name, second)) for name in self.names]
         expected = self.report([ask, "--at", str(second)], before)
-        expect(text == expected, ask, "--before", second, "\nanswered", text, "\nexpected", expected)
+        expect_same(text, expected, ask, "--before", second)
 
     def packets_before(self, name, second):
         """A capture without what follows its whole packets, and of these the ones that are earlier."""
@@ -261,7 +261,7 @@ class Case:
     def compare(self, other):
         """Another program that does the same prints the same records."""
         answer = other.run(*self.names)
-        expect(answer.out == self.records, "the other program answered", answer.out, "\nand this one", self.records)
+        expect_same(answer.out, self.records, "the other program")
 
 
 def read_back(report):

@@ -7,6 +7,7 @@ from collections import Counter
 from typing import NamedTuple
 
 from commands import FORMS
+from runs import lines_apart
 from shown import HIDDEN
 
 # Characters that people don't see, among them controls.
@@ -32,6 +33,17 @@ class Answer(NamedTuple):
 def expect(is_so, *what):
     if not is_so:
         raise Finding(*what)
+
+
+def expect_same(was, must, *what):
+    """Expects a text, or an answer, and says which lines differ."""
+    if was == must:
+        return
+    if isinstance(must, Answer):
+        must, was = ("".join(f"{name}: {line}\n" for name, text in zip(("status", "out", "err"), answer)
+                             for line in (str(text).splitlines() if name != "status" else [text]))
+                     for answer in (must, was))
+    raise Finding(*what, "answered (+) otherwise than it must (-):", *(f"\n{line}" for line in lines_apart(must, was)))
 
 
 class Program:

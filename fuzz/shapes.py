@@ -6,7 +6,7 @@ Behind the captures `$ WORDS` begins a question, and `out`, `err` and `status` s
 import sys
 from pathlib import Path
 
-from program import Answer, Finding, expect
+from program import Answer, Finding, expect_same
 
 SHAPES = Path(__file__).resolve().parent / "shapes"
 
@@ -29,25 +29,24 @@ def try_shape(program, path):
     captures, questions = shape_of(path)
     for name, capture in captures.items():
         (program.folder / name).write_bytes(capture)
-    for words, expected in questions:
-        answer = program.run(*words)
-        expect(answer == expected, *words, "\nanswered", answer, "\nexpected", expected)
+    for number, words, expected in questions:
+        expect_same(program.run(*words), expected, f"line {number}:", *words)
 
 
 def shape_of(path):
-    """The captures of a shape, and what is asked of them."""
+    """The captures of a shape, and what is asked of them: each question with its line."""
     captures, questions = {}, []
     name = None
-    for line in path.read_text().splitlines():
+    for number, line in enumerate(path.read_text().splitlines(), 1):
         first, _, rest = line.partition(" ")
         if first == "file":
             name = rest
             captures[name] = b""
         elif first == "$":
-            questions.append((tuple(rest.split()), Answer(None, "", "")))
+            questions.append((number, tuple(rest.split()), Answer(None, "", "")))
         elif questions:
-            words, answer = questions[-1]
-            questions[-1] = words, answer_with(answer, first, rest)
+            *asked, answer = questions[-1]
+            questions[-1] = *asked, answer_with(answer, first, rest)
         elif name:
             captures[name] += bytes.fromhex(line.partition("#")[0])
     return captures, questions

@@ -9,7 +9,7 @@ from columns import instances_columns, instances_in, lives_columns, others_in, r
 from commands import ASKS, FORMS
 from lines import Line, Unreadable, instances_text, line_of, lines_of, moment_of, types_names
 from lived import LAST_MOMENT, lives_in
-from program import Finding, expect
+from program import Finding, expect, expect_same
 from subjects import gives_about, is_about, is_name, is_record_about, some_word
 from words import moment_text
 
@@ -159,7 +159,7 @@ class Told:
     def expect_answer(self, basis, ask, form, words):
         options = [*(f"--about={word}" for word in words), *form]
         text, expected = basis.report(ask, *options), self.text_about(basis, ask, form, words)
-        expect(text == expected, ask, *basis.moments, *options, "\nanswered", text, "\nexpected", expected)
+        expect_same(text, expected, ask, *basis.moments, *options)
 
     def text_about(self, basis, ask, form, words):
         """The text of an answer: of what a command lists, that which is about the words."""

@@ -36,7 +36,7 @@ class Row(NamedTuple):
     def case(self, names):
         """The run over files of these names."""
         out, err, status = ANSWER.fullmatch(self.answer.replace("\\n", "\n")).groups()
-        return Case((*self.asked.split(), *names), int(status or WHOLE), out, err or "")
+        return Case((*self.asked.split(), *names), int(status or WHOLE), out, err or "", place=self.place)
 
 
 def rows_of(sources, *paths):
@@ -193,6 +193,6 @@ def try_answers(merge, folder, about=""):
             if about in row.what:
                 count += 1
                 case = row.case(table.lay_out(row, folder))
-                failed += not agrees(case, program, folder, f"{row.place}: {row.what}")
+                failed += not agrees(case, program, folder, row.what)
     print(f"{count} runs over small captures, {failed} failed")
     return failed

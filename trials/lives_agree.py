@@ -12,7 +12,7 @@ from captures import write_capture
 from floods import ORDERS, addresses, flushes, records
 from link import START, Link
 from real import EXAMPLES, NAMES, packets_of, repeated
-from runs import PATIENCE, WHOLE
+from runs import PATIENCE, WHOLE, report_difference
 from wire import SECOND
 
 # A life that goes on: what `records` prints before its first moment, and after it.
@@ -61,6 +61,7 @@ class Trials:
     def __init__(self, program, folder):
         self.program = program
         self.folder = folder
+        self.about = ""
         self.count = 0
         self.failed = 0
 
@@ -75,9 +76,14 @@ class Trials:
     def expect(self, expected, *words):
         """Tries that a run prints this text."""
         self.count += 1
-        if expected is None or self.answer(*words) != expected:
+        printed = None if expected is None else self.answer(*words)
+        if printed is None or printed != expected:
             self.failed += 1
-            print("mdnsmerge", *words, "doesn't print what follows from other runs")
+            asked = f"lives of {self.about}: mdnsmerge {' '.join(map(str, words))}"
+            if printed is None:
+                print(f"{asked}: this run, or one with which it must agree, failed")
+            else:
+                report_difference(f"{asked}, beside what follows from other runs", expected, printed)
 
     def lay_out(self, name, captures):
         """Writes captures, and answers their names."""
@@ -87,6 +93,7 @@ class Trials:
         return names
 
     def try_link(self, link):
+        self.about = link.what
         names, moments = self.lay_out("whole", link.captures), link.moments
         lives = self.answer("lives", *names)
         self.expect(going_on(lives), "records", "--at", text_of(moments[-1]), *names)

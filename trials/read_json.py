@@ -8,6 +8,7 @@ import shutil
 import subprocess
 from pathlib import Path
 
+from runs import report_difference
 from shown import shown_name, shown_of
 
 EXAMPLES = Path(__file__).resolve().parent.parent / "examples"
@@ -60,13 +61,15 @@ ASKED = (("records", ["owner", "type", "data", "shown", "ttl", "heard", "until"]
 
 
 def read_back(text, names, lines_of):
-    """The lines of words that JSON text stands for, or None where a line is no object of these names, or where its text for
-    people isn't that of the others."""
+    """The lines of words that JSON text stands for, and in the place of these the line that is no object of these names, or
+    whose text for people isn't that of the others."""
     lines = []
-    for line in text.splitlines():
+    for number, line in enumerate(text.splitlines(), 1):
         one = json.loads(line)
-        if list(one) != names or one["shown"] != shown_of(one) or not are_shown(one):
-            return None
+        if list(one) != names:
+            return f"line {number} has other names than {' '.join(names)}: {line}\n"
+        if one["shown"] != shown_of(one) or not are_shown(one):
+            return f"line {number} has a text for people that doesn't follow from the others: {line}\n"
         lines += lines_of(one)
     return "".join(f"{line}\n" for line in lines)
 
@@ -88,6 +91,7 @@ def try_read_json(program, folder):
                 read = f"no JSON: {fault}"
             if (run.returncode, run.stderr, read) != (0, "", expected):
                 failed += 1
-                print(f"{asked} --json of {about} isn't what stands in examples/expected")
+                report_difference(f"{asked} --json of {about}: status {run.returncode}, {run.stderr!r}, and the lines of words of "
+                                  f"its objects beside those of examples/expected/{about}.{asked}.txt", expected, read)
     print(f"{count} runs read back as JSON, {failed} failed")
     return failed

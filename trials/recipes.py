@@ -12,6 +12,8 @@ import shutil
 import subprocess
 from pathlib import Path
 
+from runs import lines_apart
+
 TOP = Path(__file__).resolve().parent.parent
 PAGE = TOP / "docs/recipes.md"
 README = TOP / "README.md"
@@ -34,19 +36,25 @@ COMMAND = re.compile(r"`([^`]+)`")
 
 def questions():
     """Each command of README.md that answers a question, as a block that may print any lines."""
-    rows = ROW.findall(README.read_text(encoding="utf-8"))
-    commands = [command for row in rows for command in COMMAND.findall(row)]
-    return [("bash", re.sub(r" > (\S+)$", r" > \1 && cat \1", command), None) for command in commands]
+    text = README.read_text(encoding="utf-8")
+    commands = [(place(README, text, row.start()), command) for row in ROW.finditer(text) for command in COMMAND.findall(row[1])]
+    return [(at, "bash", re.sub(r" > (\S+)$", r" > \1 && cat \1", command), None) for at, command in commands]
+
+
+def place(path, text, at):
+    """The file and the line of an offset."""
+    return f"{path.relative_to(TOP)}:{text.count(chr(10), 0, at) + 1}"
 
 
 def blocks(page):
-    """The kind of each block, its commands, and the lines that it must print, or None if the page has none."""
-    return [(kind, commands, printed.splitlines() or None) for kind, commands, printed in BLOCK.findall(page)]
+    """The place of each block, its kind, its commands, and the lines that it must print, or None if the page has none."""
+    return [(place(PAGE, page, block.start()), block[1], block[2], (block[3] or "").splitlines() or None)
+            for block in BLOCK.finditer(page)]
 
 
 def lost_fences(page):
     """How many fences of the page belong to no block."""
-    return len(re.findall("^```", page, re.MULTILINE)) - sum(4 if printed else 2 for _, _, printed in blocks(page))
+    return len(re.findall("^```", page, re.MULTILINE)) - sum(4 if printed else 2 for *_, printed in blocks(page))
 
 
 def lay_out(folder):
@@ -67,17 +75,23 @@ def are_as_said(lines, printed):
 
 
 def fault_of(commands, printed, folder, environment):
-    """What is wrong with the run of a block, or an empty text."""
+    """What is wrong with the run of a block, in lines, if something is."""
     run = subprocess.run(["timeout", PATIENCE, "bash", "-c", commands], cwd=folder, env=environment,
                          stdin=subprocess.DEVNULL, capture_output=True, encoding="utf-8", check=False)
     if run.returncode or run.stderr:
-        return f"status {run.returncode} and on standard error {run.stderr}"
-    return "" if are_as_said(run.stdout.splitlines(), printed) else f"prints {run.stdout}  and not {printed}"
+        return [f"  status {run.returncode} and on standard error {run.stderr}"]
+    if are_as_said(run.stdout.splitlines(), printed):
+        return []
+    if printed is None:
+        return ["  it prints nothing"]
+    must = "".join(f"{line}\n" for line in printed)
+    return ["  what it must print (-) and what it prints (+):", *lines_apart(must, run.stdout)]
 
 
 def unread(commands):
-    """What bash says of a block that it can't read."""
-    return subprocess.run(["bash", "-n", "-c", commands], capture_output=True, encoding="utf-8", check=False).stderr
+    """What bash says of a block that it can't read, in lines."""
+    run = subprocess.run(["bash", "-n", "-c", commands], capture_output=True, encoding="utf-8", check=False)
+    return [f"  {line}" for line in run.stderr.splitlines()]
 
 
 def try_recipes(program, folder):
@@ -89,7 +103,7 @@ def try_recipes(program, folder):
     failed, counts = lost_fences(page), {"run": 0, "only read": 0, "skipped": 0}
     if failed:
         print(f"recipes: {failed} fences are of no block")
-    for kind, commands, printed in [*blocks(page), *questions()]:
+    for at, kind, commands, printed in [*blocks(page), *questions()]:
         fault = unread(commands)
         if kind != "bash":
             counts["only read"] += 1
@@ -100,7 +114,7 @@ def try_recipes(program, folder):
             fault = fault or fault_of(commands, printed, folder, environment)
         if fault:
             failed += 1
-            print(f"recipes: {commands}  {fault}")
+            print(f"{at}: {commands.strip()}", *fault, sep="\n")
     lacks = f" for want of {' and '.join(missing)}" if missing else ""
     print(f"recipes: {counts['run']} blocks run, {counts['only read']} only read, {counts['skipped']} skipped{lacks}, "
           f"{failed} failed")

@@ -6,11 +6,14 @@ import resource
 import shlex
 import shutil
 import subprocess
+import sys
 from pathlib import Path
 from typing import NamedTuple
 
 # As whom a run that must not read everything is made, where this one is made as root.
 NOBODY = 65534
+
+TOP = Path(__file__).resolve().parent.parent
 
 # How long a run may take, in seconds: each reads a few hundred bytes.
 PATIENCE = 20
@@ -18,8 +21,21 @@ PATIENCE = 20
 WHOLE, DAMAGED, REFUSED = 0, 1, 2
 
 
-class Case(NamedTuple):
-    """Words after the program's name, and what must come of them."""
+def place_of_row():
+    """The file and line of the table that is being made, or else of the function that makes a case."""
+    frame, nearest = sys._getframe(2), None
+    while frame:
+        if frame.f_code.co_filename != __file__:
+            nearest = nearest or frame
+            if frame.f_code.co_name == "<module>" and frame.f_globals["__name__"] != "__main__":
+                nearest = frame
+                break
+        frame = frame.f_back
+    path = Path(nearest.f_code.co_filename).resolve()
+    return f"{path.relative_to(TOP) if TOP in path.parents else path}:{nearest.f_lineno}"
+
+
+class CaseFields(NamedTuple):
     words: tuple
     status: int
     out: str = ""
@@ -34,6 +50,17 @@ class Case(NamedTuple):
     is_nobody: bool = False
     # Whether the program gets no words at all, not even its name.
     is_nameless: bool = False
+    # The file and line of its row.
+    place: str = ""
+
+
+class Case(CaseFields):
+    """Words after the program's name, and what must come of them."""
+    __slots__ = ()
+
+    def __new__(cls, *fields, **named):
+        named.setdefault("place", place_of_row())
+        return super().__new__(cls, *fields, **named)
 
 
 def refused(words, err, **how):
@@ -126,10 +153,14 @@ def differences(case, answer):
 
 def lines_apart(must, was):
     """The lines of which two texts differ, with those around them; what can't be seen is escaped."""
-    lines = [[line.decode(errors="backslashreplace") for line in text.splitlines(keepends=True)] for text in (must, was)]
+    lines = [[line.decode(errors="backslashreplace") for line in bytes_of(text).splitlines(keepends=True)] for text in (must, was)]
     apart = difflib.unified_diff(*lines, n=1)
     # The two lines before the first piece would have the names of files.
     return [f"    {line[0]}{shown(line[1:])}" if line[0] in "-+ " else f"    {line.rstrip()}" for line in list(apart)[2:]]
+
+
+def bytes_of(text):
+    return text.encode("utf-8", "surrogateescape") if isinstance(text, str) else text
 
 
 def shown(line):
@@ -148,7 +179,12 @@ def agrees(case, program, folder, what="", given=None):
     """Tries a case in a folder, and says what differs."""
     found = differences(case, run_case(case, program, folder, given))
     if found:
-        about = f"{what}: " if what else ""
+        about = f"{case.place}: {what}: " if what else f"{case.place}: "
         streams = [f", {name} {to}" for name, to in (("output", case.out_to), ("errors", case.err_to)) if to]
         print(f"{about}{command(program, case.words)}{''.join(streams)}", *found, sep="\n")
     return not found
+
+
+def report_difference(about, must, was):
+    """Says that a text isn't what it must be, and which lines differ."""
+    print(f"{about}, as it must be (-) and as it is (+):", *lines_apart(must, was), sep="\n")

@@ -4,33 +4,35 @@ import os
 import subprocess
 from pathlib import Path
 
+from runs import report_difference
+
 TOP = Path(__file__).resolve().parent.parent
 TEXT = TOP / "docs/theorem.txt"
 INDENT = "    "
 
 
 def commands():
-    """Each command of the page's examples, with the lines that it must print."""
+    """Each command of the page's examples, with its line there and the lines that it must print."""
     found = []
-    for line in TEXT.read_text(encoding="utf-8").splitlines():
+    for number, line in enumerate(TEXT.read_text(encoding="utf-8").splitlines(), 1):
         if line.startswith(f"{INDENT}$ "):
-            found.append((line[len(INDENT) + 2:], []))
+            found.append((number, line[len(INDENT) + 2:], []))
             continue
-        if line.startswith(INDENT) and found and found[-1][1] is not None:
-            found[-1][1].append(line[len(INDENT):])
+        if line.startswith(INDENT) and found and found[-1][2] is not None:
+            found[-1][2].append(line[len(INDENT):])
         elif found and not line:
-            found.append(("", None))
-    return [(command, printed) for command, printed in found if command]
+            found.append((number, "", None))
+    return [one for one in found if one[1]]
 
 
 def try_theorem(program, folder):
     """Runs the commands with the folder of the program first on the PATH; answers how many failed."""
     words = {**os.environ, "PATH": f"{program.parent}:{os.environ['PATH']}"}
     failed = 0
-    for command, printed in commands():
+    for number, command, printed in commands():
         run = subprocess.run(["bash", "-c", command], cwd=TOP, env=words, capture_output=True, text=True, check=False)
         if run.stdout.splitlines() != printed:
             failed += 1
-            print(f"theorem: {command}\n  prints {run.stdout}  and not {printed}")
+            report_difference(f"docs/theorem.txt:{number}: {command}", "".join(f"{line}\n" for line in printed), run.stdout)
     print(f"theorem: {len(commands())} commands, {failed} failed")
     return failed

@@ -345,9 +345,10 @@ def spanned_otherwise(why, merge, names):
 def shown_otherwise(why, names):
     """What mdnswhy prints for people that doesn't follow from its plain lines."""
     for trace in TRACES:
-        plain, shown = (lines_of(why, trace, *form, *names) for form in ((), ("--pretty",)))
-        if shown != pretty_text(trace, "\n".join(plain)).splitlines() or not shown:
-            yield f"`mdnswhy {trace} --pretty` doesn't follow from its plain lines"
+        plain, shown = ("".join(f"{line}\n" for line in lines_of(why, trace, *form, *names)) for form in ((), ("--pretty",)))
+        if shown != pretty_text(trace, plain) or not shown:
+            apart = "\n".join(runs.lines_apart(pretty_text(trace, plain), shown))
+            yield f"`mdnswhy {trace} --pretty` doesn't follow (-) from its plain lines:\n{apart}"
 
 
 def disagreements(why, merge, names):
@@ -378,7 +379,7 @@ def try_why(merge, folder):
     for case in HELP:
         if not is_fit(case.out):
             failed += 1
-            print(f"mdnswhy {case.words}: the page is no screen, or lacks what all pages say")
+            print(f"{case.place}: mdnswhy {case.words}: the page is no screen, or lacks what all pages say")
     failed += try_examples(why, merge)
     print(f"{len(cases)} runs of mdnswhy, and those over the example captures, {failed} failed")
     return failed
