@@ -1,11 +1,11 @@
 """The lives of records by their definition: whether a record was live is asked at each moment at which something of it is
 heard or may end, and a nanosecond before and after. What was heard later doesn't count."""
 
-import json
 from bisect import bisect_right
 from typing import NamedTuple
 
 from hearings import Hearing
+from json_forms import text_of
 from shown import shown_of
 from wire import PTR, SECOND
 from words import data_words, kind_text, moment_text, name_text
@@ -132,4 +132,4 @@ def life_object(spelled, life, end):
                "data": data_words(spelled.kind, spelled.data)}
     members |= {"shown": shown_of(members), "from": moment_text(life.start), "ttl": life.last.ttl,
                 "heard": moment_text(life.last.moment), "until": moment_text(life.until), "end": life.end_word(end)}
-    return json.dumps(members, ensure_ascii=False, separators=(",", ":"))
+    return text_of(members).removesuffix("\n")
