@@ -19,7 +19,7 @@ define NEED_RT
 	exit 1; }
 endef
 
-.PHONY: all try run test trials bench fuzz install dist clean
+.PHONY: all check try run test trials bench fuzz install dist clean
 
 all: $(PROGRAMS)
 
@@ -46,8 +46,15 @@ $(PROVED): out/%.proved:
 below = $(filter $(CRATES),$(shell sed -n 's/^$(1)://p' crates.txt))
 $(foreach crate,$(CRATES),$(eval out/$(crate).proved: $$(patsubst %,out/%.proved,$$(call below,$(crate)))))
 
-# Lists the services that the two examples give together. `try` compiles mdnsmerge without proofs and keeps no program, and
-# takes about two minutes; `run` proves it first.
+# Two minutes of what a change most likely breaks: the rows, and the trials of the program as it was built last; with
+# CRATE=mdns_cache, say, the proof of that crate before them.
+check:
+	$(NEED_RT)
+	$(if $(CRATE),cd crates/$(CRATE) && rt check)
+	trials/run --quick
+
+# What services two listeners of one link heard together: at once, by the program of `uses`, which is made sooner than
+# mdnsmerge since it has neither its command line nor its pages, and without proofs; and by mdnsmerge, proved.
 try:
 	$(NEED_RT)
 	@echo "mdnsmerge is compiled without proofs, which takes about two minutes; make run proves it" >&2
