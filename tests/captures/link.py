@@ -1,0 +1,300 @@
+"""A large link: thousands of hosts that announce, answer, ask, move, leave and come back for hours."""
+
+import random
+import struct
+from collections import deque
+from itertools import accumulate, islice
+from typing import NamedTuple
+
+from tests.captures.wire import (A, AAAA, ADDITIONAL, ANSWER, ANY, AUTHORITY, NSEC, PTR, QUERY, SECOND, SRV, TXT, Message,
+                                 ipv4_frame, ipv6_frame)
+
+START = 1_700_000_000 * SECOND
+
+# Moments are whole microseconds, so that captures of all four magics tell the same.
+MICROSECOND = 1000
+
+# A million packets in six hours.
+MEAN_GAP = 21_600 * SECOND // 1_000_000
+
+# How long a record holds: those that name a host or its address, and all others (RFC 6762, section 10).
+HOST_TTL, OTHER_TTL = 120, 4500
+
+# What a host that is there does when its turn comes, and how often of all.
+TURNS = {
+    "answer": 49,
+    "announcement": 12,
+    "address": 14,
+    "query": 16,
+    "probe": 2,
+    "goodbye": 0.5,
+    "other": 4,
+    "damage": 0.5,
+}
+
+# How likely a host moves at its turn, and how likely one that left comes back.
+MOVES = 0.0002
+RETURNS = 0.2
+
+LOCAL = b"local"
+META = (b"_services", b"_dns-sd", b"_udp", LOCAL)
+
+# The types A and AAAA, and the types TXT and SRV, as NSEC records list them (RFC 4034, section 4.1.2).
+ADDRESSES_ALONE = bytes.fromhex("000440000008")
+SERVICE_ALONE = bytes.fromhex("00050000800040")
+
+TREES = ("Alder", "Ash", "Beech", "Birch", "Cedar", "Elm", "Fir", "Hazel", "Larch", "Maple", "Oak", "Pine", "Yew")
+PLACES = ("Office", "Lab", "Kitchen", "Studio", "Hall", "Library", "Anna's", "Caf\u00e9", "Room 4.12")
+
+
+class Kind(NamedTuple):
+    """A kind of service: its type, what its instances are called, its port and the strings of its text."""
+
+    label: str
+    noun: str
+    port: int
+    text: tuple
+
+
+KINDS = (
+    Kind("_ipp", "Printer", 631, (
+        "txtvers=1", "rp=ipp/print", "ty=Laser 4200", "adminurl=http://printer.local/admin",
+        "pdl=application/pdf,image/urf,image/pwg-raster", "Color=T", "Duplex=T", "priority=50")),
+    Kind("_printer", "Queue", 515, ("txtvers=1", "rp=raw", "note=second floor")),
+    Kind("_http", "Wiki", 80, ("path=/wiki", "version=1.2")),
+    Kind("_ssh", "Shell", 22, ()),
+    Kind("_sftp-ssh", "Files", 22, ("u=guest",)),
+    Kind("_smb", "Share", 445, ()),
+    Kind("_airplay", "Screen", 7000, (
+        "deviceid=02:00:5E:00:53:01", "features=0x5A7FFFF7,0x1E", "model=TV3,2", "srcvers=220.68")),
+    Kind("_googlecast", "Cast", 8009, ("id=5e1f2ab4", "ve=05", "md=Stick", "ic=/setup/icon.png", "fn=Cast", "st=0")),
+    Kind("_hap", "Lamp", 5001, ("c#=2", "ff=0", "id=02:00:5E:00:53:02", "md=Lamp", "pv=1.1", "s#=1", "sf=0")),
+    Kind("_workstation", "Desk", 9, ()),
+)
+
+
+class Record(NamedTuple):
+    owner: tuple
+    kind: int
+    data: object
+    flush: bool
+
+
+class Service:
+    """A service instance and its records."""
+
+    def __init__(self, number, kind, host):
+        label = f"{PLACES[number % len(PLACES)]} {kind.noun} {number}".encode()
+        service_type = (kind.label.encode(), b"_tcp", LOCAL)
+        name = (label,) + service_type
+        self.service_type = service_type
+        self.listing = Record(META, PTR, service_type, False)
+        self.pointer = Record(service_type, PTR, name, False)
+        self.server = Record(name, SRV, (0, 0, kind.port, host), True)
+        self.text = Record(name, TXT, text_data(kind.text), True)
+
+
+def text_data(strings):
+    """The data of a TXT record; without strings, one empty string (RFC 6763, section 6.1)."""
+    return b"".join(bytes((len(string),)) + string.encode() for string in strings) or b"\0"
+
+
+class Host:
+    """A host: its addresses, its services, and the messages that it sends, each made once and then sent again."""
+
+    def __init__(self, number):
+        self.number = number
+        label = f"{TREES[number % len(TREES)]}-{number}".encode()
+        self.name = (label, LOCAL)
+        # Some speakers spell their name one way in announcements, and another way in answers.
+        self.answered_name = (label.lower(), LOCAL) if number % 50 == 0 else self.name
+        self.services = []
+        # Some hosts send each message over IPv4 and over IPv6.
+        self.is_dual = number % 8 == 0
+        self.is_present = True
+        self.move(0)
+
+    def move(self, subnet):
+        """Takes the addresses of another subnet, those for benchmarks of RFC 2544 and RFC 5180."""
+        self.ipv4 = struct.pack("!BBH", 198, 18 + subnet % 2, (self.number + 4096 * subnet) & 0xFFFF)
+        self.ipv6 = bytes.fromhex("200100020000") + struct.pack("!HII", subnet, 0, self.number)
+        self.link_local = bytes.fromhex("fe80000000000000") + struct.pack("!II", 0x02005EFF, self.number)
+        self.sent = {}
+
+    def addresses(self, name):
+        return [Record(name, A, self.ipv4, True), Record(name, AAAA, self.ipv6, True)]
+
+    def records(self):
+        """All that the host has to say, each with its TTL."""
+        for service in self.services:
+            yield service.listing, OTHER_TTL
+            yield service.pointer, OTHER_TTL
+            yield service.server, HOST_TTL
+            yield service.text, OTHER_TTL
+        for address in self.addresses(self.name):
+            yield address, HOST_TTL
+        # Some speakers say whose their address is, too.
+        if self.number % 8 == 1:
+            yield Record(self.reverse_name(), PTR, self.name, True), HOST_TTL
+
+    def reverse_name(self):
+        return tuple(str(octet).encode() for octet in reversed(self.ipv4)) + (b"in-addr", b"arpa")
+
+    def frames(self, what):
+        """The frames of a message that the host sends."""
+        if what not in self.sent:
+            payload = getattr(self, what[0])(*what[1:])
+            self.sent[what] = self.framed(payload)
+        return self.sent[what]
+
+    def framed(self, payload):
+        frame = ipv4_frame(self.ipv4, payload)
+        return (frame, ipv6_frame(self.link_local, payload)) if self.is_dual else (frame,)
+
+    def announcement(self):
+        """All records, unasked (RFC 6762, section 8.3)."""
+        message = Message()
+        for record, ttl in self.records():
+            message.record(ANSWER, record, ttl)
+        return message.wire()
+
+    def goodbye(self):
+        """All records, to be forgotten (RFC 6762, section 10.1)."""
+        message = Message()
+        for record, _ in self.records():
+            message.record(ANSWER, record, 0)
+        return message.wire()
+
+    def answer(self, index):
+        """A service that was asked for, and what is wanted next (RFC 6763, section 12.1)."""
+        service = self.services[index]
+        message = Message()
+        message.record(ANSWER, service.pointer, OTHER_TTL)
+        message.record(ADDITIONAL, service.server, HOST_TTL)
+        message.record(ADDITIONAL, service.text, OTHER_TTL)
+        message.record(ADDITIONAL, no_other(service.text.owner, SERVICE_ALONE), HOST_TTL)
+        self.add_addresses(message, ADDITIONAL)
+        return message.wire()
+
+    def address(self):
+        """The addresses of the host alone."""
+        message = Message()
+        self.add_addresses(message, ANSWER)
+        return message.wire()
+
+    def add_addresses(self, message, section):
+        for address in self.addresses(self.answered_name):
+            message.record(section, address, HOST_TTL)
+        message.record(ADDITIONAL, no_other(self.answered_name, ADDRESSES_ALONE), HOST_TTL)
+
+    def query(self, index):
+        """A question for services, with the host's own as a known answer (RFC 6762, section 7.1)."""
+        service = self.services[index]
+        message = Message(QUERY)
+        message.question(service.service_type, PTR)
+        message.record(ANSWER, service.pointer, OTHER_TTL)
+        return message.wire()
+
+    def probe(self):
+        """A question whether the host's name is taken (RFC 6762, section 8.1)."""
+        message = Message(QUERY)
+        message.question(self.name, ANY)
+        for address in self.addresses(self.name):
+            message.record(AUTHORITY, address._replace(flush=False), HOST_TTL)
+        return message.wire()
+
+
+def no_other(name, types):
+    """The record that says which types of records a name has, and that it has no other (RFC 6762, section 6.1)."""
+    return Record(name, NSEC, (name, types), True)
+
+
+def hosts_of(count):
+    """The hosts, with four services for each three."""
+    hosts = [Host(number) for number in range(count)]
+    for number in range(count * 4 // 3):
+        host = hosts[number % count]
+        host.services.append(Service(number, KINDS[number * 7 % len(KINDS)], host.name))
+    return hosts
+
+
+def damaged(rng, payload):
+    """A message with something wrong: cut short, an octet that begins no label, or a pointer to itself."""
+    broken = bytearray(payload)
+    way = rng.randrange(3)
+    if way == 0:
+        return payload[: rng.randrange(12, len(payload))]
+    if way == 1:
+        broken[12] = 0x80
+    else:
+        struct.pack_into("!H", broken, 12, 0xC00C)
+    return bytes(broken)
+
+
+def other_frames(host):
+    """Traffic of a host that is no message of the group: ARP, a search by SSDP, a reply to one asker, a fragment."""
+    arp = bytes.fromhex("ffffffffffff02000000000108060001080006040001020000000001") + host.ipv4 + bytes(6) + host.ipv4
+    search = b"M-SEARCH * HTTP/1.1\r\nHOST: 239.255.255.250:1900\r\nST: ssdp:all\r\nMX: 2\r\n\r\n"
+    discovery = ipv4_frame(host.ipv4, search, bytes((239, 255, 255, 250)), 50_000, 1900)
+    unicast = ipv4_frame(host.ipv4, host.address(), bytes((198, 18, 255, 1)), 5353, 40_000)
+    fragment = bytearray(host.frames(("address",))[0])
+    struct.pack_into("!H", fragment, 20, 0x2000)
+    return arp, discovery, unicast, bytes(fragment)
+
+
+class Link:
+    """The hosts of a link, and whose turn it is."""
+
+    def __init__(self, seed, hosts):
+        self.rng = random.Random(seed)
+        self.hosts = hosts_of(hosts)
+        self.turns = tuple(TURNS)
+        self.weights = tuple(accumulate(TURNS.values()))
+
+    def packets(self, count):
+        """So many packets in order, each with its moment."""
+        return islice(self.endless(), count)
+
+    def endless(self):
+        moment = START
+        # Each announcement comes twice, one second apart (RFC 6762, section 8.3).
+        repeats = deque()
+        while True:
+            while repeats and repeats[0][0] <= moment:
+                yield repeats.popleft()
+            frames, is_repeated = self.turn()
+            for delay, frame in enumerate(frames):
+                yield moment + MICROSECOND * delay, frame
+                if is_repeated:
+                    repeats.append((moment + SECOND + MICROSECOND * delay, frame))
+            moment += MICROSECOND * (2 + int(self.rng.expovariate(MICROSECOND / MEAN_GAP)))
+
+    def turn(self):
+        """The frames of one turn, and whether they come again a second later."""
+        host = self.rng.choice(self.hosts)
+        if not host.is_present:
+            return self.absent_turn(host)
+        if self.rng.random() < MOVES:
+            host.move(self.rng.randrange(1, 16))
+            return host.frames(("announcement",)), True
+        return self.present_turn(host, self.rng.choices(self.turns, cum_weights=self.weights)[0])
+
+    def absent_turn(self, host):
+        if self.rng.random() < RETURNS:
+            host.is_present = True
+            return host.frames(("announcement",)), True
+        return self.other(host), False
+
+    def present_turn(self, host, what):
+        if what in ("answer", "query"):
+            return host.frames((what, self.rng.randrange(len(host.services)))), False
+        if what == "damage":
+            return host.framed(damaged(self.rng, host.address())), False
+        if what == "other":
+            return self.other(host), False
+        if what == "goodbye":
+            host.is_present = False
+        return host.frames((what,)), what == "announcement"
+
+    def other(self, host):
+        return (self.rng.choice(other_frames(host)),)

@@ -1,0 +1,125 @@
+"""What must hold of the answers of `lives` and `changes` over the captures of a case: they are those of the definition, and
+agree with the reports."""
+
+import re
+
+from tests.captures.wire import SECOND
+from tests.fuzz.explained import record_key
+from tests.judges.hearings import hearings_of
+from tests.judges.lines import moment_of
+from tests.judges.lives import changes_in, lives_text, rows_of
+from tests.judges.savefile import moment_of as packet_moment
+from tests.judges.words import moment_text
+from tests.running.program import Finding, expect, expect_same
+
+LIFE = re.compile(r"(.*) from (\d+\.\d{9}) (ttl \d+ heard \d+\.\d{9} until (\d+\.\d{9})) (live|expired|goodbye|flushed)")
+
+LAST_MOMENT = 4_294_967_296 * SECOND - 1
+
+# How much later than the newest hearing a moment is that is asked for, besides each end of a life.
+LATER = (0, 1, SECOND, 120 * SECOND)
+
+
+class Lived:
+    """The answers of `lives` over the captures of a case."""
+
+    def __init__(self, case):
+        self.case = case
+        self.heard = {name: list(hearings_of(case.captures[name])) for name in case.names}
+        self.hearings = [hearing for heard in self.heard.values() for hearing in heard]
+        self.moments = [packet_moment(case.captures[name], packet)
+                        for name in case.names for packet in case.readings[name].packets]
+        self.end = max(self.moments, default=0)
+
+    def agree(self):
+        """All answers."""
+        self.counted()
+        self.text, self.changed = self.expect_lives([], self.hearings, self.end)
+        self.lives = lives_in(self.text)
+        self.case.seen.ends.update(life[5] for life in self.lives)
+        self.case.seen.ends["change"] += self.changed.count("\n")
+        self.expect_records(self.lives, self.end)
+        self.later()
+        self.before()
+        self.within()
+        self.same_text()
+
+    def counted(self):
+        """As many hearings are read apart from the programs as `check` counts."""
+        for name, heard in self.heard.items():
+            counted = self.case.counts[name]["hearings"]
+            expect(len(heard) == counted, name, "has", len(heard), "hearings, and counted are", counted)
+
+    def expect_lives(self, moments, hearings, end):
+        """The answers of `lives` and `changes` over hearings where the captures end at a moment, which must be those of the
+        definition, some also as JSON."""
+        rows = rows_of(hearings)
+        return [self.expect_rows([ask, *moments], told, end) for ask, told in (("lives", rows), ("changes", changes_in(rows)))]
+
+    def expect_rows(self, words, rows, end):
+        """An answer that must be these lives. It is returned in lines."""
+        forms = ("--json", None) if self.case.rng.random() < 0.3 else (None,)
+        for form in forms:
+            asked = [*words, form] if form else words
+            text = self.case.report(asked, self.case.names)
+            expected = lives_text(rows, end, as_json=bool(form))
+            expect_same(text, expected, *asked)
+        return text
+
+    def expect_records(self, lives, end):
+        """The lives that go on are the live records as of the end of the captures."""
+        expected = "".join(f"{life[1]} {life[3]}\n" for life in lives if life[5] == "live")
+        words = ["records", "--at", moment_text(end)]
+        text = self.case.report(words, self.case.names)
+        expect_same(text, expected, *words, "beside the lives that go on")
+
+    def later(self):
+        """As of a moment no earlier than the newest hearing."""
+        newest = max((hearing.moment for hearing in self.hearings), default=0)
+        ends = [moment_of(life[4]) + step for life in self.lives for step in (-1, 0)]
+        moment = self.case.rng.choice([newest + gap for gap in LATER] + [end for end in ends if end >= newest])
+        if moment <= LAST_MOMENT:
+            self.expect_lives(["--at", moment_text(moment)], self.hearings, moment)
+
+    def before(self):
+        """By what was heard before a moment."""
+        moment = self.about_packet()
+        if moment <= LAST_MOMENT:
+            earlier = [hearing for hearing in self.hearings if hearing.moment < moment]
+            self.expect_lives(["--before", moment_text(moment)], earlier, moment)
+
+    def about_packet(self):
+        """The moment of a packet, or one soon after it."""
+        return self.case.rng.choice(self.moments or [0]) + self.case.rng.choice((0, 0, 1, SECOND))
+
+    def within(self):
+        """At a moment at which nothing was heard those records are live that the report before it lists."""
+        moment = self.case.rng.choice(self.moments or [0]) + self.case.rng.choice((-1, 1, SECOND, SECOND + 1))
+        if not 0 <= moment <= LAST_MOMENT or any(hearing.moment == moment for hearing in self.hearings):
+            return
+        words = ["records", "--before", moment_text(moment)]
+        text = self.case.report(words, self.case.names)
+        listed = sorted(record_key(line.rpartition(" ttl ")[0]) for line in text.splitlines())
+        live = sorted(record_key(life[1]) for life in self.lives
+                      if moment_of(life[2]) <= moment < moment_of(life[4]))
+        expect(listed == live, *words, "\nanswered", text, "\nand live by their lives are", *live)
+
+    def same_text(self):
+        """Captures shuffled, repeated or cut where a packet header begins have the same lives, and the same changes."""
+        names = self.case.rng.choice(self.case.variants)
+        for ask, expected in (("lives", self.text), ("changes", self.changed)):
+            text = self.case.report([ask], names)
+            expect_same(text, expected, ask, *names)
+
+    def compare(self, other):
+        """Another program that does the same prints the same lives."""
+        answer = other.run("--lives", *self.case.names)
+        expect_same(answer.out, self.text, "the other program")
+
+
+def lives_in(text):
+    """The lines of lives, in their parts."""
+    lives = [LIFE.fullmatch(line) for line in text.splitlines()]
+    if not all(lives):
+        raise Finding("no line of a life in", text)
+    return lives

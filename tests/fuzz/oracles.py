@@ -1,0 +1,282 @@
+"""What must hold of the program's answers over some captures, whatever is in them.
+
+No second program is needed: what is expected comes from a reading of the packet headers alone, and from the program's
+other answers. Each oracle is a function that raises a finding."""
+
+import re
+from collections import Counter
+
+from tests.captures.wire import SECOND
+from tests.fuzz.explained import Explained
+from tests.fuzz.lived import Lived
+from tests.fuzz.pages import Paged
+from tests.fuzz.told import Told
+from tests.judges import savefile
+from tests.judges.lines import Unreadable, instances_text, lines_of, types_text
+from tests.judges.words import moment_text
+from tests.running.commands import ANSWERS, ASKS
+from tests.running.program import Answer, Finding, expect, expect_same
+from tests.trials.read_json import ASKED, read_back as read_json_back
+
+CHECK = re.compile(r"(\S+): packets (\d+) skipped (\d+) refused (\d+) messages (\d+) hearings (\d+) (.*)\n")
+
+LAST_SECOND = 4_294_967_295
+
+
+def try_case(program, why, rng, captures, second_opinion, seen):
+    """Tries all oracles on some captures, and adds to what was seen."""
+    case = Case(program, rng, captures, seen)
+    explained, lived = Explained(why, case), Lived(case)
+    checks = [case.checked(name) for name in case.names]
+    case.checked_together(checks)
+    if case.fault:
+        case.refusals()
+        explained.refusals()
+        return
+    case.reports()
+    case.as_json()
+    explained.agree()
+    case.same_text()
+    case.past()
+    lived.agree()
+    Told(case, explained, lived).agree()
+    Paged(case, explained, lived).agree()
+    if second_opinion:
+        case.compare(second_opinion)
+        lived.compare(second_opinion)
+
+
+class Seen:
+    """What the cases had, to tell whether they reach what they are for."""
+
+    def __init__(self):
+        self.endings = Counter()
+        self.counts = Counter()
+        self.lines = Counter()
+        self.ends = Counter()
+        self.pages = Counter()
+
+
+class Case:
+    def __init__(self, program, rng, captures, seen):
+        self.program = program
+        self.seen = seen
+        self.rng = rng
+        self.captures = {}
+        self.readings = {}
+        self.counts = {}
+        self.lines = []
+        # Other captures that must have the same text.
+        self.variants = []
+        for index, capture in enumerate(captures):
+            self.add(f"{'abc'[index]}.pcap", capture)
+        self.names = list(self.captures)
+        self.fault = self.fault_line(self.names)
+
+    def add(self, name, capture):
+        (self.program.folder / name).write_bytes(capture)
+        self.captures[name] = capture
+        self.readings[name] = savefile.reading_of(capture)
+
+    def fault_line(self, names):
+        """The line of the first capture that is refused, if one is."""
+        faults = (f"mdnsmerge: {name}: {self.readings[name].fault}\n" for name in names if self.readings[name].fault)
+        return next(faults, None)
+
+    def status(self, names):
+        return 0 if all(self.readings[name].is_whole for name in names) else 1
+
+    def ending_lines(self, names):
+        """What standard error must say after a report."""
+        cut = (name for name in names if not self.readings[name].is_whole)
+        return "".join(f"mdnsmerge: {name}: {self.readings[name].ending}\n" for name in cut)
+
+    def expect_answer(self, answer, status, out, err, *words):
+        expected = Answer(status, out, err)
+        expect_same(answer, expected, *words)
+
+    def report(self, words, names):
+        """The text of a report that must be printed; its status and its endings are as they must be."""
+        answer = self.program.run(*words, *names)
+        self.expect_answer(answer, self.status(names), answer.out, self.ending_lines(names), *words, *names)
+        return answer.out
+
+    def checked(self, name):
+        """What `check` prints of a capture, its counts being right."""
+        reading = self.readings[name]
+        self.seen.endings[reading.fault or reading.ending.partition(" at ")[0]] += 1
+        answer = self.program.run("check", name)
+        if reading.fault:
+            self.expect_answer(answer, 2, "", self.fault_line([name]), "check", name)
+        else:
+            self.expect_answer(answer, self.status([name]), answer.out, "", "check", name)
+            self.counts[name] = self.counted(answer.out, name)
+            self.seen.counts.update(self.counts[name])
+        return answer.out
+
+    def counted(self, out, name):
+        """The counts in a line of a check. The packets are as many as there are, and each is counted once."""
+        match = CHECK.fullmatch(out)
+        expect(match, "no line of a check:", out)
+        packets, skipped, refused, messages, hearings = (int(number) for number in match.groups()[1:6])
+        expect(match[1] == name and match[7] == self.readings[name].ending, "another name or ending:", out)
+        expect(packets == len(self.readings[name].packets), "another number of packets:", out)
+        expect(packets == skipped + refused + messages, "the counts don't add up:", out)
+        expect(messages > 0 or hearings == 0, "hearings without a message:", out)
+        return Counter(skipped=skipped, refused=refused, messages=messages, hearings=hearings)
+
+    def checked_together(self, checks):
+        """The check of all captures is the checks of each, or the first one's refusal."""
+        answer = self.program.run("check", *self.names)
+        if self.fault:
+            self.expect_answer(answer, 2, "", self.fault, "check", *self.names)
+        else:
+            self.expect_answer(answer, self.status(self.names), "".join(checks), "", "check", *self.names)
+
+    def refusals(self):
+        """Where a capture is refused, each report is, whatever else is asked."""
+        for words in (*((ask,) for ask in ANSWERS), ("records", "--at", "0"), ("types", "--before", "0"),
+                      ("lives", "--at", "0"), ("page", "--at", "0")):
+            self.expect_answer(self.program.run(*words, *self.names), 2, "", self.fault, *words, *self.names)
+
+    def reports(self):
+        """All reports, as of the newest hearing and later."""
+        self.records = self.report(["records"], self.names)
+        self.lines = lines = read_back(self.records)
+        self.seen.lines.update(line.kind for line in lines)
+        hearings = sum(counts["hearings"] for counts in self.counts.values())
+        expect(bool(lines) == (hearings > 0), hearings, "hearings, and the report is\n" + self.records)
+        newest = max((line.heard for line in lines), default=0)
+        self.lines_stand(lines, newest)
+        self.services(lines, [])
+        if lines:
+            self.early(newest)
+        self.later(lines, newest)
+
+    def lines_stand(self, lines, now):
+        for line in lines:
+            expect(line.until > now, "ended already:", line.text)
+            expect(line.heard <= line.until <= line.heard + max(line.ttl, 1) * SECOND, "no such end:", line.text)
+            expect(line.ttl < 2**32, "no such TTL:", line.text)
+        for line, following in zip(lines, lines[1:]):
+            expect(are_in_order(line, following), "out of order:", line.text, "\nand then:", following.text)
+
+    def services(self, lines, at):
+        """The types and the instances follow from the records that are live."""
+        for ask, expected in (("types", types_text(lines)), ("instances", instances_text(lines))):
+            text = self.report([ask, *at], self.names)
+            expect_same(text, expected, ask, *at)
+
+    def as_json(self):
+        """A report as JSON, read back, has the lines of the report."""
+        ask, names, lines_of_one = self.rng.choice(ASKED)
+        text, expected = self.report([ask, "--json"], self.names), self.report([ask], self.names)
+        try:
+            read = read_json_back(text, names, lines_of_one)
+        except ValueError as fault:
+            raise Finding(ask, "--json: no JSON:", fault) from None
+        expect_same(read, expected, ask, "--json")
+
+    def early(self, newest):
+        """A moment before the newest hearing is refused."""
+        if newest == 0:
+            return
+        fault = f"mdnsmerge: the moment is earlier than the newest hearing, {moment_text(newest)}\n"
+        words = [self.rng.choice(ANSWERS), "--at", str((newest - 1) // SECOND)]
+        self.expect_answer(self.program.run(*words, *self.names), 2, "", fault, *words, *self.names)
+
+    def later(self, lines, newest):
+        """At a later moment stands what ends after it."""
+        first = -(-newest // SECOND)
+        ends = [line.until // SECOND + self.rng.randint(-1, 1) for line in lines]
+        for second in (first, self.rng.choice(ends or [first]), self.rng.choice((first + 1, LAST_SECOND))):
+            if first <= second <= LAST_SECOND:
+                self.stand_at(lines, second)
+
+    def stand_at(self, lines, second):
+        at = ["--at", str(second)]
+        live = [line for line in lines if line.until > second * SECOND]
+        text = self.report(["records", *at], self.names)
+        expected = "".join(f"{line.text}\n" for line in live)
+        expect_same(text, expected, "records", *at)
+        if self.rng.random() < 0.3:
+            self.services(live, at)
+
+    def same_text(self):
+        """Captures without what stands after their whole packets, shuffled and repeated, or cut where a packet header
+        begins, have the same report."""
+        wholes = [self.add_part(f"whole-{name}", self.readings[name].whole_part) for name in self.names]
+        again = shuffled(self.rng, self.names + self.rng.choices(self.names, k=2))
+        self.variants = [wholes, again, [part for name in self.names for part in self.parts(name)]]
+        for names in self.variants:
+            self.expect_same(names)
+
+    def add_part(self, name, capture):
+        self.add(name, capture)
+        return name
+
+    def parts(self, name):
+        capture, packets = self.captures[name], self.readings[name].packets
+        if not packets:
+            return [name]
+        front, rest = savefile.split_at(capture, self.rng.choice(packets).at)
+        parts = [self.add_part(f"front-{name}", front), self.add_part(f"rest-{name}", rest)]
+        self.parts_add_up(name, parts)
+        return parts
+
+    def parts_add_up(self, name, parts):
+        """What is counted in the parts of a capture is together what is counted in it."""
+        answer = self.program.run("check", *parts, name)
+        self.expect_answer(answer, self.status([*parts, name]), answer.out, "", "check", *parts, name)
+        lines = answer.out.splitlines(keepends=True)
+        expect(len(lines) == 3, "not a line for each file:", answer.out)
+        front, rest, whole = (self.counted(line, each) for line, each in zip(lines, [*parts, name]))
+        # A sum of counters leaves out zeros, and so does the sign before one.
+        expect(front + rest == +whole, "the parts don't add up:", answer.out)
+
+    def expect_same(self, names):
+        text = self.report(["records"], names)
+        expect_same(text, self.records, "records", *names)
+
+    def past(self):
+        """What was heard before a moment is what the packets before it tell, as of it. All packets are read for it."""
+        moments = [savefile.moment_of(self.captures[name], packet)
+                   for name in self.names for packet in self.readings[name].packets]
+        second = self.rng.choice(moments or [0]) // SECOND + self.rng.randint(-1, 2)
+        if not 0 <= second <= LAST_SECOND:
+            return
+        ask = self.rng.choice(ASKS)
+        text = self.report([ask, "--before", str(second)], self.names)
+        before = [self.add_part(f"before-{name}", self.packets_before(name, second)) for name in self.names]
+        expected = self.report([ask, "--at", str(second)], before)
+        expect_same(text, expected, ask, "--before", second)
+
+    def packets_before(self, name, second):
+        """A capture without what follows its whole packets, and of these the ones that are earlier."""
+        capture = self.captures[name]
+        return capture[:savefile.FILE_HEADER] + b"".join(
+            packet.wire for packet in self.readings[name].packets
+            if savefile.moment_of(capture, packet) < second * SECOND)
+
+    def compare(self, other):
+        """Another program that does the same prints the same records."""
+        answer = other.run(*self.names)
+        expect_same(answer.out, self.records, "the other program")
+
+
+def read_back(report):
+    try:
+        return lines_of(report)
+    except Unreadable as fault:
+        raise Finding(fault) from None
+
+
+def are_in_order(line, following):
+    """Whether a line may stand before another one. Of the same set each record stands once."""
+    if line.set_key != following.set_key:
+        return line.set_key < following.set_key
+    return line.kind == "TXT" or line.data_key < following.data_key
+
+
+def shuffled(rng, names):
+    return rng.sample(names, len(names))

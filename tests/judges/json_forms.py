@@ -1,0 +1,139 @@
+"""What `--json` must print, made of the lines of words that the same question gives, and of nothing else where these say all.
+
+The expected output of each JSON form in `examples/expected` must be what follows from the expected words beside it. Whether an
+instance said goodbye follows from the records of the same captures, and what `files` counts beyond its line from `check`."""
+
+import json
+import re
+
+from tests import EXAMPLES
+from tests.captures.wire import TYPES
+from tests.judges.shown import LABEL, shown_name, shown_of
+from tests.running.runs import report_difference
+
+EXPECTED = EXAMPLES / "expected"
+
+RECORD = rf"(?P<owner>\S+) (?P<type>{'|'.join(TYPES)})(?P<data>(?: \S+)*)"
+END = r"ttl (?P<ttl>\d+) heard (?P<heard>\S+) until (?P<until>\S+)"
+MEMBERS = {
+    "records": re.compile(rf"{RECORD} {END}"),
+    "lives": re.compile(rf"{RECORD} from (?P<from>\S+) {END} (?P<end>\w+)"),
+    "types": re.compile(r"(?P<type>\S+)"),
+    "hearings": re.compile(rf"(?P<moment>\S+) (?P<file>\S+) (?P<source>\S+) {RECORD} ttl (?P<ttl>\d+)(?P<flush> flush)?"),
+    "packets": re.compile(r"(?P<moment>\S+) (?P<file>\S+) (?P<offset>\d+) (?P<status>skipped|refused|heard) (?P<cause>.*?)"
+                          r"(?: at (?P<at>\d+))?"),
+}
+MEMBERS["changes"] = MEMBERS["lives"]
+
+SPAN = re.compile(r"(\S+) packets (\S+) (\S+) hearings (\S+) (\S+) snap (\d+)")
+SERVER = re.compile(r"  server (\S+) (\d+) priority (\d+) weight (\d+)")
+FILE = re.compile(r"(\S+) pcap (.*) packets (\d+) (\S+) (\S+) hearings (\d+)")
+CHECKED = re.compile(r"(\S+): packets \d+ skipped (\d+) refused (\d+) messages (\d+) hearings \d+ .*")
+NOTE = re.compile(r"\S+ (?:lost (\d+) ([^:]*)|ends early|heard nothing): (.*)")
+
+# Members that are numbers.
+NUMBERS = ("ttl", "offset", "at")
+
+
+def text_of(members):
+    """A line of JSON."""
+    return json.dumps(members, ensure_ascii=False, separators=(",", ":")) + "\n"
+
+
+def object_of(layout, line):
+    """The object of a line, of which the members come in the order of its words."""
+    members = {}
+    for name, word in layout.fullmatch(line).groupdict().items():
+        if name == "data":
+            members["data"] = word.split()
+            members["shown"] = shown_of(members)
+        elif name == "flush":
+            members["flush"] = word is not None
+        elif word is not None:
+            members[name] = int(word) if name in NUMBERS else word
+    if list(members) == ["type"]:
+        members["shown"] = shown_name(members["type"])
+    return members
+
+
+def spans_of(text, _other):
+    for line in text.splitlines():
+        name, *moments, snap = SPAN.fullmatch(line).groups()
+        packets, hearings = (bounds(*moments[at:at + 2]) for at in (0, 2))
+        yield {"file": name, "packets": packets, "hearings": hearings, "snap": int(snap)}
+
+
+def bounds(first, last):
+    return None if first == "-" else {"first": first, "last": last}
+
+
+def instances_of(text, other):
+    """The objects of instances, each of a line without an indent and those below it."""
+    ends = {line.split(" ttl ")[0].rpartition(" ")[2]: " ttl 0 " in line for line in other("records").splitlines()
+            if " PTR " in line}
+    for name, *below in (block.splitlines() for block in re.split(r"\n(?=\S)", text.removesuffix("\n")) if block):
+        servers, texts = [], []
+        for line in below:
+            what, *words = line.split()
+            if what == "server":
+                target, port, priority, weight = SERVER.fullmatch(line).groups()
+                servers.append({"target": target, "shown": shown_name(target), "port": int(port), "priority": int(priority),
+                                "weight": int(weight), "addresses": []})
+            elif what == "address":
+                servers[-1]["addresses"] += words
+            elif what == "text":
+                texts.append(words)
+        kind = name[len(LABEL.match(name)[0]) + 1:]
+        yield {"instance": name, "shown": shown_of({"instance": name}), "type": kind, "goodbye": ends[name], "servers": servers,
+               "texts": texts}
+
+
+def files_of(text, other):
+    """The objects of captures: the line of each, and those below it, which say what it lost and what to do."""
+    counts = {found[1]: [int(number) for number in found.groups()[1:]] for found in map(CHECKED.fullmatch, other("check").splitlines())}
+    found = []
+    for line in text.splitlines():
+        of_file = FILE.fullmatch(line)
+        if of_file:
+            found.append((of_file, [], []))
+            continue
+        lost, cause, cure = NOTE.fullmatch(line).groups()
+        if lost:
+            found[-1][1].append({"cause": cause, "packets": int(lost), "do": cure})
+        else:
+            found[-1][2].append(cure)
+    for of_file, lost, cures in found:
+        name, ending, packets, first, last, hearings = of_file.groups()
+        yield {"file": name, "is": "capture", **({"do": "; ".join(cures)} if cures else {}),
+               **({} if first == "-" else {"first": first, "last": last}), "packets": int(packets),
+               **dict(zip(("skipped", "refused", "messages"), counts[name])), "hearings": int(hearings), "ending": ending,
+               "lost": lost}
+
+
+BLOCKS = {"spans": spans_of, "instances": instances_of, "files": files_of}
+
+
+def json_text(command, text, other):
+    """The JSON of a command that prints this text of words; `other` gives the text of another command over the same files."""
+    if command in BLOCKS:
+        return "".join(map(text_of, BLOCKS[command](text, other)))
+    return "".join(text_of(object_of(MEMBERS[command], line)) for line in text.splitlines())
+
+
+def expected(captures, command):
+    return (EXPECTED / f"{captures}.{command}.txt").read_text("utf-8")
+
+
+def try_json_forms():
+    """Compares the expected JSON with what follows from the expected words; answers how many texts differ."""
+    failed = count = 0
+    for path in sorted(EXPECTED.glob("*-json.txt")):
+        captures, _, command = path.stem.removesuffix("-json").partition(".")
+        must = json_text(command, expected(captures, command), lambda other, captures=captures: expected(captures, other))
+        count += 1
+        if path.read_text("utf-8") != must:
+            failed += 1
+            report_difference(f"examples/expected/{path.name}, beside what follows from {captures}.{command}.txt",
+                              must, path.read_text("utf-8"))
+    print(f"{count} expected texts of JSON beside those of words, {failed} failed")
+    return failed

@@ -1,0 +1,139 @@
+"""The lines of `records`, read back; and what `types` and `instances` must print where these are live."""
+
+import re
+import struct
+from typing import NamedTuple
+
+from tests.captures.link import META
+from tests.captures.wire import A, AAAA, PTR, SECOND, SRV, TXT, TYPES
+
+TYPE = "|".join(TYPES)
+
+LINE = re.compile(rf"(\S+) ({TYPE})((?: [!-~]+)*) ttl (\d+) heard (\d+\.\d{{9}}) until (\d+\.\d{{9}})")
+
+# A byte of a label as its three decimal digits, after a backslash or as itself, or the dot between two labels.
+PIECE = re.compile(r"\\(\d{3})|\\([.\\])|([!-\-/-\[\]-~])|(\.)")
+
+
+class Unreadable(Exception):
+    """A text that no line of `records` has."""
+
+
+class Line(NamedTuple):
+    text: str
+    owner: tuple
+    kind: str
+    words: tuple
+    ttl: int
+    heard: int
+    until: int
+
+    @property
+    def target(self):
+        """The labels of the name in the data of a PTR or SRV."""
+        return labels_of(self.words[-1])
+
+    @property
+    def set_key(self):
+        return wire_of(self.owner), TYPES[self.kind]
+
+    @property
+    def data_key(self):
+        """What orders the records of one set. The text of a TXT doesn't tell: it leaves out empty strings."""
+        if self.kind == "A":
+            return bytes(int(number) for number in self.words[0].split("."))
+        if self.kind == "AAAA":
+            return bytes.fromhex(self.words[0].replace(":", ""))
+        if self.kind == "PTR":
+            return wire_of(self.target)
+        if self.kind == "SRV":
+            return struct.pack("!HHH", *(int(word) for word in self.words[:3])) + wire_of(self.target)
+        return None
+
+
+def lines_of(report):
+    if report and not report.endswith("\n"):
+        raise Unreadable("the last line has no line feed")
+    return [line_of(text) for text in report.split("\n")[:-1]]
+
+
+def line_of(text):
+    match = LINE.fullmatch(text)
+    if match is None:
+        raise Unreadable(f"no line of a record: {text}")
+    owner, kind, words, ttl, heard, until = match.groups()
+    return Line(text, labels_of(owner), kind, tuple(words.split()), int(ttl), moment_of(heard), moment_of(until))
+
+
+def moment_of(text):
+    seconds, nanos = text.split(".")
+    return int(seconds) * SECOND + int(nanos)
+
+
+def labels_of(text):
+    """The labels of a name that was printed."""
+    if text == ".":
+        return ()
+    labels = [b""]
+    at = 0
+    while at < len(text):
+        match = PIECE.match(text, at)
+        if match is None or match[1] and int(match[1]) > 255:
+            raise Unreadable(f"no name: {text}")
+        if match[4]:
+            labels.append(b"")
+        else:
+            labels[-1] += bytes((int(match[1]),)) if match[1] else (match[2] or match[3]).encode()
+        at = match.end()
+    if not all(1 <= len(label) <= 63 for label in labels):
+        raise Unreadable(f"a label of no or too many bytes: {text}")
+    return tuple(labels)
+
+
+def wire_of(labels):
+    """The wire form of a name in lower case."""
+    return b"".join(bytes((len(label),)) + label.lower() for label in labels) + b"\0"
+
+
+def is_service(labels):
+    return len(labels) == 3 and labels[1].lower() in (b"_tcp", b"_udp") and labels[2].lower() == b"local"
+
+
+def types_names(lines):
+    """The names of the service types where these records are live."""
+    meta = wire_of(META), PTR
+    return [line.words[0] for line in lines if line.set_key == meta and is_service(line.target)]
+
+
+def types_text(lines):
+    """What `types` prints where these records are live."""
+    return "".join(f"{name}\n" for name in types_names(lines))
+
+
+def instances_text(lines, given=None):
+    """What `instances` prints where these records are live; of the instances that records give all, or the given ones."""
+    sets = {}
+    for line in lines:
+        sets.setdefault(line.set_key, []).append(line)
+    return "".join(instance_text(line, sets) for line in (lines if given is None else given) if gives_instance(line))
+
+
+def gives_instance(line):
+    if line.kind != "PTR" or not is_service(line.owner):
+        return False
+    return len(line.target) == 4 and wire_of(line.target[1:]) == wire_of(line.owner)
+
+
+def instance_text(line, sets):
+    name = wire_of(line.target)
+    servers = "".join(server_text(server, sets) for server in sets.get((name, SRV), ()))
+    texts = "".join(" ".join(("  text", *text.words)) + "\n" for text in sets.get((name, TXT), ()))
+    return f"{line.words[0]}\n" + (servers or "  unresolved\n") + texts
+
+
+def server_text(server, sets):
+    priority, weight, port, target = server.words
+    host = wire_of(server.target)
+    addresses = sets.get((host, A), []) + sets.get((host, AAAA), [])
+    return f"  server {target} {port} priority {priority} weight {weight}\n" + "".join(
+        f"    address {address.words[0]}\n" for address in addresses)

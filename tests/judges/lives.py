@@ -1,0 +1,135 @@
+"""The lives of records by their definition: whether a record was live is asked at each moment at which something of it is
+heard or may end, and a nanosecond before and after. What was heard later doesn't count."""
+
+from bisect import bisect_right
+from typing import NamedTuple
+
+from tests.captures.wire import PTR, SECOND
+from tests.judges.hearings import Hearing
+from tests.judges.json_forms import text_of
+from tests.judges.shown import shown_of
+from tests.judges.words import data_words, kind_text, moment_text, name_text
+
+
+class Life(NamedTuple):
+    """A stretch in which a record is live: from its first moment until the one at which it has ended. The hearing is the
+    last one before that end."""
+    start: int
+    last: Hearing
+    until: int
+
+    @property
+    def reason(self):
+        """Why it ends."""
+        if self.last.ttl == 0:
+            return "goodbye"
+        return "expired" if self.until == end_alone(self.last) else "flushed"
+
+    def end_word(self, end):
+        """Why it ended, or that it goes on after the end of the captures."""
+        return "live" if self.until > end else self.reason
+
+
+class Account:
+    """What was heard of one record, and the moments at which its set was flushed."""
+
+    def __init__(self, hearings, flushes):
+        self.hearings = sorted(hearings, key=lambda hearing: hearing.age)
+        self.moments = [hearing.moment for hearing in self.hearings]
+        self.flushes = flushes
+
+    def last(self, now):
+        """The last hearing that isn't later than a moment, if there is one."""
+        count = bisect_right(self.moments, now)
+        return self.hearings[count - 1] if count else None
+
+    def is_live(self, now):
+        """Whether the record was live at a moment, by what was heard until then."""
+        last = self.last(now)
+        return last is not None and now < end_alone(last) and not self.is_struck(last.moment, now)
+
+    def is_struck(self, moment, now):
+        """Whether what was heard at a moment was flushed: more than a second later, and a second ago or longer (RFC 6762
+        section 10.2)."""
+        place = bisect_right(self.flushes, moment + SECOND)
+        return place < len(self.flushes) and self.flushes[place] + SECOND <= now
+
+    def asked_moments(self):
+        """The moments at which to ask."""
+        events = {*self.moments, *map(end_alone, self.hearings), *(flush + SECOND for flush in self.flushes)}
+        return sorted({event + step for event in events for step in (-1, 0, 1) if event + step >= 0})
+
+    def lives(self):
+        """The lives of the record, in order."""
+        start, before = None, -1
+        for now in self.asked_moments():
+            if self.is_live(now) != (start is not None):
+                if before != now - 1:
+                    raise AssertionError(f"something begins or ends between {before} and {now}")
+                if start is None:
+                    start = now
+                else:
+                    yield Life(start, self.last(before), now)
+                    start = None
+            before = now
+
+
+def end_alone(hearing):
+    """When a hearing's life is over unless its set is flushed. A goodbye lives for a second (RFC 6762 section 10.1)."""
+    return hearing.moment + max(hearing.ttl, 1) * SECOND
+
+
+def accounts(hearings):
+    """The account of each record, in the order of their keys."""
+    records, flushes = {}, {}
+    for hearing in hearings:
+        records.setdefault(hearing.key, set()).add(hearing)
+        if hearing.flush:
+            flushes.setdefault(hearing.set_key, set()).add(hearing.moment)
+    ordered = {key: sorted(moments) for key, moments in flushes.items()}
+    for key in sorted(records):
+        yield Account(records[key], ordered.get(key[:2], []))
+
+
+def rows_of(hearings):
+    """The last hearing of each record, and the record's lives, where these hearings count."""
+    return [(account.hearings[-1], list(account.lives())) for account in accounts(hearings)]
+
+
+def lives_text(rows, end, as_json=False):
+    """The lives of rows as `lives` and `changes` print them, where the captures end at a moment."""
+    text_of = life_object if as_json else life_line
+    return "".join(text_of(last, life, end) + "\n" for last, lives in rows for life in lives)
+
+
+def changes_in(rows):
+    """The rows with all their lives where a life of their record set is a change, and with none elsewhere."""
+    sets = {}
+    for last, lives in rows:
+        sets.setdefault(last.set_key, []).extend(life.start for life in lives)
+    begun = {set_key: sorted(moments) for set_key, moments in sets.items()}
+    changed = {last.set_key for last, lives in rows if last.kind != PTR and has_change(lives, begun[last.set_key])}
+    return [(last, lives if last.set_key in changed else []) for last, lives in rows]
+
+
+def has_change(lives, begun):
+    """Whether before one of a record's lives, and after each earlier one, a life of the set began: so it was another
+    record's."""
+    before = [-1, *(life.start for life in lives)]
+    return any(begun[bisect_right(begun, earlier)] < life.start for earlier, life in zip(before, lives))
+
+
+def life_line(spelled, life, end):
+    """The line of a life, the record being spelled as in a hearing."""
+    words = [name_text(spelled.owner), kind_text(spelled.kind), *data_words(spelled.kind, spelled.data)]
+    return " ".join([*words, "from", moment_text(life.start), "ttl", str(life.last.ttl), "heard",
+                     moment_text(life.last.moment), "until", moment_text(life.until), life.end_word(end)])
+
+
+def life_object(spelled, life, end):
+    """The same as an object of JSON."""
+    members = {"owner": name_text(spelled.owner), "type": kind_text(spelled.kind),
+               "data": data_words(spelled.kind, spelled.data)}
+    members |= {"shown": shown_of(members), "from": moment_text(life.start), "ttl": life.last.ttl,
+                "heard": moment_text(life.last.moment), "until": moment_text(life.until), "end": life.end_word(end)}
+    return text_of(members).removesuffix("\n")

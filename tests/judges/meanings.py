@@ -1,0 +1,31 @@
+"""The table of a page that counts packets which were skipped or refused, by their causes, with what each cause means for the
+answer: first the causes that need attention, in this order, then the normal ones."""
+
+from tests.judges.causes import CUT, CUT_HEADER, DAMAGED, LENGTH, MALFORMED
+from tests.judges.read_page import CauseRow
+
+MISSING = "bytes are missing: record with tcpdump -s 0"
+UNLESS_TOLD = "what it told is missing, unless another message told it"
+BROKEN = "a broken sender, or a damaged capture"
+
+ATTENTION = {
+    "VLAN tag": "not read: split the capture into its VLANs",
+    "cut within the Ethernet header": MISSING,
+    CUT_HEADER: MISSING,
+    CUT: MISSING,
+    "fragment": UNLESS_TOLD,
+    "IPv6 fragment": UNLESS_TOLD,
+    MALFORMED: BROKEN,
+    "IPv4 total length below its header": BROKEN,
+    LENGTH: BROKEN,
+    "OPCODE or RCODE": "a broken sender",
+    DAMAGED: "damaged: refused whole",
+}
+NORMAL = ("query", "another port", "another group", "not UDP", "neither IPv4 nor IPv6", "IPv6 extension header")
+
+
+def table_of(causes):
+    """The rows of the table, by how many packets of all captures have each cause."""
+    rows = [CauseRow(causes[cause], cause, meaning, True) for cause, meaning in ATTENTION.items()]
+    rows += [CauseRow(causes[cause], cause, "normal", False) for cause in NORMAL]
+    return [row for row in rows if row.count]

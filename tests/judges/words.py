@@ -1,0 +1,63 @@
+"""Records as reports print them, made from their bytes."""
+
+import ipaddress
+import struct
+
+from tests.captures.wire import A, AAAA, PTR, SECOND, SRV, TYPES
+
+NAMES = {number: name for name, number in TYPES.items()}
+
+
+def kind_text(kind):
+    return NAMES[kind]
+
+
+def moment_text(moment):
+    return f"{moment // SECOND}.{moment % SECOND:09}"
+
+
+def name_text(name):
+    """A name in wire form as its labels with dots between them."""
+    return ".".join(label_text(label) for label in labels_in(name)) or "."
+
+
+def labels_in(name):
+    """The labels of a name in wire form."""
+    while name[0]:
+        yield name[1:1 + name[0]]
+        name = name[1 + name[0]:]
+
+
+def label_text(label):
+    return bytes_text(label).replace(".", "\\.")
+
+
+def bytes_text(text):
+    """Bytes with a backslash before backslashes, and those that don't print as three decimal digits."""
+    return "".join(byte_text(byte) for byte in text)
+
+
+def byte_text(byte):
+    if byte == ord("\\"):
+        return "\\\\"
+    return chr(byte) if 0x21 <= byte <= 0x7E else f"\\{byte:03}"
+
+
+def data_words(kind, data):
+    """The words of a record's data."""
+    if kind == A:
+        return [str(ipaddress.IPv4Address(data))]
+    if kind == AAAA:
+        return [ipaddress.IPv6Address(data).exploded]
+    if kind == PTR:
+        return [name_text(data)]
+    if kind == SRV:
+        return [*(str(number) for number in struct.unpack_from("!HHH", data)), name_text(data[6:])]
+    return [bytes_text(string) for string in strings_in(data) if string]
+
+
+def strings_in(data):
+    """The strings of a TXT record; the last one may be cut short."""
+    while data:
+        yield data[1:1 + data[0]]
+        data = data[1 + data[0]:]

@@ -1,0 +1,190 @@
+"""Runs of a program, each with what must come of it: its status, and all that it writes on its two streams."""
+
+import difflib
+import os
+import resource
+import shlex
+import shutil
+import subprocess
+import sys
+from pathlib import Path
+from typing import NamedTuple
+
+from tests import TOP
+
+# As whom a run that must not read everything is made, where this one is made as root.
+NOBODY = 65534
+
+# How long a run may take, in seconds: each reads a few hundred bytes.
+PATIENCE = 20
+
+WHOLE, DAMAGED, REFUSED = 0, 1, 2
+
+
+def place_of_row():
+    """The file and line of the table that is being made, or else of the function that makes a case."""
+    frame, nearest = sys._getframe(2), None
+    while frame:
+        if frame.f_code.co_filename != __file__:
+            nearest = nearest or frame
+            if frame.f_code.co_name == "<module>" and frame.f_globals["__name__"] != "__main__":
+                nearest = frame
+                break
+        frame = frame.f_back
+    path = Path(nearest.f_code.co_filename).resolve()
+    return f"{path.relative_to(TOP) if TOP in path.parents else path}:{nearest.f_lineno}"
+
+
+class CaseFields(NamedTuple):
+    words: tuple
+    status: int
+    out: str = ""
+    err: str = ""
+    # Where a stream leads, if not to who looks on: "closed", "full" or "gone", a pipe whose reader left.
+    out_to: str = ""
+    err_to: str = ""
+    # The file that is read as standard input.
+    standard_input: str = ""
+    # How many files may be open at once.
+    open_files: int = 0
+    is_nobody: bool = False
+    # Whether the program gets no words at all, not even its name.
+    is_nameless: bool = False
+    # The file and line of its row.
+    place: str = ""
+
+
+class Case(CaseFields):
+    """Words after the program's name, and what must come of them."""
+    __slots__ = ()
+
+    def __new__(cls, *fields, **named):
+        named.setdefault("place", place_of_row())
+        return super().__new__(cls, *fields, **named)
+
+
+def refused(words, err, **how):
+    return Case(tuple(words), REFUSED, err=err, **how)
+
+
+def said(words, line, program="mdnsmerge", **how):
+    """A refusal with one line of the program's own."""
+    return refused(words, f"{program}: {line}\n", **how)
+
+
+def named_copy(program, folder, name="mdnsmerge"):
+    """A copy of a program under its own name, which usage tells, in a folder where anyone may run it."""
+    folder.chmod(0o755)
+    copied = Path(shutil.copy(program, folder / name))
+    copied.chmod(0o755)
+    return copied
+
+
+class Stream:
+    """Where a run writes: a pipe that is read to its end, or what the case says in its place."""
+
+    def __init__(self, to):
+        self.to = to
+        self.read, self.write = -1, -1
+        if to == "full":
+            self.write = os.open("/dev/full", os.O_WRONLY)
+        else:
+            self.read, self.write = os.pipe()
+        if to == "gone":
+            os.close(self.read)
+
+    def text(self):
+        """What was written, once the run ended. It fits into a pipe."""
+        os.close(self.write)
+        if self.to in ("full", "gone"):
+            return b""
+        with os.fdopen(self.read, "rb") as written:
+            return written.read()
+
+
+def run_case(case, program, folder, given=None):
+    """The status of a run, or None where it has not ended in time, and what it wrote on its two streams. Its standard
+    input is the pipe that is given, or the case's file."""
+    out, err = Stream(case.out_to), Stream(case.err_to)
+
+    def prepare():
+        if case.open_files:
+            resource.setrlimit(resource.RLIMIT_NOFILE, (case.open_files, case.open_files))
+        for number, stream in ((1, out), (2, err)):
+            if stream.to == "closed":
+                os.close(number)
+
+    words = [] if case.is_nameless else [program, *map(os.fsencode, case.words)]
+    user = {"user": NOBODY, "group": NOBODY, "extra_groups": []} if case.is_nobody and not os.geteuid() else {}
+    with open(folder / case.standard_input if case.standard_input else os.devnull, "rb") as file:
+        how = {"cwd": folder, "stdin": given or file, "stdout": out.write, "stderr": err.write, "preexec_fn": prepare, **user}
+        status = status_of(words, executable=program, **how)
+    return status, out.text(), err.text()
+
+
+def status_of(words, **how):
+    try:
+        return subprocess.run(words, timeout=PATIENCE, **how).returncode
+    except subprocess.TimeoutExpired:
+        return None
+
+
+def can_drop(folder):
+    """Whether a run may be made as nobody, who may read the folder, or is made as no root."""
+    if os.geteuid():
+        return True
+    read = ["cat", folder / "one.pcap"]
+    try:
+        subprocess.run(read, user=NOBODY, group=NOBODY, extra_groups=[], stdout=subprocess.DEVNULL, check=True)
+    except (OSError, subprocess.SubprocessError):
+        return False
+    return True
+
+
+def differences(case, answer):
+    """What differs between what must come of a case and what came of it: the status, and each line of its streams."""
+    status, *texts = answer
+    found = [] if status == case.status else [f"  status {status}, and not {case.status}"]
+    for name, must, was in zip(("standard output", "standard error"), (case.out, case.err), texts):
+        if was != must.encode():
+            found += [f"  {name}, as it must be (-) and as it is (+):", *lines_apart(must.encode(), was)]
+    return found
+
+
+def lines_apart(must, was):
+    """The lines of which two texts differ, with those around them; what can't be seen is escaped."""
+    lines = [[line.decode(errors="backslashreplace") for line in bytes_of(text).splitlines(keepends=True)] for text in (must, was)]
+    apart = difflib.unified_diff(*lines, n=1)
+    # The two lines before the first piece would have the names of files.
+    return [f"    {line[0]}{shown(line[1:])}" if line[0] in "-+ " else f"    {line.rstrip()}" for line in list(apart)[2:]]
+
+
+def bytes_of(text):
+    return text.encode("utf-8", "surrogateescape") if isinstance(text, str) else text
+
+
+def shown(line):
+    """A line without its end, and a note where it has none."""
+    escaped = repr(line.removesuffix("\n"))[1:-1]
+    return escaped if line.endswith("\n") else f"{escaped}  (no newline)"
+
+
+def command(program, words):
+    """A command line, of which what is no UTF-8 is escaped."""
+    readable = [os.fsdecode(word).encode(errors="backslashreplace").decode() for word in words]
+    return shlex.join([program.name, *readable])
+
+
+def agrees(case, program, folder, what="", given=None):
+    """Tries a case in a folder, and says what differs."""
+    found = differences(case, run_case(case, program, folder, given))
+    if found:
+        about = f"{case.place}: {what}: " if what else f"{case.place}: "
+        streams = [f", {name} {to}" for name, to in (("output", case.out_to), ("errors", case.err_to)) if to]
+        print(f"{about}{command(program, case.words)}{''.join(streams)}", *found, sep="\n")
+    return not found
+
+
+def report_difference(about, must, was):
+    """Says that a text isn't what it must be, and which lines differ."""
+    print(f"{about}, as it must be (-) and as it is (+):", *lines_apart(must, was), sep="\n")

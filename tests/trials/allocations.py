@@ -1,0 +1,391 @@
+"""Refuses each allocation in turn: in whole runs of the programs, and in tests of the libraries' calls.
+
+`refuse_allocation.c` is loaded into each run and refuses one allocation, the first, the second and so on, until a run
+meets no refusal; of a command without options it refuses in further sweeps the next one, too, and all later ones. A run
+of mdnsmerge that met a refusal must say so, and answer nothing else, unless it remembers messages; mdnswhy prints while it reads, so
+it may have printed the beginning of its answer; `lives` and `changes` print record by record, so they may have printed the
+lives of the first records. But a file is read without the buffer that is refused it, so the answer must be whole then. A test
+that met one must pass: it makes the refused call again, and compares with what the call gives where nothing was refused.
+Where all later ones are refused, too, it must fail.
+
+Where the memory of messages that come again is refused an allocation, the run does without. Which allocations are the
+memory's isn't known here, so a run that reads files may give its whole answer whichever was refused, but not where all
+later ones were.
+
+It also counts them: hearings of records that are known, spelled as before, must ask for few."""
+
+import os
+import re
+import signal
+import subprocess
+from concurrent.futures import ThreadPoolExecutor
+from pathlib import Path
+from typing import NamedTuple
+
+from tests import TOP
+from tests.captures.built import frame_of, labels, lay_out_small, write_capture
+from tests.captures.link import Link
+from tests.captures.wire import SECOND, TXT
+from tests.running.commands import ASKS, COMMANDS, COMMON_FORMS, FORMS, WHYS
+from tests.trials.memory import again
+from tests.trials.refusals import DAMAGED, REFUSED, WHOLE
+
+SOURCE = TOP / "trials/refuse_allocation.c"
+
+# The module of a crate that has tests for these sweeps.
+MODULE = "allocations"
+
+# How long a run may take, in seconds.
+PATIENCE = 20
+
+# How many allocations are refused in a row: one, two, or all from some one on.
+ONE, TWO, ALL = 1, 2, 1 << 40
+
+# The status of a test that an assertion stopped.
+STOPPED = -signal.SIGABRT
+
+# The bytes of a file's buffer. No other allocation of these runs has as many, except that the text of `lives`, of `hearings` or of a
+# page may.
+BUFFER = 65_536
+
+BOTH = ("west.pcap", "east.pcap")
+
+# So many packets of few records, come twice and twelve times, and how many allocations more the longer run may ask for:
+# lists of moments that outgrow their place take some, where its 42,330 more hearings would take as many.
+PACKETS, TWICE, OFTEN, OF_KNOWN = 1_000, 2, 12, 2_000
+
+# So many records with a text of so many bytes, each of which is printed as four: together more than is printed at once.
+LONG_TEXTS, LONG = 15, 1_275
+
+# What follows the record in a line of a life, or in an object.
+AFTER_RECORD = re.compile(r' from \d|,"from":')
+
+
+class Run(NamedTuple):
+    """A run of a program: its words, the last of which are so many files, and its status with ample memory."""
+    words: tuple
+    files: int
+    status: int
+    # How many of its allocations may be made good: where `collect` is refused the room that it would like, the standard
+    # library asks once more for less. The program collects its arguments.
+    made_good: int = 1
+    # Whether all files can be opened, so that each is read, and asks for a buffer.
+    are_read: bool = True
+    program: str = "mdnsmerge"
+
+    @property
+    def remembers(self):
+        """Whether the run remembers messages that come again, and does without where memory for that is refused."""
+        return self.program == "mdnsmerge" and self.are_read and self.files > 0
+
+    @property
+    def in_a_row(self):
+        """How many allocations are refused in a row: several only where no option changes what the command does."""
+        return (ONE,) if any(word.startswith("--") for word in self.words) else (ONE, TWO, ALL)
+
+
+RUNS = (
+    *(Run((command, *BOTH), 2, WHOLE) for command in COMMANDS),
+    *(Run((ask, form, *BOTH), 2, WHOLE) for ask in ASKS for form in FORMS),
+    Run(("records", "--about", "a", "--about", "192.0.2.1", *BOTH), 2, WHOLE),
+    Run(("types", "--about", "_ipp", *BOTH), 2, WHOLE),
+    Run(("instances", "--pretty", "--about", "_ipp._tcp", *BOTH), 2, WHOLE),
+    Run(("lives", "--pretty", "--about", "a", *BOTH), 2, WHOLE),
+    Run(("lives", "--pretty", "long.pcap"), 1, WHOLE),
+    Run(("lives", "--before", "1795332450", *BOTH), 2, WHOLE),
+    Run(("lives", "long.pcap"), 1, WHOLE),
+    Run(("lives", "--json", "long.pcap"), 1, WHOLE),
+    Run(("changes", "--pretty", "--about", "a", *BOTH), 2, WHOLE),
+    Run(("page", "--before", "1795332450", "--about", "alder", *BOTH), 2, WHOLE),
+    *(Run((command, "one.pcap", "cut.pcap"), 2, DAMAGED) for command in COMMANDS),
+    Run(("records", "--at", "99", "one.pcap"), 1, REFUSED),
+    Run(("lives", "--at", "99", "one.pcap"), 1, REFUSED),
+    Run(("page", "--at", "99", "one.pcap"), 1, REFUSED),
+    Run(("records", "one.pcap", "text.pcap"), 2, REFUSED),
+    Run(("records", "missing.pcap"), 1, REFUSED, are_read=False),
+    Run(("records", "--at", "noon", "one.pcap"), 0, REFUSED),
+    Run(("--help",), 0, WHOLE),
+    Run(("check", "--help"), 0, WHOLE),
+    Run((), 0, REFUSED),
+)
+
+WHY_RUNS = tuple(run._replace(program="mdnswhy") for run in (
+    *(Run((command, *BOTH), 2, WHOLE) for command in WHYS),
+    *(Run(("files", form, *BOTH), 2, WHOLE) for form in COMMON_FORMS),
+    *(Run((command, "one.pcap", "cut.pcap"), 2, DAMAGED) for command in WHYS),
+    Run(("hearings", "one.pcap", "text.pcap"), 2, REFUSED),
+    Run(("spans", "one.pcap", "text.pcap"), 2, REFUSED),
+    Run(("hearings", "--about", "a", *BOTH), 2, WHOLE),
+    Run(("hearings", "--pretty", *BOTH), 2, WHOLE),
+    Run(("hearings", "missing.pcap"), 1, REFUSED, are_read=False),
+    Run(("--help",), 0, WHOLE),
+    Run(("hearings", "--help"), 0, WHOLE),
+    Run((), 0, REFUSED),
+))
+
+
+class Answer(NamedTuple):
+    """The status of a run, which is negative where a signal ended it, and what it wrote on its two streams."""
+    status: int
+    out: str
+    err: str
+
+
+class Met(NamedTuple):
+    """A run: its answer, of how many bytes the allocations were that were refused in it, and how many it asked for."""
+    answer: Answer
+    refused: frozenset
+    allocations: int
+
+
+class NoCompiler(Exception):
+    """There is no C compiler."""
+
+
+def build(folder):
+    """Builds what is loaded into the runs."""
+    library = folder / "refuse_allocation.so"
+    try:
+        subprocess.run(["cc", "-O1", "-Wall", "-Wextra", "-fPIC", "-shared", "-o", library, SOURCE], check=True)
+    except FileNotFoundError:
+        raise NoCompiler("there is no C compiler `cc`, which refusing allocations needs") from None
+    return library
+
+
+class Refuser:
+    """Runs programs in a folder, with allocations refused."""
+
+    def __init__(self, library, folder):
+        self.library = library
+        self.folder = folder
+
+    def run(self, words, allocation, in_a_row=ONE):
+        """Runs the words with so many allocations refused from that one on, counted from 1, or with none refused at 0."""
+        read, write = os.pipe()
+        told = {"LD_PRELOAD": self.library, "REFUSED_ALLOCATION": allocation, "REFUSED_IN_A_ROW": in_a_row,
+                "ALLOCATION_REPORT": write}
+        environment = {**os.environ, **{name: str(value) for name, value in told.items()}}
+        try:
+            answer = answer_of(words, cwd=self.folder, env=environment, pass_fds=[write])
+        finally:
+            os.close(write)
+            with os.fdopen(read) as report:
+                said = [line.split() for line in report]
+        refused = frozenset(int(size) for what, size in said if what == "refused")
+        # A run that was stopped has not said how many allocations there were.
+        allocations = sum(int(count) for what, count in said if what == "allocations")
+        return Met(answer, refused, allocations)
+
+
+def answer_of(words, **how):
+    """What a program answers; its status is None where it has not ended in time."""
+    try:
+        ended = subprocess.run(words, stdin=subprocess.DEVNULL, capture_output=True, timeout=PATIENCE, **how)
+    except subprocess.TimeoutExpired:
+        return Answer(None, "", "")
+    return Answer(ended.returncode, text_of(ended.stdout), text_of(ended.stderr))
+
+
+def text_of(output):
+    return output.decode("ascii", "backslashreplace")
+
+
+class Sweeps:
+    """Sweeps over the allocations of runs, and what came of them."""
+
+    def __init__(self, refuser):
+        self.refuser = refuser
+        self.sweeps = self.met = self.failed = 0
+
+    def sweep(self, words, judge, in_a_row=ONE):
+        """Refuses a run's allocations in turn. `judge` finds faults in the plain answer and the other runs by allocation."""
+        plain = self.refuser.run(words, 0)
+        with ThreadPoolExecutor(os.cpu_count()) as pool:
+            allocations = range(1, plain.allocations + 1)
+            met = dict(zip(allocations, pool.map(lambda it: self.refuser.run(words, it, in_a_row), allocations)))
+        last = self.refuser.run(words, plain.allocations + 1)
+        self.count(words, in_a_row, met, [
+            *(f"allocation {allocation}: nothing was refused" for allocation, it in met.items() if not it.refused),
+            *judge(plain.answer, met),
+            *([] if plain.allocations else ["no allocation was met"]),
+            *(["after the last allocation one was refused"] if last.refused else []),
+            *([] if last.answer == plain.answer else ["it answers otherwise where nothing is refused"])])
+
+    def count(self, words, in_a_row, met, faults):
+        self.sweeps += 1
+        self.met += sum(bool(it.refused) for it in met.values())
+        self.failed += bool(faults)
+        if faults:
+            how = {ONE: "", TWO: ", two refused in a row", ALL: ", all refused from one on"}[in_a_row]
+            print(f"{Path(words[0]).name} {' '.join(words[1:])}{how}:", *faults[:5], f"{len(faults)} faults in all",
+                  sep="\n  ")
+
+
+class Judge:
+    """Knows what a run of a program may answer where so many allocations were refused in a row."""
+
+    def __init__(self, run, in_a_row):
+        names = run.words[len(run.words) - run.files:]
+        self.status = run.status
+        self.most_made_good = run.made_good if in_a_row == ONE else 0
+        self.buffers = run.files if run.are_read else 0
+        self.in_a_row = in_a_row
+        self.does_without = run.remembers and in_a_row != ALL
+        self.prints_while_it_reads = run.program == "mdnswhy"
+        self.prints_record_by_record = "lives" in run.words or "changes" in run.words
+        self.may_have_long_text = self.prints_record_by_record or bool({"hearings", "page"} & {*run.words})
+        self.out_of_memory = f"{run.program}: out of memory\n"
+        # What is said of a refusal, each with the index of the file that it names.
+        self.refusals = {self.out_of_memory: None}
+        for index, name in enumerate(names):
+            self.refusals[f"{run.program}: {name}: out of memory\n"] = index
+
+    def faults(self, plain, met):
+        if plain.status != self.status:
+            yield f"with ample memory: {shown(plain)}"
+        yield from self.buffer_faults(plain, met)
+        answers = {allocation: it.answer for allocation, it in met.items() if it.refused != {BUFFER}}
+        allowed = {*short_of_a_line(plain, self.out_of_memory)}
+        made_good = [allocation for allocation, answer in answers.items() if answer == plain]
+        for allocation, answer in answers.items():
+            is_allowed = self.is_refusal(answer, plain) or answer in allowed or self.does_without and answer == plain
+            if not is_allowed and allocation not in made_good[:self.most_made_good]:
+                yield f"allocation {allocation}: {shown(answer)}"
+        indexes = [index for index in (self.refusals.get(answer.err) for answer in answers.values()) if index is not None]
+        if indexes != sorted(indexes):
+            yield "a later file wants memory before an earlier one"
+
+    def is_refusal(self, answer, plain):
+        """Whether the answer says that memory was wanting, and there is no more of it than may have been printed before."""
+        printed = not answer.out or plain.out.startswith(answer.out) and self.may_have_printed(answer.out, plain.out)
+        return answer.status == REFUSED and answer.err in self.refusals and printed
+
+    def may_have_printed(self, out, whole):
+        """Whether a run may have printed this beginning of its answer before memory was wanting."""
+        return self.prints_while_it_reads or self.prints_record_by_record and ends_with_a_record(out, whole)
+
+    def is_text(self, answer, plain):
+        """Whether what was refused, of as many bytes as a buffer, was the text of lives, of hearings or of a page."""
+        return self.may_have_long_text and self.is_refusal(answer, plain)
+
+    def buffer_faults(self, plain, met):
+        """Finds faults in the runs to which nothing but buffers was refused: each file asks for one, and does without."""
+        without = {allocation: it.answer for allocation, it in met.items()
+                   if it.refused == {BUFFER} and not self.is_text(it.answer, plain)}
+        for allocation, answer in without.items():
+            if answer != plain:
+                yield f"allocation {allocation}, a buffer: {shown(answer)}"
+        if self.in_a_row == ONE and len(without) != self.buffers:
+            yield f"{len(without)} allocations were buffers, and not {self.buffers}"
+
+
+def ends_with_a_record(out, whole):
+    """Whether the beginning of the lives of records has all those of each record that it has."""
+    rest = whole[len(out):]
+    return out.endswith("\n") and not (rest and record_of(out.splitlines()[-1]) == record_of(rest.splitlines()[0]))
+
+
+def record_of(line):
+    """The record in the line of a life."""
+    return AFTER_RECORD.split(line)[0]
+
+
+def short_of_a_line(plain, out_of_memory):
+    """The answers that are whole but for lines on standard error, for which there was no memory."""
+    lines = plain.err.splitlines(keepends=True)
+    if plain.status == DAMAGED and lines:
+        yield plain._replace(err=out_of_memory * len(lines))
+        for at in range(len(lines)):
+            yield plain._replace(err="".join([*lines[:at], out_of_memory, *lines[at + 1:]]))
+
+
+def shown(answer):
+    return f"status {answer.status}, {len(answer.out)} characters on standard output, {answer.err!r} on standard error"
+
+
+def passes(plain, met):
+    """Finds faults in a test: it passes, whichever allocation was refused, and says what it says where none was."""
+    if plain.status:
+        yield f"it fails: {shown(plain)}"
+    for allocation, it in met.items():
+        if it.answer != plain:
+            yield f"allocation {allocation}: {shown(it.answer)}"
+
+
+def stops(plain, met):
+    """Finds faults in a test of which all allocations from one on are refused: the call that it makes again is refused,
+    too, so it stops, and where it passes a call has answered as if nothing had been refused."""
+    yield from passes(plain, {})
+    for allocation, it in met.items():
+        if it.answer.status != STOPPED:
+            yield f"all allocations from {allocation} on: {shown(it.answer)}"
+
+
+def lay_out(folder):
+    """Puts the files that the runs name into a folder."""
+    lay_out_small(folder)
+    for name in BOTH:
+        (folder / name).write_bytes((TOP / "examples" / name).read_bytes())
+    write_capture(folder / "long.pcap", "little-micro", [(seconds * SECOND, long_frame()) for seconds in (100, 400)])
+
+
+def long_frame():
+    """A frame with records of long texts."""
+    text = (bytes([254]) + bytes(254)) * (LONG // 255)
+    return frame_of([((labels(f"{number}.local"), TXT, text, False), 120) for number in range(LONG_TEXTS)])
+
+
+def test_programs():
+    """The built tests of each crate that has tests for these sweeps."""
+    for source in sorted(TOP.glob(f"crates/*/src/{MODULE}.rt")):
+        crate = source.parent.parent
+        yield crate / "out" / f"{crate.name}_tests"
+
+
+def tests_in(program):
+    listed = subprocess.run([program, "--list"], capture_output=True, text=True, check=True).stdout
+    names = [line.removesuffix(": test") for line in listed.splitlines()]
+    return [name for name in names if name.startswith(f"{MODULE}::")]
+
+
+def try_programs(programs, sweeps):
+    for run in (*RUNS, *WHY_RUNS):
+        for in_a_row in run.in_a_row:
+            sweeps.sweep([programs[run.program], *run.words], Judge(run, in_a_row).faults, in_a_row)
+
+
+def try_tests(sweeps):
+    for program in test_programs():
+        tests = tests_in(program)
+        if not tests:
+            sweeps.failed += 1
+            print(f"{program.name} has no {MODULE}: it is not what was built last")
+        for test in tests:
+            sweeps.sweep([program, test], passes)
+            sweeps.sweep([program, test], stops, ALL)
+
+
+def try_known(program, refuser, folder):
+    """Counts the allocations for hearings that are known; answers how many commands ask for them."""
+    packets = list(Link(1, 4).packets(PACKETS))
+    for name, rounds in (("twice.pcap", TWICE), ("often.pcap", OFTEN)):
+        write_capture(folder / name, "little-micro", (again(packets, number) for number in range(PACKETS * rounds)))
+    failed = 0
+    for asked in ("records", "check"):
+        few, many = (refuser.run([program, asked, name], 0).allocations for name in ("twice.pcap", "often.pcap"))
+        if not 0 < few <= many <= few + OF_KNOWN:
+            failed += 1
+            print(f"mdnsmerge {asked}: {few} allocations, and {many} where what is known is heard again")
+    return failed
+
+
+def try_allocations(programs, folder):
+    """Refuses the allocations of the programs, given by name, and of the tests; answers how many sweeps failed."""
+    lay_out(folder)
+    refuser = Refuser(build(folder), folder)
+    sweeps = Sweeps(refuser)
+    try_programs(programs, sweeps)
+    try_tests(sweeps)
+    failed = sweeps.failed + try_known(programs["mdnsmerge"], refuser, folder)
+    print(f"{sweeps.met} allocations refused in {sweeps.sweeps} sweeps; {failed} failed")
+    return failed

@@ -1,0 +1,138 @@
+"""Runs of `mdnsmerge lives` that agree with others, whatever they print: the lives that go on after the end of the captures
+are the records that are live then, and the same captures in another order, twice or cut at a packet header have the same
+lives.
+
+The captures are those of `examples/`, and small ones of the measurements."""
+
+import re
+import subprocess
+from typing import NamedTuple
+
+from tests import EXAMPLES
+from tests.captures.built import write_capture
+from tests.captures.floods import ORDERS, addresses, flushes, records
+from tests.captures.link import START, Link
+from tests.captures.real import NAMES, packets_of, repeated
+from tests.captures.wire import SECOND
+from tests.running.runs import PATIENCE, WHOLE, report_difference
+
+# A life that goes on: what `records` prints before its first moment, and after it.
+LIVE = re.compile(r"(.*) from \d+\.\d{9} (ttl \d+ heard \d+\.\d{9} until \d+\.\d{9}) live")
+
+# How many listeners share the packets of a link, and how many moments of each kind are asked for.
+LISTENERS, MOMENTS = 3, 6
+
+# How many times slower a link may be: so that records end between their hearings.
+SLOWER = 30
+
+# Seconds after the end of the captures, as of which it is asked.
+LATER = (1, 119, 120, 4_500)
+
+
+class Heard(NamedTuple):
+    """What some listeners heard: for each the moments and frames of its packets."""
+    what: str
+    captures: list
+
+    @property
+    def moments(self):
+        return sorted(moment for packets in self.captures for moment, _ in packets)
+
+
+def links():
+    yield Heard("the examples", [list(packets_of(EXAMPLES / name)) for name in NAMES])
+    yield Heard("the examples twice", [list(packets) for packets in repeated(2)])
+    packets = list(Link(1, 40).packets(3_000))
+    yield Heard("a link", shared(packets))
+    yield Heard("a slow link", shared([(START + (moment - START) * SLOWER, frame) for moment, frame in packets]))
+    for order in ORDERS:
+        yield Heard(f"flushes, {order}", [list(flushes(1, 400, 40, order))])
+    yield Heard("a burst", [list(flushes(1, 400, 1, "shuffled"))])
+    yield Heard("records heard once", [list(records(50)), list(addresses(1, 1, "shuffled"))])
+
+
+def shared(packets):
+    """What each listener hears of packets: one after another hears the next one."""
+    return [packets[first::LISTENERS] for first in range(LISTENERS)]
+
+
+class Trials:
+    """The runs over the captures of a folder, and how many failed."""
+
+    def __init__(self, program, folder):
+        self.program = program
+        self.folder = folder
+        self.about = ""
+        self.count = 0
+        self.failed = 0
+
+    def answer(self, *words):
+        """What is printed, or None where there is another status than 0, or something on standard error."""
+        try:
+            run = subprocess.run([self.program, *words], cwd=self.folder, capture_output=True, text=True, timeout=PATIENCE)
+        except subprocess.TimeoutExpired:
+            return None
+        return run.stdout if (run.returncode, run.stderr) == (WHOLE, "") else None
+
+    def expect(self, expected, *words):
+        """Tries that a run prints this text."""
+        self.count += 1
+        printed = None if expected is None else self.answer(*words)
+        if printed is None or printed != expected:
+            self.failed += 1
+            asked = f"lives of {self.about}: mdnsmerge {' '.join(map(str, words))}"
+            if printed is None:
+                print(f"{asked}: this run, or one with which it must agree, failed")
+            else:
+                report_difference(f"{asked}, beside what follows from other runs", expected, printed)
+
+    def lay_out(self, name, captures):
+        """Writes captures, and answers their names."""
+        names = [f"{name}-{number}.pcap" for number in range(len(captures))]
+        for file, packets in zip(names, captures):
+            write_capture(self.folder / file, "little-nano", packets)
+        return names
+
+    def try_link(self, link):
+        self.about = link.what
+        names, moments = self.lay_out("whole", link.captures), link.moments
+        lives = self.answer("lives", *names)
+        self.expect(going_on(lives), "records", "--at", text_of(moments[-1]), *names)
+        self.same_lives(lives, link, names)
+        for seconds in LATER:
+            self.as_of("--at", moments[-1] + seconds * SECOND, names)
+        for moment in moments[::len(moments) // MOMENTS + 1]:
+            self.as_of("--before", moment, names)
+            self.as_of("--before", moment + 1, names)
+
+    def as_of(self, flag, moment, names):
+        """Tries that the lives that go on after a moment are the records that are live then."""
+        asked = [flag, text_of(moment), *names]
+        self.expect(going_on(self.answer("lives", *asked)), "records", *asked)
+
+    def same_lives(self, lives, link, names):
+        """Tries the captures in another order, twice, and cut at a packet header."""
+        halves = [part for packets in link.captures for part in (packets[:len(packets) // 3], packets[len(packets) // 3:])]
+        for same in (names[::-1], names + names, self.lay_out("part", halves)):
+            self.expect(lives, "lives", *same)
+
+
+def going_on(lives):
+    """The lines of `records` for the lives that go on after the end of the captures; None of nothing that was printed."""
+    if lives is None:
+        return None
+    found = (LIVE.fullmatch(line) for line in lives.splitlines())
+    return "".join(f"{life[1]} {life[2]}\n" for life in found if life)
+
+
+def text_of(moment):
+    return f"{moment // SECOND}.{moment % SECOND:09}"
+
+
+def try_lives_agree(program, folder):
+    """Tries the lives of all these captures; answers how many runs failed."""
+    trials = Trials(program, folder)
+    for link in links():
+        trials.try_link(link)
+    print(f"{trials.count} runs whose lives agree with others, {trials.failed} failed")
+    return trials.failed

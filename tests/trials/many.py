@@ -1,0 +1,80 @@
+"""Runs over hundreds of files: copies of one capture, and captures that tell of a record each."""
+
+import shutil
+
+from tests.captures.built import frame_of, labels, lay_out_small, write_capture
+from tests.captures.wire import SECOND, A
+from tests.running.runs import DAMAGED, WHOLE, Case, agrees, said
+from tests.trials.refusals import COUNTS, LIFE, LINE
+
+# How many files a run reads, and at which place, counted from 0, one of them is another one.
+FILES = 500
+PLACE = 399
+
+COPIES = [f"copy-{number}.pcap" for number in range(FILES)]
+HOSTS = [f"host-{number:03}.pcap" for number in range(FILES)]
+
+
+def host_packet(number):
+    """What one of the hosts tells of itself."""
+    address = bytes((198, 18, number >> 8, number & 0xFF))
+    return 100 * SECOND + number, frame_of([((labels(f"host-{number:03}.local"), A, address, True), 120)])
+
+
+def host_line(number):
+    return (f"host-{number:03}.local A 198.18.{number >> 8}.{number & 0xFF} ttl 120 "
+            f"heard 100.{number:09} until 220.{number:09}\n")
+
+
+def host_life(number):
+    return host_line(number).replace(" ttl ", f" from 100.{number:09} ttl ").replace("\n", " live\n")
+
+
+HOST_LINES = "".join(host_line(number) for number in range(FILES))
+HOST_LIVES = "".join(host_life(number) for number in range(FILES))
+
+
+def with_another(names, name):
+    return [*names[:PLACE], name, *names[PLACE + 1:]]
+
+
+CASES = (
+    Case(("records", *["one.pcap"] * FILES), WHOLE, LINE),
+    Case(("records", *COPIES), WHOLE, LINE),
+    Case(("check", *COPIES), WHOLE, "".join(f"{name}: {COUNTS} whole\n" for name in COPIES)),
+    Case(("records", "hosts.pcap"), WHOLE, HOST_LINES),
+    Case(("records", *HOSTS), WHOLE, HOST_LINES),
+    Case(("records", *reversed(HOSTS)), WHOLE, HOST_LINES),
+    Case(("lives", *COPIES), WHOLE, LIFE),
+    Case(("lives", "hosts.pcap"), WHOLE, HOST_LIVES),
+    Case(("lives", *reversed(HOSTS)), WHOLE, HOST_LIVES),
+    said(["lives", *with_another(HOSTS, "text.pcap")], "text.pcap: not a classic pcap file"),
+    # A fault names the file that it is of.
+    said(["records", *with_another(HOSTS, "text.pcap")], "text.pcap: not a classic pcap file"),
+    said(["check", *with_another(HOSTS, "text.pcap")], "text.pcap: not a classic pcap file"),
+    said(["records", *with_another(COPIES, "empty.pcap")], "empty.pcap: file header is cut short"),
+    said(["check", *with_another(COPIES, "folder")], "folder: read failed"),
+    said(["records", *with_another(COPIES, "missing.pcap")], "missing.pcap: cannot be opened"),
+    Case(("records", *with_another(COPIES, "cut.pcap")), DAMAGED, LINE, "mdnsmerge: cut.pcap: cut at 117\n"),
+    Case(("check", *with_another(COPIES, "cut.pcap")), DAMAGED,
+         "".join(f"{name}: {COUNTS} {'cut at 117' if name == 'cut.pcap' else 'whole'}\n"
+                 for name in with_another(COPIES, "cut.pcap"))),
+)
+
+
+def lay_out(folder):
+    lay_out_small(folder)
+    (folder / "folder").mkdir()
+    for name in COPIES:
+        shutil.copy(folder / "one.pcap", folder / name)
+    for number, name in enumerate(HOSTS):
+        write_capture(folder / name, "little-nano", [host_packet(number)])
+    write_capture(folder / "hosts.pcap", "little-nano", [host_packet(number) for number in range(FILES)])
+
+
+def try_many(program, folder):
+    """Tries all cases on a program; answers how many failed."""
+    lay_out(folder)
+    failed = sum(not agrees(case, program, folder) for case in CASES)
+    print(f"{len(CASES)} runs over {FILES} files and as many packets, {failed} failed")
+    return failed

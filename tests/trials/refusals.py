@@ -1,0 +1,99 @@
+"""Runs of the program that `main` alone decides: files that it can't have, its statuses, and where it writes.
+
+What must come of each is known from README.md, the man page and docs/DECISIONS.md."""
+
+import shutil
+
+from tests.captures.built import lay_out_small
+from tests.captures.vectors import constants
+from tests.running.runs import DAMAGED, REFUSED, WHOLE, Case, agrees, can_drop, refused, said
+
+LINE = constants("lines.rt")["AT_100"]
+LIFE = "a.local A 192.0.2.1 from 100.000000000 ttl 120 heard 100.000000000 until 220.000000000 live\n"
+COUNTS = "packets 1 skipped 0 refused 0 messages 1 hearings 1"
+WRITE_FAILED = "mdnsmerge: write failed\n"
+
+
+def unwritten(words, out_to):
+    return refused(words, WRITE_FAILED, out_to=out_to)
+
+
+FILES = (
+    said(["records", "missing.pcap"], "missing.pcap: cannot be opened"),
+    said(["check", "missing.pcap"], "missing.pcap: cannot be opened"),
+    said(["records", "one.pcap", "missing.pcap"], "missing.pcap: cannot be opened"),
+    said(["check", "one.pcap", "missing.pcap"], "missing.pcap: cannot be opened"),
+    said(["lives", "one.pcap", "missing.pcap"], "missing.pcap: cannot be opened"),
+    said(["page", "one.pcap", "missing.pcap"], "missing.pcap: cannot be opened"),
+    # All files are opened before any is read, in the order of the words.
+    said(["records", "empty.pcap", "missing.pcap"], "missing.pcap: cannot be opened"),
+    said(["records", "missing.pcap", "absent.pcap"], "missing.pcap: cannot be opened"),
+    said(["records", ""], ": cannot be opened"),
+    said(["records", "-"], "-: cannot be opened"),
+    said(["records", "one.pcap/"], "one.pcap/: cannot be opened"),
+    said(["records", *["one.pcap"] * 20], "one.pcap: cannot be opened", open_files=10),
+    said(["records", "locked.pcap"], "locked.pcap: cannot be opened", is_nobody=True),
+    said(["records", "folder"], "folder: read failed"),
+    said(["check", "one.pcap", "folder"], "folder: read failed"),
+    said(["records", "empty.pcap"], "empty.pcap: file header is cut short"),
+    said(["records", "/dev/null"], "/dev/null: file header is cut short"),
+    said(["records", "text.pcap"], "text.pcap: not a classic pcap file"),
+    said(["check", "one.pcap", "text.pcap"], "text.pcap: not a classic pcap file"),
+    said(["lives", "one.pcap", "text.pcap"], "text.pcap: not a classic pcap file"),
+    said(["lives", "one.pcap", "folder"], "folder: read failed"),
+    said(["page", "one.pcap", "text.pcap"], "text.pcap: not a classic pcap file"),
+    said(["page", "one.pcap", "folder"], "folder: read failed"),
+    *(said([command, "--at", "99", "one.pcap"],
+           "the moment is earlier than the newest hearing, 100.000000000")
+      for command in ("records", "lives", "page")),
+    Case(("records", "--at", "100", "one.pcap"), WHOLE, LINE),
+    Case(("records", "--at", "219", "one.pcap"), WHOLE, LINE),
+    Case(("records", "--at", "220", "one.pcap"), WHOLE),
+    Case(("types", "one.pcap"), WHOLE),
+    Case(("records", "named like -- this"), WHOLE, LINE),
+    Case(("records", "/dev/stdin"), WHOLE, LINE, standard_input="one.pcap"),
+    Case(("records", "one.pcap"), WHOLE, LINE, is_nobody=True),
+    Case(("check", "one.pcap", "one.pcap"), WHOLE, f"one.pcap: {COUNTS} whole\n" * 2),
+    Case(("check", "one.pcap", "cut.pcap"), DAMAGED,
+         f"one.pcap: {COUNTS} whole\ncut.pcap: {COUNTS} cut at 117\n"),
+    Case(("records", "cut.pcap"), DAMAGED, LINE, "mdnsmerge: cut.pcap: cut at 117\n"),
+    Case(("records", "cut.pcap", "one.pcap", "cut.pcap"), DAMAGED, LINE,
+         "mdnsmerge: cut.pcap: cut at 117\n" * 2),
+    Case(("lives", "one.pcap"), WHOLE, LIFE),
+    Case(("lives", "--before", "100", "one.pcap"), WHOLE),
+    Case(("lives", "cut.pcap", "one.pcap", "cut.pcap"), DAMAGED, LIFE,
+         "mdnsmerge: cut.pcap: cut at 117\n" * 2),
+)
+
+STREAMS = (
+    *(unwritten(words, to) for to in ("closed", "full", "gone")
+      for words in (["records", "one.pcap"], ["lives", "one.pcap"], ["page", "one.pcap"], ["check", "one.pcap"],
+                    ["--help"])),
+    # What can't be said on standard error changes neither the answer nor the status.
+    *(Case(("records", "cut.pcap"), DAMAGED, LINE, err_to=to) for to in ("closed", "full", "gone")),
+    *(Case(("records", "missing.pcap"), REFUSED, err_to=to) for to in ("closed", "full", "gone")),
+    *(Case((), REFUSED, err_to=to) for to in ("closed", "full", "gone")),
+)
+
+CASES = (*FILES, *STREAMS)
+
+
+def lay_out(folder):
+    """Puts the files that the cases name into a folder that anyone may read."""
+    folder.chmod(0o755)
+    lay_out_small(folder)
+    (folder / "folder").mkdir()
+    for name in ("locked.pcap", "named like -- this"):
+        shutil.copy(folder / "one.pcap", folder / name)
+    (folder / "locked.pcap").chmod(0)
+
+
+def try_refusals(program, folder):
+    """Tries all cases on a program; answers how many failed."""
+    lay_out(folder)
+    is_droppable = can_drop(folder)
+    tried = [case for case in CASES if is_droppable or not case.is_nobody]
+    failed = sum(not agrees(case, program, folder) for case in tried)
+    skipped = f", {len(CASES) - len(tried)} skipped (no run as nobody)" if len(tried) < len(CASES) else ""
+    print(f"{len(tried)} runs over files and streams, {failed} failed{skipped}")
+    return failed

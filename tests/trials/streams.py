@@ -1,0 +1,157 @@
+"""Runs of the program over pipes, FIFOs and standard input, whose bytes come in pieces.
+
+Each run is made over files first. What must come of it is known as for `refusals.py`, or is what `examples/expected/` has."""
+
+import os
+import shutil
+import threading
+import time
+from functools import partial
+from itertools import cycle
+
+from tests import EXAMPLES
+from tests.captures.built import frame_of, labels, lay_out_small, write_capture
+from tests.captures.wire import A, SECOND
+from tests.running.runs import DAMAGED, WHOLE, Case, agrees, said
+from tests.trials.refusals import COUNTS, LIFE, LINE
+
+
+# How many bytes come at once, again and again, and after how many pieces there is no pause any more.
+PIECES = (1, 2, 3, 5, 7, 16, 61, 255, 1009, 4099, 65_537)
+SLOW_PIECES = 12
+PAUSE = 0.005
+
+# A frame that is longer than what is read ahead, and is no message.
+LONG_FRAME = bytes(200_000)
+
+LATER_LINE = "b.local A 192.0.2.2 ttl 120 heard 101.000000000 until 221.000000000\n"
+
+
+def expected(name):
+    return (EXAMPLES / "expected" / f"{name}.txt").read_text()
+
+
+CASES = (
+    Case(("records", "one.pcap"), WHOLE, LINE),
+    Case(("records", "cut.pcap"), DAMAGED, LINE, "mdnsmerge: cut.pcap: cut at 117\n"),
+    Case(("check", "cut.pcap"), DAMAGED, f"cut.pcap: {COUNTS} cut at 117\n"),
+    Case(("records", "long.pcap"), WHOLE, LINE + LATER_LINE),
+    Case(("check", "long.pcap"), WHOLE, "long.pcap: packets 3 skipped 1 refused 0 messages 2 hearings 2 whole\n"),
+    Case(("records", "west.pcap"), WHOLE, expected("west.records")),
+    Case(("types", "east.pcap"), WHOLE, expected("east.types")),
+    Case(("lives", "cut.pcap"), DAMAGED, LIFE, "mdnsmerge: cut.pcap: cut at 117\n"),
+    Case(("lives", "east.pcap"), WHOLE, expected("east.lives")),
+    said(["records", "empty.pcap"], "empty.pcap: file header is cut short"),
+    said(["check", "text.pcap"], "text.pcap: not a classic pcap file"),
+    # Several are opened at once, and read one after another.
+    Case(("records", "west.pcap", "east.pcap"), WHOLE, expected("west-east.records")),
+    Case(("instances", "west.pcap", "east.pcap"), WHOLE, expected("west-east.instances")),
+    Case(("lives", "west.pcap", "east.pcap"), WHOLE, expected("west-east.lives")),
+    Case(("check", "west.pcap", "east.pcap"), WHOLE, expected("west-east.check")),
+    Case(("records", "long.pcap", "one.pcap", "cut.pcap"), DAMAGED, LINE + LATER_LINE, "mdnsmerge: cut.pcap: cut at 117\n"),
+    said(["records", "west.pcap", "text.pcap"], "text.pcap: not a classic pcap file"),
+    said(["check", "text.pcap", "west.pcap"], "text.pcap: not a classic pcap file"),
+)
+
+
+class Feeder(threading.Thread):
+    """Writes bytes in pieces to what `begin` opens, until all are written, or nobody reads them any more."""
+
+    def __init__(self, begin, capture):
+        super().__init__(daemon=True)
+        self.begin = begin
+        self.capture = capture
+
+    def run(self):
+        to = self.begin()
+        try:
+            for number, piece in enumerate(pieces(self.capture)):
+                os.write(to, piece)
+                if number < SLOW_PIECES:
+                    time.sleep(PAUSE)
+        except BrokenPipeError:
+            pass
+        finally:
+            os.close(to)
+
+
+def pieces(capture):
+    offset = 0
+    for size in cycle(PIECES):
+        if offset >= len(capture):
+            return
+        yield capture[offset:offset + size]
+        offset += size
+
+
+def opened_fifo(path, is_over):
+    """The end of a FIFO to write to, once a run has opened the other; of no file where no run will."""
+    while not is_over.is_set():
+        try:
+            to = os.open(path, os.O_WRONLY | os.O_NONBLOCK)
+        except OSError:
+            time.sleep(0.001)
+        else:
+            os.set_blocking(to, True)
+            return to
+    return os.open(os.devnull, os.O_WRONLY)
+
+
+def over_fifos(case, program, files, folder):
+    """Tries a case with each file replaced by a FIFO of its name."""
+    shutil.rmtree(folder, ignore_errors=True)
+    folder.mkdir()
+    is_over = threading.Event()
+    feeders = []
+    for name in case.words[1:]:
+        os.mkfifo(folder / name)
+        feeders.append(Feeder(partial(opened_fifo, folder / name, is_over), (files / name).read_bytes()))
+    return fed(feeders, is_over, lambda: agrees(case, program, folder, "over FIFOs"))
+
+
+def over_standard_input(case, program, files):
+    """Tries a case of one file with a pipe as standard input in its place."""
+    what, name = case.words
+    given, to = os.pipe()
+    piped = case._replace(words=(what, "/dev/stdin"), out=case.out.replace(name, "/dev/stdin"),
+                          err=case.err.replace(name, "/dev/stdin"))
+    feeder = Feeder(lambda: to, (files / name).read_bytes())
+    with os.fdopen(given, "rb") as given:
+        is_right = fed([feeder], threading.Event(), lambda: agrees(piped, program, files, "over a pipe", given))
+    feeder.join()
+    return is_right
+
+
+def fed(feeders, is_over, run):
+    """What a run comes to while its files are fed."""
+    for feeder in feeders:
+        feeder.start()
+    is_right = run()
+    is_over.set()
+    return is_right
+
+
+def address_frame(name, last):
+    return frame_of([((labels(name), A, bytes((192, 0, 2, last)), False), 120)])
+
+
+def lay_out(folder):
+    lay_out_small(folder)
+    for name in ("west.pcap", "east.pcap"):
+        shutil.copy(EXAMPLES / name, folder)
+    first, second = (address_frame(name, last) for name, last in (("a.local", 1), ("b.local", 2)))
+    packets = [(100 * SECOND, first), (100 * SECOND, LONG_FRAME), (101 * SECOND, second)]
+    write_capture(folder / "long.pcap", "big-nano", packets)
+
+
+def try_streams(program, folder):
+    """Tries all cases over files, FIFOs and standard input; answers how many runs failed."""
+    lay_out(folder)
+    results = []
+    for case in CASES:
+        results += [agrees(case, program, folder, "over files"), over_fifos(case, program, folder, folder / "fifos")]
+        if len(case.words) == 2:
+            results.append(over_standard_input(case, program, folder))
+    failed = results.count(False)
+    print(f"{len(results)} runs over files, FIFOs and pipes, {failed} failed")
+    return failed
