@@ -22,9 +22,10 @@ IPV4_GROUP = bytes((224, 0, 0, 251))
 IPV6_GROUP = bytes.fromhex("ff0200000000000000000000000000fb")
 UDP = 17
 
-# The types that are heard, by their names.
+# The types that are heard, by their names; and the names of those whose data is an address, ends in a name, or is strings.
 TYPES = {"A": 1, "PTR": 12, "TXT": 16, "AAAA": 28, "SRV": 33}
 A, PTR, TXT, AAAA, SRV = TYPES.values()
+ADDRESSES, NAMES, STRINGS = ("A", "AAAA"), ("PTR", "SRV"), ("TXT",)
 NSEC = 47
 ANY = 255
 IN = 1

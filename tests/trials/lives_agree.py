@@ -14,6 +14,7 @@ from tests.captures.floods import ORDERS, addresses, flushes, records
 from tests.captures.link import START, Link
 from tests.captures.real import NAMES, packets_of, repeated
 from tests.captures.wire import SECOND
+from tests.judges.words import moment_text
 from tests.running.runs import PATIENCE, WHOLE, report_difference
 
 # A life that goes on: what `records` prints before its first moment, and after it.
@@ -97,7 +98,7 @@ class Trials:
         self.about = link.what
         names, moments = self.lay_out("whole", link.captures), link.moments
         lives = self.answer("lives", *names)
-        self.expect(going_on(lives), "records", "--at", text_of(moments[-1]), *names)
+        self.expect(going_on(lives), "records", "--at", moment_text(moments[-1]), *names)
         self.same_lives(lives, link, names)
         for seconds in LATER:
             self.as_of("--at", moments[-1] + seconds * SECOND, names)
@@ -107,7 +108,7 @@ class Trials:
 
     def as_of(self, flag, moment, names):
         """Tries that the lives that go on after a moment are the records that are live then."""
-        asked = [flag, text_of(moment), *names]
+        asked = [flag, moment_text(moment), *names]
         self.expect(going_on(self.answer("lives", *asked)), "records", *asked)
 
     def same_lives(self, lives, link, names):
@@ -123,10 +124,6 @@ def going_on(lives):
         return None
     found = (LIVE.fullmatch(line) for line in lives.splitlines())
     return "".join(f"{life[1]} {life[2]}\n" for life in found if life)
-
-
-def text_of(moment):
-    return f"{moment // SECOND}.{moment % SECOND:09}"
 
 
 def try_lives_agree(program, folder):

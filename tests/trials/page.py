@@ -8,10 +8,10 @@ import tempfile
 from pathlib import Path
 
 from tests.captures.built import write_capture
-from tests.captures.wire import SECOND
 from tests.judges.judged_page import Judge, differences
 from tests.judges.markup import Unreadable, expect
 from tests.judges.read_page import read_page
+from tests.judges.words import moment_text
 from tests.running.program import HIDDEN_CHARACTER
 from tests.running.runs import REFUSED
 from tests.trials.page_captures import cases
@@ -51,7 +51,7 @@ class Trial:
     def options(self):
         at, before, about = self.case.asked
         moments = [word for flag, moment in (("--at", at), ("--before", before)) if moment is not None
-                   for word in (flag, text_of(moment))]
+                   for word in (flag, moment_text(moment))]
         return [*moments, *(f"--about={word}" for word in about)]
 
     def faults(self):
@@ -77,10 +77,6 @@ class Trial:
         self.style = page.style
         judge = Judge(self.files, self.case.asked)
         yield from differences(page, judge.page(page.style))
-
-
-def text_of(moment):
-    return f"{moment // SECOND}.{moment % SECOND:09}"
 
 
 def try_page(program, folder, words=""):

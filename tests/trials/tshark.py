@@ -11,7 +11,7 @@ import xml.etree.ElementTree as ElementTree
 from collections import Counter
 
 from tests import EXAMPLES
-from tests.captures.wire import PORT, TYPES
+from tests.captures.wire import NAMES, PORT, STRINGS, TYPES
 from tests.judges.shown import LABEL, bytes_of, short_ipv6
 from tests.running.runs import report_difference
 
@@ -44,9 +44,9 @@ def words_of(kind, words):
     """The words of a record's data, as they are compared."""
     if kind == "AAAA":
         return [short_ipv6(words[0])]
-    if kind in ("PTR", "SRV"):
+    if kind in NAMES:
         return [*words[:-1], name_of(words[-1])]
-    return [bytes_of(word) for word in words] if kind == "TXT" else words
+    return [bytes_of(word) for word in words] if kind in STRINGS else words
 
 
 def heard(why, name):

@@ -6,7 +6,6 @@ What must come of the small ones is known from the man page; `why.rows` has more
 import ipaddress
 import re
 import shutil
-import struct
 import subprocess
 from collections import Counter
 from functools import partial
@@ -14,8 +13,10 @@ from typing import NamedTuple
 
 from tests import EXAMPLES
 from tests.captures.built import frame_of, labels, lay_out_small, write_capture
-from tests.captures.wire import AAAA, ANSWER, MAGICS, PTR, SECOND, SRV, TXT, A, Message, ipv6_frame
+from tests.captures.wire import A, AAAA, ANSWER, NAMES, PTR, SECOND, SRV, TXT, Message, ipv6_frame
+from tests.judges.lines import moment_of as moment_in
 from tests.judges.pretty import SPAN, pretty_text
+from tests.judges.savefile import moment_of, reading_of, snapshot_length
 from tests.running import runs
 from tests.running.commands import TRACES, TWO_FORMS, WHYS, page
 from tests.running.runs import DAMAGED, PATIENCE, REFUSED, WHOLE, Case, agrees
@@ -25,9 +26,6 @@ from tests.trials.command_lines import NO_FILE, is_fit, version_of
 
 said = partial(runs.said, program="mdnswhy")
 misused = partial(command_lines.misused, program="mdnswhy")
-
-# The first four bytes of a capture, and the byte order and the nanoseconds of a unit that they tell.
-LAYOUTS = {struct.pack(order + "I", number): (order, unit) for order, number, unit in MAGICS.values()}
 
 # Names of files that are escaped in lines, and as they are on standard error.
 TWO_LINES = "a file\nof two lines.pcap"
@@ -237,7 +235,7 @@ class Heard(NamedTuple):
 
     def key(self):
         """What the same record has in any case (RFC 6762, section 16)."""
-        is_name = self.kind in ("PTR", "SRV")
+        is_name = self.kind in NAMES
         return self.owner.lower(), self.kind, self.data.lower() if is_name else self.data
 
     def age(self):
@@ -308,23 +306,6 @@ def counted_otherwise(why, merge, names):
         yield f"`mdnswhy packets` lists {listed}, and `mdnsmerge check` counts {counted}"
 
 
-def nanos(moment):
-    """A moment with nine digits after the dot in nanoseconds."""
-    return int(moment.replace(".", ""))
-
-
-def headers_of(path):
-    """The moments of a capture's packets in nanoseconds, and its snapshot length, read from the headers alone."""
-    capture = path.read_bytes()
-    order, unit = LAYOUTS[capture[:4]]
-    moments, at = [], 24
-    while at < len(capture):
-        seconds, fraction, length = struct.unpack_from(order + "III", capture, at)
-        moments.append(seconds * SECOND + fraction * unit)
-        at += 16 + length
-    return moments, *struct.unpack_from(order + "I", capture, 16)
-
-
 def spanned_otherwise(why, merge, names):
     """What mdnswhy says of the span of each file otherwise than the file's headers, the lines of its hearings and the newest
     of the records of mdnsmerge."""
@@ -333,12 +314,13 @@ def spanned_otherwise(why, merge, names):
         yield f"{len(lines)} lines of spans of {len(names)} files"
     for name, line in zip(names, lines):
         told, *moments, snap = SPAN.fullmatch(line).groups()
-        packets, length = headers_of(EXAMPLES / name)
-        heard = [nanos(line.moment) for line in heard_in(HEARING_LINE, lines_of(why, "hearings", name))]
-        if (told, *map(nanos, moments), int(snap)) != (name, min(packets), max(packets), min(heard), max(heard), length):
+        capture = (EXAMPLES / name).read_bytes()
+        packets, length = [moment_of(capture, packet) for packet in reading_of(capture).packets], snapshot_length(capture)
+        heard = [moment_in(line.moment) for line in heard_in(HEARING_LINE, lines_of(why, "hearings", name))]
+        if (told, *map(moment_in, moments), int(snap)) != (name, min(packets), max(packets), min(heard), max(heard), length):
             yield f"{line!r} has other moments than the packets and the hearings of {name}"
-        newest = max(nanos(record.moment) for record in heard_in(RECORD_LINE, lines_of(merge, "records", name)))
-        if nanos(moments[-1]) != newest:
+        newest = max(moment_in(record.moment) for record in heard_in(RECORD_LINE, lines_of(merge, "records", name)))
+        if moment_in(moments[-1]) != newest:
             yield f"{line!r} has another last hearing than `mdnsmerge records`"
 
 
