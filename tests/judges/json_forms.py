@@ -1,7 +1,8 @@
 """What `--json` must print, made of the lines of words that the same question gives, and of nothing else where these say all.
 
-The expected output of each JSON form in `examples/expected` must be what follows from the expected words beside it. Whether an
-instance said goodbye follows from the records of the same captures, and what `files` counts beyond its line from `check`."""
+The expected output of each JSON form in `examples/expected` must be what follows from the expected words beside it, or, of
+mdnswhy, from those that `traced.py` makes of the captures. Whether an instance said goodbye follows from the records of the same
+captures, and what `files` counts beyond its line from `check`."""
 
 import json
 import re
@@ -9,6 +10,7 @@ import re
 from tests import EXAMPLES
 from tests.captures.wire import TYPES
 from tests.judges.shown import LABEL, shown_name, shown_of
+from tests.judges.traced import TEXTS, traced_text
 from tests.running.runs import report_difference
 
 EXPECTED = EXAMPLES / "expected"
@@ -90,7 +92,8 @@ def instances_of(text, other):
 
 def files_of(text, other):
     """The objects of captures: the line of each, and those below it, which say what it lost and what to do."""
-    counts = {found[1]: [int(number) for number in found.groups()[1:]] for found in map(CHECKED.fullmatch, other("check").splitlines())}
+    checked = map(CHECKED.fullmatch, other("check").splitlines())
+    counts = {found[1]: [int(number) for number in found.groups()[1:]] for found in checked}
     found = []
     for line in text.splitlines():
         of_file = FILE.fullmatch(line)
@@ -121,6 +124,10 @@ def json_text(command, text, other):
 
 
 def expected(captures, command):
+    """What a command of mdnsmerge prints of captures; of mdnswhy it is made from their bytes."""
+    if command in TEXTS:
+        names = [f"{name}.pcap" for name in captures.split("-")]
+        return traced_text(command, [(name, (EXAMPLES / name).read_bytes()) for name in names])
     return (EXPECTED / f"{captures}.{command}.txt").read_text("utf-8")
 
 
@@ -133,7 +140,7 @@ def try_json_forms():
         count += 1
         if path.read_text("utf-8") != must:
             failed += 1
-            report_difference(f"examples/expected/{path.name}, beside what follows from {captures}.{command}.txt",
-                              must, path.read_text("utf-8"))
+            report_difference(f"examples/expected/{path.name}, beside what follows from the words of {command}", must,
+                              path.read_text("utf-8"))
     print(f"{count} expected texts of JSON beside those of words, {failed} failed")
     return failed

@@ -14,9 +14,11 @@ from typing import NamedTuple
 from tests import EXAMPLES
 from tests.captures.built import frame_of, labels, lay_out_small, write_capture
 from tests.captures.wire import A, AAAA, ANSWER, NAMES, PTR, SECOND, SRV, TXT, Message, ipv6_frame
+from tests.judges.json_forms import expected, json_text
 from tests.judges.lines import moment_of as moment_in
 from tests.judges.pretty import SPAN, pretty_text
 from tests.judges.savefile import moment_of, reading_of, snapshot_length
+from tests.judges.traced import traced_text
 from tests.running import runs
 from tests.running.commands import TRACES, TWO_FORMS, WHYS, page
 from tests.running.runs import DAMAGED, PATIENCE, REFUSED, WHOLE, Case, agrees
@@ -333,8 +335,22 @@ def shown_otherwise(why, names):
             yield f"`mdnswhy {trace} --pretty` doesn't follow (-) from its plain lines:\n{apart}"
 
 
+def traced_otherwise(why, names):
+    """What mdnswhy says of these captures otherwise than their bytes, and as JSON otherwise than in words."""
+    for trace in WHYS:
+        must = traced_text(trace, [(name, (EXAMPLES / name).read_bytes()) for name in names])
+        printed = "".join(f"{line}\n" for line in lines_of(why, trace, *names))
+        if printed != must:
+            yield "\n".join([f"`mdnswhy {trace}` differs (+) from the captures (-):", *runs.lines_apart(must, printed)])
+        printed, as_json = ("".join(f"{line}\n" for line in lines_of(why, trace, "--json", *names)),
+                            json_text(trace, must, lambda command: expected("west-east", command)))
+        if printed != as_json:
+            yield "\n".join([f"`mdnswhy {trace} --json` differs (+) from its words (-):", *runs.lines_apart(as_json, printed)])
+
+
 def disagreements(why, merge, names):
     """What mdnswhy and mdnsmerge say differently of these captures, or mdnswhy in different forms."""
+    yield from traced_otherwise(why, names)
     yield from heard_otherwise(why, merge, names)
     yield from counted_otherwise(why, merge, names)
     yield from spanned_otherwise(why, merge, names)

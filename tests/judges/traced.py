@@ -1,0 +1,77 @@
+"""The lines of words that `mdnswhy` must print of whole captures, made from their bytes apart from the programs."""
+
+import ipaddress
+from functools import lru_cache
+
+from tests.judges.causes import DAMAGED, LOSSES, cause_of
+from tests.judges.hearings import IPV4, number_at, told_by
+from tests.judges.savefile import PACKET_HEADER, moment_of, reading_of, snapshot_length
+from tests.judges.words import data_words, kind_text, moment_text, name_text
+
+# What the lines of `files` say of packets that were lost to a fragment, the only cause of the examples.
+CURES = {cause: "what it told is missing, unless another message told it" for cause in ("fragment", "IPv6 fragment")}
+
+
+def frames_of(capture):
+    """The packets of a capture: each with its offset, its moment and its frame."""
+    return [(packet.at, moment_of(capture, packet), packet.wire[PACKET_HEADER:]) for packet in reading_of(capture).packets]
+
+
+def sender_of(frame):
+    """The address of who sent a frame of IP, as it is printed."""
+    at, size = (26, 4) if number_at(frame, 12) == IPV4 else (22, 16)
+    return ipaddress.ip_address(frame[at:at + size]).exploded
+
+
+def hearings_text(name, capture):
+    lines = []
+    for _, moment, frame in frames_of(capture):
+        for ttl, flush, owner, kind, data in told_by(frame):
+            record = [name_text(owner), kind_text(kind), *data_words(kind, data)]
+            lines.append([moment_text(moment), name, sender_of(frame), *record, "ttl", str(ttl), *["flush"] * flush])
+    return "".join(" ".join(line) + "\n" for line in lines)
+
+
+def packets_text(name, capture):
+    """A line for each packet that tells nothing. Where a fault is in a damaged message isn't known here."""
+    lines = []
+    for at, moment, frame in frames_of(capture):
+        cause = cause_of(frame)
+        if cause == DAMAGED:
+            raise ValueError(f"{name}: a damaged message at {at}")
+        if cause or not told_by(frame):
+            lines.append(f"{moment_text(moment)} {name} {at} {f'skipped {cause}' if cause else 'heard no listed record'}\n")
+    return "".join(lines)
+
+
+def spans_text(name, capture):
+    packets = [moment for _, moment, _ in frames_of(capture)]
+    hearings = [moment for _, moment, frame in frames_of(capture) if told_by(frame)]
+    return f"{name} packets {bounds(packets)} hearings {bounds(hearings)} snap {snapshot_length(capture)}\n"
+
+
+def bounds(moments):
+    return f"{moment_text(min(moments))} {moment_text(max(moments))}" if moments else "- -"
+
+
+def files_text(name, capture):
+    """The line of a file that heard something, and one for each cause by which it lost packets."""
+    frames = frames_of(capture)
+    hearings = sum(len(told_by(frame)) for *_, frame in frames)
+    causes = [cause_of(frame) for *_, frame in frames]
+    lost = [f"{name} lost {causes.count(cause)} {cause}: {CURES[cause]}\n" for cause in LOSSES if cause in causes]
+    line = f"{name} pcap whole packets {len(frames)} {bounds([moment for _, moment, _ in frames])} hearings {hearings}\n"
+    return "".join([line, *lost])
+
+
+TEXTS = {"hearings": hearings_text, "packets": packets_text, "spans": spans_text, "files": files_text}
+
+
+@lru_cache
+def text_of(command, name, capture):
+    return TEXTS[command](name, capture)
+
+
+def traced_text(command, captures):
+    """What a command prints of captures, each with its name, file after file."""
+    return "".join(text_of(command, name, capture) for name, capture in captures)
