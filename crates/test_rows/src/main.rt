@@ -1,4 +1,5 @@
-//! Runs rows of tests as a caller of the libraries does, and prints the answers that aren't the expected ones.
+//! Runs rows of tests as a caller of the libraries does. Of each row whose answer isn't the expected one it prints both, the
+//! expected one first.
 //!
 //! Each row of standard input is a call: its kind, its subject, its input, and the expected answer. The last line of
 //! the output says how many rows were run.
@@ -44,27 +45,35 @@ fn compare_all(rt: &HostRuntime, text: &str) -> io::Result<u32> {
 
 fn compare_rows(rt: &HostRuntime, reader: &mut MessageReader, text: &str) -> io::Result<u32> {
     let mut count = 0u32;
+    let mut number = 0u32;
     for line in text.lines() {
+        number = number.saturating_add(1);
         if let Some(row) = row_of(line) {
             count = count.saturating_add(1);
-            compare(rt, reader, &row)?;
+            compare(rt, reader, number, &row)?;
         }
     }
     Ok(count)
 }
 
-// Prints the subject of a row and the answer, where that isn't the expected one.
-fn compare(rt: &HostRuntime, reader: &mut MessageReader, row: &Row<'_>) -> io::Result<()> {
+// Prints the row of a line with the answer, where that isn't the expected one.
+fn compare(
+    rt: &HostRuntime,
+    reader: &mut MessageReader,
+    number: u32,
+    row: &Row<'_>,
+) -> io::Result<()> {
     match answered(rt.alloc(), reader, row) {
-        Ok(answer) => print_unexpected(rt, row, answer.as_str()),
-        Err(Want) => print_unexpected(rt, row, "it can't be read"),
+        Ok(answer) => print_unexpected(rt, number, row, answer.as_str()),
+        Err(Want) => print_unexpected(rt, number, row, "it can't be read"),
     }
 }
 
-fn print_unexpected(rt: &HostRuntime, row: &Row<'_>, answer: &str) -> io::Result<()> {
+fn print_unexpected(rt: &HostRuntime, number: u32, row: &Row<'_>, answer: &str) -> io::Result<()> {
     if answer.trim_end() == row.answer {
         return Ok(());
     }
     let what = row.what;
-    println!(rt; "{what}: {answer}")
+    let expected = row.answer;
+    println!(rt; "crates/test_rows/stdin:{number}: {what}\n  - {expected}\n  + {answer}")
 }
