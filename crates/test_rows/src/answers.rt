@@ -10,7 +10,7 @@ use crate::moments::{push_debug, push_kept};
 use crate::name::{push_label_list, push_name, push_name_at, push_name_text, push_sameness};
 use crate::people::{push_address, push_name_shown, push_shown_bytes, push_time};
 use crate::record::push_of_records;
-use crate::text::{push_string_list, push_string_text};
+use crate::text::{push_line, push_string_list, push_string_text};
 use crate::written::Answer;
 use mdns_message::{MessageReader, Want};
 use std::alloc::Global;
@@ -22,6 +22,7 @@ fn push_read(alloc: Global, to: &mut Answer, kind: &str, bytes: &[u8]) -> Result
         "counted capture" => push_counts(alloc, to, bytes),
         "frame" => push_payload(to, bytes),
         "strings" => push_string_list(to, bytes),
+        "vector" => to.bytes(bytes),
         _ => return Err(Want),
     }
     Ok(())
@@ -66,6 +67,7 @@ fn push_answer(
         "kept, by Debug" => push_debug(alloc, to, row.given),
         "ending line" => push_ending_line(alloc, to, row.given),
         "check line" => push_check_line(alloc, to, row.given),
+        "line" => push_line(to, row.given),
         "date" | "clock" | "seconds" | "millis" | "duration" => push_time(to, row.kind, row.given),
         kind => match kind.strip_prefix("prefixes of a ") {
             Some(kind) => push_prefixes_of(alloc, to, kind, row.given),
