@@ -5,10 +5,10 @@ What must come of each is known from README.md, the man page and docs/DECISIONS.
 import shutil
 
 from tests.captures.built import lay_out_small
-from tests.captures.vectors import constants
+from tests.captures.vectors import lines
 from tests.running.runs import DAMAGED, REFUSED, WHOLE, Case, agrees, can_drop, refused, said
 
-LINE = constants("lines.rt")["AT_100"]
+LINE = lines()["AT_100"] + "\n"
 LIFE = "a.local A 192.0.2.1 from 100.000000000 ttl 120 heard 100.000000000 until 220.000000000 live\n"
 COUNTS = "packets 1 skipped 0 refused 0 messages 1 hearings 1"
 WRITE_FAILED = "mdnsmerge: write failed\n"

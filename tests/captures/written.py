@@ -1,0 +1,162 @@
+"""Reads rows: small captures that are written in words, what is asked of them, and what must come of it.
+
+`rows.md` has the grammar. There is one for all files of rows, of the trials and of the fuzzer."""
+
+import ipaddress
+import re
+from typing import NamedTuple
+
+from tests import TOP
+from tests.captures.built import frame_of, labels, write_capture
+from tests.captures.wire import SECOND, TYPES
+from tests.running.runs import WHOLE, Case
+
+DEFINITION = re.compile(r"([A-Z][A-Z0-9_]*) =(?: (.*))?")
+COMMENT = re.compile(r"(?:^|\s\s)#.*")
+INDENT = "    "
+
+# The definition that says what the captures of a file are: bytes, unless it says hearings.
+CAPTURES, HEARINGS = "CAPTURES", "hearings"
+
+# A name is a word, or stands for whole lines; these words stand for themselves.
+NAME = re.compile(r"(?:(?<!\S)|(?<=\\n))[A-Z][A-Z0-9_]*(?=[\s;]|\\n|$)")
+WORDS = (*TYPES, "END", "FILE", "FROM", "HEARD", "ID", "IP", "LEFT", "NEW", "OPCODE", "RCODE", "RECORD", "TAGGED", "TYPE", "UDP",
+         "UNTIL", "VLAN")
+
+ANSWER = re.compile(r"(.*?)(?:beside it (.*?))?(?:status (\d)\n?)?", re.DOTALL)
+
+# What stands for the words of a file that isn't there.
+NO_FILE = "missing"
+
+
+class Row(NamedTuple):
+    """The file and line of a row, what it is about, what is asked, of which files, and what must come of it."""
+    place: str
+    what: str
+    asked: str
+    files: str
+    answer: str
+    is_heard: bool
+
+    def lay_out(self, folder):
+        """Writes the captures of a row, and answers their names."""
+        names = []
+        for default, file in zip("abcd", self.files.split("+")):
+            name, colon, words = file.rpartition(":") if not self.is_heard else ("", "", file)
+            names.append(name.strip() if colon else f"{default}.pcap")
+            if words.strip() == NO_FILE:
+                (folder / names[-1]).unlink(missing_ok=True)
+            elif self.is_heard:
+                packets = [packet_of(hearing) for hearing in words.split(";") if hearing.strip()]
+                write_capture(folder / names[-1], "little-nano", packets)
+            else:
+                (folder / names[-1]).write_bytes(bytes_of(words))
+        return names
+
+    def case(self, folder):
+        """The run over the files of the row, once they are laid out in a folder."""
+        names = self.lay_out(folder)
+        out, err, status = ANSWER.fullmatch(self.answer.replace("\\n", "\n")).groups()
+        return Case((*self.asked.split(), *names), int(status or WHOLE), out, err or "", place=self.place)
+
+
+def rows_of(names, *paths):
+    """Reads the rows of the last of the paths, with what the names and the paths define in the place of its name."""
+    known, rows = {word: word for word in WORDS}, []
+    for name, text in names.items():
+        define(name, text, known)
+    for path in paths:
+        rows = list(read_rows(path, known))
+    return rows
+
+
+def define(name, text, known):
+    """Adds a name and what it stands for to what is known."""
+    if name in known:
+        raise ValueError(f"{name} is defined twice")
+    known[name] = text
+
+
+def read_rows(path, known):
+    """Reads the rows of a file, and adds what it defines to what is known."""
+    known.pop(CAPTURES, None)
+    for number, line, below in blocks_of(path):
+        defined = DEFINITION.fullmatch(line)
+        if defined:
+            words = [defined[2] or "", *(COMMENT.sub("", more) for more in below)]
+            define(defined[1], expanded(" ".join(filter(None, map(str.strip, words))), known), known)
+        else:
+            what, *cells = (cell.strip() for cell in line.split("|"))
+            asked, files, answer = (expanded(cell, known) for cell in cells)
+            answer += "".join(f"{expanded(more, known)}\\n" for more in below)
+            place = f"{path.relative_to(TOP)}:{number}"
+            yield Row(place, what, asked, files, answer, known.get(CAPTURES) == HEARINGS)
+
+
+def blocks_of(path):
+    """The lines of a file but comments, each with its number and the indented lines below it, without their indent."""
+    blocks = []
+    for number, line in enumerate(path.read_text("utf-8").splitlines(), 1):
+        if line.startswith(INDENT):
+            blocks[-1][2].append(line.removeprefix(INDENT))
+        elif line and not line.startswith("#"):
+            blocks.append((number, line, []))
+    return blocks
+
+
+def expanded(text, known):
+    """Puts what is known in the place of each name."""
+    for name in NAME.findall(text):
+        if name not in known:
+            raise ValueError(f"{name} isn't defined, and isn't one of WORDS")
+    return NAME.sub(lambda name: known[name[0]], text)
+
+
+def bytes_of(words):
+    """The bytes that words make in turn."""
+    made = bytearray()
+    for word in words.split():
+        if word.startswith(".."):
+            del made[int(word[2:]):]
+        elif "=" in word:
+            at, digits = word.split("=")
+            put(made, int(at), bytes.fromhex(digits))
+        else:
+            made += bytes.fromhex(word)
+    return bytes(made)
+
+
+def put(made, at, changed):
+    if at + len(changed) > len(made):
+        raise ValueError(f"{at}: there are {len(made)} bytes alone")
+    made[at:at + len(changed)] = changed
+
+
+def address(text):
+    return ipaddress.ip_address(text).packed
+
+
+def server(priority, weight, port, target):
+    return int(priority), int(weight), int(port), labels(target)
+
+
+def digits(*words):
+    return bytes.fromhex("".join(words))
+
+
+# How the data of a type is read from words; that of any other one is given in digits.
+READ = {"A": address, "AAAA": address, "PTR": labels, "SRV": server}
+
+
+def packet_of(hearing):
+    """The moment in nanoseconds, and the frame that tells of a record: MOMENT OWNER TTL[,flush] TYPE DATA. After a moment
+    alone the message has no record."""
+    moment, *told = hearing.split()
+    seconds, _, nanos = moment.partition(".")
+    return int(seconds) * SECOND + int(nanos or "0"), frame_of([record_of(*told)] if told else [])
+
+
+def record_of(owner, life, name, *words):
+    """A record and its TTL."""
+    ttl, _, flush = life.partition(",")
+    return (labels(owner), TYPES[name], READ.get(name, digits)(*words), flush == "flush"), int(ttl)
