@@ -14,13 +14,16 @@ from tests.fuzz.told import Told
 from tests.judges import savefile
 from tests.judges.lines import Unreadable, instances_text, lines_of, types_text
 from tests.judges.words import moment_text
+from tests.judges.json_forms import json_text
 from tests.running.commands import ANSWERS, ASKS
 from tests.running.program import Answer, Finding, expect, expect_same
-from tests.trials.read_json import ASKED, read_back as read_json_back
 
 CHECK = re.compile(r"(\S+): packets (\d+) skipped (\d+) refused (\d+) messages (\d+) hearings (\d+) (.*)\n")
 
 LAST_SECOND = 4_294_967_295
+
+# What is asked for as JSON, too.
+AS_JSON = ("records", "types", "instances", "lives")
 
 
 def try_case(program, why, rng, captures, second_opinion, seen):
@@ -168,14 +171,10 @@ class Case:
             expect_same(text, expected, ask, *at)
 
     def as_json(self):
-        """A report as JSON, read back, has the lines of the report."""
-        ask, names, lines_of_one = self.rng.choice(ASKED)
-        text, expected = self.report([ask, "--json"], self.names), self.report([ask], self.names)
-        try:
-            read = read_json_back(text, names, lines_of_one)
-        except ValueError as fault:
-            raise Finding(ask, "--json: no JSON:", fault) from None
-        expect_same(read, expected, ask, "--json")
+        """A report as JSON follows from the lines of the report."""
+        ask = self.rng.choice(AS_JSON)
+        text, words = self.report([ask, "--json"], self.names), self.report([ask], self.names)
+        expect_same(text, json_text(ask, words, lambda other: self.report([other], self.names)), ask, "--json")
 
     def early(self, newest):
         """A moment before the newest hearing is refused."""

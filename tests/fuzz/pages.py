@@ -20,7 +20,6 @@ from tests.judges.shown import shown, short_ipv6, shown_name, shown_words
 from tests.judges.subjects import gives_about, is_about, is_record_about, some_word
 from tests.judges.words import moment_text
 from tests.running.program import Finding, expect
-from tests.trials.read_json import hearing_words, record_words
 
 
 class Life(NamedTuple):
@@ -239,9 +238,10 @@ class Judge:
 
 def records_in(text):
     """The records of an answer of `lives --json`."""
-    for words, same in groupby(map(json.loads, text.splitlines()), record_words):
+    for words, same in groupby(map(json.loads, text.splitlines()), lambda one: [one["owner"], one["type"], *one["data"]]):
         lives = list(same)
-        yield Record(line_of(" ".join(words + hearing_words(lives[-1]))), list(map(life_of, lives)))
+        line = "{} ttl {ttl} heard {heard} until {until}".format(" ".join(words), **lives[-1])
+        yield Record(line_of(line), list(map(life_of, lives)))
 
 
 def life_of(one):

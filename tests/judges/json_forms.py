@@ -71,8 +71,11 @@ def bounds(first, last):
 
 def instances_of(text, other):
     """The objects of instances, each of a line without an indent and those below it."""
-    ends = {line.split(" ttl ")[0].rpartition(" ")[2]: " ttl 0 " in line for line in other("records").splitlines()
-            if " PTR " in line}
+    ends = {}
+    for line in other("records").splitlines():
+        record = MEMBERS["records"].fullmatch(line)
+        if record["type"] == "PTR":
+            ends[record["owner"].lower(), record["data"].strip()] = record["ttl"] == "0"
     for name, *below in (block.splitlines() for block in re.split(r"\n(?=\S)", text.removesuffix("\n")) if block):
         servers, texts = [], []
         for line in below:
@@ -86,8 +89,8 @@ def instances_of(text, other):
             elif what == "text":
                 texts.append(words)
         kind = name[len(LABEL.match(name)[0]) + 1:]
-        yield {"instance": name, "shown": shown_of({"instance": name}), "type": kind, "goodbye": ends[name], "servers": servers,
-               "texts": texts}
+        yield {"instance": name, "shown": shown_of({"instance": name}), "type": kind, "goodbye": ends[kind.lower(), name],
+               "servers": servers, "texts": texts}
 
 
 def files_of(text, other):
