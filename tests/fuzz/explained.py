@@ -10,7 +10,7 @@ from tests.judges import savefile
 from tests.judges.causes import DAMAGED, LOSSES, causes_of
 from tests.judges.lines import TYPE, Unreadable, labels_of, moment_of, wire_of
 from tests.judges.pretty import pretty_text
-from tests.judges.words import moment_text
+from tests.judges.traced import traced_text
 from tests.running.commands import TRACES
 from tests.running.program import Answer, expect, expect_same
 
@@ -66,7 +66,7 @@ class Explained:
             texts = {trace: self.answer(trace, [name]) for trace in TRACES}
             hearings = self.hearings(name, texts["hearings"])
             self.packets(name, texts["packets"])
-            self.span(name, texts["spans"], hearings)
+            self.span(name, texts["spans"])
             self.for_people(name, texts)
             heard += hearings
         for trace in TRACES:
@@ -75,14 +75,12 @@ class Explained:
         self.last_hearings(heard)
 
     def hearings(self, name, text):
-        """As many lines as `check` counts hearings, each of a packet's moment."""
+        """The lines of what a separate reader hears: as many as `check` counts hearings."""
+        expect_same(text, traced_text("hearings", [(name, self.case.captures[name])]), "mdnswhy hearings", name)
         lines = text.splitlines()
         counted = self.case.counts[name]["hearings"]
         expect(len(lines) == counted, "mdnswhy hearings", name, "has", len(lines), "lines, and counted are", counted)
-        moments = {moment for moment, _ in self.packets_of(name)}
-        hearings = [heard_of(line, name) for line in lines]
-        expect(all(heard.moment in moments for heard in hearings), "a hearing of no packet's moment:", text)
-        return hearings
+        return [heard_of(line, name) for line in lines]
 
     def packets(self, name, text):
         """A line for each packet that `check` counts as skipped or refused, and for each message without a hearing, with its
@@ -107,13 +105,9 @@ class Explained:
         expect(placed == sorted(placed, key=lambda place: place[1]), "out of order:", text)
         expect(all(line[2] == name for line in said), "another file:", text)
 
-    def span(self, name, text, hearings):
+    def span(self, name, text):
         """One line, with the earliest and the latest moments and the snapshot length."""
-        words = [name, "packets", *bounds([moment for moment, _ in self.packets_of(name)]),
-                 "hearings", *bounds([heard.moment for heard in hearings]),
-                 "snap", str(savefile.snapshot_length(self.case.captures[name]))]
-        expected = " ".join(words) + "\n"
-        expect_same(text, expected, "mdnswhy spans", name)
+        expect_same(text, traced_text("spans", [(name, self.case.captures[name])]), "mdnswhy spans", name)
 
     def for_people(self, name, texts):
         """What `--pretty` prints follows from the lines."""
@@ -139,11 +133,6 @@ class Explained:
             # The words of a TXT leave out empty strings, so other records may have the same.
             newest = max(it.age for it in same)
             expect(newest == age or line.kind in STRINGS, "not the last hearing:", line.text, "\nof", *same)
-
-
-def bounds(moments):
-    """The earliest and the latest moment as they are printed."""
-    return [moment_text(edge(moments)) for edge in (min, max)] if moments else ["-", "-"]
 
 
 def heard_of(line, name):

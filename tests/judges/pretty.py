@@ -1,15 +1,12 @@
 """What `--pretty` must print, made of the lines of words that the same question gives: columns of `mdnsmerge`, and lines of
 `mdnswhy`."""
 
-import re
 from datetime import datetime, timedelta, timezone
 
-from tests.captures.wire import A, AAAA, SECOND, SRV, TXT, TYPES
+from tests.captures.wire import A, AAAA, SECOND, SRV, TXT
+from tests.judges.json_forms import MEMBERS, SPAN
 from tests.judges.lines import gives_instance, is_service, moment_of, wire_of
 from tests.judges.shown import LABEL, bytes_of, short_ipv6, shown, shown_name, shown_words
-
-HEARING = re.compile(rf"(\S+) (\S+) (\S+) (\S+) ({'|'.join(TYPES)})((?: \S+)*) ttl (\d+)( flush)?")
-SPAN = re.compile(r"(\S+) packets (\S+) (\S+) hearings (\S+) (\S+) snap (\d+)")
 
 EPOCH = datetime(1970, 1, 1, tzinfo=timezone.utc)
 
@@ -151,7 +148,7 @@ def pretty_text(trace, text):
 
 
 def pretty_hearing(line):
-    moment, name, source, owner, kind, data, ttl, flush = HEARING.fullmatch(line).groups()
+    moment, name, source, owner, kind, data, ttl, flush = MEMBERS["hearings"].fullmatch(line).groups()
     said = ("goodbye" if ttl == "0" else f"ttl {ttl}") + (flush or "")
     address = short_ipv6(source) if ":" in source else source
     record = "  ".join([shown_name(owner), *shown_words(kind, data.split())])

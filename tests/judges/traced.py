@@ -67,7 +67,7 @@ def files_text(name, capture):
 TEXTS = {"hearings": hearings_text, "packets": packets_text, "spans": spans_text, "files": files_text}
 
 
-@lru_cache
+@lru_cache(maxsize=32)
 def text_of(command, name, capture):
     return TEXTS[command](name, capture)
 

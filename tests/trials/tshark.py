@@ -4,7 +4,6 @@ Both give for each packet, by its moment and its sender, the records of its resp
 Names are compared as their bytes with dots between the labels, since `tshark` escapes no dot. Where `tshark` isn't installed the
 trial is skipped, and says so."""
 
-import re
 import shutil
 import subprocess
 import xml.etree.ElementTree as ElementTree
@@ -12,6 +11,7 @@ from collections import Counter
 
 from tests import EXAMPLES
 from tests.captures.wire import NAMES, PORT, STRINGS, TYPES
+from tests.judges.json_forms import MEMBERS
 from tests.judges.shown import LABEL, bytes_of, short_ipv6
 from tests.running.runs import report_difference
 
@@ -26,8 +26,6 @@ WHOLE_PACKETS = ("-o", "ip.defragment:FALSE", "-o", "ipv6.defragment:FALSE")
 SECTIONS = ("Answers", "Additional records")
 
 KINDS = {str(number): name for name, number in TYPES.items()}
-
-HEARING = re.compile(rf"(\S+) \S+ (\S+) (\S+) ({'|'.join(TYPES)})((?: \S+)*) ttl (\d+)( flush)?")
 
 
 def line_of(moment, source, owner, kind, words, ttl, flush):
@@ -53,7 +51,7 @@ def heard(why, name):
     """What `mdnswhy hearings` prints of a capture."""
     text = subprocess.run([why, "hearings", name], cwd=EXAMPLES, capture_output=True, check=True, encoding="ascii").stdout
     for line in text.splitlines():
-        moment, source, owner, kind, words, ttl, flush = HEARING.fullmatch(line).groups()
+        moment, _, source, owner, kind, words, ttl, flush = MEMBERS["hearings"].fullmatch(line).groups()
         source = short_ipv6(source) if ":" in source else source
         yield line_of(moment, source, name_of(owner), kind, words_of(kind, words.split()), ttl, bool(flush))
 

@@ -14,9 +14,9 @@ from typing import NamedTuple
 from tests import EXAMPLES
 from tests.captures.built import frame_of, labels, lay_out_small, write_capture
 from tests.captures.wire import A, AAAA, ANSWER, NAMES, PTR, SECOND, SRV, TXT, Message, ipv6_frame
-from tests.judges.json_forms import expected, json_text
+from tests.judges.json_forms import SPAN, expected, json_text
 from tests.judges.lines import moment_of as moment_in
-from tests.judges.pretty import SPAN, pretty_text
+from tests.judges.pretty import pretty_text
 from tests.judges.savefile import moment_of, reading_of, snapshot_length
 from tests.judges.traced import traced_text
 from tests.running import runs
