@@ -43,7 +43,7 @@ def expect_same(was, must, *what):
         must, was = ("".join(f"{name}: {line}\n" for name, text in zip(("status", "out", "err"), answer)
                              for line in (str(text).splitlines() if name != "status" else [text]))
                      for answer in (must, was))
-    raise Finding(*what, "answered (+) otherwise than it must (-):", *(f"\n{line}" for line in lines_apart(must, was)))
+    raise Finding(*what, "\n".join(["answered (+) otherwise than it must (-):", *lines_apart(must, was)]))
 
 
 class Program:

@@ -18,7 +18,7 @@ def try_library_rows():
     count, expected = run.stdout.splitlines()[-1:], (CRATE / "stdout").read_text("utf-8")
     failed = run.returncode != 0 or run.stdout != expected
     if failed:
-        print(run.stdout.replace("stdin:", "crates/test_rows/stdin:"), end="")
+        print(run.stdout, end="")
         print("" if count == expected.splitlines() else run.stderr, end="")
     print(f"{' '.join(count) or 'no rows'} of crates/test_rows run without proof, {'some' if failed else '0'} failed")
     return failed
