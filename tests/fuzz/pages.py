@@ -9,8 +9,9 @@ from typing import NamedTuple
 
 from tests.captures.wire import ADDRESSES, SECOND
 from tests.fuzz.lived import LAST_MOMENT, LATER
+from tests.judges.axis import Axis
 from tests.judges.pretty import date_of, duration, millis, sets_of, shown_label
-from tests.judges.judged_page import LARGE, LEAST, OPEN_ROWS, UNITS, form_of, points_apart
+from tests.judges.judged_page import LARGE, OPEN_ROWS, points_apart
 from tests.judges.lanes import bases_of, counts_of, height_of, lane_count, seconds_of, ticks_of
 from tests.judges.lines import Line, line_of, moment_of
 from tests.judges.markup import Unreadable
@@ -111,16 +112,13 @@ class Paged:
         expect(said == told, "files that are cut, lost packets, and why:", said, "\nexpected", told)
 
 
-class Judge:
+class Judge(Axis):
     """What a page about some words says of records, on an axis to a moment, by the moments of each capture's packets and the
     seconds in which it heard records."""
 
     def __init__(self, end, recorded, heard, about):
-        self.end, self.recorded, self.heard, self.about = end, recorded, heard, about
-        every = [moment for moments in recorded for moment in moments]
-        self.start = min([end, *every])
-        self.form = form_of(self.start, max([end, *every]))
-        self.unit = (end - self.start) // UNITS + 1
+        super().__init__(end, recorded)
+        self.recorded, self.heard, self.about = recorded, heard, about
         # The lives of each SRV record, by its owner.
         self.servers = {}
 
@@ -215,17 +213,8 @@ class Judge:
                     [shown_words("TXT", words) for words in one["texts"] if words])
             expect(tuple(row) == told, "a row of what was live", tuple(row), "\nexpected", told)
 
-    def place(self, moment):
-        return (min(moment, self.end) - self.start) // self.unit
-
-    def bar(self, start, until):
-        return self.place(start), max(self.place(until), self.place(start) + LEAST)
-
     def bars(self, lives):
         return [self.bar(life.start, life.until) for life in lives]
-
-    def short(self, moment):
-        return date_of(moment).strftime(self.form)
 
     def words(self, life):
         is_one_day = date_of(life.start).date() == date_of(life.until).date()

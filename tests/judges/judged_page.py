@@ -11,6 +11,7 @@ from itertools import groupby
 from typing import NamedTuple
 
 from tests.captures.wire import AAAA, PTR, SECOND, SRV, A
+from tests.judges.axis import Axis, day
 from tests.judges.causes import DAMAGED, LOSSES, causes_of
 from tests.judges.pretty import addresses_of, date_of, duration, millis, sets_of, shown_label, words_below, words_of
 from tests.judges.hearings import hearings_of
@@ -24,9 +25,6 @@ from tests.judges.savefile import moment_of, reading_of
 from tests.judges.shown import shown, shown_name
 from tests.judges.subjects import is_instance_about, is_record_about
 from tests.judges.words import data_words, kind_text, moment_text, name_text
-
-# The axis has so many places, and a bar is at least so long.
-UNITS, LEAST = 1000, 3
 
 # Of each row the last lives are in words, and with more rows groups begin closed. With more lives bars have no titles.
 IN_WORDS, OPEN_ROWS, TITLED_LIVES = 3, 200, 1000
@@ -71,7 +69,7 @@ class Asked(NamedTuple):
     about: tuple = ()
 
 
-class Judge:
+class Judge(Axis):
     """What captures say, given by their names and bytes."""
 
     def __init__(self, files, asked):
@@ -85,11 +83,7 @@ class Judge:
                       for hearings in self.hearings]
         every = [moment for moments in self.moments for moment in moments]
         given = asked.before if asked.at is None else asked.at
-        self.end = max(every, default=0) if given is None else given
-        self.start = min([self.end, *every])
-        # Captures may have recorded past the moment that is asked for, and their rows tell when.
-        self.form = form_of(self.start, max([self.end, *every]))
-        self.unit = (self.end - self.start) // UNITS + 1
+        super().__init__(max(every, default=0) if given is None else given, self.moments)
         self.accounts = {account.hearings[-1].key: account for account in
                          accounts([hearing for heard in self.heard for hearing in heard])}
         self.lives = {key: list(account.lives()) for key, account in self.accounts.items()}
@@ -113,12 +107,6 @@ class Judge:
 
     # The axis
 
-    def place(self, moment):
-        return (min(moment, self.end) - self.start) // self.unit
-
-    def bar(self, start, until):
-        return self.place(start), max(self.place(until), self.place(start) + LEAST)
-
     def ticks(self):
         span = (self.end - self.start) // SECOND
         step = next((step for step in STEPS if span // step < MOST_STEPS), DAY * (span // (MOST_STEPS * DAY) + 1))
@@ -130,9 +118,6 @@ class Judge:
     def days(self):
         first, last = day(self.start), day(self.end)
         return first if first == last else f"{first} to {last}"
-
-    def short(self, moment):
-        return date_of(moment).strftime(self.form)
 
     # Lives
 
@@ -289,20 +274,8 @@ def points_apart(line):
     return line.kind == "PTR" and is_service(line.owner) and not gives_instance(line)
 
 
-def day(moment):
-    return date_of(moment).strftime("%Y-%m-%d")
-
-
 def clock(moment):
     return date_of(moment).strftime("%H:%M:%S")
-
-
-def form_of(first, last):
-    """The form of all moments of a page, of which these are the first and the last: a time of day, before it the month and the
-    day if they are of several days, and the year if they are of several years."""
-    if day(first) == day(last):
-        return "%H:%M:%S"
-    return "%m-%d %H:%M:%S" if day(first)[:4] == day(last)[:4] else "%Y-%m-%d %H:%M:%S"
 
 
 def label_of(moment, step, form):

@@ -12,6 +12,7 @@ from typing import NamedTuple, Optional
 from tests import TOP
 from tests.captures.built import frame_of, lay_out_small, pointer, write_capture
 from tests.captures.wire import SECOND
+from tests.judges.words import moment_text
 from tests.running.commands import ANSWERS, ASKS, COMMANDS, END, FLAGS, OF_A_PAGE, REPEATED, TWO_FORMS, page
 from tests.running.runs import DAMAGED, WHOLE, Case, agrees, refused, said
 
@@ -292,10 +293,6 @@ class Heard(NamedTuple):
         how = "live" if end < self.moment + self.ttl * SECOND else "expired"
         begin, line = moment_text(self.moment), self.line(owner, target)
         return line.replace(" ttl ", f" from {begin} ttl ").replace("\n", f" {how}\n")
-
-
-def moment_text(moment):
-    return f"{moment // SECOND}.{moment % SECOND:09}"
 
 
 def report_of(what, heard):
