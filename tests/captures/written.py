@@ -94,13 +94,15 @@ def read_rows(path, known):
 
 
 def blocks_of(path):
-    """The lines of a file but comments, each with its number and the indented lines below it, without their indent."""
-    blocks = []
+    """The lines of a file but comments, each with its number and the indented lines below it, without their indent, and empty
+    ones among them."""
+    blocks, empty = [], 0
     for number, line in enumerate(path.read_text("utf-8").splitlines(), 1):
         if line.startswith(INDENT):
-            blocks[-1][2].append(line.removeprefix(INDENT))
+            blocks[-1][2].extend([*[""] * empty, line.removeprefix(INDENT)])
         elif line and not line.startswith("#"):
             blocks.append((number, line, []))
+        empty = 0 if line else empty + 1
     return blocks
 
 
