@@ -53,8 +53,8 @@ check:
 	$(if $(CRATE),cd crates/$(CRATE) && rt check)
 	trials/run --quick
 
-# What services two listeners of one link heard together: at once, by the program of `uses`, which is made sooner than
-# mdnsmerge since it has neither its command line nor its pages, and without proofs; and by mdnsmerge, proved.
+# Lists the services that the two examples give together. `try` compiles mdnsmerge without proofs and keeps no program, and
+# takes about two minutes; `run` proves it first.
 try:
 	$(NEED_RT)
 	@echo "mdnsmerge is compiled without proofs, which takes about two minutes; make run proves it" >&2
@@ -64,7 +64,7 @@ try:
 run: mdnsmerge
 	./mdnsmerge instances --pretty examples/west.pcap examples/east.pcap
 
-# The merge gate: the page of the theorem, every proof from nothing and every test, then the planted bugs, and the example
+# The merge gate: the made pages of the documents, every proof from nothing and every test, then the planted bugs, and the example
 # captures and the trials on what was built. Its last line is that of `rt ci`, `N passed, M failed`, and its status speaks for all.
 test:
 	$(NEED_RT)
