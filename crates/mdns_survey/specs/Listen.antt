@@ -8,7 +8,7 @@ use Rattle.mdns_survey.specs.declared.listen.ListenFault.{ListenFault}
 use Rattle.mdns_survey.specs.declared.listen.ListenFault.TheVariants.{Begin, Read}
 use Rattle.mdns_survey.specs.declared.outcome.Found.{Found}
 use Rattle.mdns_survey.specs.declared.outcome.Found.TheVariants as found
-use Rattle.mdns_survey.specs.declared.listen.HeardCapture.{HeardCapture}
+use Rattle.mdns_survey.specs.declared.listen.Heard.{Heard}
 use Rattle.mdns_message.specs.declared.hearing.Hearing.{Hearing}
 use Rattle.mdns_survey.specs.declared.reading.Reading.{Reading}
 use Rattle.mdns_survey.specs.Outcomes.{Outcome, skipped, refused, heard, AllCome, CaptureTells, Counts}
@@ -25,7 +25,7 @@ outcome_of (found.Heard source message) = heard message.now
 
 -- The bytes are a capture, the tally counts the outcomes of its packets, the ending is the capture's, and the cache
 -- stands for the hearings of all its packets.
-pub record Listens (bytes : List ℕ) (given : HeardCapture) : Type 0 where
+pub record Listens (bytes : List ℕ) (given : Heard) : Type 0 where
   pub outcomes : List Outcome
   pub tells : CaptureTells bytes outcomes given.ending
   pub counts : Counts outcomes given.tally

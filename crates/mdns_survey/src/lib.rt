@@ -25,7 +25,7 @@ pub mod survey;
 
 pub use answers::{answer, answer_request, answer_with};
 pub use each_capture::EachChronicling;
-pub use listen::{HeardCapture, ListenFault};
+pub use listen::{Heard, ListenFault};
 pub use program_lines::{check_line, ending_line, fault_line, open_line};
 pub use question::{Answer, Question, TextAnswer, survey_with};
 pub use request::{AsOf, LivesQuery, Query, Request, Subjects, What, Which};

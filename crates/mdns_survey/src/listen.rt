@@ -32,7 +32,7 @@ pub enum ListenFault {
 /// The result of listening to a capture: a cache of its hearings, the counts, and how the reading ended,
 /// which is never `Going` or `Failed`.
 #[derive(Drop)]
-pub struct HeardCapture {
+pub struct Heard {
     pub cache: Cache,
     pub tally: Tally,
     pub ending: Ending,
@@ -40,7 +40,7 @@ pub struct HeardCapture {
 
 /// Listens to a capture: reads its packets and hears their messages. It stops after 4,294,967,295 packets. On an error
 /// the reader and the hearings are dropped. No program calls it: they survey several captures.
-pub fn listen<R: Source + Drop>(alloc: Global, reader: R) -> Result<HeardCapture, ListenFault>
+pub fn listen<R: Source + Drop>(alloc: Global, reader: R) -> Result<Heard, ListenFault>
     ensures heard { IfOk result (λ heard. IfSome (R.remaining reader) (λ bytes. Listens bytes heard)) }
     ensures fault { IfErr result (λ fault. HasListenFault fault (R.remaining reader)) }
     ensures sound { IfOk result (λ _. IfSome (R.remaining reader) (λ bytes. header_fault bytes ≡ None)) }
@@ -57,7 +57,7 @@ pub fn listen<R: Source + Drop>(alloc: Global, reader: R) -> Result<HeardCapture
         Ok(cache) => cache,
         Err(Want) => return Err(ListenFault::Memory),
     };
-    Ok(HeardCapture {
+    Ok(Heard {
         cache,
         tally: reading.summary.tally,
         ending: reading.summary.ending,

@@ -4,7 +4,7 @@ use crate::asserts::{holds, no_row_failed};
 use crate::requests::PACKET;
 use mdns_capture::{BeginFault, Ending, Source, Through};
 use mdns_survey::listen::listen;
-use mdns_survey::{HeardCapture, ListenFault};
+use mdns_survey::{Heard, ListenFault};
 use std::alloc::{AllocError, Global};
 use std::cell::Cell;
 use std::io::BufReader;
@@ -68,7 +68,7 @@ fn carry(capture: &mut Vec<u8>, message: &[u8]) -> Result<(), AllocError> {
     capture.extend_from_slice(message)
 }
 
-fn is_heard_refused(heard: &HeardCapture) -> bool {
+fn is_heard_refused(heard: &Heard) -> bool {
     let tally = &heard.tally;
     let counted = tally.packets == 1 && tally.refused == 1;
     counted && tally.skipped == 0 && tally.messages == 0 && tally.hearings == 0
@@ -81,7 +81,7 @@ pub(crate) enum Expected {
     OneRefused,
 }
 
-fn is_heard(heard: &HeardCapture, expected: Expected) -> bool {
+fn is_heard(heard: &Heard, expected: Expected) -> bool {
     match expected {
         Expected::OneRecord => heard.cache.len() == 1 && heard.ending == Ending::Whole,
         Expected::OneRefused => is_heard_refused(heard),
