@@ -46,7 +46,7 @@ $(PROVED): out/%.proved:
 below = $(filter $(CRATES),$(shell sed -n 's/^$(1)://p' crates.txt))
 $(foreach crate,$(CRATES),$(eval out/$(crate).proved: $$(patsubst %,out/%.proved,$$(call below,$(crate)))))
 
-# Two minutes of what a change most likely breaks: the rows, and the trials of the program as it was built last; with
+# Some minutes of what a change most likely breaks: the rows, and the trials of the program as it was built last; with
 # CRATE=mdns_cache, say, the proof of that crate before them.
 check:
 	$(NEED_RT)
