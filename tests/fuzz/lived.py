@@ -1,13 +1,14 @@
-"""What must hold of the answers of `lives` and `changes` over the captures of a case: they are those of the definition, and
-agree with the reports."""
+"""What must hold of the answers of the commands that list lives over the captures of a case: they are those of the definition,
+and agree with the reports."""
 
 import re
 
 from tests.captures.wire import SECOND
 from tests.fuzz.explained import record_key
 from tests.judges.hearings import hearings_of
+from tests.judges.json_forms import json_text
 from tests.judges.lines import moment_of
-from tests.judges.lives import changes_in, lives_text, rows_of
+from tests.judges.lives import CHOICES, lives_text, rows_of
 from tests.judges.savefile import moment_of as packet_moment
 from tests.judges.words import moment_text
 from tests.running.program import Finding, expect, expect_same
@@ -21,7 +22,7 @@ LATER = (0, 1, SECOND, 120 * SECOND)
 
 
 class Lived:
-    """The answers of `lives` over the captures of a case."""
+    """The answers on lives over the captures of a case."""
 
     def __init__(self, case):
         self.case = case
@@ -34,10 +35,10 @@ class Lived:
     def agree(self):
         """All answers."""
         self.counted()
-        self.text, self.changed = self.expect_lives([], self.hearings, self.end)
-        self.lives = lives_in(self.text)
+        self.texts = self.expect_lives([], self.hearings, self.end)
+        self.lives = lives_in(self.texts["lives"])
         self.case.seen.ends.update(life[5] for life in self.lives)
-        self.case.seen.ends["change"] += self.changed.count("\n")
+        self.case.seen.ends.update({ask: text.count("\n") for ask, text in self.texts.items()})
         self.expect_records(self.lives, self.end)
         self.later()
         self.before()
@@ -51,19 +52,18 @@ class Lived:
             expect(len(heard) == counted, name, "has", len(heard), "hearings, and counted are", counted)
 
     def expect_lives(self, moments, hearings, end):
-        """The answers of `lives` and `changes` over hearings where the captures end at a moment, which must be those of the
-        definition, some also as JSON."""
+        """The answer of each command over hearings where the captures end at a moment, which must be that of the definition, some
+        also as JSON."""
         rows = rows_of(hearings)
-        return [self.expect_rows([ask, *moments], told, end) for ask, told in (("lives", rows), ("changes", changes_in(rows)))]
+        return {ask: self.expect_text([ask, *moments], lives_text(choice.of_rows(rows), end)) for ask, choice in CHOICES.items()}
 
-    def expect_rows(self, words, rows, end):
-        """An answer that must be these lives. It is returned in lines."""
-        forms = ("--json", None) if self.case.rng.random() < 0.3 else (None,)
-        for form in forms:
-            asked = [*words, form] if form else words
-            text = self.case.report(asked, self.case.names)
-            expected = lives_text(rows, end, as_json=bool(form))
-            expect_same(text, expected, *asked)
+    def expect_text(self, words, lines):
+        """An answer that must be these lines. It is returned."""
+        if self.case.rng.random() < 0.3:
+            text = self.case.report([*words, "--json"], self.case.names)
+            expect_same(text, json_text(words[0], lines, None), *words, "--json")
+        text = self.case.report(words, self.case.names)
+        expect_same(text, lines, *words)
         return text
 
     def expect_records(self, lives, end):
@@ -105,16 +105,16 @@ class Lived:
         expect(listed == live, *words, "\nanswered", text, "\nand live by their lives are", *live)
 
     def same_text(self):
-        """Captures shuffled, repeated or cut where a packet header begins have the same lives, and the same changes."""
+        """Captures shuffled, repeated or cut where a packet header begins have the same lives, of whichever choice."""
         names = self.case.rng.choice(self.case.variants)
-        for ask, expected in (("lives", self.text), ("changes", self.changed)):
+        for ask, expected in self.texts.items():
             text = self.case.report([ask], names)
             expect_same(text, expected, ask, *names)
 
     def compare(self, other):
         """Another program that does the same prints the same lives."""
         answer = other.run("--lives", *self.case.names)
-        expect_same(answer.out, self.text, "the other program")
+        expect_same(answer.out, self.texts["lives"], "the other program")
 
 
 def lives_in(text):

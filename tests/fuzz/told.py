@@ -6,6 +6,7 @@ from itertools import compress
 from typing import NamedTuple
 
 from tests.fuzz.lived import LAST_MOMENT, lives_in
+from tests.judges.lives import CHOICES
 from tests.judges.pretty import (instances_columns, instances_in, lives_columns, others_in, records_columns, sets_of,
                                   types_columns)
 from tests.judges.lines import Line, Unreadable, instances_text, line_of, lines_of, moment_of, types_names
@@ -124,8 +125,7 @@ KINDS = {
     "records": Records(),
     "types": Types(),
     "instances": Instances(),
-    "lives": Lives("lives", ""),
-    "changes": Lives("changes", " of record sets that changed,"),
+    **{ask: Lives(ask, choice.words) for ask, choice in CHOICES.items()},
 }
 
 

@@ -9,6 +9,7 @@ import re
 
 from tests import EXAMPLES
 from tests.captures.wire import TYPES
+from tests.judges.lives import CHOICES
 from tests.judges.shown import LABEL, shown_name, shown_of
 from tests.judges.traced import TEXTS, traced_text
 from tests.running.runs import report_difference
@@ -19,13 +20,12 @@ RECORD = rf"(?P<owner>\S+) (?P<type>{'|'.join(TYPES)})(?P<data>(?: \S+)*)"
 END = r"ttl (?P<ttl>\d+) heard (?P<heard>\S+) until (?P<until>\S+)"
 MEMBERS = {
     "records": re.compile(rf"{RECORD} {END}"),
-    "lives": re.compile(rf"{RECORD} from (?P<from>\S+) {END} (?P<end>\w+)"),
+    **dict.fromkeys(CHOICES, re.compile(rf"{RECORD} from (?P<from>\S+) {END} (?P<end>\w+)")),
     "types": re.compile(r"(?P<type>\S+)"),
     "hearings": re.compile(rf"(?P<moment>\S+) (?P<file>\S+) (?P<source>\S+) {RECORD} ttl (?P<ttl>\d+)(?P<flush> flush)?"),
     "packets": re.compile(r"(?P<moment>\S+) (?P<file>\S+) (?P<offset>\d+) (?P<status>skipped|refused|heard) (?P<cause>.*?)"
                           r"(?: at (?P<at>\d+))?"),
 }
-MEMBERS["changes"] = MEMBERS["lives"]
 
 SPAN = re.compile(r"(\S+) packets (\S+) (\S+) hearings (\S+) (\S+) snap (\d+)")
 SERVER = re.compile(r"  server (\S+) (\d+) priority (\d+) weight (\d+)")

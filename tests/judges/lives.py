@@ -2,12 +2,10 @@
 heard or may end, and a nanosecond before and after. What was heard later doesn't count."""
 
 from bisect import bisect_right
-from typing import NamedTuple
+from typing import Callable, NamedTuple
 
 from tests.captures.wire import PTR, SECOND
 from tests.judges.hearings import Hearing
-from tests.judges.json_forms import text_of
-from tests.judges.shown import shown_of
 from tests.judges.words import data_words, kind_text, moment_text, name_text
 
 
@@ -96,10 +94,9 @@ def rows_of(hearings):
     return [(account.hearings[-1], list(account.lives())) for account in accounts(hearings)]
 
 
-def lives_text(rows, end, as_json=False):
-    """The lives of rows as `lives` and `changes` print them, where the captures end at a moment."""
-    text_of = life_object if as_json else life_line
-    return "".join(text_of(last, life, end) + "\n" for last, lives in rows for life in lives)
+def lives_text(rows, end):
+    """The lives of rows, a line for each, where the captures end at a moment."""
+    return "".join(life_line(last, life, end) + "\n" for last, lives in rows for life in lives)
 
 
 def changes_in(rows):
@@ -126,10 +123,14 @@ def life_line(spelled, life, end):
                      moment_text(life.last.moment), "until", moment_text(life.until), life.end_word(end)])
 
 
-def life_object(spelled, life, end):
-    """The same as an object of JSON."""
-    members = {"owner": name_text(spelled.owner), "type": kind_text(spelled.kind),
-               "data": data_words(spelled.kind, spelled.data)}
-    members |= {"shown": shown_of(members), "from": moment_text(life.start), "ttl": life.last.ttl,
-                "heard": moment_text(life.last.moment), "until": moment_text(life.until), "end": life.end_word(end)}
-    return text_of(members).removesuffix("\n")
+class Choice(NamedTuple):
+    """How a command chooses from the rows of all records, and what the head of its columns says of that."""
+    of_rows: Callable
+    words: str
+
+
+# The commands that list lives, and all in which they differ.
+CHOICES = {
+    "lives": Choice(lambda rows: rows, ""),
+    "changes": Choice(changes_in, " of record sets that changed,"),
+}
