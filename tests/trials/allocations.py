@@ -2,11 +2,11 @@
 
 `refuse_allocation.c` is loaded into each run and refuses one allocation, the first, the second and so on, until a run
 meets no refusal; of a command without options it refuses in further sweeps the next one, too, and all later ones. A run
-of mdnsmerge that met a refusal must say so, and answer nothing else, unless it remembers messages; mdnswhy prints while it reads, so
-it may have printed the beginning of its answer; `lives` and `changes` print record by record, so they may have printed the
-lives of the first records. But a file is read without the buffer that is refused it, so the answer must be whole then. A test
-that met one must pass: it makes the refused call again, and compares with what the call gives where nothing was refused.
-Where all later ones are refused, too, it must fail.
+of mdnsmerge that met a refusal must say so, and answer nothing else, unless it remembers messages; mdnswhy prints while
+it reads, so it may have printed the beginning of its answer; lives are printed record by record, so those of the first
+records may have been printed. But a file is read without the buffer that is refused it, so the answer must be whole
+then. A test that met one must pass: it makes the refused call again, and compares with what the call gives where
+nothing was refused. Where all later ones are refused, too, it must fail.
 
 Where the memory of messages that come again is refused an allocation, the run does without. Which allocations are the
 memory's isn't known here, so a run that reads files may give its whole answer whichever was refused, but not where all
@@ -26,6 +26,7 @@ from tests import TOP
 from tests.captures.built import frame_of, labels, lay_out_small, write_capture
 from tests.captures.link import Link
 from tests.captures.wire import SECOND, TXT
+from tests.judges.lives import CHOICES
 from tests.running.commands import ASKS, COMMANDS, COMMON_FORMS, FORMS, WHYS
 from tests.trials.memory import again
 from tests.trials.refusals import DAMAGED, REFUSED, WHOLE
@@ -90,12 +91,11 @@ RUNS = (
     Run(("records", "--about", "a", "--about", "192.0.2.1", *BOTH), 2, WHOLE),
     Run(("types", "--about", "_ipp", *BOTH), 2, WHOLE),
     Run(("instances", "--pretty", "--about", "_ipp._tcp", *BOTH), 2, WHOLE),
-    Run(("lives", "--pretty", "--about", "a", *BOTH), 2, WHOLE),
+    *(Run((ask, "--pretty", "--about", "a", *BOTH), 2, WHOLE) for ask in CHOICES),
     Run(("lives", "--pretty", "long.pcap"), 1, WHOLE),
     Run(("lives", "--before", "1795332450", *BOTH), 2, WHOLE),
     Run(("lives", "long.pcap"), 1, WHOLE),
     Run(("lives", "--json", "long.pcap"), 1, WHOLE),
-    Run(("changes", "--pretty", "--about", "a", *BOTH), 2, WHOLE),
     Run(("page", "--before", "1795332450", "--about", "alder", *BOTH), 2, WHOLE),
     *(Run((command, "one.pcap", "cut.pcap"), 2, DAMAGED) for command in COMMANDS),
     Run(("records", "--at", "99", "one.pcap"), 1, REFUSED),
@@ -232,7 +232,7 @@ class Judge:
         self.in_a_row = in_a_row
         self.does_without = run.remembers and in_a_row != ALL
         self.prints_while_it_reads = run.program == "mdnswhy"
-        self.prints_record_by_record = "lives" in run.words or "changes" in run.words
+        self.prints_record_by_record = bool(CHOICES.keys() & {*run.words})
         self.may_have_long_text = self.prints_record_by_record or bool({"hearings", "page"} & {*run.words})
         self.out_of_memory = f"{run.program}: out of memory\n"
         # What is said of a refusal, each with the index of the file that it names.

@@ -12,6 +12,8 @@ from typing import NamedTuple, Optional
 from tests import TOP
 from tests.captures.built import frame_of, lay_out_small, pointer, write_capture
 from tests.captures.wire import SECOND
+from tests.judges.hearings import hearings_of
+from tests.judges.lives import CHOICES, lives_text, rows_of
 from tests.judges.words import moment_text
 from tests.running.commands import ANSWERS, ASKS, COMMANDS, END, FLAGS, OF_A_PAGE, REPEATED, TWO_FORMS, page
 from tests.running.runs import DAMAGED, WHOLE, Case, agrees, refused, said
@@ -219,16 +221,14 @@ TOLD = (
     Told(("instances", "b", "--before", "+05", "a"), "instances", ("b", "a"), before=5 * SECOND),
     Told(("records", "--before", "0", "a"), "records", ("a",), before=0),
     Told(("records", "--at", "5", "--", "--before"), "records", ("--before",), 5 * SECOND),
-    Told(("lives", "a"), "lives", ("a",)),
+    *(told for ask in CHOICES for told in (
+        Told((ask, "a"), ask, ("a",)),
+        Told((ask, "a", "--at", "5", "b"), ask, ("a", "b"), 5 * SECOND),
+        Told((ask, "--before", "150", "a"), ask, ("a",), before=150 * SECOND))),
     Told(("lives", "a", "b", "a"), "lives", ("a", "b", "a")),
     Told(("lives", "--at=0", "a"), "lives", ("a",), 0),
-    Told(("lives", "a", "--at", "5", "b"), "lives", ("a", "b"), 5 * SECOND),
-    Told(("lives", "--before", "150", "a"), "lives", ("a",), before=150 * SECOND),
     Told(("lives", "--before", "2026-11-22 07:27Z", "--", "-x.pcap"), "lives", ("-x.pcap",),
          before=utc(2026, 11, 22, 7, 27)),
-    Told(("changes", "a"), "changes", ("a",)),
-    Told(("changes", "a", "--at", "5", "b"), "changes", ("a", "b"), 5 * SECOND),
-    Told(("changes", "--before", "150", "a"), "changes", ("a",), before=150 * SECOND),
     # Seconds with a fraction, as moments are printed.
     Told(("records", "--at", "1795332403.397617000", "a"), "records", ("a",), 1795332403_397617000),
     Told(("records", "--at", "1.5", "a"), "records", ("a",), 1_500000000),
@@ -288,12 +288,6 @@ class Heard(NamedTuple):
         heard, until = moment_text(self.moment), moment_text(self.moment + self.ttl * SECOND)
         return f"{owner} PTR {target} ttl {self.ttl} heard {heard} until {until}\n"
 
-    def life(self, owner, target, end):
-        """The line of the record's one life, where the captures end at a moment."""
-        how = "live" if end < self.moment + self.ttl * SECOND else "expired"
-        begin, line = moment_text(self.moment), self.line(owner, target)
-        return line.replace(" ttl ", f" from {begin} ttl ").replace("\n", f" {how}\n")
-
 
 def report_of(what, heard):
     """What is reported of the types that stand, which are given in the order of their names."""
@@ -305,13 +299,13 @@ def report_of(what, heard):
             + "".join(one.line(LIST, one.type()) for one in heard))
 
 
-def lives_of(told, heard):
-    """The lives of these types, which are given in the order of their names."""
+def lives_of(told, capture):
+    """The lives that are listed of what a capture tells, by their definition."""
+    heard = list(hearings_of(capture))
     end = max(one.moment for one in heard) if told.at is None else told.at
     if told.before is not None:
         end, heard = told.before, [one for one in heard if one.moment < told.before]
-    return ("".join(one.life(one.type(), f"x.{one.type()}", end) for one in heard)
-            + "".join(one.life(LIST, one.type(), end) for one in heard))
+    return lives_text(CHOICES[told.what].of_rows(rows_of(heard)), end)
 
 
 def scenes(told):
@@ -340,8 +334,9 @@ def before_scene(moment):
     return [at, new, old], [new]
 
 
-def case_of(told, heard, standing, end):
-    """The run of these words over captures that were cut at an offset."""
+def case_of(told, heard, standing, capture):
+    """The run of these words over captures that were cut where this one ends."""
+    end = len(capture)
     if told.what == "check":
         counts = f"packets {len(heard)} skipped 0 refused 0 messages {len(heard)} hearings {2 * len(heard)}"
         return Case(told.words, DAMAGED, "".join(f"{name}: {counts} cut at {end}\n" for name in told.names))
@@ -349,10 +344,7 @@ def case_of(told, heard, standing, end):
         newest = moment_text(heard[0].moment)
         return said(told.words, f"the moment is earlier than the newest hearing, {newest}")
     cut = "".join(f"mdnsmerge: {name}: cut at {end}\n" for name in told.names)
-    answer = lives_of(told, heard) if told.what == "lives" else report_of(told.what, standing)
-    if told.what == "changes":
-        # PTR records stand side by side.
-        answer = ""
+    answer = lives_of(told, capture) if told.what in CHOICES else report_of(told.what, standing)
     return Case(told.words, DAMAGED, answer, cut)
 
 
@@ -364,7 +356,7 @@ def try_told(told, program, folder):
         capture = write_capture(folder / told.names[0], "little-nano", [one.packet() for one in heard])
         for name in told.names:
             (folder / name).write_bytes(capture + b"\0")
-        failed += not agrees(case_of(told, heard, standing, len(capture)), program, folder)
+        failed += not agrees(case_of(told, heard, standing, capture), program, folder)
     return failed
 
 
