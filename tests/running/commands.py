@@ -1,4 +1,4 @@
-"""The commands of the programs, as the pages of help in `help/` list them, and the flags that these pages have."""
+"""The commands of the programs and their flags, as the pages of help in `help/` list them."""
 
 import re
 from itertools import combinations
@@ -7,31 +7,15 @@ from tests import TOP
 
 PAGES = TOP / "trials/help"
 
-# What each flag takes, and its line of help.
-FLAGS = {
-    "--at": (" <MOMENT>", "As of seconds since 1970, or a date and time with zone"),
-    "--before": (" <MOMENT>", "Only what was heard before that moment, as of it"),
-    "--about": (" <WORD>", "Only what is about a name, word or address; repeatable"),
-    "--json": ("", "One JSON object a line"),
-    "--pretty": ("", "Readable columns, for people"),
-}
-REPEATED = ("--about",)
+# A line of a flag: its name, what it takes, and its help.
+FLAG = re.compile(r"(?m)^      (--[a-z]+)( <[A-Z]+>)?  +(.*)$")
 
-# The flags that ask for a form, those of them that all outputs have, and each two of them.
+# What each flag takes, and its help.
+FLAGS = {flag: (takes, text) for flag, takes, text in FLAG.findall((PAGES / "flags.txt").read_text())}
+
+# The flags that ask for a form, and each two of them.
 FORMS = tuple(flag for flag, (takes, _) in FLAGS.items() if not takes)
-COMMON_FORMS = tuple(flag for flag in FORMS if flag != "--pretty")
 TWO_FORMS = tuple(combinations(FORMS, 2))
-
-OF_A_PAGE = ("--at", "--before", "--about")
-
-# The flags for which a line of a page stands.
-LISTS = {
-    "FLAGS": tuple(FLAGS),
-    "FLAGS OF A PAGE": OF_A_PAGE,
-    "FLAGS OF HEARINGS": ("--about", *FORMS),
-    "FLAGS OF A TRACE": FORMS,
-    "FLAGS OF FILES": COMMON_FORMS,
-}
 
 # What all pages say at their end.
 END = """\
@@ -41,9 +25,9 @@ To record: tcpdump -i eth0 -U -w a.pcap udp port 5353
 
 
 def page(name):
-    """A page of help, as it is printed."""
+    """A page of help, as it is printed. Its line `FLAGS` names the flags that are there, unless all are."""
     text = (PAGES / f"{name}.txt").read_text().replace("\nEND\n", f"\n{END}")
-    return re.sub(r"(?m)^FLAGS.*\n", lambda line: listed_flags(LISTS[line[0].strip()]), text)
+    return re.sub(r"(?m)^FLAGS(.*)\n", lambda line: listed_flags(line[1].split() or FLAGS), text)
 
 
 def listed_flags(flags):
@@ -61,7 +45,12 @@ def commands_of(name):
 
 def taking(flag, commands):
     """Those of some commands whose pages have a flag."""
-    return tuple(command for command in commands if f" {flag} " in page(command))
+    return tuple(command for command in commands if flag in flags_of(command))
+
+
+def flags_of(command):
+    """The flags that a command's page has."""
+    return tuple(flag for flag, *_ in FLAG.findall(page(command)))
 
 
 # The commands of mdnsmerge, those that answer as of a moment, and of these those that answer in each form.

@@ -27,7 +27,7 @@ from tests.captures.built import frame_of, labels, lay_out_small, write_capture
 from tests.captures.link import Link
 from tests.captures.wire import SECOND, TXT
 from tests.judges.lives import CHOICES
-from tests.running.commands import ASKS, COMMANDS, COMMON_FORMS, FORMS, WHYS
+from tests.running.commands import ASKS, COMMANDS, FORMS, WHYS, flags_of
 from tests.trials.memory import again
 from tests.trials.refusals import DAMAGED, REFUSED, WHOLE
 
@@ -111,7 +111,7 @@ RUNS = (
 
 WHY_RUNS = tuple(run._replace(program="mdnswhy") for run in (
     *(Run((command, *BOTH), 2, WHOLE) for command in WHYS),
-    *(Run(("files", form, *BOTH), 2, WHOLE) for form in COMMON_FORMS),
+    *(Run(("files", form, *BOTH), 2, WHOLE) for form in flags_of("files")),
     *(Run((command, "one.pcap", "cut.pcap"), 2, DAMAGED) for command in WHYS),
     Run(("hearings", "one.pcap", "text.pcap"), 2, REFUSED),
     Run(("spans", "one.pcap", "text.pcap"), 2, REFUSED),

@@ -15,7 +15,7 @@ from tests.captures.wire import SECOND
 from tests.judges.hearings import hearings_of
 from tests.judges.lives import CHOICES, lives_text, rows_of
 from tests.judges.words import moment_text
-from tests.running.commands import ANSWERS, ASKS, COMMANDS, END, FLAGS, OF_A_PAGE, REPEATED, TWO_FORMS, page
+from tests.running.commands import ANSWERS, ASKS, COMMANDS, END, FLAGS, TWO_FORMS, flags_of, page
 from tests.running.runs import DAMAGED, WHOLE, Case, agrees, refused, said
 
 TRY_HELP = "For more information, try '--help'.\n"
@@ -127,14 +127,13 @@ REFUSALS = (
                     ["--at", "noon", "--before", ""])),
     *(misused(["records", *given(flag), *given(flag), "one.pcap"],
               f"the argument '{flag}{takes}' cannot be used multiple times", REPORT)
-      for flag, (takes, _) in FLAGS.items() if flag not in REPEATED),
+      for flag, (takes, text) in FLAGS.items() if not text.endswith("; repeatable")),
     *(misused(["records", f"{flag}=true", "one.pcap"],
               f"unexpected value 'true' for '{flag}' found; no more were expected", f"records {flag} <FILE>...")
       for flag, (takes, _) in FLAGS.items() if not takes),
-    *(misused(["check", *given(flag), "one.pcap"], f"unexpected argument '{flag}' found", "check <FILE>...",
-              f"to pass '{flag}' as a value, use '-- {flag}'") for flag in FLAGS),
-    *(misused(["page", flag, "one.pcap"], f"unexpected argument '{flag}' found", "page [OPTIONS] <FILE>...",
-              f"to pass '{flag}' as a value, use '-- {flag}'") for flag in FLAGS if flag not in OF_A_PAGE),
+    *(misused([command, *given(flag), "one.pcap"], f"unexpected argument '{flag}' found",
+              f"{command} {'[OPTIONS] ' * bool(flags_of(command))}<FILE>...", f"to pass '{flag}' as a value, use '-- {flag}'")
+      for command in COMMANDS for flag in FLAGS if flag not in flags_of(command)),
     misused(["page", "--at", "5", "--at", "5", "one.pcap"], "the argument '--at <MOMENT>' cannot be used multiple times",
             "page [OPTIONS] <FILE>..."),
     misused(["records", "--about", "-x", "one.pcap"], "unexpected argument '-x' found", REPORT,
