@@ -20,7 +20,7 @@ from tests.judges.pretty import pretty_text
 from tests.judges.savefile import moment_of, reading_of, snapshot_length
 from tests.judges.traced import traced_text
 from tests.running import runs
-from tests.running.commands import TRACES, TWO_FORMS, WHYS, page
+from tests.running.commands import TRACES, TWO_FORMS, WHYS, flags_of, page
 from tests.running.runs import DAMAGED, PATIENCE, REFUSED, WHOLE, Case, agrees
 from tests.trials import command_lines
 from tests.trials.command_lines import NO_FILE, is_fit, version_of
@@ -185,7 +185,7 @@ WORDS = (
     *(misused([trace, "--at", "5", "one.pcap"], "unexpected argument '--at' found", f"{trace} [OPTIONS] <FILE>...",
               "to pass '--at' as a value, use '-- --at'") for trace in WHYS),
     *(misused([trace, "--about", "a", "one.pcap"], "unexpected argument '--about' found", f"{trace} [OPTIONS] <FILE>...",
-              "to pass '--about' as a value, use '-- --about'") for trace in WHYS if trace != "hearings"),
+              "to pass '--about' as a value, use '-- --about'") for trace in WHYS if "--about" not in flags_of(trace)),
     misused(["files", "--pretty", "one.pcap"], "unexpected argument '--pretty' found", "files [OPTIONS] <FILE>...",
             "to pass '--pretty' as a value, use '-- --pretty'"),
     *(said([trace, *words, "one.pcap"], f"{one} and {other} can't be given together")
