@@ -4,7 +4,7 @@
 - `judges` says what an answer must be, apart from the programs: readers of captures, the definition of lives, the texts for
   people, JSON and pages.
 - `running` runs a program, within bounds of time and memory, and says which lines of its answer differ.
-- `trials` are the trials of the gate, and `fuzz` what must hold over damaged captures."""
+- `trials` are the trials of the gate, `planted` its planted bugs, and `fuzz` what must hold over damaged captures."""
 
 from pathlib import Path
 

@@ -1,7 +1,6 @@
-#!/usr/bin/env python3
 """Runs of `mdnsmerge page`, whose pages must say what follows from the captures, in markup of few elements.
 
-It is run by itself as `trials/page.py PROGRAM [WORDS]`, then with the cases whose subject has these words."""
+`trials/run --pages WORDS` runs only the cases whose subject has these words."""
 
 import subprocess
 import tempfile

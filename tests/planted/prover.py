@@ -8,8 +8,8 @@ import subprocess
 import sys
 from pathlib import Path
 
-from edits import TOP
-from verdicts import Told
+from tests import TOP
+from tests.planted.verdicts import Told
 
 PARTS = ("src", "specs", "proofs")
 

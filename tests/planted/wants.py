@@ -1,4 +1,3 @@
-#!/usr/bin/env python3
 """Looks whether want of memory is answered only where an allocation was refused, which no contract can say.
 
 `Want`, the faults `Memory` and the errors of allocations may be made of one another alone: in a `From` of such an error, in
@@ -6,13 +5,10 @@ the arm of a `match` that names one, or where a call failed that fails in no oth
 places that have another reason are in OTHERS."""
 
 import re
-import sys
-from pathlib import Path
 
-from items import items_of
-from edits import BESIDE
-
-TOP = Path(__file__).resolve().parent.parent
+from tests import TOP
+from tests.planted.edits import BESIDE
+from tests.planted.items import items_of
 
 # Errors that say that memory is wanted, and calls of the standard library that fail with no other.
 ERROR = r"(?:\w+::)*(?:Want|Memory|AllocError|AllocFailed)\b"
@@ -104,7 +100,3 @@ def try_wants():
     for fault in faults:
         print(f"want of memory though no allocation was refused: {fault}")
     return len(faults)
-
-
-if __name__ == "__main__":
-    sys.exit(1 if try_wants() else 0)

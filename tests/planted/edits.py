@@ -1,12 +1,10 @@
 """The planted bugs of a crate: the files `planted/*.edit`, and the function whose contract has to refuse each."""
 
 import re
-from pathlib import Path
 from typing import NamedTuple
 
-from items import Crate, items_of
-
-TOP = Path(__file__).resolve().parent.parent
+from tests import TOP
+from tests.planted.items import Crate, items_of
 
 # Callers and tests, which are no libraries of the program.
 BESIDE = {"uses", "test_values", "test_rows", "test_hearings", "test_reports"}

@@ -1,4 +1,3 @@
-#!/usr/bin/env python3
 """Looks whether each public function of the libraries has a planted bug that its own contract has to refuse. Laws have none:
 they do nothing, so there is nothing to break.
 
@@ -6,10 +5,8 @@ The bug stands in the function itself, or in a private function whose contract i
 `planted/exceptions` says so of the latter, as `hands on FUNCTION`, and has the reason of each function of which no contract says
 anything. `planted` tries the bugs."""
 
-import sys
-
-from edits import edits_of, exceptions_of, libraries
-from items import CALL, Crate
+from tests.planted.edits import edits_of, exceptions_of, libraries
+from tests.planted.items import CALL, Crate
 
 HANDS_ON = "hands on "
 
@@ -53,13 +50,9 @@ def faults_of(folder):
     return faults + [f"{path} has no planted bug" for path in missing]
 
 
-def try_planted_bugs():
+def try_guarded():
     """Says what is wrong with the planted bugs; answers how much that is."""
     faults = [f"{folder.name}: {fault}" for folder in libraries() for fault in faults_of(folder)]
     for fault in faults:
         print(f"planted bugs: {fault}")
     return len(faults)
-
-
-if __name__ == "__main__":
-    sys.exit(1 if try_planted_bugs() else 0)
