@@ -1,4 +1,4 @@
-//! Names as text.
+//! Names as text, with each byte escaped that isn't plain, as in master files.
 
 ghost use Rattle.std.specs.Prelude.{◌≡◌, ◌<◌, ◌∷◌, [], ◌++◌, ◌&&◌, if◌then◌else◌, nat_le, OnOk, OnErr, string_bytes};
 ghost use Rattle.std.specs.Str.{IsAscii};

@@ -1,4 +1,4 @@
-//! Blocks of places, and where a new one goes.
+//! Where a new place goes among the blocks.
 
 ghost use Rattle.std.specs.Prelude.{◌≡◌, ◌<◌, ◌≤◌, [], ◌∷◌, ◌++◌, length, IfOk, OnOk, OnErr};
 ghost use Rattle.join_map.specs.Blocks.{block_at, entries_of, AllFilled, IsGap, IsMoved, before, after};

@@ -1,4 +1,4 @@
-//! Service instances in readable columns, for people.
+//! The report of service instances in readable columns.
 
 ghost use Rattle.std.specs.Prelude.{◌≡◌, List, [], map, max, IfOk, OnOk};
 ghost use Rattle.std.specs.List.{filter_map};

@@ -1,4 +1,4 @@
-//! Service instances in readable columns.
+//! The lines of one service instance in readable columns.
 
 ghost use Rattle.std.specs.Prelude.{◌≡◌, ◌++◌, ◌∷◌, [], codes, OnOk};
 ghost use Rattle.std.specs.String.{string_bytes};

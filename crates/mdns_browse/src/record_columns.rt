@@ -1,4 +1,4 @@
-//! Reports in readable columns, for people.
+//! The reports of records and of service types in readable columns.
 
 ghost use Rattle.std.specs.Prelude.{◌≡◌, ◌<◌, ℕ, ◌++◌, ◌∷◌, [], List, length, map, IfOk, OnOk};
 ghost use Rattle.std.specs.List.{filter, flat_map};

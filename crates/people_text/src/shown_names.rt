@@ -1,4 +1,4 @@
-//! Names as text.
+//! Names as people read them, in UTF-8.
 
 ghost use Rattle.std.specs.Prelude.{◌≡◌, true, ◌∷◌, [], ◌++◌, OnOk};
 ghost use Rattle.std.specs.List.{flat_map};
