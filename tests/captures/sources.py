@@ -8,8 +8,8 @@ from tests import EXAMPLES
 from tests.captures import floods
 from tests.captures import hostile
 from tests.captures.link import META, START, Link, Record
-from tests.captures.wire import (A, AAAA, ADDITIONAL, ANSWER, AUTHORITY, NSEC, PTR, QUERY, RESPONSE, SECOND, SRV, TXT, Message,
-                                 ipv4_frame, ipv6_frame)
+from tests.captures.wire import (A, ADDITIONAL, ANSWER, AUTHORITY, NSEC, PTR, QUERY, RESPONSE, SECOND, SRV, TXT, TYPES, Content,
+                                 Message, ipv4_frame, ipv6_frame)
 from tests.judges.savefile import PACKET_HEADER, moment_of, reading_of
 
 
@@ -46,9 +46,13 @@ TEXTS = (b"", b"\0", b"\0\0", b"\x05ab", b"\x03a \\", b"\x01a\0\x01b", b"\xff" +
 PIECES = (b"<", b">", b"&", b'"', b"'", b"</bdi>", b"<script>", b"&lt;", b"-->", b"\\", b".", b" ", b"\0", b"\n",
           b"\x1b[31m", b"\xff", *(sign.encode() for sign in "\u202e\u2066\u200d\U0001f5a8\u05d0"), b"a", b"B")
 
-# One run of zero groups, two of which the second is longer, and two of which neither is.
-ADDRESSES = tuple(map(bytes.fromhex, ("fe800000000000000000000000000001", "fe800000000000000000000000000002",
-                                      "00010000000000020000000000000003", "20010db8000000000001000000000001")))
+# Of IPv6 with one run of zero groups, two of which the second is longer, and two of which neither is.
+ADDRESSES = tuple(map(bytes.fromhex, ("c0000201", "c0000202", "c0000203", "fe800000000000000000000000000001",
+                                      "fe800000000000000000000000000002", "00010000000000020000000000000003",
+                                      "20010db8000000000001000000000001")))
+
+# All types that are heard, some more often than others, and one that isn't.
+KINDS = sorted((A, PTR, NSEC, *TYPES))
 
 # The priority and weight of a server.
 ORDERS = ((0, 0), (0, 0), (0, 20), (10, 0))
@@ -136,22 +140,20 @@ def message(rng, names):
 
 
 def record(rng, names):
-    kind = rng.choice((A, A, PTR, PTR, TXT, AAAA, SRV, NSEC))
+    kind = rng.choice(KINDS)
     return Record(rng.choice(names), kind, data(rng, names, kind), rng.random() < 0.4)
 
 
 def data(rng, names, kind):
-    if kind == A:
-        return bytes((192, 0, 2, rng.randint(1, 3)))
-    if kind == PTR:
+    if kind == NSEC:
+        return rng.choice(names), b"\x00\x01\x40"
+    content = TYPES[kind].content
+    if content is Content.NAME:
         return rng.choice(names + list(NAMES[8:15]))
-    if kind == TXT:
-        return rng.choice(TEXTS)
-    if kind == AAAA:
-        return rng.choice(ADDRESSES)
-    if kind == SRV:
+    if content is Content.SERVICE:
         return *rng.choice(ORDERS), rng.choice((0, 631, 65_535)), rng.choice(names)
-    return rng.choice(names), b"\x00\x01\x40"
+    some = ADDRESSES if content is Content.ADDRESS else TEXTS
+    return rng.choice([one for one in some if TYPES[kind].fits(one)])
 
 
 def framed(rng, payload):

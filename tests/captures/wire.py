@@ -1,7 +1,9 @@
 """What a listener records: messages in datagrams in frames in a classic pcap capture."""
 
 import struct
+from enum import Enum
 from functools import partial
+from typing import Callable, NamedTuple
 
 # Each magic as the byte order of a capture, its number and the nanoseconds of a unit of its fractions.
 MAGICS = {
@@ -22,11 +24,7 @@ IPV4_GROUP = bytes((224, 0, 0, 251))
 IPV6_GROUP = bytes.fromhex("ff0200000000000000000000000000fb")
 UDP = 17
 
-# The types that are heard, by their names; and the names of those whose data is an address, ends in a name, or is strings.
-TYPES = {"A": 1, "PTR": 12, "TXT": 16, "AAAA": 28, "SRV": 33}
-A, PTR, TXT, AAAA, SRV = TYPES.values()
-ADDRESSES, NAMES, STRINGS = ("A", "AAAA"), ("PTR", "SRV"), ("TXT",)
-NSEC = 47
+A, PTR, TXT, AAAA, SRV, NSEC = 1, 12, 16, 28, 33, 47
 ANY = 255
 IN = 1
 CACHE_FLUSH = 0x8000
@@ -36,6 +34,40 @@ RESPONSE = 0x8400
 
 # The sections of a message, by their order in its header.
 QUESTION, ANSWER, AUTHORITY, ADDITIONAL = range(4)
+
+
+class Content(Enum):
+    """What data says: an address, a name, the three numbers and the name of a service, or strings, each after its length."""
+    ADDRESS, NAME, SERVICE, STRINGS = range(4)
+
+
+class Type(NamedTuple):
+    """A type that is heard: its number and its name, what its data says, and whether bytes can be its data, apart from a name
+    in them."""
+    number: int
+    name: str
+    content: Content
+    fits: Callable[[bytes], bool] = lambda data: True
+
+
+# By their numbers, and by their names.
+TYPES = {one.number: one for one in (
+    Type(A, "A", Content.ADDRESS, lambda data: len(data) == 4),
+    Type(PTR, "PTR", Content.NAME),
+    Type(TXT, "TXT", Content.STRINGS),
+    Type(AAAA, "AAAA", Content.ADDRESS, lambda data: len(data) == 16),
+    Type(SRV, "SRV", Content.SERVICE),
+)}
+NAMED = {one.name: one for one in TYPES.values()}
+
+
+def names_of(*contents):
+    """The names of the types whose data says this."""
+    return tuple(one.name for one in TYPES.values() if one.content in contents)
+
+
+# The types whose data is an address, ends in a name, or is strings.
+ADDRESSES, NAMES, STRINGS = names_of(Content.ADDRESS), names_of(Content.NAME, Content.SERVICE), names_of(Content.STRINGS)
 
 
 class Capture:
@@ -98,10 +130,11 @@ class Message:
         struct.pack_into("!H", self.body, length_at, len(self.body) - length_at - 2)
 
     def data(self, kind, data):
-        """Adds data: the labels of a PTR, numbers and labels of an SRV, and bytes of all others."""
-        if kind == PTR:
+        """Adds data: the labels of a name, numbers and labels of a service, and bytes of all else."""
+        content = TYPES[kind].content if kind in TYPES else None
+        if content is Content.NAME:
             self.name(data)
-        elif kind == SRV:
+        elif content is Content.SERVICE:
             *numbers, target = data
             self.body += struct.pack("!HHH", *numbers)
             self.name(target)

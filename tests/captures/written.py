@@ -8,7 +8,7 @@ from typing import NamedTuple
 
 from tests import TOP
 from tests.captures.built import frame_of, labels, write_capture
-from tests.captures.wire import SECOND, TYPES
+from tests.captures.wire import NAMED, SECOND, Content
 from tests.running.runs import WHOLE, Case
 
 DEFINITION = re.compile(r"([A-Z][A-Z0-9_]*) =(?: (.*))?")
@@ -20,7 +20,7 @@ CAPTURES, HEARINGS = "CAPTURES", "hearings"
 
 # A name is a word, or stands for whole lines; these words stand for themselves.
 NAME = re.compile(r"(?:(?<!\S)|(?<=\\n))[A-Z][A-Z0-9_]*(?=[\s;]|\\n|$)")
-WORDS = (*TYPES, "END", "FILE", "FROM", "HEARD", "ID", "IP", "LEFT", "NEW", "OPCODE", "RCODE", "RECORD", "TAGGED", "TYPE", "UDP",
+WORDS = (*NAMED, "END", "FILE", "FROM", "HEARD", "ID", "IP", "LEFT", "NEW", "OPCODE", "RCODE", "RECORD", "TAGGED", "TYPE", "UDP",
          "UNTIL", "VLAN")
 
 ANSWER = re.compile(r"(.*?)(?:beside it (.*?))?(?:status (\d)\n?)?", re.DOTALL)
@@ -146,8 +146,8 @@ def digits(*words):
     return bytes.fromhex("".join(words))
 
 
-# How the data of a type is read from words; that of any other one is given in digits.
-READ = {"A": address, "AAAA": address, "PTR": labels, "SRV": server}
+# How data is read from words, by what it says.
+READ = {Content.ADDRESS: address, Content.NAME: labels, Content.SERVICE: server, Content.STRINGS: digits}
 
 
 def packet_of(hearing):
@@ -161,4 +161,5 @@ def packet_of(hearing):
 def record_of(owner, life, name, *words):
     """A record and its TTL."""
     ttl, _, flush = life.partition(",")
-    return (labels(owner), TYPES[name], READ.get(name, digits)(*words), flush == "flush"), int(ttl)
+    of_type = NAMED[name]
+    return (labels(owner), of_type.number, READ[of_type.content](*words), flush == "flush"), int(ttl)

@@ -5,7 +5,7 @@ import struct
 from functools import lru_cache
 from typing import NamedTuple
 
-from tests.captures.wire import A, AAAA, CACHE_FLUSH, IN, IPV4_GROUP, IPV6_GROUP, PORT, PTR, SRV, TYPES, UDP
+from tests.captures.wire import CACHE_FLUSH, IN, IPV4_GROUP, IPV6_GROUP, PORT, TYPES, UDP, Content
 from tests.judges.savefile import PACKET_HEADER, moment_of, reading_of
 
 IPV4, IPV6 = 0x0800, 0x86DD
@@ -20,10 +20,8 @@ RESPONSE_BIT, CODES = 0x8000, 0x780F
 # The bytes of the longest name, its zero octet included (RFC 6762 Appendix C), and the first octet of a pointer.
 LONGEST_NAME, POINTER = 256, 0xC0
 
-# The bytes before the name in the data of an SRV record.
-SRV_NUMBERS = 6
-
-ADDRESS_SIZES = {A: 4, AAAA: 16}
+# The bytes before the name of a service.
+SERVICE_NUMBERS = 6
 
 
 class Hearing(NamedTuple):
@@ -56,9 +54,10 @@ class Nothing(Exception):
 
 def folded(kind, data):
     """The data of a record with names in lower case; numbers stay."""
-    if kind == SRV:
-        return data[:SRV_NUMBERS] + data[SRV_NUMBERS:].lower()
-    return data.lower() if kind == PTR else data
+    content = TYPES[kind].content
+    if content is Content.SERVICE:
+        return data[:SERVICE_NUMBERS] + data[SERVICE_NUMBERS:].lower()
+    return data.lower() if content is Content.NAME else data
 
 
 def hearings_of(capture):
@@ -154,18 +153,18 @@ class Message:
         owner = self.name()
         kind, of_class, ttl, size = self.numbers("!HHIH")
         data = self.take(size)
-        if of_class & ~CACHE_FLUSH != IN or kind not in TYPES.values():
+        if of_class & ~CACHE_FLUSH != IN or kind not in TYPES:
             return None
-        return ttl, bool(of_class & CACHE_FLUSH), owner, kind, self.data_of(kind, data)
+        return ttl, bool(of_class & CACHE_FLUSH), owner, kind, self.data_of(TYPES[kind], data)
 
-    def data_of(self, kind, data):
+    def data_of(self, of_type, data):
         """Data that was just taken, its name in full."""
-        if ADDRESS_SIZES.get(kind, len(data)) != len(data):
+        if not of_type.fits(data):
             raise Nothing
-        if kind == PTR:
+        if of_type.content is Content.NAME:
             return self.name_in(data)
-        if kind == SRV:
-            return part(data, 0, SRV_NUMBERS) + self.name_in(data[SRV_NUMBERS:])
+        if of_type.content is Content.SERVICE:
+            return part(data, 0, SERVICE_NUMBERS) + self.name_in(data[SERVICE_NUMBERS:])
         return data
 
     def name_in(self, data):

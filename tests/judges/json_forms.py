@@ -8,7 +8,7 @@ import json
 import re
 
 from tests import EXAMPLES
-from tests.captures.wire import TYPES
+from tests.captures.wire import NAMED
 from tests.judges.lives import CHOICES
 from tests.judges.shown import LABEL, shown_name, shown_of
 from tests.judges.traced import TEXTS, traced_text
@@ -16,7 +16,7 @@ from tests.running.runs import report_difference
 
 EXPECTED = EXAMPLES / "expected"
 
-RECORD = rf"(?P<owner>\S+) (?P<type>{'|'.join(TYPES)})(?P<data>(?: \S+)*)"
+RECORD = rf"(?P<owner>\S+) (?P<type>{'|'.join(NAMED)})(?P<data>(?: \S+)*)"
 END = r"ttl (?P<ttl>\d+) heard (?P<heard>\S+) until (?P<until>\S+)"
 MEMBERS = {
     "records": re.compile(rf"{RECORD} {END}"),

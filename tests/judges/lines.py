@@ -5,9 +5,9 @@ import struct
 from typing import NamedTuple
 
 from tests.captures.link import META
-from tests.captures.wire import A, AAAA, PTR, SECOND, SRV, TXT, TYPES
+from tests.captures.wire import A, AAAA, NAMED, PTR, SECOND, SRV, TXT, Content
 
-TYPE = "|".join(TYPES)
+TYPE = "|".join(NAMED)
 
 LINE = re.compile(rf"(\S+) ({TYPE})((?: [!-~]+)*) ttl (\d+) heard (\d+\.\d{{9}}) until (\d+\.\d{{9}})")
 
@@ -35,18 +35,18 @@ class Line(NamedTuple):
 
     @property
     def set_key(self):
-        return wire_of(self.owner), TYPES[self.kind]
+        return wire_of(self.owner), NAMED[self.kind].number
 
     @property
     def data_key(self):
-        """What orders the records of one set. The text of a TXT doesn't tell: it leaves out empty strings."""
-        if self.kind == "A":
-            return bytes(int(number) for number in self.words[0].split("."))
-        if self.kind == "AAAA":
-            return bytes.fromhex(self.words[0].replace(":", ""))
-        if self.kind == "PTR":
+        """What orders the records of one set. The text of strings doesn't tell: it leaves out empty ones."""
+        content = NAMED[self.kind].content
+        if content is Content.ADDRESS:
+            word = self.words[0]
+            return bytes.fromhex(word.replace(":", "")) if ":" in word else bytes(map(int, word.split(".")))
+        if content is Content.NAME:
             return wire_of(self.target)
-        if self.kind == "SRV":
+        if content is Content.SERVICE:
             return struct.pack("!HHH", *(int(word) for word in self.words[:3])) + wire_of(self.target)
         return None
 

@@ -2,7 +2,7 @@
 
 import re
 
-from tests.captures.wire import STRINGS
+from tests.captures.wire import NAMED, Content
 
 # An escape of an exact text: a byte by its number, or another character.
 ESCAPE = re.compile(rb"\\(\d{3}|.)")
@@ -40,17 +40,16 @@ def shown_of(one):
 
 def shown_words(kind, words):
     """The words of a record's data, of its exact ones."""
-    if kind == "AAAA":
-        return [short_ipv6(words[0])]
-    if kind == "PTR":
+    content = NAMED[kind].content
+    if content is Content.ADDRESS:
+        return [short_ipv6(word) if ":" in word else word for word in words]
+    if content is Content.NAME:
         return [shown_name(words[0])]
-    if kind in STRINGS:
+    if content is Content.STRINGS:
         return [shown(bytes_of(word)) for word in words]
-    if kind == "SRV":
-        priority, weight, port, target = words
-        order = [] if priority == weight == "0" else [f"priority {priority} weight {weight}"]
-        return [f"{shown_name(target)}:{port}", *order]
-    return words
+    priority, weight, port, target = words
+    order = [] if priority == weight == "0" else [f"priority {priority} weight {weight}"]
+    return [f"{shown_name(target)}:{port}", *order]
 
 
 def shown_name(text):

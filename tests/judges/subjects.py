@@ -6,7 +6,7 @@ import re
 from functools import lru_cache
 from itertools import takewhile
 
-from tests.captures.wire import ADDRESSES, NAMES, SRV
+from tests.captures.wire import NAMED, NAMES, SRV, Content
 from tests.judges.pretty import addresses_of, shown_label, shown_record, words_of
 from tests.judges.lines import gives_instance, wire_of
 from tests.judges.shown import LABEL, shown_name
@@ -66,11 +66,12 @@ def is_address(word, line):
 
 
 def is_in_data(word, line):
-    if line.kind in ADDRESSES:
+    content = NAMED[line.kind].content
+    if content is Content.ADDRESS:
         return is_address(word, line)
-    if line.kind == "PTR":
+    if content is Content.NAME:
         return is_name(word, line.words[0])
-    if line.kind == "SRV":
+    if content is Content.SERVICE:
         *numbers, target = line.words
         return is_name(word, target) or any(same(word, text) for text in (*numbers, words_of(line)[0]))
     return any(same(word, text) for text in (*line.words, *words_of(line)))

@@ -3,13 +3,11 @@
 import ipaddress
 import struct
 
-from tests.captures.wire import A, AAAA, PTR, SECOND, SRV, TYPES
-
-NAMES = {number: name for name, number in TYPES.items()}
+from tests.captures.wire import SECOND, TYPES, Content
 
 
 def kind_text(kind):
-    return NAMES[kind]
+    return TYPES[kind].name
 
 
 def moment_text(moment):
@@ -45,19 +43,18 @@ def byte_text(byte):
 
 def data_words(kind, data):
     """The words of a record's data."""
-    if kind == A:
-        return [str(ipaddress.IPv4Address(data))]
-    if kind == AAAA:
-        return [ipaddress.IPv6Address(data).exploded]
-    if kind == PTR:
+    content = TYPES[kind].content
+    if content is Content.ADDRESS:
+        return [ipaddress.ip_address(data).exploded]
+    if content is Content.NAME:
         return [name_text(data)]
-    if kind == SRV:
+    if content is Content.SERVICE:
         return [*(str(number) for number in struct.unpack_from("!HHH", data)), name_text(data[6:])]
     return [bytes_text(string) for string in strings_in(data) if string]
 
 
 def strings_in(data):
-    """The strings of a TXT record; the last one may be cut short."""
+    """The strings of data, each after its length; the last one may be cut short."""
     while data:
         yield data[1:1 + data[0]]
         data = data[1 + data[0]:]

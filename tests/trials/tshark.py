@@ -25,7 +25,7 @@ WHOLE_PACKETS = ("-o", "ip.defragment:FALSE", "-o", "ipv6.defragment:FALSE")
 # The sections whose records are heard; those of the authority section aren't.
 SECTIONS = ("Answers", "Additional records")
 
-KINDS = {str(number): name for name, number in TYPES.items()}
+KINDS = {str(number): one.name for number, one in TYPES.items()}
 
 
 def line_of(moment, source, owner, kind, words, ttl, flush):
