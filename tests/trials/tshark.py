@@ -10,7 +10,7 @@ import xml.etree.ElementTree as ElementTree
 from collections import Counter
 
 from tests import EXAMPLES
-from tests.captures.wire import NAMES, PORT, STRINGS, TYPES
+from tests.captures.wire import NAMED, PORT, TYPES, Content
 from tests.judges.json_forms import MEMBERS
 from tests.judges.shown import LABEL, bytes_of, short_ipv6
 from tests.running.runs import report_difference
@@ -27,6 +27,9 @@ SECTIONS = ("Answers", "Additional records")
 
 KINDS = {str(number): one.name for number, one in TYPES.items()}
 
+# The last field of a record before those of its data.
+LENGTH = "dns.resp.len"
+
 
 def line_of(moment, source, owner, kind, words, ttl, flush):
     """A line in which both readers say the same."""
@@ -40,11 +43,12 @@ def name_of(text):
 
 def words_of(kind, words):
     """The words of a record's data, as they are compared."""
-    if kind == "AAAA":
-        return [short_ipv6(words[0])]
-    if kind in NAMES:
-        return [*words[:-1], name_of(words[-1])]
-    return [bytes_of(word) for word in words] if kind in STRINGS else words
+    content = NAMED[kind].content
+    if content is Content.ADDRESS:
+        return [short_ipv6(word) if ":" in word else word for word in words]
+    if content is Content.STRINGS:
+        return [bytes_of(word) for word in words]
+    return [*words[:-1], name_of(words[-1])]
 
 
 def heard(why, name):
@@ -76,7 +80,7 @@ def records_of(packet):
                     fields.setdefault(field.get("name"), []).append(field)
                 kind = KINDS.get(fields["dns.resp.type"][0].get("show"))
                 if kind and shows(fields, "dns.resp.class") == ["0x0001"]:
-                    yield line_of(moment, source, owner_of(fields), kind, data_of(kind, fields),
+                    yield line_of(moment, source, owner_of(fields), kind, data_of(kind, record),
                                   shows(fields, "dns.resp.ttl")[0], shows(fields, "dns.resp.cache_flush") == ["1"])
 
 
@@ -90,18 +94,15 @@ def owner_of(fields):
     return ".".join(shows(fields, part)[0] for part in parts).encode()
 
 
-def data_of(kind, fields):
-    """The words of a record's data, made of its fields."""
-    if kind == "A":
-        return shows(fields, "dns.a")
-    if kind == "AAAA":
-        return shows(fields, "dns.aaaa")
-    if kind == "PTR":
-        return [name.encode() for name in shows(fields, "dns.ptr.domain_name")]
-    if kind == "SRV":
-        numbers = [shows(fields, f"dns.srv.{part}")[0] for part in ("priority", "weight", "port")]
-        return [*numbers, shows(fields, "dns.srv.target")[0].encode()]
-    return [bytes.fromhex(field.get("value")) for field in fields.get("dns.txt", ()) if field.get("value")]
+def data_of(kind, record):
+    """The words of a record's data, made of the fields after the length; the strings among them have lengths of their own."""
+    names = [field.get("name") for field in record]
+    fields = [field for field in record[names.index(LENGTH) + 1:] if not field.get("name").endswith("length")]
+    content = NAMED[kind].content
+    if content is Content.STRINGS:
+        return [bytes.fromhex(field.get("value")) for field in fields if field.get("value")]
+    words = [field.get("show") for field in fields]
+    return words if content is Content.ADDRESS else [*words[:-1], words[-1].encode()]
 
 
 def try_tshark(merge, _folder):
