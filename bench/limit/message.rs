@@ -10,11 +10,29 @@ const POINTER: u8 = 0xc0;
 const TARGETS: usize = 0x4000;
 const CACHE_FLUSH: usize = 0x8000;
 
-pub const A: u16 = 1;
-pub const PTR: u16 = 12;
-pub const TXT: u16 = 16;
-pub const AAAA: u16 = 28;
-pub const SRV: u16 = 33;
+/// What the data of a record is.
+#[derive(Clone, Copy)]
+pub enum Form {
+    Ipv4,
+    Ipv6,
+    Name,
+    Strings,
+    Service,
+}
+
+/// Gives a function the name of a type whose records are kept, with the blanks about it, and what its data is. Both are
+/// constants where this is called: nothing is looked up.
+#[inline(always)]
+pub fn of_kind<T>(number: u16, take: impl FnOnce(&'static [u8], Form) -> T) -> Option<T> {
+    Some(match number {
+        1 => take(b" A ", Form::Ipv4),
+        12 => take(b" PTR ", Form::Name),
+        16 => take(b" TXT", Form::Strings),
+        28 => take(b" AAAA ", Form::Ipv6),
+        33 => take(b" SRV ", Form::Service),
+        _ => return None,
+    })
+}
 
 /// A record, whatever its spelling: the folded owner, the type, and the data, with numbers for names and texts.
 #[derive(Clone, Copy, PartialEq, Eq)]
@@ -77,22 +95,24 @@ impl Reader {
         if !is_heard || class & !CACHE_FLUSH != 1 {
             return Some(end);
         }
-        let data = match kind {
-            A => [u64::from(u32::from_be_bytes(bytes.try_into().ok()?)), 0],
-            AAAA if bytes.len() != 16 => return None,
-            AAAA => [0, 8].map(|at| u64::from_be_bytes(bytes[at..at + 8].try_into().unwrap())),
-            TXT => [u64::from(self.names.number_of(bytes, TEXT)), 0],
-            PTR => {
+        let Some(form) = of_kind(kind, |_, form| form) else {
+            return Some(end);
+        };
+        let data = match form {
+            Form::Ipv4 => [u64::from(u32::from_be_bytes(bytes.try_into().ok()?)), 0],
+            Form::Ipv6 if bytes.len() != 16 => return None,
+            Form::Ipv6 => [0, 8].map(|at| u64::from_be_bytes(bytes[at..at + 8].try_into().unwrap())),
+            Form::Strings => [u64::from(self.names.number_of(bytes, TEXT)), 0],
+            Form::Name => {
                 target = self.name(message, begin).filter(|found| found.1 == end)?.0;
                 [u64::from(self.names.nodes[target as usize].folded), 0]
             }
-            SRV => {
+            Form::Service => {
                 let numbers = bytes.get(..6)?;
                 target = self.name(message, begin + 6).filter(|found| found.1 == end)?.0;
                 let numbers = half(numbers, 0) << 32 | half(numbers, 2) << 16 | half(numbers, 4);
                 [numbers as u64, u64::from(self.names.nodes[target as usize].folded)]
             }
-            _ => return Some(end),
         };
         let key = Key { data, owner: self.names.nodes[owner as usize].folded, kind };
         let ttl = (half(fixed, 4) << 16 | half(fixed, 6)) as u32;

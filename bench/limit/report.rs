@@ -1,7 +1,7 @@
 //! The lines of live records, in the order of their keys.
 
 use crate::cache::{Cache, Record};
-use crate::message::{A, AAAA, PTR, SRV, TXT};
+use crate::message::{of_kind, Form};
 use crate::names::{Names, ROOT};
 use crate::SECOND;
 use std::io::{self, Write};
@@ -45,32 +45,35 @@ fn in_order(cache: &Cache) -> Vec<(u64, [u64; 2], u32, u64)> {
 
 /// The number of a name or text in the data of a record.
 fn number_in(data: &mut [u64; 2], kind: u16) -> Option<&mut u64> {
-    match kind {
-        PTR | TXT => Some(&mut data[0]),
-        SRV => Some(&mut data[1]),
-        _ => None,
+    match of_kind(kind, |_, form| form)? {
+        Form::Name | Form::Strings => Some(&mut data[0]),
+        Form::Service => Some(&mut data[1]),
+        Form::Ipv4 | Form::Ipv6 => None,
     }
 }
 
 fn add_line(text: &mut Vec<u8>, cache: &Cache, record: &Record, end: u64) {
     let (names, [first, second]) = (&cache.reader.names, record.key.data);
     add_name(text, names, record.spelling[0]);
-    match record.key.kind {
-        A => {
-            add_number(text, b" A ", first >> 24, 1);
+    let form = of_kind(record.key.kind, |name, form| {
+        text.extend_from_slice(name);
+        form
+    });
+    match form {
+        Some(Form::Ipv4) => {
+            add_number(text, b"", first >> 24, 1);
             [16, 8, 0].iter().for_each(|place| add_number(text, b".", first >> place & 0xff, 1));
         }
-        AAAA => add_ipv6(text, [first, second]),
-        PTR => text.extend_from_slice(b" PTR "),
-        SRV => {
-            add_number(text, b" SRV ", first >> 32, 1);
+        Some(Form::Ipv6) => add_ipv6(text, [first, second]),
+        Some(Form::Strings) => add_strings(text, names.label(first as u32)),
+        Some(Form::Name) => add_name(text, names, record.spelling[1]),
+        Some(Form::Service) => {
+            add_number(text, b"", first >> 32, 1);
             [16, 0].iter().for_each(|place| add_number(text, b" ", first >> place & 0xffff, 1));
             text.push(b' ');
+            add_name(text, names, record.spelling[1]);
         }
-        _ => add_strings(text, names.label(first as u32)),
-    }
-    if matches!(record.key.kind, PTR | SRV) {
-        add_name(text, names, record.spelling[1]);
+        None => {}
     }
     add_number(text, b" ttl ", record.ttl.into(), 1);
     for (what, moment) in [(b" heard ", record.moment), (b" until ", end)] {
@@ -107,7 +110,6 @@ fn add_byte(text: &mut Vec<u8>, byte: u8) {
 
 /// Adds each string that isn't empty, after a space; the last one as far as it goes.
 fn add_strings(text: &mut Vec<u8>, mut strings: &[u8]) {
-    text.extend_from_slice(b" TXT");
     while let Some((&count, rest)) = strings.split_first() {
         let (string, after) = rest.split_at(rest.len().min(count.into()));
         text.extend(string.first().map(|_| b' '));
@@ -117,7 +119,6 @@ fn add_strings(text: &mut Vec<u8>, mut strings: &[u8]) {
 }
 
 fn add_ipv6(text: &mut Vec<u8>, halves: [u64; 2]) {
-    text.extend_from_slice(b" AAAA ");
     for place in 0..32 {
         text.extend((place > 0 && place % 4 == 0).then_some(b':'));
         text.push(b"0123456789abcdef"[(halves[place / 16] >> (60 - place % 16 * 4) & 0xf) as usize]);
