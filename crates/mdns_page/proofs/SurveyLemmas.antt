@@ -3,6 +3,7 @@ use Rattle.std.proofs.Common.{◌∙◌, ℕ, ◌≤◌, refl, sym, ap, subst, i
 use Rattle.std.proofs.lemmas.Simd.{map-map}
 use Rattle.std.specs.Prelude.{Contains}
 use Rattle.std.specs.List.Sorted.{IsStrictlySortedBy}
+use Rattle.mdns_capture.specs.Savefile.{PacketAt}
 use Rattle.mdns_message.specs.declared.hearing.Hearing.{Hearing}
 use Rattle.mdns_message.specs.Resource.{key_cmp}
 use Rattle.mdns_join.specs.declared.latest.Latest.{Latest}
@@ -59,9 +60,9 @@ module _ (heard : List Hearing) (axis : Axis) (rows : List (Latest × List Life)
 
 -- ---- the page on captures
 
-module _ {Heard : List (List Outcome) → Type 0} (names : List (List ℕ)) (about : List Subject) (as_of : AsOf)
+module _ {Heard : List (List PacketAt) → List (List Outcome) → Type 0} (names : List (List ℕ)) (about : List Subject) (as_of : AsOf)
     (lefts : List (Option (List ℕ))) (readings : List Reading) (each : EachChronicling) (axis : Axis) (text : List ℕ)
-    (hears : HearsReaders Heard lefts readings) (chronicled : EachChronicled (filter_of as_of) each hears.outcomes)
+    (hears : HearsReaders Heard lefts readings) (chronicled : EachChronicled (filter_of as_of) each hears.packets hears.outcomes)
     (is_axis : IsAxis as_of (all_moments hears.packets) axis)
     (none_later : (heard : List Hearing) → Chronicles each.all heard
     → (hearing : Hearing) → Contains heard hearing → hearing.moment.nanos ≤ axis.end.nanos)

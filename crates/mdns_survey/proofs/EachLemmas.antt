@@ -3,6 +3,7 @@ use Rattle.std.proofs.Common.{arith}
 use Rattle.std.proofs.Common.{◌≡◌, ℕ, List, [], ◌∷◌, ◌++◌, Option, append-nil, subst}
 use Rattle.std.proofs.lemmas.List.{map-append}
 use Rattle.std.proofs.lemmas.List.Concat.{flat_map-append}
+use Rattle.mdns_capture.specs.Savefile.{PacketAt}
 use Rattle.mdns_message.specs.declared.hearing.Hearing.{Hearing}
 use Rattle.mdns_lives.specs.Chronicle.{Accounts, Chronicles}
 use Rattle.mdns_browse.specs.Services.{AreEach}
@@ -23,12 +24,13 @@ each-more [] [] chronicle heard all more = (more, tt)
 each-more (c ∷ cs) (hs ∷ each) chronicle heard all more = (all.0, each-more cs each chronicle heard all.1 more)
 each-more chronicles each chronicle heard all more = absurd all
 
-pub chronicles-more : (begun old new : EachChronicling) (capture : Accounts) (before : List (List Outcome)) (outcomes : List Outcome)
+pub chronicles-more : (begun old new : EachChronicling) (capture : Accounts) (earlier : List (List PacketAt))
+    (before : List (List Outcome)) (packets : List PacketAt) (outcomes : List Outcome)
     → new.filter ≡ old.filter → new.captures.items ≡ old.captures.items ++ capture ∷ []
     → ((heard others : List Hearing) → Chronicles old.all heard → Chronicles capture others → Chronicles new.all (heard ++ others))
-    → Chronicles capture (selected begun.filter (hearings_in outcomes)) → ChroniclesAll begun old before
-    → ChroniclesAll begun new (before ++ outcomes ∷ [])
-chronicles-more begun old new capture before outcomes same pushed joined told all =
+    → Chronicles capture (selected begun.filter (hearings_in outcomes)) → ChroniclesAll begun old earlier before
+    → ChroniclesAll begun new (earlier ++ packets ∷ []) (before ++ outcomes ∷ [])
+chronicles-more begun old new capture earlier before packets outcomes same pushed joined told all =
     grind (arith, map-append, each-more, append-nil, flat_map-append)
 
 -- a capture that was chronicled by itself is listened to
@@ -36,17 +38,17 @@ pub listens-each : (left : Option (List ℕ)) (each new : EachChronicling) (Hear
     (begun now : Heard) (capture : Accounts) (reading : Reading)
     → Stands begun begun [] → HearsCapture Stands left begun now reading
     → ((heard : List Hearing) → Stands begun now heard → Chronicles capture (selected each.filter heard))
-    → ((first : EachChronicling) (before : List (List Outcome)) (outcomes : List Outcome)
-    → Chronicles capture (selected first.filter (hearings_in outcomes)) → ChroniclesAll first each before
-    → ChroniclesAll first new (before ++ outcomes ∷ []))
+    → ((first : EachChronicling) (earlier : List (List PacketAt)) (before : List (List Outcome)) (packets : List PacketAt)
+    (outcomes : List Outcome) → Chronicles capture (selected first.filter (hearings_in outcomes))
+    → ChroniclesAll first each earlier before → ChroniclesAll first new (earlier ++ packets ∷ []) (before ++ outcomes ∷ []))
     → ListensTo ChroniclesAll left each new reading
 listens-each left each new Heard Stands begun now capture reading nothing heard finishes adds = record {
   packets = heard.packets;
   outcomes = heard.outcomes;
   is_reading = heard.is_reading;
-  hears = λ first before stood.
+  hears = λ first earlier before stood.
       let stands = heard.hears begun [] nothing in
-      adds first before heard.outcomes
+      adds first earlier before heard.packets heard.outcomes
       (subst (λ (which : Filter). Chronicles capture (selected which (hearings_in heard.outcomes))) stood.0
       (finishes (hearings_in heard.outcomes) stands)) stood;
 }

@@ -9,7 +9,7 @@ use Rattle.mdns_cache.specs.Contents.{Contents, StandsFor}
 use Rattle.mdns_cache.specs.Repeats.{Listened, StandsWith}
 use Rattle.mdns_survey.specs.declared.reading.Reading.{Reading}
 use Rattle.mdns_survey.specs.Outcomes.{Outcome, hearings_in, hearings_of_outcome}
-use Rattle.mdns_survey.specs.Listen.{HearsCapture, HearsPackets, Listens}
+use Rattle.mdns_survey.specs.Listen.{HearsCapture, HearsPackets, Listens, TakesCapture}
 use Rattle.mdns_survey.specs.Reading.{ReadsCapture}
 
 module _ {H : Type 0} (Stands : H → H → List Hearing → Type 0) where
@@ -31,11 +31,34 @@ module _ {H : Type 0} (Stands : H → H → List Hearing → Type 0) where
   hears-more first hearer new_hearer packets outcomes packet outcome takes hears begun heard before =
       grind (arith, flat_map-append, append-nil, append_assoc)
 
-  -- a capture that was read whole was heard whole
-  pub hears-read : (left : Option (List ℕ)) (first hearer : H) (reading : Reading)
-      → IfSome left (λ bytes. reading.snap_length ≡ snap_length bytes)
-      → ReadsCapture (HearsPackets Stands) left first hearer reading → HearsCapture Stands left first hearer reading
-  hears-read left first hearer reading states read = grind (arith, hears-nothing)
+  -- a capture whose packets a hearer took was heard
+  pub hears-taken : (left : Option (List ℕ)) (first hearer : H) (reading : Reading)
+      → TakesCapture (HearsPackets Stands) left first hearer reading → HearsCapture Stands left first hearer reading
+  hears-taken left first hearer reading taken = record {
+    packets = taken.packets;
+    outcomes = taken.outcomes;
+    is_reading = taken.is_reading;
+    hears = taken.took first (hears-nothing first);
+  }
+
+-- a consumer took all packets of a capture that was read whole
+pub takes-read : {C : Type 0} (Took : C → C → List PacketAt → List Outcome → Type 0) (left : Option (List ℕ)) (old new : C)
+    (reading : Reading) → IfSome left (λ bytes. reading.snap_length ≡ snap_length bytes)
+    → ReadsCapture Took left old new reading → TakesCapture Took left old new reading
+takes-read Took left old new reading states read = record {
+  packets = read.packets;
+  outcomes = read.outcomes;
+  is_reading = record {
+    reads = read.reads;
+    states = states;
+    come = read.come;
+    counts = read.counts;
+    losses = read.losses;
+    skips = read.skips;
+    spans = read.spans;
+  };
+  took = read.took;
+}
 
 -- the cache that is made at the end stands for the capture's hearings
 pub listens-heard : (left : Option (List ℕ)) (empty listening : Listened) (cache : Contents) (reading : Reading)

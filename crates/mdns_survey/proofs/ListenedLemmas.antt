@@ -41,8 +41,9 @@ pub hears-more : {H : Type 0} (Stands : H → H → List Hearing → Type 0) (le
 hears-more Stands left hearer new_hearer reading heard = grind (arith, all_hearings-more)
 
 -- one reader was listened to more
-pub listened-more : {R L : Type 0} (HeardAll : L → L → List (List Outcome) → Type 0) (remaining : R → Option (List ℕ)) (readers : List R)
-    (reader : R) (first listener new_listener : L) (readings new : List Reading) (reading : Reading)
+pub listened-more : {R L : Type 0} (HeardAll : L → L → List (List PacketAt) → List (List Outcome) → Type 0)
+    (remaining : R → Option (List ℕ)) (readers : List R) (reader : R) (first listener new_listener : L)
+    (readings new : List Reading) (reading : Reading)
     → Listened HeardAll (map remaining readers) first listener readings
     → ListensTo HeardAll (remaining reader) listener new_listener reading → new ≡ readings ++ reading ∷ []
     → Listened HeardAll (map remaining (readers ++ reader ∷ [])) first new_listener new
@@ -58,19 +59,23 @@ listened-more HeardAll remaining readers reader first listener new_listener read
           (subst (λ (rs : List Reading). AllLeft (map remaining readers ++ remaining reader ∷ []) packets outcomes rs) (sym added)
           (all_left-more (map remaining readers) old.packets old.outcomes readings (remaining reader) heard.packets heard.outcomes
           reading old.read heard.is_reading));
-      hears = λ begun before stood.
-          subst (HeardAll begun new_listener) (append_assoc before old.outcomes (heard.outcomes ∷ []))
-          (heard.hears begun (before ++ old.outcomes) (old.hears begun before stood));
+      hears = λ begun earlier before stood.
+          subst (HeardAll begun new_listener (earlier ++ packets)) (append_assoc before old.outcomes (heard.outcomes ∷ []))
+          (subst (λ (ps : List (List PacketAt)). HeardAll begun new_listener ps ((before ++ old.outcomes) ++ heard.outcomes ∷ []))
+          (append_assoc earlier old.packets (heard.packets ∷ []))
+          (heard.hears begun (earlier ++ old.packets) (before ++ old.outcomes) (old.hears begun earlier before stood)));
     }
 
 -- no reader was listened to
-pub listened-nothing : {L : Type 0} (HeardAll : L → L → List (List Outcome) → Type 0) (listener : L) (readings : List Reading)
-    → readings ≡ [] → Listened HeardAll [] listener listener readings
+pub listened-nothing : {L : Type 0} (HeardAll : L → L → List (List PacketAt) → List (List Outcome) → Type 0) (listener : L)
+    (readings : List Reading) → readings ≡ [] → Listened HeardAll [] listener listener readings
 listened-nothing HeardAll listener readings none = record {
   packets = [];
   outcomes = [];
   read = subst (λ (rs : List Reading). AllLeft [] [] [] rs) (sym none) tt;
-  hears = λ begun before stood. subst (HeardAll begun listener) (sym (append-nil before)) stood;
+  hears = λ begun earlier before stood.
+      subst (HeardAll begun listener (earlier ++ [])) (sym (append-nil before))
+      (subst (λ (ps : List (List PacketAt)). HeardAll begun listener ps before) (sym (append-nil earlier)) stood);
 }
 
 -- WHAT THE READINGS SAY

@@ -111,7 +111,7 @@ early-end Newest moments end newest is early by = absurd (omega (arith, is, earl
 early-end (At moment) moments end newest is early by = omega (arith, is, early)
 early-end (Before moment) moments end newest is early by = omega (arith, is, early)
 
-module _ {Heard : List (List Outcome) → Type 0} (lefts : List (Option (List ℕ))) (readings : List Reading)
+module _ {Heard : List (List PacketAt) → List (List Outcome) → Type 0} (lefts : List (Option (List ℕ))) (readings : List Reading)
     (hears : HearsReaders Heard lefts readings) (as_of : AsOf) where
   -- no hearing is later than the latest packet
   latest-heard : (newest : Moment) → IsNewest (counted (filter_of as_of) hears.outcomes) newest
@@ -155,8 +155,8 @@ module _ (end : ℕ) (rows : List (Latest × List Life)) (layout : Layout) where
 
 -- THE LIVES OF THE READERS LISTENED TO
 
-module _ {Heard : List (List Outcome) → Type 0} (query : LivesQuery) (lefts : List (Option (List ℕ))) (readings : List Reading)
-    (begin end : Moment) (hears : HearsReaders Heard lefts readings)
+module _ {Heard : List (List PacketAt) → List (List Outcome) → Type 0} (query : LivesQuery) (lefts : List (Option (List ℕ)))
+    (readings : List Reading) (begin end : Moment) (hears : HearsReaders Heard lefts readings)
     (begins : begin.nanos ≡ captures_begin query.as_of (all_moments hears.packets))
     (ends : end.nanos ≡ captures_end query.as_of (all_moments hears.packets))
     (latest : (hearing : Hearing) → Contains (counted (filter_of query.as_of) hears.outcomes) hearing

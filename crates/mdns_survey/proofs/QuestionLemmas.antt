@@ -2,6 +2,7 @@
 use Rattle.std.proofs.Common.{arith}
 use Rattle.std.proofs.Common.{◌≡◌, ◌∙◌, ℕ, Bool, List, [], Option, sym, ap, subst}
 use Rattle.mdns_capture.specs.Output.{Writing}
+use Rattle.mdns_capture.specs.Savefile.{PacketAt}
 use Rattle.mdns_survey.specs.declared.reading.Reading.{Reading}
 use Rattle.mdns_survey.specs.declared.summary.Summary.{Summary}
 use Rattle.mdns_survey.specs.declared.survey.SurveyFault.{SurveyFault}
@@ -14,9 +15,11 @@ use Rattle.mdns_survey.specs.Refusals.{BlamesReaders}
 use Rattle.mdns_survey.specs.Surveys.{Listened}
 
 -- the readers that were listened to for a question
-pub hears-readers : {L : Type 0} (HeardAll : L → L → List (List Outcome) → Type 0) (Heard : L → List (List Outcome) → Type 0)
-    (lefts : List (Option (List ℕ))) (begun now : L) (readings lent : List Reading)
-    → HeardAll begun begun [] → ((l : L) (outcomes : List (List Outcome)) → HeardAll begun l outcomes → Heard l outcomes)
+pub hears-readers : {L : Type 0} (HeardAll : L → L → List (List PacketAt) → List (List Outcome) → Type 0)
+    (Heard : L → List (List PacketAt) → List (List Outcome) → Type 0)
+    (lefts : List (Option (List ℕ))) (begun now : L) (readings lent : List Reading) → HeardAll begun begun [] []
+    → ((l : L) (packets : List (List PacketAt)) (outcomes : List (List Outcome)) → HeardAll begun l packets outcomes
+    → Heard l packets outcomes)
     → lent ≡ readings → Listened HeardAll lefts begun now readings → HearsReaders (Heard now) lefts lent
 hears-readers HeardAll Heard lefts begun now readings lent nothing heard is listened = grind arith
 

@@ -11,7 +11,7 @@ use Rattle.std.proofs.lemmas.List.{map-append, length-map}
 use Rattle.std.proofs.lemmas.List.Elements.{All-append}
 use Rattle.mdns_message.specs.declared.hearing.Hearing.{Hearing}
 use Rattle.mdns_capture.specs.declared.moment.Moment.{Moment}
-use Rattle.mdns_capture.specs.Savefile.{header_fault}
+use Rattle.mdns_capture.specs.Savefile.{PacketAt, header_fault}
 use Rattle.mdns_cache.specs.Contents.{Contents, StandsFor}
 use Rattle.mdns_cache.specs.Live.{IsNewest}
 use Rattle.mdns_browse.specs.declared.report.ReportFault.{ReportFault}
@@ -148,7 +148,7 @@ pub early-weaker : {P Q : Moment → Type 0} (fault : ReportFault) → ((newest 
 early-weaker (ReportEarly newest) weaker is = weaker newest is
 early-weaker ReportMemory weaker is = tt
 
-module _ {Heard : List (List Outcome) → Type 0} (lefts : List (Option (List ℕ))) (readings : List Reading)
+module _ {Heard : List (List PacketAt) → List (List Outcome) → Type 0} (lefts : List (Option (List ℕ))) (readings : List Reading)
     (hears : HearsReaders Heard lefts readings) where
   pub read-heard : (captures : List (List ℕ)) → lefts ≡ map (λ x. Some x) captures
       → AllRead captures hears.packets hears.outcomes (summaries_of readings)

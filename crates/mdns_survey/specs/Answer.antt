@@ -17,34 +17,37 @@ use Rattle.mdns_survey.specs.Said.{Says, ending_lines}
 abbrev pub status_of : List Summary → ℕ
 status_of summaries = if list_all (λ summary. is_whole summary.ending) summaries then 0 else 1
 
--- A text that answers over the captures was written, an error line for each capture that isn't whole where these are to be
--- said, and else none, and this is the status.
-pub record Reports (Surveys : List (List ℕ) → List Summary → List ℕ → Type 0) (says : Bool) (names captures : List (List ℕ))
-    (out err : Writing) (status : ℕ) : Type 0 where
+-- A text that answers over the captures was written, the program's error line for each capture that isn't whole where these are
+-- to be said, and else none, and this is the status.
+pub record Reports (Surveys : List (List ℕ) → List Summary → List ℕ → Type 0) (says : Bool) (program : List ℕ)
+    (names captures : List (List ℕ)) (out err : Writing) (status : ℕ) : Type 0 where
   pub summaries : List Summary
   pub text : List ℕ
   pub surveys : Surveys captures summaries text
   pub written : Appends out.old out.new text
-  pub says_endings : MatchBool says (Says (codes "mdnsmerge") (ending_lines (codes "mdnsmerge") names summaries) err)
+  pub says_endings : MatchBool says (Says program (ending_lines program names summaries) err)
       ((err.new ≡ err.old) × (err.new_failures ≡ err.failures))
   pub is_status : status ≡ status_of summaries
 
 -- the report, the lives or the check was written, and nothing else; beside a check no error lines
 abbrev pub Answers : Request → List (List ℕ) → List (List ℕ) → Writing → Writing → ℕ → Type 0
-Answers Check names captures out err status = Reports (asked_of Check names).Answers false names captures out err status
-Answers request names captures out err status = Reports (asked_of request names).Answers true names captures out err status
+Answers Check names captures out err status =
+    Reports (asked_of Check names).Answers false (codes "mdnsmerge") names captures out err status
+Answers request names captures out err status =
+    Reports (asked_of request names).Answers true (codes "mdnsmerge") names captures out err status
 
--- What was asked was refused for some fault, which blames no reader and no writer wrongly, and whose error line was written.
--- Nothing else was, unless a write failed, or an allocation where the answer isn't written at once.
-pub record IsRefusedOf {R : Type 0} (source : Ghosts R) (asked : Asked) (names : List (List ℕ)) (readers : List R)
-    (out err : Writing) : Type 0 where
+-- What was asked was refused for some fault, which blames no reader and no writer wrongly, and the program's error line of it was
+-- written. Nothing else was, unless a write failed, or an allocation where the answer isn't written at once.
+pub record IsRefusedOf {R : Type 0} (source : Ghosts R) (asked : Asked) (program : List ℕ) (names : List (List ℕ))
+    (readers : List R) (out err : Writing) : Type 0 where
   pub fault : SurveyFault
   pub why : Refuses asked (map source.remaining readers) out fault
   pub untouched : Leaves asked.at_once out.old out.new fault
-  pub says : Says (codes "mdnsmerge") (fault_line_text (codes "mdnsmerge") names fault ∷ []) err
+  pub says : Says program (fault_line_text program names fault ∷ []) err
   pub blames_readers : BlamesReaders source.steady readers fault
   pub blames_writer : BlamesWriter out fault
 
 -- a request was refused
 abbrev pub IsRefused : {R : Type 0} → Ghosts R → Request → List (List ℕ) → List R → Writing → Writing → Type 0
-IsRefused source request names readers out err = IsRefusedOf source (asked_of request names) names readers out err
+IsRefused source request names readers out err =
+    IsRefusedOf source (asked_of request names) (codes "mdnsmerge") names readers out err

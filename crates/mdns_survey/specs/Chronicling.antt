@@ -3,6 +3,7 @@ use Rattle.std.specs.Prelude.{◌≡◌, ◌⊎◌, ℕ, List, [], ◌++◌, Opt
 use Rattle.std.specs.List.{flat_map}
 use Rattle.std.specs.Io.KnownBytes.{Appends}
 use Rattle.mdns_capture.specs.Output.{AppendsPrefix, Writing}
+use Rattle.mdns_capture.specs.Savefile.{PacketAt}
 use Rattle.mdns_join.specs.declared.latest.Latest.{Latest}
 use Rattle.mdns_lives.specs.declared.life.Life.{Life}
 use Rattle.mdns_lives.specs.Chronicle.{Chronicles}
@@ -20,17 +21,17 @@ use Rattle.mdns_survey.specs.Outcomes.{Outcome}
 use Rattle.mdns_survey.specs.Filter.{counted, counted_each}
 
 -- those hearings of all captures that count, and no others, are recorded
-abbrev pub Chronicled : Filter → Recorded → List (List Outcome) → Type 0
-Chronicled which now outcomes = RecordsAll now.contents now.memory (counted which outcomes)
+abbrev pub Chronicled : Filter → Recorded → List (List PacketAt) → List (List Outcome) → Type 0
+Chronicled which now packets outcomes = RecordsAll now.contents now.memory (counted which outcomes)
 
 -- each capture that was heard has a chronicle of its own, and all have one together, of the hearings that count
-abbrev pub EachChronicled : Filter → EachChronicling → List (List Outcome) → Type 0
-EachChronicled which now outcomes =
+abbrev pub EachChronicled : Filter → EachChronicling → List (List PacketAt) → List (List Outcome) → Type 0
+EachChronicled which now packets outcomes =
     AreEach Chronicles now.captures.items (counted_each which outcomes) × Chronicles now.all (counted which outcomes)
 
 -- they were heard to get from the first state to the second
-abbrev pub ChroniclesAll : EachChronicling → EachChronicling → List (List Outcome) → Type 0
-ChroniclesAll begun now outcomes = (now.filter ≡ begun.filter) × EachChronicled begun.filter now outcomes
+abbrev pub ChroniclesAll : EachChronicling → EachChronicling → List (List PacketAt) → List (List Outcome) → Type 0
+ChroniclesAll begun now packets outcomes = (now.filter ≡ begun.filter) × EachChronicled begun.filter now packets outcomes
 
 -- a text that waits was written and is empty now, or it goes on waiting
 abbrev pub IsTextOut : Option (List ℕ) → Option (List ℕ) → List ℕ → List ℕ → Type 0

@@ -65,6 +65,14 @@ pub record IsReadingOf (left : Option (List ℕ)) (packets : List PacketAt) (out
   pub skips : CountsSkips packets reading.skips
   pub spans : reading.span ≡ span_of (packet_moments packets)
 
+-- The reading is that of a capture, and a consumer that had taken nothing took its packets, with their outcomes.
+pub record TakesCapture {C : Type 0} (Took : C → C → List PacketAt → List Outcome → Type 0) (left : Option (List ℕ)) (old new : C)
+    (reading : Reading) : Type 0 where
+  pub packets : List PacketAt
+  pub outcomes : List Outcome
+  pub is_reading : IsReadingOf left packets outcomes reading
+  pub took : (begun : C) → Took begun old [] [] → Took begun new packets outcomes
+
 -- The reading is that of a capture, and all hearings of its packets were taken.
 pub record HearsCapture {H : Type 0} (Stands : H → H → List Hearing → Type 0) (left : Option (List ℕ)) (hearer new_hearer : H)
     (reading : Reading) : Type 0 where
@@ -73,11 +81,11 @@ pub record HearsCapture {H : Type 0} (Stands : H → H → List Hearing → Type
   pub is_reading : IsReadingOf left packets outcomes reading
   pub hears : HearsPackets Stands hearer new_hearer packets outcomes
 
--- The reading is that of a capture, and the outcomes of its packets were heard after those of the captures before it.
-pub record ListensTo {L : Type 0} (HeardAll : L → L → List (List Outcome) → Type 0) (left : Option (List ℕ)) (listener new_listener : L)
-    (reading : Reading) : Type 0 where
+-- The reading is that of a capture, and its packets, with their outcomes, were heard after those of the captures before it.
+pub record ListensTo {L : Type 0} (HeardAll : L → L → List (List PacketAt) → List (List Outcome) → Type 0)
+    (left : Option (List ℕ)) (listener new_listener : L) (reading : Reading) : Type 0 where
   pub packets : List PacketAt
   pub outcomes : List Outcome
   pub is_reading : IsReadingOf left packets outcomes reading
-  pub hears : (begun : L) (before : List (List Outcome)) → HeardAll begun listener before
-      → HeardAll begun new_listener (before ++ outcomes ∷ [])
+  pub hears : (begun : L) (earlier : List (List PacketAt)) (before : List (List Outcome)) → HeardAll begun listener earlier before
+      → HeardAll begun new_listener (earlier ++ packets ∷ []) (before ++ outcomes ∷ [])

@@ -59,12 +59,13 @@ asked_of Check names = asked_at_once (λ captures. IsCheck names captures) Newes
 -- THE ANSWER
 
 -- The readers with these bytes left were listened to: each capture has its packets, which came to its outcomes, and its reading,
--- and the outcomes of all captures were heard.
-pub record HearsReaders (Heard : List (List Outcome) → Type 0) (lefts : List (Option (List ℕ))) (readings : List Reading) : Type 0 where
+-- and the packets of all captures, with their outcomes, were heard.
+pub record HearsReaders (Heard : List (List PacketAt) → List (List Outcome) → Type 0) (lefts : List (Option (List ℕ)))
+    (readings : List Reading) : Type 0 where
   pub packets : List (List PacketAt)
   pub outcomes : List (List Outcome)
   pub read : AllLeft lefts packets outcomes readings
-  pub heard : Heard outcomes
+  pub heard : Heard packets outcomes
 
 -- where the bytes of the readers are known, the text answers over them
 abbrev pub IsAnswer : Asked → List (Option (List ℕ)) → List Summary → List ℕ → Type 0

@@ -62,15 +62,15 @@ AllLeft (left ∷ lefts) (packets ∷ more) (outcomes ∷ rest) (reading ∷ rea
 AllLeft _ _ _ _ = ⊥
 
 -- a hearer took the hearings of all these captures
-abbrev pub HearsAll : {H : Type 0} → (H → H → List Hearing → Type 0) → H → H → List (List Outcome) → Type 0
-HearsAll {H} Stands begun hearer outcomes = Stands begun hearer (all_hearings outcomes)
+abbrev pub HearsAll : {H : Type 0} → (H → H → List Hearing → Type 0) → H → H → List (List PacketAt) → List (List Outcome) → Type 0
+HearsAll {H} Stands begun hearer packets outcomes = Stands begun hearer (all_hearings outcomes)
 
--- The readers listened to: each capture has its packets, which came to its outcomes, and its reading, and the outcomes of all
--- captures were heard.
-pub record Listened {L : Type 0} (HeardAll : L → L → List (List Outcome) → Type 0) (lefts : List (Option (List ℕ)))
-    (listener new_listener : L) (readings : List Reading) : Type 0 where
+-- The readers listened to: each capture has its packets, which came to its outcomes, and its reading, and the packets of all
+-- captures, with their outcomes, were heard.
+pub record Listened {L : Type 0} (HeardAll : L → L → List (List PacketAt) → List (List Outcome) → Type 0)
+    (lefts : List (Option (List ℕ))) (listener new_listener : L) (readings : List Reading) : Type 0 where
   pub packets : List (List PacketAt)
   pub outcomes : List (List Outcome)
   pub read : AllLeft lefts packets outcomes readings
-  pub hears : (begun : L) (before : List (List Outcome)) → HeardAll begun listener before
-      → HeardAll begun new_listener (before ++ outcomes)
+  pub hears : (begun : L) (earlier : List (List PacketAt)) (before : List (List Outcome)) → HeardAll begun listener earlier before
+      → HeardAll begun new_listener (earlier ++ packets) (before ++ outcomes)

@@ -1,5 +1,5 @@
 -- Why a packet told nothing.
-use Rattle.std.specs.Prelude.{◌≡◌, ℕ, List, Some}
+use Rattle.std.specs.Prelude.{◌≡◌, ℕ, List, [], Some}
 use Rattle.mdns_capture.specs.Frame.{FrameCarries, cause_of}
 use Rattle.mdns_capture.specs.Source.{IsSourceOf}
 use Rattle.mdns_message.specs.declared.fault.MessageFault.{MessageFault}
@@ -30,6 +30,14 @@ IsDamagedBy payload damage = MessageFails payload damage
 -- why a packet with that frame is refused: the fault of the message that it carries
 abbrev pub IsRefusedFor : List ℕ → MessageFault → Type 0
 IsRefusedFor frame damage = (payload : List ℕ) × FrameCarries frame payload × IsDamagedBy payload damage
+
+-- the payload is the one that the frame carries, and empty where the frame fails a check
+abbrev pub IsPayloadOf : List ℕ → Found → List ℕ → Type 0
+IsPayloadOf frame (found.Skipped (why.Frame cause)) payload = payload ≡ []
+IsPayloadOf frame (found.Skipped why.Query) payload = FrameCarries frame payload
+IsPayloadOf frame (found.Skipped why.Ignored) payload = FrameCarries frame payload
+IsPayloadOf frame (found.Refused damage) payload = FrameCarries frame payload
+IsPayloadOf frame (found.Heard source message) payload = FrameCarries frame payload
 
 -- what was found says why a packet with that frame told nothing, or from which address its message was sent
 abbrev pub SaysWhy : List ℕ → Found → Type 0

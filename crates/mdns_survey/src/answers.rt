@@ -69,41 +69,55 @@ pub fn answer_request<R: Source + Drop, O: Sink, E: Sink>(
         (writing O.Sink out.old out.new) (writing E.Sink err.old err.new) }
     ensures unfailed { result ≢ REFUSED → O.failures out.new ≡ O.failures out.old }
 {
+    let named = Named {
+        program: "mdnsmerge",
+        files: names,
+    };
     match request {
-        Request::Report(query) => answer_with(query, true, names, readers, out, err),
-        Request::Lives(lives) => answer_with(lives, true, names, readers, out, err),
-        Request::Check => answer_with(Check { names }, false, names, readers, out, err),
+        Request::Report(query) => answer_with(query, true, named, readers, out, err),
+        Request::Lives(lives) => answer_with(lives, true, named, readers, out, err),
+        Request::Check => answer_with(Check { names }, false, named, readers, out, err),
     }
 }
 
-/// Answers a question as `answer` does, and where `says` is `true` writes an error line for each capture that isn't whole.
+/// The program that answers a question, as its error lines begin, and the names of the captures' files.
+#[derive(Clone, Copy)]
+pub struct Named<'a> {
+    pub program: &'a str,
+    pub files: &'a [String],
+}
+
+/// Answers a question as `answer` does, with the error lines of `named.program` about the captures `named.files`. Where `says`
+/// is `true` it writes an error line for each capture that isn't whole.
 pub fn answer_with<R: Source + Drop, Q: Answer + Drop, O: Sink, E: Sink>(
     question: Q,
     says: bool,
-    names: &[String],
+    named: Named<'_>,
     readers: Vec<R>,
     out: &mut O,
     err: &mut E,
 ) -> u8
-    requires { length names.now ≡ length readers.items }
+    requires { length named.files.now ≡ length readers.items }
     ensures status { result ≤ 2 }
     ensures answers { result ≢ REFUSED → (captures : List (List ℕ))
         → map R.remaining readers.items ≡ map Some captures
-        → Reports (Q.asked question).Answers says (map string_bytes names.now) captures
+        → Reports (Q.asked question).Answers says named.entry.program.now (map string_bytes named.entry.files.now) captures
         (writing O.Sink out.old out.new) (writing E.Sink err.old err.new) result }
-    ensures refused { result ≡ REFUSED → IsRefusedOf R.Source (Q.asked question) (map string_bytes names.now) readers.items
+    ensures refused { result ≡ REFUSED → IsRefusedOf R.Source (Q.asked question) named.entry.program.now
+        (map string_bytes named.entry.files.now) readers.items
         (writing O.Sink out.old out.new) (writing E.Sink err.old err.new) }
     ensures unfailed { result ≢ REFUSED → O.failures out.new ≡ O.failures out.old }
 {
     let alloc = *readers.allocator();
+    let Named { program, files } = named;
     match survey_with(alloc, readers, question, out) {
         Ok(summaries) => {
             if says {
-                say_endings(alloc, "mdnsmerge", names, summaries.as_slice(), err);
+                say_endings(alloc, program, files, summaries.as_slice(), err);
             }
             status_of(summaries.as_slice())
         }
-        Err(fault) => refuse(alloc, "mdnsmerge", names, &fault, err),
+        Err(fault) => refuse(alloc, program, files, &fault, err),
     }
 }
 
@@ -121,7 +135,7 @@ impl<'a> Question for Check<'a> {
 
     ghost asked = { λ check. asked_of CheckRequest (map string_bytes check.names.now) };
 
-    ghost Heard = { λ _ _ _. Unit {0} };
+    ghost Heard = { λ _ _ _ _. Unit {0} };
 
     fn listener(&self, alloc: Global) -> Result<Forgetful, Want> {
         Ok(Forgetful::new(alloc))

@@ -1,6 +1,7 @@
 //! The hearings of each of several captures, and of all together.
 
 ghost use Rattle.std.specs.Prelude.{◌≡◌, ◌++◌, ◌∷◌, [], List, IfOk, OnOk};
+ghost use Rattle.mdns_capture.specs.Savefile.{PacketAt};
 ghost use Rattle.mdns_lives.specs.Chronicle.{Chronicles};
 ghost use Rattle.mdns_survey.specs.Outcomes.{Outcome, hearings_in};
 ghost use Rattle.mdns_survey.specs.Chronicling.{ChroniclesAll};
@@ -29,7 +30,7 @@ impl EachChronicling {
     /// Makes a listener that has listened to no capture.
     pub fn new(alloc: Global, filter: Filter) -> Result<EachChronicling, Want>
         ensures filter { IfOk result (λ chronicling. chronicling.filter ≡ filter) }
-        ensures nothing { IfOk result (λ chronicling. ChroniclesAll chronicling chronicling []) }
+        ensures nothing { IfOk result (λ chronicling. ChroniclesAll chronicling chronicling [] []) }
     {
         Ok(EachChronicling {
             captures: Vec::new(alloc),
@@ -40,9 +41,10 @@ impl EachChronicling {
 
     // Adds the chronicle of one more capture. After `Want` nothing is promised of the chronicles.
     fn add(&mut self, capture: Lives) -> Result<(), Want>
-        ensures { OnOk result ((begun : EachChronicling) (before : List (List Outcome)) (outcomes : List Outcome)
-            → Chronicles capture (selected begun.filter (hearings_in outcomes)) → ChroniclesAll begun self.old before
-            → ChroniclesAll begun self.new (before ++ outcomes ∷ [])) }
+        ensures { OnOk result ((begun : EachChronicling) (earlier : List (List PacketAt)) (before : List (List Outcome))
+            (packets : List PacketAt) (outcomes : List Outcome)
+            → Chronicles capture (selected begun.filter (hearings_in outcomes)) → ChroniclesAll begun self.old earlier before
+            → ChroniclesAll begun self.new (earlier ++ packets ∷ []) (before ++ outcomes ∷ [])) }
     {
         self.all.join_with(&capture)?;
         self.captures.push(capture)?;

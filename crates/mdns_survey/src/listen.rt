@@ -2,12 +2,12 @@
 
 ghost use Rattle.std.specs.Prelude.{◌≡◌, IsTrue, IfOk, IfErr, IfSome, List, None};
 ghost use Rattle.mdns_capture.specs.Capture.{IsOver};
-ghost use Rattle.mdns_capture.specs.Savefile.{header_fault};
+ghost use Rattle.mdns_capture.specs.Savefile.{PacketAt, header_fault};
 ghost use Rattle.mdns_survey.specs.Outcomes.{Outcome};
-ghost use Rattle.mdns_survey.specs.Listen.{Listens, ListensTo, HearsCapture, HasListenFault, IsNoReadFault};
+ghost use Rattle.mdns_survey.specs.Listen.{Listens, ListensTo, HearsCapture, TakesCapture, HasListenFault, IsNoReadFault};
 
 use crate::hearer::Hearer;
-use crate::reading::{Reading, ReadingFault, read_capture};
+use crate::reading::{Consumer, Reading, ReadingFault, read_capture};
 use crate::summary::Tally;
 use mdns_cache::{Cache, Listening};
 use mdns_capture::{BeginFault, Ending, Source};
@@ -77,7 +77,23 @@ pub(crate) fn hear_capture<R: Source + Drop, H: Hearer>(
     ensures over { IfOk result (λ reading. IsOver reading.summary.ending) }
     ensures steady { IsTrue (R.steady reader) → IfErr result IsNoReadFault }
 {
-    match read_capture(alloc, reader, hearer) {
+    listen_with(alloc, reader, hearer)
+}
+
+/// Listens to a capture, and passes its packets to `consumer`, whose only fault is a failed allocation, and of which nothing
+/// is promised after an error. It stops after 4,294,967,295 packets.
+pub fn listen_with<R: Source + Drop, C: Consumer<Fault = Want>>(
+    alloc: Global,
+    reader: R,
+    consumer: &mut C,
+) -> Result<Reading, ListenFault>
+    ensures taken { IfOk result (TakesCapture C.Took (R.remaining reader) consumer.old consumer.new) }
+    ensures fault { IfErr result (λ fault. HasListenFault fault (R.remaining reader)) }
+    ensures sound { IfOk result (λ _. IfSome (R.remaining reader) (λ bytes. header_fault bytes ≡ None)) }
+    ensures over { IfOk result (λ reading. IsOver reading.summary.ending) }
+    ensures steady { IsTrue (R.steady reader) → IfErr result IsNoReadFault }
+{
+    match read_capture(alloc, reader, consumer) {
         Ok(reading) => Ok(reading),
         Err(ReadingFault::Listen(fault)) => Err(fault),
         Err(ReadingFault::Consumer(Want)) => Err(ListenFault::Memory),
@@ -86,8 +102,8 @@ pub(crate) fn hear_capture<R: Source + Drop, H: Hearer>(
 
 /// A listener to captures, one after another.
 pub trait Listener {
-    // The outcomes of each capture that a listener heard to get from the first state to the second.
-    ghost HeardAll: { Self → Self → List (List Outcome) → Type 0 };
+    // The packets of each capture, with their outcomes, that a listener heard to get from the first state to the second.
+    ghost HeardAll: { Self → Self → List (List PacketAt) → List (List Outcome) → Type 0 };
 
     /// Listens to a capture. It stops after 4,294,967,295 packets. After an error nothing is promised of what it has heard.
     fn listen_to<R: Source + Drop>(

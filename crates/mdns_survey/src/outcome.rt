@@ -7,7 +7,7 @@ ghost use Rattle.mdns_message.specs.Message.{most_hearings};
 ghost use Rattle.mdns_survey.specs.Outcomes.{ComesTo, ReadsTo, hearings_of_outcome};
 ghost use Rattle.mdns_survey.specs.Listen.{outcome_of};
 ghost use Rattle.mdns_survey.specs.Reasons.{row_of};
-ghost use Rattle.mdns_survey.specs.Why.{SaysWhy};
+ghost use Rattle.mdns_survey.specs.Why.{IsPayloadOf, SaysWhy};
 
 use crate::reasons::row_of;
 use mdns_capture::{Cause, Moment, SourceAddress};
@@ -62,6 +62,8 @@ pub fn found_of<'a>(
         → ComesTo moment frame (outcome_of found)) }
     ensures why { IfOk result (λ found. (frame : List ℕ) → FrameCarries frame payload.now → IsSourceOf frame source
         → SaysWhy frame found) }
+    ensures payload { IfOk result (λ found. (frame : List ℕ) → FrameCarries frame payload.now
+        → IsPayloadOf frame found payload.now) }
     ensures reads { IfOk result (λ found. ReadsTo moment payload.now (outcome_of found)) }
     ensures few { IfOk result (λ found. length (hearings_of_outcome (outcome_of found)) ≤ most_hearings) }
 {

@@ -2,6 +2,7 @@
 
 ghost use Rattle.std.specs.Prelude.{◌≡◌, ℕ, [], map, IfErr, IfOk, List, OnOk, Option, string_bytes};
 ghost use Rattle.mdns_capture.specs.Output.{writing};
+ghost use Rattle.mdns_capture.specs.Savefile.{PacketAt};
 ghost use Rattle.mdns_browse.specs.Report.{IfEarly};
 ghost use Rattle.mdns_survey.specs.Outcomes.{Outcome};
 ghost use Rattle.mdns_survey.specs.ProgramLines.{IfFile};
@@ -26,14 +27,15 @@ pub trait Question {
     // What is asked.
     ghost asked: { Self → Asked };
 
-    // A listener for the question heard these outcomes, and no others.
-    ghost Heard: { Self → Self.Listener → List (List Outcome) → Type 0 };
+    // A listener for the question heard these packets, with these outcomes, and no others.
+    ghost Heard: { Self → Self.Listener → List (List PacketAt) → List (List Outcome) → Type 0 };
 
     /// Makes a listener that has listened to no capture.
     fn listener(&self, alloc: Global) -> Result<Self::Listener, Want>
-        ensures nothing { IfOk result (λ begun. Self.Listener.HeardAll begun begun []) }
-        ensures heard { IfOk result (λ begun. (now : Self.Listener) (outcomes : List (List Outcome))
-            → Self.Listener.HeardAll begun now outcomes → Heard self.now now outcomes) };
+        ensures nothing { IfOk result (λ begun. Self.Listener.HeardAll begun begun [] []) }
+        ensures heard { IfOk result (λ begun. (now : Self.Listener) (packets : List (List PacketAt))
+            (outcomes : List (List Outcome)) → Self.Listener.HeardAll begun now packets outcomes
+            → Heard self.now now packets outcomes) };
 }
 
 /// A question that is answered once all captures, of these readings, were listened to.

@@ -3,7 +3,7 @@
 ghost use Rattle.std.specs.Prelude.{◌≡◌, ◌<◌, ◌≤◌, ◌∷◌, ◌++◌, [], List, length};
 ghost use Rattle.std.specs.Prelude.{IsTrue, IfOk, IfErr, IfNone, IfSome, None, OnErr, OnOk, Some};
 ghost use Rattle.mdns_capture.specs.Capture.{IsOver, packet_lent};
-ghost use Rattle.mdns_capture.specs.Frame.{cause_of};
+ghost use Rattle.mdns_capture.specs.Frame.{FrameCarries, cause_of};
 ghost use Rattle.mdns_capture.specs.Limits.{most_packets};
 ghost use Rattle.mdns_capture.specs.Savefile.{PacketAt, header_fault, snap_length};
 ghost use Rattle.mdns_message.specs.declared.hearing.Hearing.{Hearing};
@@ -16,7 +16,7 @@ ghost use Rattle.mdns_survey.specs.Reading.{CountsLoss, HasReadFault, IsNoCaptur
 ghost use Rattle.mdns_survey.specs.Reading.{TakesPacket};
 ghost use Rattle.mdns_survey.specs.Skips.{CountsSkip};
 ghost use Rattle.mdns_survey.specs.Span.{earlier_moment, joined_spans, span_at};
-ghost use Rattle.mdns_survey.specs.Why.{SaysWhy};
+ghost use Rattle.mdns_survey.specs.Why.{IsPayloadOf, SaysWhy};
 
 use crate::listen::ListenFault;
 use crate::outcome::{Found, Why, found_of};
@@ -48,6 +48,7 @@ pub trait Consumer {
     ) -> Result<(), Self::Fault>
         requires comes { ComesTo packet.now.moment packet.now.frame.now (outcome_of found.now) }
         requires why { SaysWhy packet.now.frame.now found.now }
+        requires payload { IsPayloadOf packet.now.frame.now found.now payload.now }
         requires reads { ReadsTo packet.now.moment payload.now (outcome_of found.now) }
         ensures took { OnOk result ((begun : Self) (packets : List PacketAt) (outcomes : List Outcome)
             → Took begun self.old packets outcomes
@@ -59,6 +60,7 @@ pub trait Consumer {
     /// Takes one packet with a message that the consumer remembers, so that it isn't read again, and returns the number
     /// of its hearings. `None` if it remembers no such message, and then nothing changes. By default it remembers none.
     fn take_again(&mut self, _packet: &Packet<'_>, _payload: &[u8]) -> Option<usize>
+        requires { FrameCarries _packet.now.frame.now _payload.now }
         ensures reads { IfSome result (ReadsAs _packet.now.moment _payload.now) }
         ensures took { IfSome result (λ _. (hearings : List Hearing)
             → MessageReads _packet.now.moment _payload.now hearings → (begun : Self)
@@ -258,6 +260,7 @@ fn pass<C: Consumer>(
     requires few { length (hearings_of_outcome (outcome_of found.now)) ≤ most_hearings }
     requires comes { ComesTo packet.now.moment packet.now.frame.now (outcome_of found.now) }
     requires why { SaysWhy packet.now.frame.now found.now }
+    requires payload { IsPayloadOf packet.now.frame.now found.now payload.now }
     requires reads { ReadsTo packet.now.moment payload.now (outcome_of found.now) }
     ensures took { OnOk result
         (TakesPacket C.Took (packet_lent packet.now) consumer.old consumer.new tally.old tally.new) }

@@ -112,7 +112,7 @@ impl Question for Query {
 
     ghost asked = { asked_query };
 
-    ghost Heard = { λ query now outcomes. StandsWith now.hearer.contents now.hearer.memory
+    ghost Heard = { λ query now packets outcomes. StandsWith now.hearer.contents now.hearer.memory
         (counted (filter_of query.as_of) outcomes) };
 
     fn listener(&self, alloc: Global) -> Result<Filtered<Listening>, Want> {

@@ -5,7 +5,7 @@ use crate::slow::{Trial, passes_at_each_call, two_names};
 use crate::traces::{FIRST_UNREAD, FIRST_UNREAD_JSON, HEARING, SECOND_UNREAD, SPAN, files_of};
 use mdns_browse::report::{Ask, Form};
 use mdns_page::page::Page;
-use mdns_survey::answers::{answer_request, answer_with};
+use mdns_survey::answers::{Named, answer_request, answer_with};
 use mdns_survey::status::REFUSED;
 use mdns_survey::{AsOf, LivesQuery, Query, Request, Subjects, Which};
 use mdns_trace::{Trace, Tracer, answer_files, answer_traces};
@@ -90,7 +90,11 @@ fn status_of(
         )),
         Run::Page => {
             let page = page_of(alloc, names);
-            Some(answer_with(page, true, names, readers, out, err))
+            let named = Named {
+                program: "mdnsmerge",
+                files: names,
+            };
+            Some(answer_with(page, true, named, readers, out, err))
         }
         _ => {
             let request = request_of(alloc, run);

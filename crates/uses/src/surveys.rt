@@ -1,6 +1,6 @@
 //! Surveys of captures.
 
-ghost use Rattle.std.specs.Prelude.{◌≡◌, ◌≢◌, ◌∷◌, [], ℕ, List, false, length, map, string_bytes, Some, IfOk, IfErr, Err, IsTrue};
+ghost use Rattle.std.specs.Prelude.{◌≡◌, ◌≢◌, ◌∷◌, [], ℕ, List, false, length, map, string_bytes, Some, IfOk, IfErr, Err, IsTrue, codes};
 ghost use Rattle.std.specs.Io.KnownBytes.{Appends};
 ghost use Rattle.mdns_capture.specs.declared.savefile.Ending.{Ending as ending};
 ghost use Rattle.mdns_survey.specs.Answer.{Reports};
@@ -99,7 +99,7 @@ pub fn check<R: Source + Drop, O: Sink, E: Sink>(
 ) -> u8
     requires { length names.now ≡ length readers.items }
     ensures { result ≢ REFUSED → (captures : List (List ℕ)) → map R.remaining readers.items ≡ map Some captures
-        → Reports (IsCheck (map string_bytes names.now)) false (map string_bytes names.now) captures
+        → Reports (IsCheck (map string_bytes names.now)) false (codes "mdnsmerge") (map string_bytes names.now) captures
         (writing O.Sink out.old out.new) (writing E.Sink err.old err.new) result }
 {
     answer(alloc, What::Check, names, readers, out, err)

@@ -1,6 +1,7 @@
-use Rattle.mdns_survey.proofs.HeardLemmas.{hears-read}
+use Rattle.std.proofs.lemmas.Result.{IfOk-weaker}
+use Rattle.mdns_survey.proofs.HeardLemmas.{hears-taken}
 use Rattle.mdns_survey.proofs.listen.hear_capture.Goals as goal
 
-pub returns-in-Ok-clause-heard : goal.returns-in-Ok-clause-heard
-returns-in-Ok-clause-heard g c =
-    hears-read g.H.Hearer.Stands (g.R.Source.remaining c.args.reader) _ _ _ c.in-Ok.ensures.states c.in-Ok.ensures.read
+pub returns-clause-heard : goal.returns-clause-heard
+returns-clause-heard g c =
+    IfOk-weaker c.listen_with.result _ _ (λ reading taken. hears-taken g.H.Hearer.Stands _ _ _ reading taken) c.listen_with.ensures.taken

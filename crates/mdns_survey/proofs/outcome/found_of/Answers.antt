@@ -13,6 +13,7 @@ returns-in-Err c =
         damaged_by c.one_message_outcome.ensures.not_both c.args.moment c.args.payload.now c.in-Err.fault by,
       );
       why = λ frame carries sent. (c.args.payload.now, carries, by);
+      payload = λ frame carries. carries;
       reads = tt;
       few = omega arith;
     }

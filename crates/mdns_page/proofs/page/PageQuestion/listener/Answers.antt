@@ -7,5 +7,6 @@ use Rattle.mdns_page.proofs.page.PageQuestion.listener.Goals as goal
 pub returns-clause-heard : goal.returns-clause-heard
 returns-clause-heard c =
     IfOk-weaker c.new.result _ _
-    (λ begun is now outcomes heard. subst (λ (which : Filter). EachChronicled which now outcomes) (is ∙ c.filter.ensures) heard.1)
+    (λ begun is now packets outcomes heard.
+    subst (λ (which : Filter). EachChronicled which now packets outcomes) (is ∙ c.filter.ensures) heard.1)
     c.new.ensures.filter

@@ -8,6 +8,6 @@ pub returns-clause-nothing : goal.returns-clause-nothing
 returns-clause-nothing c = (refl, c.new.ensures)
 
 pub returns-clause-heard : goal.returns-clause-heard
-returns-clause-heard c = λ now outcomes heard.
+returns-clause-heard c = λ now packets outcomes heard.
     counted-heard (RecordsAll now.hearer.contents now.hearer.memory) c.filter.result (filter_of c.args.self.now.as_of) outcomes
     c.filter.ensures heard.1
