@@ -1,0 +1,323 @@
+-- Lemmas on the listeners of files.
+use Rattle.std.proofs.Common.{◌≡◌, ◌∙◌, ◌<◌, ◌≤◌, ◌++◌, ◌∷◌, refl, sym, subst, ap, arith, cond, true, false, ℕ, Bool, List, [], Option, Some, None}
+use Rattle.std.proofs.Common.{drop, get_or, length, map, replicate, take, set, string_bytes, Global, String, append-nil, append_assoc, length-append}
+use Rattle.std.specs.Prelude.{◌==◌}
+use Rattle.std.specs.List.{list_any, position, position_or_len, All}
+use Rattle.std.proofs.lemmas.Bool.{eq-eqb, eqb-true}
+use Rattle.std.proofs.lemmas.Grind.{get_or-set_at}
+use Rattle.std.proofs.lemmas.List.{get_or-map, get_or-replicate, get_or-set_other, length-map, length-replicate, length-set}
+use Rattle.std.proofs.lemmas.List.Elements.{All-cons, All-nil}
+use Rattle.std.proofs.lemmas.List.Quantifiers.{position-Some}
+use Rattle.std.proofs.Math.Seq.{take-append_seam}
+use Rattle.mdns_listeners.specs.Groups.{HasBegun, base_name, before_first, begun_by, fits, is_beside, is_same, is_slash, listener_names}
+use Rattle.mdns_listeners.specs.Groups.{listener_positions, name_by, names_after, position_of, positions_after, prefix_of, takes}
+
+-- a name is in no folder, or ends in one
+pub base_or_whole : (name : List ℕ) → base_name name ≡ cond (list_any is_slash name) (base_name name) name
+base_or_whole [] = refl
+base_or_whole (byte ∷ rest) = grind arith
+
+-- ---- names as texts
+
+pub any_named : (test : List ℕ → Bool) (names : List (String Global))
+    → list_any (λ name. test (string_bytes name)) names ≡ list_any test (map string_bytes names)
+any_named test [] = refl
+any_named test (name ∷ names) = grind (arith, any_named test names)
+
+position-named : (test : List ℕ → Bool) (names : List (String Global))
+    → position_or_len (λ name. test (string_bytes name)) names ≡ position_or_len test (map string_bytes names)
+position-named test [] = refl
+position-named test (name ∷ names) = grind (arith, position-named test names)
+
+pub position_named : (test : List ℕ → Bool) (names : List (String Global))
+    → position (λ name. test (string_bytes name)) names ≡ position test (map string_bytes names)
+position_named test names = rw (position-named test names, length-map names string_bytes) refl
+
+-- ---- the front of a list
+
+front-none : {X : Type 0} (test : X → Bool) (xs ys : List X) → list_any test xs ≡ false
+    → before_first test (xs ++ ys) ≡ xs ++ before_first test ys
+front-none test [] ys none = refl
+front-none test (x ∷ xs) ys none = grind (arith, front-none test xs ys)
+
+front-any : {X : Type 0} (test : X → Bool) (xs ys : List X) → list_any test xs ≡ true
+    → before_first test (xs ++ ys) ≡ before_first test xs
+front-any test [] ys any = absurd cc
+front-any test (x ∷ xs) ys any = grind (arith, front-any test xs ys)
+
+front-whole : {X : Type 0} (test : X → Bool) (xs : List X) → list_any test xs ≡ false → before_first test xs ≡ xs
+front-whole test [] none = refl
+front-whole test (x ∷ xs) none = grind (arith, front-whole test xs)
+
+any-never : {X : Type 0} (test : X → Bool) → ((x : X) → test x ≡ false) → (xs : List X) → list_any test xs ≡ false
+any-never test never [] = refl
+any-never test never (x ∷ xs) = rw (never x) (any-never test never xs)
+
+any-more : {X : Type 0} (test : X → Bool) (xs : List X) (x : X) → list_any test (xs ++ x ∷ []) ≡ cond (list_any test xs) true (test x)
+any-more test [] x = grind arith
+any-more test (y ∷ xs) x = grind (arith, any-more test xs x)
+
+-- ---- one file more
+
+names-more : (prefixes earlier files more : List (List ℕ))
+    → names_after prefixes earlier (files ++ more) ≡ names_after prefixes earlier files ++ names_after prefixes (earlier ++ files) more
+names-more prefixes earlier [] more = rw (append-nil earlier) refl
+names-more prefixes earlier (file ∷ files) more =
+    grind (arith, names-more prefixes (earlier ++ file ∷ []) files more, append_assoc)
+
+positions-more : (prefixes earlier files more : List (List ℕ))
+    → positions_after prefixes earlier (files ++ more)
+    ≡ positions_after prefixes earlier files ++ positions_after prefixes (earlier ++ files) more
+positions-more prefixes earlier [] more = rw (append-nil earlier) refl
+positions-more prefixes earlier (file ∷ files) more =
+    grind (arith, positions-more prefixes (earlier ++ file ∷ []) files more, append_assoc)
+
+pub names_push : (prefixes earlier : List (List ℕ)) (file : List ℕ)
+    → listener_names prefixes (earlier ++ file ∷ [])
+    ≡ listener_names prefixes earlier
+    ++ cond (list_any (is_beside prefixes file) earlier) [] (name_by prefixes (prefix_of prefixes file) file ∷ [])
+names_push prefixes earlier file = grind (arith, names-more prefixes [] earlier (file ∷ []), append-nil)
+
+pub positions_push : (prefixes earlier : List (List ℕ)) (file : List ℕ)
+    → listener_positions prefixes (earlier ++ file ∷ [])
+    ≡ listener_positions prefixes earlier ++ position_of prefixes earlier file ∷ []
+positions_push prefixes earlier file = positions-more prefixes [] earlier (file ∷ [])
+
+-- ---- the listener of each prefix
+
+-- where the first element that passes is
+abbrev place : {X : Type 0} → (List X → ℕ) → (X → Bool) → List X → Option ℕ
+place len test xs = cond (list_any test xs) (Some (len (before_first test xs))) None
+
+place-kept : {X : Type 0} (len : List X → ℕ) (test : X → Bool) (xs : List X) (x : X) → test x ≡ false
+    → place len test (xs ++ x ∷ []) ≡ place len test xs
+place-kept len test xs x not_it = go (list_any test xs) refl
+  where
+    go : (any : Bool) → any ≡ list_any test xs → place len test (xs ++ x ∷ []) ≡ place len test xs
+    go true any = rw (any-more test xs x, sym any, front-any test xs (x ∷ []) (sym any)) refl
+    go false any = rw (any-more test xs x, sym any, not_it) refl
+
+place-again : {X : Type 0} (len : List X → ℕ) (test : X → Bool) (xs : List X) (x : X) → list_any test xs ≡ true
+    → place len test (xs ++ x ∷ []) ≡ place len test xs
+place-again len test xs x any = rw (any-more test xs x, any, front-any test xs (x ∷ []) any) refl
+
+place-new : {X : Type 0} (len : List X → ℕ) (test : X → Bool) (xs : List X) (x : X) → list_any test xs ≡ false → test x ≡ true
+    → place len test (xs ++ x ∷ []) ≡ Some (len xs)
+place-new len test xs x none it = rw (any-more test xs x, none, it, front-none test xs (x ∷ []) none, it, append-nil xs) refl
+
+-- what the place says of the list
+place-some : {X : Type 0} (len : List X → ℕ) (test : X → Bool) (xs : List X) (at : ℕ) → place len test xs ≡ Some at
+    → (list_any test xs ≡ true) × (at ≡ len (before_first test xs))
+place-some len test xs at is = go (list_any test xs) refl is
+  where
+    go : (any : Bool) → list_any test xs ≡ any → cond any (Some (len (before_first test xs))) None ≡ Some at
+        → (list_any test xs ≡ true) × (at ≡ len (before_first test xs))
+    go true any is = (any, cc)
+    go false any is = absurd cc
+
+place-none : {X : Type 0} (len : List X → ℕ) (test : X → Bool) (xs : List X) → place len test xs ≡ None → list_any test xs ≡ false
+place-none len test xs is = go (list_any test xs) refl is
+  where
+    go : (any : Bool) → list_any test xs ≡ any → cond any (Some (len (before_first test xs))) None ≡ None → list_any test xs ≡ false
+    go true any is = absurd cc
+    go false any is = any
+
+-- before any file
+pub nothing_begun : (prefixes : List (List ℕ)) → HasBegun prefixes [] [] (replicate (length prefixes) None)
+nothing_begun prefixes = record {
+  named = refl;
+  many = length-replicate (length prefixes) None;
+  each = λ at inside. get_or-replicate (length prefixes) at None None inside;
+}
+
+module _ (prefixes earlier : List (List ℕ)) (file : List ℕ) (names : List (List ℕ)) (begun : List (Option ℕ))
+    (has : HasBegun prefixes earlier names begun) where
+  abbrev size : List (List ℕ) → ℕ
+  size files = length (listener_names prefixes files)
+
+  -- what a file does that takes this prefix, or none
+  abbrev shares : Option ℕ → List ℕ → Bool
+  shares own other = is_same own (prefix_of prefixes other)
+
+  abbrev position_with : Option ℕ → ℕ
+  position_with own = size (before_first (shares own) earlier)
+
+  abbrev names_with : Option ℕ → List (List ℕ)
+  names_with own = listener_names prefixes earlier ++ cond (list_any (shares own) earlier) [] (name_by prefixes own file ∷ [])
+
+  begins : (own : Option ℕ) → prefix_of prefixes file ≡ own → list_any (shares own) earlier ≡ false
+      → (length names ≡ position_of prefixes earlier file)
+      × (names ++ name_by prefixes own file ∷ [] ≡ listener_names prefixes (earlier ++ file ∷ []))
+  begins own is none = (
+    ap length has.named ∙ sym (ap position_with is ∙ ap size (front-whole (shares own) earlier none)),
+    ap (λ (all : List (List ℕ)). all ++ name_by prefixes own file ∷ []) has.named
+        ∙ sym (names_push prefixes earlier file ∙ ap names_with is
+        ∙ ap (λ (any : Bool). listener_names prefixes earlier ++ cond any [] (name_by prefixes own file ∷ [])) none),
+  )
+
+  -- a file that takes no prefix begins a listener
+  pub begun_alone : prefix_of prefixes file ≡ None
+      → (length names ≡ position_of prefixes earlier file)
+      × HasBegun prefixes (earlier ++ file ∷ []) (names ++ file ∷ []) begun
+  begun_alone none =
+      let begin = begins None none (any-never (shares None) (λ other. refl) earlier) in (
+        begin.0,
+        record {
+          named = begin.1;
+          many = has.many;
+          each = λ at inside.
+              has.each at inside ∙ sym (place-kept size (takes prefixes at) earlier file (ap (λ (own : Option ℕ). is_same (Some at) own) none));
+        },
+      )
+
+  -- a file that takes a prefix whose listener has begun
+  pub begun_again : (at listener : ℕ) → prefix_of prefixes file ≡ Some at → at < length prefixes → get_or begun at None ≡ Some listener
+      → (listener ≡ position_of prefixes earlier file) × HasBegun prefixes (earlier ++ file ∷ []) names begun
+  begun_again at listener own inside held =
+      let begun_before = place-some size (takes prefixes at) earlier listener (sym (has.each at inside) ∙ held) in (
+        begun_before.1 ∙ sym (ap position_with own),
+        record {
+          named = has.named ∙ sym (names_push prefixes earlier file ∙ ap names_with own
+              ∙ ap (λ (any : Bool). listener_names prefixes earlier ++ cond any [] (get_or prefixes at [] ∷ [])) begun_before.0
+              ∙ append-nil (listener_names prefixes earlier));
+          many = has.many;
+          each = λ other within. has.each other within ∙ sym (kept other begun_before.0 (takes prefixes other file) refl);
+        },
+      )
+    where
+      kept : (other : ℕ) → list_any (takes prefixes at) earlier ≡ true → (b : Bool) → takes prefixes other file ≡ b
+          → begun_by prefixes (earlier ++ file ∷ []) other ≡ begun_by prefixes earlier other
+      kept other any false is = place-kept size (takes prefixes other) earlier file is
+      kept other any true is =
+          let same : other ≡ at = eqb-true other at (sym (ap (λ (o : Option ℕ). is_same (Some other) o) own) ∙ is) in
+          place-again size (takes prefixes other) earlier file (ap (λ (i : ℕ). list_any (takes prefixes i) earlier) same ∙ any)
+
+  -- a file that takes a prefix whose listener begins with it
+  pub begun_first : (at : ℕ) → prefix_of prefixes file ≡ Some at → at < length prefixes → get_or begun at None ≡ None
+      → (length names ≡ position_of prefixes earlier file)
+      × HasBegun prefixes (earlier ++ file ∷ []) (names ++ get_or prefixes at [] ∷ []) (set begun at (Some (length names)))
+  begun_first at own inside held =
+      let none = place-none size (takes prefixes at) earlier (sym (has.each at inside) ∙ held) in
+      let begin = begins (Some at) own none in (
+        begin.0,
+        record {
+          named = begin.1;
+          many = length-set begun at (Some (length names)) ∙ has.many;
+          each = λ other within. each_one none other within (other == at) refl;
+        },
+      )
+    where
+      each_one : list_any (takes prefixes at) earlier ≡ false → (other : ℕ) → other < length prefixes → (b : Bool) → (other == at) ≡ b
+          → get_or (set begun at (Some (length names))) other None ≡ begun_by prefixes (earlier ++ file ∷ []) other
+      each_one none other within true is =
+          let same : other ≡ at = eqb-true other at is in
+          get_or-set_at begun at other (Some (length names)) None same (rw has.many inside)
+          ∙ ap (λ (all : List (List ℕ)). Some (length all)) has.named
+          ∙ sym (place-new size (takes prefixes other) earlier file (ap (λ (i : ℕ). list_any (takes prefixes i) earlier) same ∙ none)
+          (ap (λ (o : Option ℕ). is_same (Some other) o) own ∙ is))
+      each_one none other within false is =
+          get_or-set_other begun at other (Some (length names)) None (λ same. let yes = eq-eqb other at same in absurd cc)
+          ∙ has.each other within
+          ∙ sym (place-kept size (takes prefixes other) earlier file (ap (λ (o : Option ℕ). is_same (Some other) o) own ∙ is))
+
+-- ---- each position is that of a name
+
+-- the first element that passes
+found : {X : Type 0} (test : X → Bool) (xs : List X) → list_any test xs ≡ true
+    → (x : X) × (rest : List X) × (xs ≡ before_first test xs ++ x ∷ rest) × (test x ≡ true)
+found test [] any = absurd cc
+found {X} test (x ∷ xs) any = go (test x) refl (found test xs)
+  where
+    go : (b : Bool) → test x ≡ b
+        → (list_any test xs ≡ true → (y : X) × (rest : List X) × (xs ≡ before_first test xs ++ y ∷ rest) × (test y ≡ true))
+        → (y : X) × (rest : List X) × (x ∷ xs ≡ cond b [] (x ∷ before_first test xs) ++ y ∷ rest) × (test y ≡ true)
+    go true is more = (x, xs, refl, is)
+    go false is more =
+        let one = more (grind (arith, any, is)) in
+        (one.0, one.1, ap (λ (all : List X). x ∷ all) one.2, one.3)
+
+front-fails : {X : Type 0} (test : X → Bool) (xs : List X) → list_any test (before_first test xs) ≡ false
+front-fails test [] = refl
+front-fails test (x ∷ xs) = grind (arith, front-fails test xs)
+
+-- more files have no fewer listeners
+names-grow : (prefixes files more : List (List ℕ)) → length (listener_names prefixes files) ≤ length (listener_names prefixes (files ++ more))
+names-grow prefixes files more = grind (arith, names-more prefixes [] files more, length-append)
+
+-- files that take the same prefix are beside the same files
+same-beside : (prefixes : List (List ℕ)) (file other : List ℕ) → is_beside prefixes file other ≡ true
+    → prefix_of prefixes file ≡ prefix_of prefixes other
+same-beside prefixes file other = go (prefix_of prefixes file) (prefix_of prefixes other)
+  where
+    go : (one two : Option ℕ) → is_same one two ≡ true → one ≡ two
+    go (Some one) (Some two) is = ap Some (eqb-true one two is)
+    go (Some one) None is = absurd cc
+    go None two is = absurd cc
+
+begun-within : (prefixes front rest : List (List ℕ)) (file other : List ℕ) → is_beside prefixes file other ≡ true
+    → list_any (is_beside prefixes file) front ≡ false
+    → length (listener_names prefixes front) < length (listener_names prefixes (front ++ other ∷ rest))
+begun-within prefixes front rest file other beside fails =
+    let same = same-beside prefixes file other beside in
+    let none : list_any (is_beside prefixes other) front ≡ false =
+    subst (λ (own : Option ℕ). list_any (λ x. is_same own (prefix_of prefixes x)) front ≡ false) same fails in
+    let first = names_push prefixes front other in
+    let more = names-grow prefixes (front ++ other ∷ []) rest in
+    let all : (front ++ other ∷ []) ++ rest ≡ front ++ other ∷ rest = append_assoc front (other ∷ []) rest in
+    grind (arith, first, more, all, none, length-append)
+
+position-within : (prefixes earlier : List (List ℕ)) (file : List ℕ)
+    → position_of prefixes earlier file < length (listener_names prefixes (earlier ++ file ∷ []))
+position-within prefixes earlier file = go (list_any (is_beside prefixes file) earlier) refl
+  where
+    go : (any : Bool) → list_any (is_beside prefixes file) earlier ≡ any
+        → position_of prefixes earlier file < length (listener_names prefixes (earlier ++ file ∷ []))
+    go false none =
+        let whole = front-whole (is_beside prefixes file) earlier none in
+        let push = names_push prefixes earlier file in
+        grind (arith, whole, push, none, length-append)
+    go true any =
+        let one = found (is_beside prefixes file) earlier any in
+        let front = before_first (is_beside prefixes file) earlier in
+        let begins = begun-within prefixes front one.1 file one.0 one.3 (front-fails (is_beside prefixes file) earlier) in
+        let earlier_names = subst (λ (files : List (List ℕ)). length (listener_names prefixes front) < length (listener_names prefixes files))
+        (sym one.2) begins in
+        let more = names-grow prefixes earlier (file ∷ []) in
+        omega (arith, earlier_names, more)
+
+positions-within : (prefixes earlier files : List (List ℕ))
+    → All (λ at. at < length (listener_names prefixes (earlier ++ files))) (positions_after prefixes earlier files)
+positions-within prefixes earlier [] = All-nil _
+positions-within prefixes earlier (file ∷ files) =
+    let whole : (earlier ++ file ∷ []) ++ files ≡ earlier ++ file ∷ files = append_assoc earlier (file ∷ []) files in
+    let more = names-grow prefixes (earlier ++ file ∷ []) files in
+    let first = position-within prefixes earlier file in
+    let size = ap (λ (all : List (List ℕ)). length (listener_names prefixes all)) whole in
+    let rest = positions_after prefixes (earlier ++ file ∷ []) files in
+    All-cons (λ at. at < length (listener_names prefixes (earlier ++ file ∷ files))) (position_of prefixes earlier file) rest
+    (omega (arith, first, more, size))
+    (subst (λ (all : List (List ℕ)). All (λ at. at < length (listener_names prefixes all)) rest) whole
+    (positions-within prefixes (earlier ++ file ∷ []) files))
+
+-- in the list that is made, too
+pub all_within : (prefixes files names : List (List ℕ)) (count : ℕ) (of : List ℕ) → names ≡ listener_names prefixes files
+    → count ≡ length names → of ≡ listener_positions prefixes files → All (λ at. at < count) of
+all_within prefixes files names count of named counted placed =
+    rw (counted, named, placed) (positions-within prefixes [] files)
+
+-- ---- what the code knows
+
+pub get_or-named : (names : List (String Global)) (at : ℕ) (name : String Global) → at < length names
+    → get_or (map string_bytes names) at [] ≡ string_bytes (get_or names at name)
+get_or-named names at name inside = get_or-map string_bytes names at name [] inside
+
+pub prefix-inside : (prefixes : List (List ℕ)) (file : List ℕ) (at : ℕ) → prefix_of prefixes file ≡ Some at → at < length prefixes
+prefix-inside prefixes file at own = (position-Some (λ prefix. fits prefix file) prefixes at [] own).0
+
+-- what is lent has as many elements when it comes back
+pub take-back : (prefixes files more : List (List ℕ)) (count : ℕ) (begun after : List (Option ℕ)) (names all : List (List ℕ))
+    → HasBegun prefixes files names begun → HasBegun prefixes more all after → count ≡ length begun
+    → take count (after ++ drop (length after) begun) ≡ after
+take-back prefixes files more count begun after names all has then counted =
+    subst (λ (n : ℕ). take n (after ++ drop (length after) begun) ≡ after) (then.many ∙ sym has.many ∙ sym counted)
+    (take-append_seam after (drop (length after) begun))

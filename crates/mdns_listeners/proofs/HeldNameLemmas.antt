@@ -1,0 +1,277 @@
+-- Names that are held suffice for those that hearings tell: one more name, a lesser spelling, and sorted names of which each is
+-- kept once.
+use Rattle.std.proofs.Common.{◌≡◌, ◌≢◌, ℕ, suc, ◌<◌, ◌≤◌, ◌⊎◌, ⊎_elim, inl, inr, Bool, true, false, cond, List}
+use Rattle.std.proofs.Common.{[], ◌∷◌, ◌++◌}
+use Rattle.std.proofs.Common.{length, get_or, set, Contains, Some, None, append-nil, refl, sym, ap, subst, ◌∙◌, arith}
+use Rattle.std.proofs.Common.{if◌then◌else◌}
+use Rattle.std.specs.List.{All, dedup, dedup_from, cons_option}
+use Rattle.std.specs.Option.{option_map}
+use Rattle.std.specs.List.Sorted.{IsPermutation, IsSorted, IsStrictlySortedBy}
+use Rattle.std.specs.Cmp.{IsTotalOrder}
+use Rattle.std.specs.Cmp.Lexicographic.{slice_cmp}
+use Rattle.std.specs.Ordering.{nat_cmp, is_lt, is_gt, is_eq, ordering_then, ordering_reverse}
+use Rattle.std.specs.declared.cmp.Ordering.{Ordering}
+use Rattle.std.specs.declared.cmp.Ordering.TheVariants.{Less, Equal, Greater}
+use Rattle.std.proofs.lemmas.Bool.{false≢true, cases_eq}
+use Rattle.std.proofs.lemmas.Cmp.{nat_list_cmp_total, on_total, then_total, tied_itself, upto}
+use Rattle.std.proofs.lemmas.List.{length-set, get_or-set_same, get_or-set_other, get_or_default, set-get_or}
+use Rattle.std.proofs.lemmas.List.Elements.{Contains-append_left, Contains-push, Contains-push_cases, Contains-get_or, All-head}
+use Rattle.std.proofs.lemmas.List.Elements.{All-tail, filter_map-append}
+use Rattle.std.proofs.lemmas.List.Kept.{IsStrictlySortedBy-dedup, Contains-from_dedup}
+use Rattle.std.proofs.lemmas.List.Sorted.{IsPermutation-sym, Contains-permutation, sorted_far, ranks_by}
+use Rattle.mdns_capture.specs.declared.source_address.SourceAddress.{SourceAddress}
+use Rattle.mdns_capture.specs.declared.source_address.SourceAddress.TheVariants.{V4, V6}
+use Rattle.dns_name.specs.Name.{folded}
+use Rattle.mdns_message.specs.declared.hearing.Hearing.{Hearing}
+use Rattle.mdns_message.specs.laws.Resource.{bytes_cmp-exact, both_tie}
+use Rattle.mdns_cache.proofs.StandsPartLemmas.{Contains-nil, Contains-head, Contains-later, Contains-cases}
+use Rattle.mdns_listeners.specs.declared.names.Named.{Named}
+use Rattle.mdns_listeners.specs.Names.{Covers, HoldsNames, IsAtMost, named, named_in, told_in, respelled, address_in}
+use Rattle.mdns_listeners.specs.Names.{address_bytes, address_cmp, by_name, by_spelling}
+
+-- ---- orders
+
+pub address_cmp-total : IsTotalOrder address_cmp
+address_cmp-total = on_total address_bytes nat_list_cmp_total
+
+pub by_name-total : IsTotalOrder by_name
+by_name-total = then_total (on_total (λ (one : Named). one.source) address_cmp-total)
+    (on_total (λ (one : Named). one.folded) nat_list_cmp_total)
+
+pub by_spelling-total : IsTotalOrder by_spelling
+by_spelling-total = then_total by_name-total (on_total (λ (one : Named). one.name) nat_list_cmp_total)
+
+pub address-same : (a b : SourceAddress) → address_bytes a ≡ address_bytes b → a ≡ b
+address-same (V4 a) (V4 b) e = ap V4 (let same : a ≡ b = cc in same)
+address-same (V4 a) (V6 b) e = absurd (let no : ◌≡◌ {A = ℕ} 4 6 = cc in omega (arith, no))
+address-same (V6 a) (V4 b) e = absurd (let no : ◌≡◌ {A = ℕ} 6 4 = cc in omega (arith, no))
+address-same (V6 a) (V6 b) e = ap V6 (let same : a ≡ b = cc in same)
+
+pub address_cmp-exact : (a b : SourceAddress) → address_cmp a b ≡ Equal → a ≡ b
+address_cmp-exact a b e = address-same a b (bytes_cmp-exact (address_bytes a) (address_bytes b) e)
+
+not_greater : (o : Ordering) → o ≢ Greater → is_gt o ≡ false
+not_greater Less n = refl
+not_greater Equal n = refl
+not_greater Greater n = absurd (n refl)
+
+from_not_greater : (o : Ordering) → is_gt o ≡ false → o ≢ Greater
+from_not_greater o n e = absurd (false≢true (sym n ∙ ap is_gt e))
+
+not_less : (a b : List ℕ) → is_lt (slice_cmp nat_cmp a b) ≡ false → slice_cmp nat_cmp b a ≢ Greater
+not_less a b n e = absurd (false≢true (sym n ∙ ap is_lt (nat_list_cmp_total.antisymm a b ∙ ap ordering_reverse e)))
+
+pub bytes_upto : (a b c : List ℕ) → slice_cmp nat_cmp a b ≢ Greater → slice_cmp nat_cmp b c ≢ Greater → slice_cmp nat_cmp a c ≢ Greater
+bytes_upto a b c p q = from_not_greater _ (upto nat_list_cmp_total a b c (not_greater _ p) (not_greater _ q))
+
+pub IsAtMost-itself : (one : Named) → IsAtMost one one
+IsAtMost-itself one = record {
+  source = refl;
+  folded = refl;
+  name = from_not_greater _ (ap is_gt (tied_itself nat_list_cmp_total one.name));
+}
+
+pub IsAtMost-onward : (a b c : Named) → IsAtMost a b → IsAtMost b c → IsAtMost a c
+IsAtMost-onward a b c p q = record {
+  source = p.source ∙ q.source;
+  folded = p.folded ∙ q.folded;
+  name = bytes_upto a.name b.name c.name p.name q.name;
+}
+
+-- ---- one more name
+
+pub Covers-push : (held told : List Named) (one : Named) → Covers held told → Covers (held ++ one ∷ []) (told ++ one ∷ [])
+Covers-push held told one covers = record {
+  among = λ x m. ⊎_elim (λ h. Contains-append_left told (one ∷ []) x (covers.among x h))
+      (λ e. subst (Contains (told ++ one ∷ [])) e (Contains-push told one)) (Contains-push_cases held one x m);
+  each = λ x m. ⊎_elim (λ h. (let w = covers.each x h in (w.0, Contains-append_left held (one ∷ []) w.0 w.1, w.2)))
+      (λ e. (one, Contains-push held one, subst (IsAtMost one) e (IsAtMost-itself one))) (Contains-push_cases told one x m);
+}
+
+pub Covers-onward : (a b c : List Named) → Covers a b → Covers b c → Covers a c
+Covers-onward a b c p q = record {
+  among = λ x m. q.among x (p.among x m);
+  each = λ x m. (let w = q.each x m in let v = p.each w.0 w.1 in (v.0, v.1, IsAtMost-onward v.0 w.0 x v.2 w.2));
+}
+
+-- ---- a lesser spelling
+
+from_set : (xs : List Named) (i : ℕ) (v x : Named) → i < length xs → Contains (set xs i v) x → (v ≡ x) ⊎ Contains xs x
+from_set xs i v x within m = ⊎_elim
+    (λ same. inl (sym (get_or-set_same xs i v x within) ∙ ap (λ k. get_or (set xs i v) k x) (sym same) ∙ m.2))
+    (λ apart. inr (m.0, omega (arith, m.1, length-set xs i v), sym (get_or-set_other xs i m.0 v x apart) ∙ m.2))
+    (cases_eq m.0 i)
+
+in_set : (xs : List Named) (i : ℕ) (v x d : Named) → i < length xs → Contains xs x → (get_or xs i d ≡ x) ⊎ Contains (set xs i v) x
+in_set xs i v x d within m = ⊎_elim
+    (λ same. inl (ap (λ k. get_or xs k d) (sym same) ∙ get_or_default xs m.0 d x m.1 ∙ m.2))
+    (λ apart. inr (m.0, omega (arith, m.1, length-set xs i v), get_or-set_other xs i m.0 v x apart ∙ m.2))
+    (cases_eq m.0 i)
+
+at_set : (xs : List Named) (i : ℕ) (v : Named) → i < length xs → Contains (set xs i v) v
+at_set xs i v within = (i, omega (arith, length-set xs i v), get_or-set_same xs i v v within)
+
+-- the name at a place in its spelling, which is no greater than that of `one`
+kept_spelling : (held told : List Named) (place : ℕ) (d one : Named) → place < length held → IsAtMost (get_or held place d) one
+    → Covers held told → Covers held (told ++ one ∷ [])
+kept_spelling held told place d one within le covers = record {
+  among = λ x m. Contains-append_left told (one ∷ []) x (covers.among x m);
+  each = λ x m. ⊎_elim (λ h. covers.each x h)
+      (λ e. (get_or held place d, Contains-get_or held place d within, subst (IsAtMost (get_or held place d)) e le))
+      (Contains-push_cases told one x m);
+}
+
+-- the name at a place replaced by `one`, which is at most it
+less_spelling : (held told : List Named) (place : ℕ) (d one : Named) → place < length held → IsAtMost one (get_or held place d)
+    → Covers held told → Covers (set held place one) (told ++ one ∷ [])
+less_spelling held told place d one within le covers = record {
+  among = λ x m. ⊎_elim (λ e. subst (Contains (told ++ one ∷ [])) e (Contains-push told one))
+      (λ h. Contains-append_left told (one ∷ []) x (covers.among x h)) (from_set held place one x within m);
+  each = λ x m. ⊎_elim (λ h. before x (covers.each x h))
+      (λ e. (one, at_set held place one within, subst (IsAtMost one) e (IsAtMost-itself one))) (Contains-push_cases told one x m);
+}
+  where
+    before : (x : Named) → (f : Named) × Contains held f × IsAtMost f x → (f : Named) × Contains (set held place one) f × IsAtMost f x
+    before x w = ⊎_elim
+        (λ same. (one, at_set held place one within, IsAtMost-onward one w.0 x (subst (IsAtMost one) same le) w.2))
+        (λ there. (w.0, there, w.2)) (in_set held place one w.0 d within w.1)
+
+pub Covers-respelled : (held told : List Named) (place : ℕ) (d : Named) (source : SourceAddress) (owner : List ℕ) → place < length held
+    → (get_or held place d).source ≡ source → (get_or held place d).folded ≡ folded owner → Covers held told
+    → Covers (set held place (respelled (get_or held place d) owner)) (told ++ named source owner ∷ [])
+Covers-respelled held told place d source owner within same_source same_folded covers =
+    let old = get_or held place d in
+    elim (is_lt (slice_cmp nat_cmp owner old.name)) as (λ b. is_lt (slice_cmp nat_cmp owner old.name) ≡ b
+    → Covers (set held place (if b then record { source = old.source; folded = old.folded; name = owner } else old))
+    (told ++ named source owner ∷ [])) [
+      | true ↦ λ less. subst (λ one. Covers (set held place one) (told ++ named source owner ∷ []))
+          (λ i. record { source = sym same_source i; folded = sym same_folded i; name = owner })
+          (less_spelling held told place d (named source owner) within (record {
+            source = sym same_source;
+            folded = sym same_folded;
+            name = from_not_greater _ (lt-not_gt _ less);
+          }) covers)
+      | false ↦ λ not. subst (λ xs. Covers xs (told ++ named source owner ∷ [])) (sym (set-get_or held place d))
+          (kept_spelling held told place d (named source owner) within (record {
+            source = same_source;
+            folded = same_folded;
+            name = not_less owner old.name not;
+          }) covers)
+    ] refl
+  where
+    lt-not_gt : (o : Ordering) → is_lt o ≡ true → is_gt o ≡ false
+    lt-not_gt Less e = refl
+    lt-not_gt Equal e = refl
+    lt-not_gt Greater e = absurd (false≢true e)
+
+-- ---- sorted names, of which the first of each is kept
+
+abbrev same_name : Named → Named → Bool
+same_name x y = is_eq (by_name x y)
+
+abbrev Ascend : List Named → Type 0
+Ascend [] = Unit {0}
+Ascend (x ∷ xs) = All (λ y. is_lt (by_spelling y x) ≡ false) xs × Ascend xs
+
+Ascend-from_sorted : (xs : List Named) → ((i j : ℕ) (d : Named) → i ≤ j → j < length xs
+    → is_lt (by_spelling (get_or xs j d) (get_or xs i d)) ≡ false) → Ascend xs
+Ascend-from_sorted [] far = tt
+Ascend-from_sorted (x ∷ xs) far = (
+  λ k d within. far 0 (suc k) d (omega arith) (omega (arith, within)),
+  Ascend-from_sorted xs (λ i j d le within. far (suc i) (suc j) d (omega (arith, le)) (omega (arith, within))),
+)
+
+pub is_Equal : (o : Ordering) → is_eq o ≡ true → o ≡ Equal
+is_Equal Less e = absurd (false≢true e)
+is_Equal Equal e = refl
+is_Equal Greater e = absurd (false≢true e)
+
+-- a name that isn't below another one of the same address and folded name
+later_spelling : (x k : Named) → same_name x k ≡ true → is_lt (by_spelling x k) ≡ false → IsAtMost k x
+later_spelling x k same not =
+    let equal = is_Equal (by_name x k) same in
+    let parts = both_tie _ _ equal in
+    record {
+      source = sym (address_cmp-exact x.source k.source parts.0);
+      folded = sym (bytes_cmp-exact x.folded k.folded parts.1);
+      name = not_less x.name k.name (subst (λ o. is_lt (ordering_then o (slice_cmp nat_cmp x.name k.name)) ≡ false) equal not);
+    }
+
+kept_first : (xs : List Named) (k : Named) → Ascend (k ∷ xs) → (e : Named) → Contains (k ∷ xs) e
+    → (f : Named) × Contains (dedup_from same_name k xs) f × IsAtMost f e
+kept_first [] k up e m = ⊎_elim (λ same. (k, Contains-head k [], subst (IsAtMost k) same (IsAtMost-itself k)))
+    (λ none. absurd (Contains-nil e none)) (Contains-cases k [] e m)
+kept_first (x ∷ xs) k up e m =
+    elim (same_name x k) as (λ b. same_name x k ≡ b
+    → (f : Named) × Contains (cond b (dedup_from same_name k xs) (k ∷ dedup_from same_name x xs)) f × IsAtMost f e) [
+      | true ↦ λ same. (
+          let rest : Ascend (k ∷ xs) = (All-tail (λ y. is_lt (by_spelling y k) ≡ false) x xs up.0, up.1.1) in
+          let onward = λ (w : (f : Named) × Contains (dedup_from same_name k xs) f × IsAtMost f k).
+          let r : (f : Named) × Contains (dedup_from same_name k xs) f × IsAtMost f x = (
+            w.0,
+            w.1,
+            IsAtMost-onward w.0 k x w.2
+                (later_spelling x k same (All-head (λ y. is_lt (by_spelling y k) ≡ false) x xs up.0)),
+          ) in r in
+          ⊎_elim (λ here. kept_first xs k rest e (subst (Contains (k ∷ xs)) here (Contains-head k xs)))
+          (λ later. ⊎_elim
+          (λ next. subst (λ (y : Named). (f : Named) × Contains (dedup_from same_name k xs) f × IsAtMost f y) next
+          (onward (kept_first xs k rest k (Contains-head k xs))))
+          (λ there. kept_first xs k rest e (Contains-later k xs e there)) (Contains-cases x xs e later))
+          (Contains-cases k (x ∷ xs) e m))
+      | false ↦ λ apart. ⊎_elim
+          (λ here. (k, Contains-head k (dedup_from same_name x xs), subst (IsAtMost k) here (IsAtMost-itself k)))
+          (λ later. (let w = kept_first xs x up.1 e later in (w.0, Contains-later k (dedup_from same_name x xs) w.0 w.1, w.2)))
+          (Contains-cases k (x ∷ xs) e m)
+    ] refl
+
+kept_each : (xs : List Named) → Ascend xs → (e : Named) → Contains xs e → (f : Named) × Contains (dedup same_name xs) f × IsAtMost f e
+kept_each [] up e m = absurd (Contains-nil e m)
+kept_each (x ∷ xs) up e m = kept_first xs x up e m
+
+module _ (names sorted kept : List Named) (moved : IsPermutation names sorted) (up : IsSorted by_spelling sorted)
+    (are : kept ≡ dedup same_name sorted) where
+  pub kept_covers : Covers kept names
+  kept_covers = record {
+    among = λ x m. Contains-permutation sorted names x (IsPermutation-sym names sorted moved)
+        (Contains-from_dedup same_name sorted x (subst (λ (xs : List Named). Contains xs x) are m));
+    each = λ x m. subst (λ (xs : List Named). (f : Named) × Contains xs f × IsAtMost f x) (sym are)
+        (kept_each sorted (Ascend-from_sorted sorted
+        (sorted_far (λ x y. is_lt (by_spelling x y)) (ranks_by by_spelling-total (λ x. x)) sorted up))
+        x (Contains-permutation names sorted x moved m));
+  }
+
+  weaker : (o p : Ordering) → is_lt (ordering_then o p) ≡ false → is_lt o ≡ false
+  weaker Less p e = e
+  weaker Equal p e = refl
+  weaker Greater p e = refl
+
+  pub kept_ascend : IsStrictlySortedBy by_name kept
+  kept_ascend = subst (IsStrictlySortedBy by_name) (sym are)
+      (IsStrictlySortedBy-dedup by_name-total (λ x y. refl) sorted (λ k d low high. weaker _ _ (up k d low high)))
+
+-- ---- hearings
+
+pub HoldsNames-more : (held new : List Named) (heard : List Hearing) (h : Hearing) (source : SourceAddress)
+    → address_in h.heard.body ≡ Some source
+    → ((told : List Named) → Covers held told → Covers new (told ++ named source h.heard.owner ∷ [])) → HoldsNames held heard
+    → HoldsNames new (heard ++ h ∷ [])
+HoldsNames-more held new heard h source is more holds = record {
+  covers = subst (Covers new)
+      (ap (λ o. told_in heard ++ cons_option (option_map (λ s. named s h.heard.owner) o) []) (sym is)
+      ∙ sym (filter_map-append named_in heard (h ∷ [])))
+      (more (told_in heard) holds.covers);
+}
+
+pub HoldsNames-same : (held : List Named) (heard : List Hearing) (h : Hearing) → address_in h.heard.body ≡ None → HoldsNames held heard
+    → HoldsNames held (heard ++ h ∷ [])
+HoldsNames-same held heard h none holds = record {
+  covers = subst (Covers held)
+      (sym (append-nil (told_in heard))
+      ∙ ap (λ o. told_in heard ++ cons_option (option_map (λ s. named s h.heard.owner) o) []) (sym none)
+      ∙ sym (filter_map-append named_in heard (h ∷ [])))
+      holds.covers;
+}
+
+pub HoldsNames-kept : (kept held : List Named) (heard : List Hearing) → Covers kept held → HoldsNames held heard → HoldsNames kept heard
+HoldsNames-kept kept held heard covers holds = record { covers = Covers-onward kept held (told_in heard) covers holds.covers }

@@ -1,0 +1,264 @@
+-- How sorted messages are made rows, and their times are added.
+use Rattle.std.proofs.Common.{◌≡◌, ℕ, zero, suc, ◌+◌, ◌<◌, Bool, true, false, cond, ◌||◌}
+use Rattle.std.proofs.Common.{List, [], ◌∷◌, ◌++◌, length, map, get_or, set, take, Option, Some, refl, sym, ap}
+use Rattle.std.proofs.Common.{◌∙◌, subst, arith, true≢false, length-append}
+use Rattle.std.proofs.Common.{Less, Equal}
+use Rattle.std.specs.Cmp.{tied_itself}
+use Rattle.std.specs.Cmp.Lexicographic.{slice_cmp, nat_list_cmp_total}
+use Rattle.std.specs.List.{All, AllByRecursion, filter, list_any}
+use Rattle.std.specs.List.Sorted.{IsStrictlySortedBy}
+use Rattle.std.specs.Ordering.{nat_cmp}
+use Rattle.std.proofs.lemmas.Bool.{cond_both}
+use Rattle.std.proofs.lemmas.List.{append-nil, get_or_append_left, get_or_at}
+use Rattle.std.proofs.lemmas.List.{length-map}
+use Rattle.std.proofs.lemmas.List.{map_more}
+use Rattle.std.proofs.lemmas.List.Elements.{All-contains, All-head, All-map, All-tail}
+use Rattle.std.proofs.lemmas.Map.Keys.{Less-from_sorted, sorted_head, sorted_tail}
+use Rattle.mdns_listeners.specs.declared.heard.HeardAt.{HeardAt}
+use Rattle.mdns_listeners.specs.declared.kept.Noted.{Noted}
+use Rattle.mdns_listeners.specs.Heard.{AreHeardIn, HeardRow, Told, has_times, is_same, messages_of, row_at, some_times, times_of}
+use Rattle.mdns_listeners.specs.Kept.{ArePlaced, IsNumbered, KeptMessage, filled, told_by, told_of_rows}
+use Rattle.mdns_listeners.proofs.HeardLemmas.{same-is, same-itself, times_of-append}
+
+abbrev Less' : List ℕ → List ℕ → Type 0
+Less' m n = slice_cmp nat_cmp m n ≡ Less
+
+abbrev Ascend : List HeardRow → Type 0
+Ascend rows = IsStrictlySortedBy (slice_cmp nat_cmp) (messages_of rows)
+
+-- a message isn't one that is above it, nor one that is below it
+pub not-same-below : (m n : List ℕ) → slice_cmp nat_cmp m n ≡ Less → is_same m n ≡ false
+not-same-below m n h = by (is_same m n) refl
+  where
+    by : (b : Bool) → is_same m n ≡ b → is_same m n ≡ false
+    by false e = e
+    by true e = absurd (differ (sym (own n) ∙ subst (λ k. slice_cmp nat_cmp k n ≡ Less) (same-is m n e) h))
+      where
+        own : (k : List ℕ) → slice_cmp nat_cmp k k ≡ Equal
+        own k = tied_itself nat_list_cmp_total k
+
+        differ : Equal ≡ Less → ⊥
+        differ e = cc
+
+pub not-same-above : (m n : List ℕ) → slice_cmp nat_cmp n m ≡ Less → is_same m n ≡ false
+not-same-above m n h = by (is_same m n) refl
+  where
+    by : (b : Bool) → is_same m n ≡ b → is_same m n ≡ false
+    by false e = e
+    by true e = absurd (differ (sym (tied_itself nat_list_cmp_total m) ∙ subst (λ k. slice_cmp nat_cmp k m ≡ Less) (sym (same-is m n e)) h))
+      where
+        differ : Equal ≡ Less → ⊥
+        differ e = cc
+
+-- ---- lists
+
+pub all-front : {X : Type 0} (P : X → Type 0) (xs ys : List X) → All P (xs ++ ys) → All P xs
+all-front P xs ys h k d l = subst P (get_or_append_left xs ys d k l) (h k d (omega (arith, length-append xs ys)))
+
+pub all-middle : {X : Type 0} (P : X → Type 0) (xs ys : List X) (x : X) → All P (xs ++ x ∷ ys) → P x
+all-middle P xs ys x h =
+    subst P (get_or_at xs x ys x (length xs) refl) (h (length xs) x (omega (arith, length-append xs (x ∷ ys))))
+
+pub map-agree : {X Y : Type 0} (f g : X → Y) (xs : List X) → All (λ x. f x ≡ g x) xs → map f xs ≡ map g xs
+map-agree f g [] h = refl
+map-agree f g (x ∷ xs) h = λ i. All-head (λ y. f y ≡ g y) x xs h i ∷ map-agree f g xs (All-tail (λ y. f y ≡ g y) x xs h) i
+
+any-at : {X : Type 0} (test : X → Bool) (xs : List X) (i : ℕ) (d : X) → i < length xs → test (get_or xs i d) ≡ true
+    → list_any test xs ≡ true
+any-at test [] i d l h = absurd (omega arith)
+any-at test (x ∷ xs) zero d l h = ap (λ b. b || list_any test xs) h
+any-at test (x ∷ xs) (suc i) d l h = ap (λ b. test x || b) (any-at test xs i d (omega arith) h) ∙ or-true (test x)
+  where
+    or-true : (b : Bool) → (b || true) ≡ true
+    or-true true = refl
+    or-true false = refl
+
+-- ---- times added to rows
+
+times-other : (m : List ℕ) (told : List Told) (t : Told) → is_same m t.message ≡ false → times_of m (told ++ t ∷ []) ≡ times_of m told
+times-other m told t e =
+    times_of-append m told (t ∷ [])
+    ∙ ap (λ b. times_of m told ++ map (λ u. u.at) (cond b (t ∷ []) [])) e
+    ∙ append-nil (times_of m told)
+
+times-own : (m : List ℕ) (told : List Told) (t : Told) → is_same m t.message ≡ true
+    → times_of m (told ++ t ∷ []) ≡ times_of m told ++ t.at ∷ []
+times-own m told t e =
+    times_of-append m told (t ∷ []) ∙ ap (λ b. times_of m told ++ map (λ u. u.at) (cond b (t ∷ []) [])) e
+
+abbrev row_with : List ℕ → List HeardAt → HeardRow
+row_with m times = record { message = m; times = times }
+
+filled-other : (told : List Told) (t : Told) (row : HeardRow) → is_same row.message t.message ≡ false
+    → filled (told ++ t ∷ []) row ≡ filled told row
+filled-other told t row e = ap (row_with row.message) (times-other row.message told t e)
+
+filled-others : (rows : List HeardRow) (told : List Told) (t : Told)
+    → AllByRecursion (λ m. slice_cmp nat_cmp t.message m ≡ Less) (messages_of rows)
+    → map (filled (told ++ t ∷ [])) rows ≡ map (filled told) rows
+filled-others [] told t h = refl
+filled-others (row ∷ rows) told t h =
+    λ i. filled-other told t row (not-same-above row.message t.message h.0) i ∷ filled-others rows told t h.1 i
+
+-- a time added to the row of its message
+fill-step : (rows : List HeardRow) (told : List Told) (t : Told) (r : ℕ) (x : HeardRow) → r < length rows → Ascend rows
+    → get_or (messages_of rows) r [] ≡ t.message → x ≡ get_or (map (filled told) rows) r x
+    → set (map (filled told) rows) r (row_with x.message (x.times ++ t.at ∷ [])) ≡ map (filled (told ++ t ∷ [])) rows
+fill-step [] told t r x l s own is = absurd (omega arith)
+fill-step (row ∷ rows) told t zero x l s own is =
+    let head : row_with x.message (x.times ++ t.at ∷ []) ≡ filled (told ++ t ∷ []) row =
+    ap (λ y. row_with y.message (y.times ++ t.at ∷ [])) is
+    ∙ ap (row_with row.message)
+    (sym (times-own row.message told t (subst (λ m. is_same row.message m ≡ true) own (same-itself row.message)))) in
+    let above = subst (λ k. AllByRecursion (λ m. slice_cmp nat_cmp k m ≡ Less) (messages_of rows)) own
+    (sorted_head (slice_cmp nat_cmp) row.message (messages_of rows) s) in
+    λ i. head i ∷ sym (filled-others rows told t above) i
+fill-step (row ∷ rows) told t (suc r) x l s own is =
+    let below : slice_cmp nat_cmp row.message (get_or (messages_of rows) r []) ≡ Less =
+    Less-from_sorted (slice_cmp nat_cmp) (messages_of (row ∷ rows)) 0 (suc r) [] s (omega arith)
+    (omega (arith, length-map rows (λ y. y.message))) in
+    let other = filled-other told t row (not-same-below row.message t.message
+    (subst (λ m. slice_cmp nat_cmp row.message m ≡ Less) own below)) in
+    let rest = fill-step rows told t r x (omega arith) (sorted_tail (slice_cmp nat_cmp) row.message (messages_of rows) s) own is in
+    λ i. sym other i ∷ rest i
+
+pub fill-more : (first rows : List HeardRow) (numbers : List ℕ) (times : List Noted) (i : ℕ) (noted : Noted) (r : ℕ) (x y : HeardRow)
+    → i < length times → noted ≡ get_or times i noted → r ≡ get_or numbers noted.place 0 → r < length first → Ascend first
+    → rows ≡ map (filled (told_of_rows first numbers (take i times))) first → x ≡ get_or rows r x
+    → y ≡ row_with x.message (x.times ++ noted.at ∷ [])
+    → set rows r y ≡ map (filled (told_of_rows first numbers (take (i + 1) times))) first
+fill-more first rows numbers times i noted r x y l is number within s so_far read added =
+    let told = told_of_rows first numbers (take i times) in
+    let teller : Noted → Told = λ n. record { message = get_or (messages_of first) (get_or numbers n.place 0) []; at = n.at } in
+    let more : told_of_rows first numbers (take (i + 1) times) ≡ told ++ teller noted ∷ [] =
+    map_more teller times i noted l ∙ ap (λ n. told ++ teller n ∷ []) (sym is) in
+    let here : x ≡ get_or (map (filled told) first) r x = read ∙ ap (λ rs. get_or rs r x) so_far in
+    (λ k. set (so_far k) r (added k))
+    ∙ fill-step first told (teller noted) r x within s (ap (λ n. get_or (messages_of first) n []) number) here
+    ∙ ap (λ ts. map (filled ts) first) (sym more)
+
+-- ---- rows that have times
+
+messages-filled : (told : List Told) (rows : List HeardRow) → messages_of (map (filled told) rows) ≡ messages_of rows
+messages-filled told [] = refl
+messages-filled told (row ∷ rows) = ap (λ ms. row.message ∷ ms) (messages-filled told rows)
+
+above-heard : (m : List ℕ) (rows : List HeardRow) → AllByRecursion (λ n. slice_cmp nat_cmp m n ≡ Less) (messages_of rows)
+    → AllByRecursion (λ n. slice_cmp nat_cmp m n ≡ Less) (messages_of (filter has_times rows))
+above-heard m [] h = tt
+above-heard m (row ∷ rows) h =
+    cond_both (has_times row) _ _ (λ rs. AllByRecursion (λ n. slice_cmp nat_cmp m n ≡ Less) (messages_of rs))
+    (λ _. (h.0, above-heard m rows h.1)) (λ _. above-heard m rows h.1)
+
+ascend-cons : (row : HeardRow) (rows : List HeardRow) → AllByRecursion (λ n. slice_cmp nat_cmp row.message n ≡ Less) (messages_of rows)
+    → Ascend rows → Ascend (row ∷ rows)
+unfolding IsStrictlySortedBy
+ascend-cons row rows a s = (a, s)
+
+ascend-heard : (rows : List HeardRow) → Ascend rows → Ascend (filter has_times rows)
+ascend-heard [] s = s
+ascend-heard (row ∷ rows) s =
+    let rest = ascend-heard rows (sorted_tail (slice_cmp nat_cmp) row.message (messages_of rows) s) in
+    cond_both (has_times row) _ _ Ascend
+    (λ _. ascend-cons row (filter has_times rows)
+    (above-heard row.message rows (sorted_head (slice_cmp nat_cmp) row.message (messages_of rows) s)) rest)
+    (λ _. rest)
+
+abbrev is_row : List ℕ → List HeardRow → Bool
+is_row m rows = list_any (is_same m) (messages_of rows)
+
+abbrev or_times : List HeardAt → Option (List HeardAt) → Option (List HeardAt)
+or_times [] o = o
+or_times (t ∷ ts) o = Some (t ∷ ts)
+
+cond_same : {A : Type 0} (b : Bool) (x : A) → cond b x x ≡ x
+cond_same true x = refl
+cond_same false x = refl
+
+heard-step : (m k : List ℕ) (times : List HeardAt) (rows : List HeardRow)
+    → row_at m (cond (has_times (row_with k times)) (row_with k times ∷ rows) rows)
+    ≡ cond (is_same m k) (or_times times (row_at m rows)) (row_at m rows)
+heard-step m k [] rows = sym (cond_same (is_same m k) (row_at m rows))
+heard-step m k (t ∷ ts) rows = refl
+
+or_times-some : (times : List HeardAt) (b : Bool) → or_times times (some_times (cond b times [])) ≡ some_times times
+or_times-some [] b = ap some_times (cond_same b [])
+or_times-some (t ∷ ts) b = refl
+
+row-step : (m : List ℕ) (told : List Told) (row : HeardRow) (rows : List HeardRow) (others : List HeardRow)
+    → row_at m others ≡ some_times (cond (is_row m rows) (times_of m told) []) → (b : Bool) → is_same m row.message ≡ b
+    → cond b (or_times (times_of row.message told) (row_at m others)) (row_at m others)
+    ≡ some_times (cond (b || is_row m rows) (times_of m told) [])
+row-step m told row rows others rest true e =
+    (λ i. or_times (times_of (sym (same-is m row.message e) i) told) (rest i)) ∙ or_times-some (times_of m told) (is_row m rows)
+row-step m told row rows others rest false e = rest
+
+row_at-heard : (m : List ℕ) (told : List Told) (rows : List HeardRow)
+    → row_at m (filter has_times (map (filled told) rows)) ≡ some_times (cond (is_row m rows) (times_of m told) [])
+row_at-heard m told [] = refl
+row_at-heard m told (row ∷ rows) =
+    heard-step m row.message (times_of row.message told) (filter has_times (map (filled told) rows))
+    ∙ row-step m told row rows (filter has_times (map (filled told) rows)) (row_at-heard m told rows) (is_same m row.message) refl
+
+told-step : (m : List ℕ) (t : Told) (told : List Told) (rows : List HeardRow) → is_row t.message rows ≡ true → is_row m rows ≡ false
+    → times_of m told ≡ [] → (b : Bool) → is_same m t.message ≡ b → times_of m (t ∷ told) ≡ []
+told-step m t told rows is not-row rest true e =
+    absurd (true≢false (sym is ∙ ap (λ k. is_row k rows) (sym (same-is m t.message e)) ∙ not-row))
+told-step m t told rows is not-row rest false e =
+    ap (λ b. map (λ u. u.at) (cond b (t ∷ filter (λ u. is_same m u.message) told) (filter (λ u. is_same m u.message) told))) e ∙ rest
+
+not-told : (m : List ℕ) (told : List Told) (rows : List HeardRow) → All (λ t. is_row t.message rows ≡ true) told
+    → is_row m rows ≡ false → times_of m told ≡ []
+not-told m [] rows h not-row = refl
+not-told m (t ∷ told) rows h not-row =
+    told-step m t told rows (All-head (λ u. is_row u.message rows ≡ true) t told h) not-row
+    (not-told m told rows (All-tail (λ u. is_row u.message rows ≡ true) t told h) not-row) (is_same m t.message) refl
+
+heard-filled : (told : List Told) (rows : List HeardRow) → Ascend rows → All (λ t. is_row t.message rows ≡ true) told
+    → AreHeardIn told (filter has_times (map (filled told) rows))
+heard-filled told rows s all = record {
+  ascending = ascend-heard (map (filled told) rows) (subst (IsStrictlySortedBy (slice_cmp nat_cmp)) (sym (messages-filled told rows)) s);
+  right = λ m. row_at-heard m told rows ∙ ap some_times (by m (is_row m rows) refl);
+}
+  where
+    by : (m : List ℕ) (b : Bool) → is_row m rows ≡ b → cond b (times_of m told) [] ≡ times_of m told
+    by m true e = refl
+    by m false e = sym (not-told m told rows all e)
+
+-- ---- rows by the places of messages
+
+pub placed-row : (messages : List (List ℕ)) (kept : List KeptMessage) (rows : List HeardRow) (numbers : List ℕ) (place : ℕ)
+    → ArePlaced messages kept → All (IsNumbered rows numbers) kept → place < length messages
+    → (get_or numbers place 0 < length rows) × (get_or (messages_of rows) (get_or numbers place 0) [] ≡ get_or messages place [])
+placed-row messages kept rows numbers place placed numbered l =
+    let one = placed.each place l in
+    let is = All-contains (IsNumbered rows numbers) kept one.0 numbered one.1 in
+    let same = All-contains (λ o. get_or messages o.place [] ≡ o.message) kept one.0 placed.same one.1 in
+    subst (λ p. (get_or numbers p 0 < length rows) × (get_or (messages_of rows) (get_or numbers p 0) [] ≡ get_or messages p []))
+    one.2 (is.within, is.own ∙ sym same)
+
+pub numbered-times : (messages : List (List ℕ)) (kept : List KeptMessage) (rows : List HeardRow) (numbers : List ℕ) (times : List Noted)
+    → ArePlaced messages kept → All (IsNumbered rows numbers) kept → All (λ noted. noted.place < length kept) times
+    → All (λ noted. get_or numbers noted.place 0 < length rows) times
+numbered-times messages kept rows numbers times placed numbered within k d l =
+    let row = placed-row messages kept rows numbers (get_or times k d).place placed numbered
+    (subst (λ n. (get_or times k d).place < n) placed.long (within k d l)) in
+    row.0
+
+pub rows-heard : (messages : List (List ℕ)) (kept : List KeptMessage) (rows : List HeardRow) (numbers : List ℕ) (times : List Noted)
+    → Ascend rows → ArePlaced messages kept → All (IsNumbered rows numbers) kept → All (λ noted. noted.place < length kept) times
+    → AreHeardIn (told_by messages times) (filter has_times (map (filled (told_of_rows rows numbers times)) rows))
+rows-heard messages kept rows numbers times s placed numbered within =
+    let row = λ (k : ℕ) (d : Noted) (l : k < length times).
+    placed-row messages kept rows numbers (get_or times k d).place placed numbered
+    (subst (λ n. (get_or times k d).place < n) placed.long (within k d l)) in
+    let same : told_of_rows rows numbers times ≡ told_by messages times =
+    map-agree _ _ times (λ k d l. λ i. record { message = (row k d l).1 i; at = (get_or times k d).at }) in
+    let found : All (λ t. is_row t.message rows ≡ true) (told_by messages times) =
+    All-map (λ t. is_row t.message rows ≡ true) _ times (λ k d l.
+    any-at (is_same (get_or messages (get_or times k d).place [])) (messages_of rows) (get_or numbers (get_or times k d).place 0) []
+    (omega (arith, (row k d l).0, length-map rows (λ y. y.message)))
+    (ap (is_same (get_or messages (get_or times k d).place [])) (row k d l).1
+    ∙ same-itself (get_or messages (get_or times k d).place []))) in
+    subst (λ told. AreHeardIn (told_by messages times) (filter has_times (map (filled told) rows))) (sym same)
+    (heard-filled (told_by messages times) rows s found)

@@ -1,0 +1,111 @@
+-- Texts that were worked by hand.
+use Rattle.std.proofs.Common.{◌≡◌, refl, ℕ, List, [], ◌∷◌, Option, Some, None, codes}
+use Rattle.std.specs.Prelude.{ℤ, pos, negsuc}
+use Rattle.std.specs.Fmt.{digits}
+use Rattle.mdns_browse.specs.Columns.{padded, spaces, widest}
+use Rattle.mdns_capture.specs.Text.{moment_text}
+use Rattle.mdns_capture.specs.declared.source_address.SourceAddress.TheVariants.{V4, V6}
+use Rattle.mdns_listeners.specs.declared.pairs.PairRow.{PairRow}
+use Rattle.mdns_listeners.specs.declared.pairs.Quartiles.{Quartiles}
+use Rattle.mdns_listeners.specs.Clock.{ahead_words, by_words, clock_words, one_clock_words, shift_words, unsteady_words}
+use Rattle.mdns_listeners.specs.Lines.{groups_text, median_words, pair_line, source_text}
+use Rattle.mdns_listeners.specs.Seconds.{signed_text}
+use Rattle.mdns_listeners.specs.Table.{cells_from, table_text}
+
+-- ---- signed durations
+
+nothing : signed_text (pos 0) ≡ codes "0.000000000"
+unfolding signed_text moment_text digits
+nothing = refl
+
+a_nanosecond_behind : signed_text (negsuc 0) ≡ codes "-0.000000001"
+unfolding signed_text moment_text digits
+a_nanosecond_behind = refl
+
+a_tenth_ahead : signed_text (pos 100000000) ≡ codes "0.100000000"
+unfolding signed_text moment_text digits
+a_tenth_ahead = refl
+
+more_than_a_tenth_behind : signed_text (negsuc 100000000) ≡ codes "-0.100000001"
+unfolding signed_text moment_text digits
+more_than_a_tenth_behind = refl
+
+a_minute_ahead : signed_text (pos 60000000000) ≡ codes "60.000000000"
+unfolding signed_text moment_text digits
+a_minute_ahead = refl
+
+-- ---- addresses
+
+ipv4 : source_text (V4 (198 ∷ 51 ∷ 100 ∷ 11 ∷ [])) ≡ codes "198.51.100.11"
+unfolding digits
+ipv4 = refl
+
+ipv6 : source_text (V6 (0x20 ∷ 0x01 ∷ 0x0d ∷ 0xb8 ∷ 0x00 ∷ 0x77 ∷ 0 ∷ 0 ∷ 0 ∷ 0 ∷ 0 ∷ 0 ∷ 0 ∷ 0 ∷ 0 ∷ 0x0b ∷ []))
+    ≡ codes "2001:db8:77:0:0:0:0:b"
+unfolding groups_text digits
+ipv6 = refl
+
+-- ---- clocks
+
+abbrev row : ℕ → ℕ → Option Quartiles → PairRow
+row common by quartiles = record { one = 0; other = 1; common = common; by = by; quartiles = quartiles }
+
+abbrev words : ℕ → ℕ → Option Quartiles → List ℕ
+words common by quartiles = clock_words (codes "b.pcap") (row common by quartiles)
+
+abbrev three : ℤ → ℤ → ℤ → Option Quartiles
+three ahead low high = Some (record { ahead = ahead; low = low; high = high })
+
+no_message : words 0 0 None ≡ codes "nothing in common: another link, or another filter?"
+unfolding clock_words
+no_message = refl
+
+no_message_once : words 3 0 None ≡ codes "can't tell: no message came once in both"
+unfolding clock_words
+no_message_once = refl
+
+same_clock : words 93 41 (three (negsuc 27999) (negsuc 50999) (pos 60000))
+    ≡ codes "one clock: -0.000028000 s ahead, by 41 messages heard once in both"
+unfolding clock_words one_clock_words by_words signed_text moment_text digits
+same_clock = refl
+
+-- the limit is still the same clock
+at_the_limit : words 1 1 (three (pos 100000000) (negsuc 99999999) (pos 100000000))
+    ≡ codes "one clock: 0.100000000 s ahead, by 1 message heard once in both"
+unfolding clock_words one_clock_words by_words signed_text moment_text digits
+at_the_limit = refl
+
+past_the_limit : words 1 1 (three (pos 100000001) (pos 100000001) (pos 100000001))
+    ≡ codes "0.100000001 s ahead, by 1 message heard once in both: editcap -F nsecpcap -t -0.100000001 b.pcap shifted.pcap"
+unfolding clock_words ahead_words by_words shift_words signed_text moment_text digits
+past_the_limit = refl
+
+behind : words 7 5 (three (negsuc 4000047999) (negsuc 4000099999) (negsuc 3999999999))
+    ≡ codes "-4.000048000 s ahead, by 5 messages heard once in both: editcap -F nsecpcap -t 4.000048000 b.pcap shifted.pcap"
+unfolding clock_words ahead_words by_words shift_words signed_text moment_text digits
+behind = refl
+
+drifting : words 7 5 (three (pos 0) (negsuc 199999999) (pos 50000000))
+    ≡ codes "unsteady: -0.200000000 to 0.050000000 s ahead, by 5 messages heard once in both"
+unfolding clock_words unsteady_words by_words signed_text moment_text digits
+drifting = refl
+
+-- ---- lines
+
+common_line : pair_line (codes "west.pcap") (codes "east.pcap") (row 93 41 (three (negsuc 27999) (negsuc 50999) (pos 60000)))
+    ≡ codes "west.pcap east.pcap common 93 ahead -0.000028000 from -0.000051000 to 0.000060000 by 41\n"
+unfolding pair_line median_words signed_text moment_text digits
+common_line = refl
+
+uncommon_line : pair_line (codes "a") (codes "b") (row 0 0 None) ≡ codes "a b common 0 ahead - from - to - by 0\n"
+unfolding pair_line median_words digits
+uncommon_line = refl
+
+-- ---- tables: a last cell isn't padded, and the columns are as wide as the widest cell
+
+small_table : table_text
+    ((codes "SENDER" ∷ codes "HEARD" ∷ codes "NAMES" ∷ []) ∷ (codes "10.0.0.21" ∷ codes "3" ∷ codes "a.local" ∷ [])
+    ∷ (codes "10.0.0.3" ∷ codes "-" ∷ []) ∷ [])
+    ≡ codes "SENDER     HEARD  NAMES\n10.0.0.21  3      a.local\n10.0.0.3   -\n"
+unfolding table_text cells_from padded spaces widest
+small_table = refl

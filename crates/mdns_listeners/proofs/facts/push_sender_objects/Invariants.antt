@@ -1,0 +1,10 @@
+use Rattle.std.proofs.Common.{◌≡◌, ◌++◌, take, map, string_bytes}
+use Rattle.std.specs.List.{flat_map}
+use Rattle.mdns_listeners.specs.Facts.{object_of_sender}
+use Rattle.mdns_listeners.specs.Named.{sender_lent}
+use Rattle.mdns_listeners.proofs.facts.push_sender_objects.Given as goal
+
+abbrev pub invariant-loop-sender : goal.invariant-loop-sender
+invariant-loop-sender l =
+    string_bytes l.to
+    ≡ string_bytes l.fn.to ++ flat_map (object_of_sender (map string_bytes l.files)) (map sender_lent (take l.sender-index l.senders))

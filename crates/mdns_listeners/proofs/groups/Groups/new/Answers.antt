@@ -1,0 +1,32 @@
+use Rattle.std.proofs.Common.{◌≡◌, ◌+◌, ◌++◌, ◌∷◌, [], arith, rules, sym, subst, length, map, string_bytes, take, ℕ, List, Option}
+use Rattle.std.proofs.lemmas.Grind.{common_steps}
+use Rattle.std.proofs.lemmas.List.{length-map}
+use Rattle.mdns_listeners.specs.Groups.{HasBegun}
+use Rattle.mdns_listeners.proofs.GroupLemmas.{all_within, positions_push, take-back}
+use Rattle.mdns_listeners.proofs.groups.Groups.new.Goals as goal
+
+pub loop-file-preserved : goal.loop-file-preserved
+loop-file-preserved c =
+    let prefixes = map string_bytes c.args.prefixes.now in
+    let earlier = map string_bytes (take c.loop-file.file-index c.args.files.now) in
+    let file = c.as_str.result.now in
+    let names = map string_bytes c.listener_of.new.names.items in
+    let old = c.loop-file.invariant in
+    let next : map string_bytes (take (c.loop-file.file-index + 1) c.args.files.now) ≡ earlier ++ file ∷ [] = grind (arith, common_steps) in
+    let lent : c.as_mut_slice.result.now ≡ c.loop-file.begun.items = search rules in
+    let has : HasBegun prefixes earlier (map string_bytes c.loop-file.names.items) c.as_mut_slice.result.now =
+    subst (λ (all : List (Option ℕ)). HasBegun prefixes earlier (map string_bytes c.loop-file.names.items) all) (sym lent) old.0 in
+    let step = c.in_ok-listener.ensures earlier has in
+    let back = take-back prefixes earlier (earlier ++ file ∷ []) c.loop-file.begun.len c.loop-file.begun.items c.listener_of.new.begun
+    _ names old.0 step.1 (search rules) in
+    let of : c.push.new.self.items ≡ c.loop-file.of.items ++ c.in_ok-listener.listener ∷ [] = search rules in (
+      rw (next, back) step.1,
+      rw (next, of, old.1, step.0) (sym (positions_push prefixes earlier file)),
+    )
+
+pub invariant_of-result : goal.invariant_of-result
+invariant_of-result c =
+    let old = c.loop-file.invariant in
+    all_within (map string_bytes c.args.prefixes.now) (map string_bytes (take c.loop-file.file-index c.args.files.now))
+    (map string_bytes c.loop-file.names.items) (length c.loop-file.names.items) c.loop-file.of.items old.0.named
+    (sym (length-map c.loop-file.names.items string_bytes)) old.1

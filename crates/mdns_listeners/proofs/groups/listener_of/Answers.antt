@@ -1,0 +1,52 @@
+use Rattle.std.proofs.Common.{◌≡◌, ◌∙◌, ◌<◌, ◌++◌, ◌∷◌, [], arith, rules, sym, subst, get_or, length, map, set, string_bytes, ℕ, Global, List, Some, None, String}
+use Rattle.std.proofs.lemmas.Grind.{common_steps}
+use Rattle.std.proofs.lemmas.List.{length-map}
+use Rattle.mdns_listeners.specs.Groups.{HasBegun, prefix_of}
+use Rattle.mdns_listeners.proofs.GroupLemmas.{begun_again, begun_alone, begun_first, get_or-named, prefix-inside}
+use Rattle.mdns_listeners.proofs.groups.listener_of.Goals as goal
+
+pub returns-in_default : goal.returns-in_default
+returns-in_default c earlier has =
+    let prefixes = map string_bytes c.args.prefixes.now in
+    let names = map string_bytes c.args.names.now.items in
+    let file = c.args.file.now in
+    let none : prefix_of prefixes file ≡ None = search rules in
+    let size : c.len-next.result ≡ length c.args.names.now.items = search rules in
+    let named : map string_bytes c.push.new.self.items ≡ names ++ file ∷ [] = grind (arith, common_steps) in
+    let made = begun_alone prefixes earlier file names c.args.begun.now has none in (
+      size ∙ sym (length-map c.args.names.now.items string_bytes) ∙ made.0,
+      subst (λ (all : List (List ℕ)). HasBegun prefixes (earlier ++ file ∷ []) all c.args.begun.now) (sym named) made.1,
+    )
+
+pub returns-in-Some-begun : goal.returns-in-Some-begun
+returns-in-Some-begun c earlier has =
+    let prefixes = map string_bytes c.args.prefixes.now in
+    let file = c.args.file.now in
+    let own : prefix_of prefixes file ≡ Some c.in-Some.at = search rules in
+    let inside = prefix-inside prefixes file c.in-Some.at own in
+    let held : get_or c.args.begun.now c.in-Some.at None ≡ Some c.in-Some-begun.listener = search rules in
+    begun_again prefixes earlier file (map string_bytes c.args.names.now.items) c.args.begun.now has c.in-Some.at c.in-Some-begun.listener
+    own inside held
+
+pub returns : goal.returns
+returns c earlier has =
+    let prefixes = map string_bytes c.args.prefixes.now in
+    let names = map string_bytes c.args.names.now.items in
+    let file = c.args.file.now in
+    let at = c.in-Some.at in
+    let own : prefix_of prefixes file ≡ Some at = search rules in
+    let inside = prefix-inside prefixes file at own in
+    let free : get_or c.args.begun.now at None ≡ None = search rules in
+    let count : c.len-next.result ≡ length c.args.names.now.items = search rules in
+    let size = count ∙ sym (length-map c.args.names.now.items string_bytes) in
+    let within = subst (λ (n : ℕ). at < n) (length-map c.args.prefixes.now string_bytes) inside in
+    let item : (name : String Global) → get_or prefixes at [] ≡ string_bytes (get_or c.args.prefixes.now at name) =
+    λ name. get_or-named c.args.prefixes.now at name within in
+    let named : map string_bytes c.push-2.new.self.items ≡ names ++ get_or prefixes at [] ∷ [] = grind (arith, common_steps, item) in
+    let made = begun_first prefixes earlier file names c.args.begun.now has at own inside free in (
+      size ∙ made.0,
+      subst (λ (all : List (List ℕ)). HasBegun prefixes (earlier ++ file ∷ []) all (set c.args.begun.now at (Some c.len-next.result)))
+          (sym named)
+          (subst (λ (n : ℕ). HasBegun prefixes (earlier ++ file ∷ []) (names ++ get_or prefixes at [] ∷ []) (set c.args.begun.now at (Some n)))
+          (sym size) made.1),
+    )

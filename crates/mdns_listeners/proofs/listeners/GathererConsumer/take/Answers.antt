@@ -1,0 +1,46 @@
+use Rattle.std.proofs.Common.{◌∙◌, ◌++◌, ◌∷◌, [], ap, inl, inr, refl, subst, sym}
+use Rattle.std.proofs.lemmas.Bool.{false≢true}
+use Rattle.std.proofs.lemmas.Result.{on_ok_weaker}
+use Rattle.mdns_survey.specs.declared.outcome.Found.{Found}
+use Rattle.mdns_survey.specs.Why.{IsPayloadOf, SaysWhy}
+use Rattle.mdns_listeners.specs.Listeners.{Gathers}
+use Rattle.mdns_capture.specs.Capture.{packet_lent}
+use Rattle.mdns_survey.specs.Listen.{outcome_of}
+use Rattle.mdns_survey.specs.Outcomes.{Outcome, heard, refused, skipped}
+use Rattle.mdns_listeners.proofs.ListenersLemmas.{gathers-told, gathers-untold}
+use Rattle.mdns_listeners.proofs.listeners.GathererConsumer.take.Goals as goal
+
+pub returns-then-is_empty-clause-took : goal.returns-then-is_empty-clause-took
+returns-then-is_empty-clause-took c = λ begun packets outcomes took.
+    gathers-untold begun c.args.self.now packets outcomes (packet_lent c.args.packet.now) (outcome_of c.args.found.now) (heard []) took
+    (ap outcome_of c.in-Heard.is ∙ ap heard (c.is_empty.ensures.0 c.if-is_empty.true)) (λ listener. refl) refl
+
+pub returns-else-is_empty-clause-took : goal.returns-else-is_empty-clause-took
+returns-else-is_empty-clause-took c =
+    let frame = c.args.packet.now.frame.now in
+    let payload = c.args.payload.now in
+    let source = c.in-Heard.source in
+    let message = c.in-Heard.message.now in
+    on_ok_weaker c.hear.result (λ hears begun packets outcomes took.
+    subst (λ (o : Outcome). Gathers begun c.hear.new.self (packets ++ packet_lent c.args.packet.now ∷ []) (outcomes ++ o ∷ []))
+    (sym (ap outcome_of c.in-Heard.is))
+    (gathers-told begun c.args.self.now c.hear.new.self packets outcomes (packet_lent c.args.packet.now) source payload message took hears
+    (subst (SaysWhy frame) c.in-Heard.is c.requires.why)
+    (subst (λ (found : Found). IsPayloadOf frame found payload) c.in-Heard.is c.requires.payload)
+    (λ none. false≢true (sym c.if-is_empty.false ∙ c.is_empty.ensures.1 none)))) c.hear.ensures
+
+pub returns-in-Skipped-clause-took : goal.returns-in-Skipped-clause-took
+returns-in-Skipped-clause-took c = λ begun packets outcomes took. elim c.in-Skipped.is [
+  | inl (why, is) ↦ gathers-untold begun c.args.self.now packets outcomes (packet_lent c.args.packet.now)
+      (outcome_of c.args.found.now) skipped took (ap outcome_of is) (λ listener. refl) refl
+  | inr (damage, is) ↦ gathers-untold begun c.args.self.now packets outcomes (packet_lent c.args.packet.now)
+      (outcome_of c.args.found.now) refused took (ap outcome_of is) (λ listener. refl) refl
+]
+
+pub returns-in-Skipped-2-clause-took : goal.returns-in-Skipped-2-clause-took
+returns-in-Skipped-2-clause-took c = λ begun packets outcomes took. elim c.in-Skipped.is [
+  | inl (why, is) ↦ gathers-untold begun c.args.self.now packets outcomes (packet_lent c.args.packet.now)
+      (outcome_of c.args.found.now) skipped took (ap outcome_of is) (λ listener. refl) refl
+  | inr (damage, is) ↦ gathers-untold begun c.args.self.now packets outcomes (packet_lent c.args.packet.now)
+      (outcome_of c.args.found.now) refused took (ap outcome_of is) (λ listener. refl) refl
+]

@@ -1,0 +1,10 @@
+use Rattle.std.proofs.Common.{◌≡◌, ◌++◌, drop}
+use Rattle.mdns_listeners.specs.Numbers.{file_spans, whole_span}
+use Rattle.mdns_listeners.proofs.numbers.spans_of_one.Given as goal
+
+-- the spans of the files before the index were added
+abbrev pub invariant-loop-file : goal.invariant-loop-file
+invariant-loop-file l = record {
+  spans : l.spans.spans ++ file_spans l.listener (drop l.file l.of) (drop l.file l.files) ≡ file_spans l.listener l.of l.files;
+  whole : l.spans.whole ≡ whole_span l.spans.spans;
+}

@@ -1,0 +1,63 @@
+-- What the messages that two listeners heard say of the second listener's clock.
+use Rattle.std.specs.Prelude.{ℕ, ◌==◌, Bool, ◌&&◌, nat_le, if◌then◌else◌, ℤ, ◌-ℤ◌, neg_ℤ, unsigned_abs}
+use Rattle.std.specs.Prelude.{List, ◌∷◌, ◌++◌, Option, Some, None, codes}
+use Rattle.std.specs.Fmt.{decimal}
+use Rattle.mdns_listeners.specs.declared.pairs.PairRow.{PairRow}
+use Rattle.mdns_listeners.specs.declared.pairs.Quartiles.{Quartiles}
+use Rattle.mdns_listeners.specs.Seconds.{signed_text}
+
+-- A tenth of the second in which goodbyes and cache flushes act (RFC 6762, sections 10.1 and 10.2), in nanoseconds.
+abbrev pub clock_limit : ℕ
+clock_limit = 100000000
+
+-- it is within the limit of 0, before or after
+abbrev pub is_near : ℤ → Bool
+is_near nanos = nat_le (unsigned_abs nanos) clock_limit
+
+-- the clocks agree: the median and the quartiles are near 0
+abbrev pub is_one_clock : Quartiles → Bool
+is_one_clock quartiles = is_near quartiles.ahead && is_near quartiles.low && is_near quartiles.high
+
+-- the clocks stay equally far apart: the quartiles are near the median
+abbrev pub is_steady : Quartiles → Bool
+is_steady quartiles = is_near (quartiles.low -ℤ quartiles.ahead) && is_near (quartiles.high -ℤ quartiles.ahead)
+
+abbrev pub messages_word : ℕ → List ℕ
+messages_word count = if count == 1 then codes "message" else codes "messages"
+
+abbrev pub messages_text : ℕ → List ℕ
+messages_text count = decimal count ++ 32 ∷ messages_word count
+
+-- by how many messages that is known
+unfoldable pub by_words : ℕ → List ℕ
+by_words by = codes " s ahead, by " ++ messages_text by ++ codes " heard once in both"
+
+-- the command that shifts a file so far that its clock agrees
+unfoldable pub shift_words : List ℕ → ℤ → List ℕ
+shift_words file ahead = codes ": editcap -F nsecpcap -t " ++ signed_text (neg_ℤ ahead) ++ (32 ∷ file ++ codes " shifted.pcap")
+
+-- ---- what is said of the clock where some messages were heard once in both files; `file` is the second one
+
+unfoldable pub one_clock_words : ℕ → ℤ → List ℕ
+one_clock_words by ahead = codes "one clock: " ++ signed_text ahead ++ by_words by
+
+unfoldable pub ahead_words : List ℕ → ℕ → ℤ → List ℕ
+ahead_words file by ahead = signed_text ahead ++ by_words by ++ shift_words file ahead
+
+unfoldable pub unsteady_words : ℕ → ℤ → ℤ → List ℕ
+unsteady_words by low high = codes "unsteady: " ++ signed_text low ++ codes " to " ++ signed_text high ++ by_words by
+
+abbrev pub quartile_words : List ℕ → ℕ → Quartiles → List ℕ
+quartile_words file by quartiles =
+    if is_one_clock quartiles then one_clock_words by quartiles.ahead
+    else (if is_steady quartiles then ahead_words file by quartiles.ahead else unsteady_words by quartiles.low quartiles.high)
+
+abbrev pub known_words : List ℕ → ℕ → Option Quartiles → List ℕ
+known_words file by None = codes "can't tell: no message came once in both"
+known_words file by (Some quartiles) = quartile_words file by quartiles
+
+-- what is said of the second listener's clock, whose file is written so
+unfoldable pub clock_words : List ℕ → PairRow → List ℕ
+clock_words file row =
+    if row.common == 0 then codes "nothing in common: another link, or another filter?"
+    else known_words file row.by row.quartiles

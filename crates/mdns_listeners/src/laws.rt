@@ -1,0 +1,47 @@
+//! Laws of the definitions. Each function does nothing: its contract is the law.
+
+ghost use Rattle.std.specs.Prelude.{◌≡◌, ◌++◌, [], ℕ, List};
+ghost use Rattle.std.specs.List.{All, sum_by};
+ghost use Rattle.std.specs.List.Sorted.{IsPermutation};
+ghost use Rattle.mdns_listeners.specs.declared.heard.HeardAt.{HeardAt};
+ghost use Rattle.mdns_listeners.specs.Heard.{AreHeardIn, HasWholeAddress, HeardRow, Told, messages_of, times_of};
+ghost use Rattle.mdns_listeners.specs.Parts.{joined_rows};
+ghost use Rattle.mdns_capture.specs.declared.source_address.SourceAddress.{SourceAddress};
+ghost use Rattle.mdns_message.specs.declared.hearing.Hearing.{Hearing};
+ghost use Rattle.mdns_cache.specs.Live.{SameHearings};
+ghost use Rattle.mdns_listeners.specs.Names.{AreNames};
+
+/// There is one list of rows of what was told.
+pub fn one_list_of_rows()
+    ensures { (all : List Told) (rows others : List HeardRow) → AreHeardIn all rows → AreHeardIn all others → rows ≡ others }
+{}
+
+/// The rows of two parts, such as two captures, determine those of both.
+pub fn parts_tell_the_whole()
+    ensures nothing { AreHeardIn [] [] }
+    ensures both { (all more : List Told) (rows others : List HeardRow) → AreHeardIn all rows → AreHeardIn more others
+        → AreHeardIn (all ++ more) (joined_rows rows others) }
+{}
+
+/// In whatever order the same was told, the rows have the same messages, and what is summed over the times of a message
+/// comes to the same, as a count does.
+pub fn order_changes_no_count()
+    ensures messages { (all others : List Told) (rows more : List HeardRow) → IsPermutation all others → AreHeardIn all rows
+        → AreHeardIn others more → messages_of rows ≡ messages_of more }
+    ensures sums { (f : HeardAt → ℕ) (message : List ℕ) (all others : List Told) → IsPermutation all others
+        → sum_by f (times_of message others) ≡ sum_by f (times_of message all) }
+{}
+
+/// Where all messages that were told begin with the addresses of their senders, so do those of the rows.
+pub fn rows_have_addresses()
+    ensures { (all : List Told) (rows : List HeardRow) → AreHeardIn all rows → All (λ told. HasWholeAddress told.message) all
+        → All (λ row. HasWholeAddress row.message) rows }
+{}
+
+/// A sender goes by one list of names, whatever the order and the repeats of the hearings.
+pub fn one_list_of_names()
+    ensures one { (sender : SourceAddress) (heard : List Hearing) (names others : List (List ℕ)) → AreNames sender heard names
+        → AreNames sender heard others → names ≡ others }
+    ensures same { (sender : SourceAddress) (heard more : List Hearing) (names others : List (List ℕ)) → SameHearings heard more
+        → AreNames sender heard names → AreNames sender more others → names ≡ others }
+{}

@@ -1,0 +1,270 @@
+//! The question which listener heard which messages.
+
+ghost use Rattle.std.specs.Prelude.{◌≡◌, ◌≤◌, [], suc, IfOk, List, OnOk, length, map, min, string_bytes};
+ghost use Rattle.std.specs.Cmp.Lexicographic.{slice_cmp};
+ghost use Rattle.std.specs.List.{All};
+ghost use Rattle.std.specs.List.Sorted.{IsStrictlySortedBy};
+ghost use Rattle.std.specs.Ordering.{nat_cmp};
+ghost use Rattle.mdns_capture.specs.Savefile.{PacketAt};
+ghost use Rattle.mdns_message.specs.declared.hearing.Hearing.{Hearing};
+ghost use Rattle.mdns_survey.specs.Outcomes.{Outcome};
+ghost use Rattle.mdns_survey.specs.Readings.{HaveSpans};
+ghost use Rattle.mdns_listeners.specs.Heard.{HasWholeAddress, messages_of};
+ghost use Rattle.mdns_listeners.specs.Listeners.{AreNamed, Gathered, HearsMessage, IsTextOf, SaysFacts, listener_at};
+ghost use Rattle.mdns_listeners.specs.Named.{sender_lent};
+ghost use Rattle.mdns_listeners.specs.Names.{ListsNames};
+
+use crate::facts::{Facts, listeners_text};
+use crate::gatherer::HeardMessages;
+use crate::groups::Groups;
+use crate::heard::{HeardAt, HeardMessage};
+use crate::named::NamedSender;
+use crate::names::{Names, SenderNames};
+use crate::numbers::{ListenerSpans, listener_rows, spans_of};
+use crate::pairs::pair_rows;
+use crate::senders::{SenderRow, sender_rows};
+use mdns_browse::report::{Form, ReportFault};
+use mdns_capture::{Moment, Packet, Source, SourceAddress};
+use mdns_message::{MessageReader, Want};
+use mdns_survey::listen::{ListenFault, Listener, listen_with};
+use mdns_survey::outcome::Found;
+use mdns_survey::question::{Question, TextAnswer};
+use mdns_survey::reading::{Consumer, Reading, Span};
+use std::alloc::Global;
+
+/// Which of the listeners heard how many messages, how their clocks agree, and what each heard of each sender, in a form.
+#[derive(Drop)]
+pub struct Listeners<'a> {
+    pub groups: &'a Groups,
+    pub form: Form,
+}
+
+/// Gathers the messages of captures, and the names of their senders.
+#[derive(Drop)]
+pub struct Gatherer {
+    alloc: Global,
+    // The listener of each capture.
+    of: Vec<usize>,
+    // How many captures were read, or how many there are, if that is less.
+    place: usize,
+    messages: HeardMessages,
+    names: SenderNames,
+}
+
+impl Gatherer {
+    // Makes a gatherer of captures with these listeners, which has read none.
+    fn new(alloc: Global, of: &[usize]) -> Result<Gatherer, Want>
+        ensures { IfOk result (λ gatherer. Gathered of.now gatherer [] []) }
+    {
+        Ok(Gatherer {
+            alloc,
+            of: Vec::from_slice(alloc, of)?,
+            place: 0,
+            messages: HeardMessages::new(alloc),
+            names: SenderNames::new(alloc),
+        })
+    }
+
+    // Returns the listener of the capture that is read.
+    fn listener(&self) -> usize
+        ensures { result ≡ listener_at self.now.of.items self.now.place }
+    {
+        match self.of.get(self.place) {
+            Some(listener) => *listener,
+            None => 0,
+        }
+    }
+
+    // Goes on to the next capture, if there is one.
+    fn go_on(&mut self)
+        ensures of { self.new.of.items ≡ self.old.of.items }
+        ensures place { self.new.place ≡ min (suc self.old.place) (length self.old.of.items) }
+        ensures messages { self.new.messages ≡ self.old.messages }
+        ensures names { self.new.names ≡ self.old.names }
+    {
+        let len = self.of.len();
+        self.place = if self.place < len {
+            self.place + 1
+        } else {
+            len
+        };
+    }
+
+    // Adds a message that was captured at `moment`. After `Want` it may have been added in part.
+    fn hear(
+        &mut self,
+        moment: Moment,
+        source: &SourceAddress,
+        payload: &[u8],
+        message: &MessageReader,
+    ) -> Result<(), Want>
+        ensures { OnOk result (HearsMessage source.now payload.now moment message.now self.old self.new) }
+    {
+        let at = HeardAt {
+            listener: self.listener(),
+            moment,
+        };
+        self.messages.hear(self.alloc, source, payload, at)?;
+        self.names.hear_all(message)
+    }
+}
+
+/// Packets that told a hearing are gathered.
+impl Consumer for Gatherer {
+    ghost use Rattle.mdns_listeners.specs.Listeners.{Gathers};
+
+    type Fault = Want;
+
+    ghost Took = { Gathers };
+
+    ghost Broke = { λ _ _ _ _ _. Unit {0} };
+
+    fn take(&mut self, packet: &Packet<'_>, payload: &[u8], found: &Found) -> Result<(), Want> {
+        match found {
+            Found::Heard { source, message } => {
+                if message.is_empty() {
+                    return Ok(());
+                }
+                self.hear(packet.moment, source, payload, message)
+            }
+            Found::Skipped(_) | Found::Refused(_) => Ok(()),
+        }
+    }
+}
+
+impl Listener for Gatherer {
+    ghost use Rattle.mdns_listeners.specs.Listeners.{GathersAll};
+
+    ghost HeardAll = { GathersAll };
+
+    fn listen_to<R: Source + Drop>(
+        &mut self,
+        alloc: Global,
+        reader: R,
+    ) -> Result<Reading, ListenFault> {
+        match listen_with(alloc, reader, self) {
+            Ok(reading) => {
+                self.go_on();
+                Ok(reading)
+            }
+            Err(fault) => Err(fault),
+        }
+    }
+}
+
+impl<'a> Question for Listeners<'a> {
+    ghost use Rattle.mdns_listeners.specs.Listeners.{Gathered, asked_listeners};
+
+    type Listener = Gatherer;
+
+    ghost asked = { λ listeners. asked_listeners listeners.groups.now listeners.form };
+
+    ghost Heard = { λ listeners. Gathered listeners.groups.now.of };
+
+    fn listener(&self, alloc: Global) -> Result<Gatherer, Want> {
+        Gatherer::new(alloc, self.groups.of())
+    }
+}
+
+impl<'a> TextAnswer for Listeners<'a> {
+    fn text(
+        self,
+        alloc: Global,
+        listener: Gatherer,
+        readings: &[Reading],
+    ) -> Result<String, ReportFault> {
+        match text_of(alloc, self.groups, self.form, listener, readings) {
+            Ok(text) => Ok(text),
+            Err(Want) => Err(ReportFault::Memory),
+        }
+    }
+}
+
+// Returns the text about the messages that were gathered.
+fn text_of(
+    alloc: Global,
+    groups: &Groups,
+    form: Form,
+    gatherer: Gatherer,
+    readings: &[Reading],
+) -> Result<String, Want>
+    ensures { IfOk result (λ text. (packets : List (List PacketAt)) (outcomes : List (List Outcome))
+        → Gathered groups.now.of gatherer packets outcomes → HaveSpans packets readings.now
+        → IsTextOf groups.now form packets outcomes (string_bytes text)) }
+{
+    let Gatherer {
+        messages,
+        names,
+        ..
+    } = gatherer;
+    let rows = messages.finish(alloc)?;
+    let names = names.finish()?;
+    let files = spans_in(alloc, readings)?;
+    let count = groups.names().len();
+    let spans = spans_of(alloc, count, groups.of(), files.as_slice())?;
+    facts_text(
+        alloc,
+        groups,
+        form,
+        rows.as_slice(),
+        spans.as_slice(),
+        &names,
+    )
+}
+
+// Returns the text about these messages, of listeners whose files have these time spans, and of senders with these names.
+fn facts_text(
+    alloc: Global,
+    groups: &Groups,
+    form: Form,
+    rows: &[HeardMessage],
+    spans: &[ListenerSpans],
+    names: &Names,
+) -> Result<String, Want>
+    requires ascending { IsStrictlySortedBy (slice_cmp nat_cmp) (messages_of rows.now) }
+    requires addressed { All (λ row. HasWholeAddress row.message) rows.now }
+    ensures { IfOk result (λ text. (hearings : List Hearing) → ListsNames names.now hearings
+        → SaysFacts groups.now.names form rows.now spans.now hearings (string_bytes text)) }
+{
+    let listeners = listener_rows(alloc, rows, spans)?;
+    let pairs = pair_rows(alloc, rows, spans)?;
+    let senders = sender_rows(alloc, rows, spans)?;
+    let senders = with_names(alloc, senders.as_slice(), names)?;
+    let facts = Facts {
+        files: groups.names(),
+        listeners: listeners.as_slice(),
+        pairs: pairs.as_slice(),
+        senders: senders.as_slice(),
+    };
+    listeners_text(alloc, form, &facts)
+}
+
+// Returns the time span of each capture's packets.
+fn spans_in(alloc: Global, readings: &[Reading]) -> Result<Vec<Option<Span>>, Want>
+    ensures { IfOk result (λ spans. spans.items ≡ map (λ reading. reading.span) readings.now) }
+{
+    let mut spans = Vec::new(alloc);
+    for reading in readings {
+        spans.push(reading.span)?;
+    }
+    Ok(spans)
+}
+
+// Returns the rows of senders, each with the names that its sender goes by.
+fn with_names<'a>(
+    alloc: Global,
+    rows: &[SenderRow],
+    names: &'a Names,
+) -> Result<Vec<NamedSender<'a>>, Want>
+    ensures { IfOk result (λ senders. (hearings : List Hearing) → ListsNames names.now hearings
+        → AreNamed hearings rows.now (map sender_lent senders.items)) }
+{
+    let mut senders = Vec::new(alloc);
+    for row in rows {
+        senders.push(NamedSender {
+            row: *row,
+            names: names.names_of(&row.source),
+        })?;
+    }
+    Ok(senders)
+}

@@ -1,0 +1,117 @@
+//! Marks of the messages that a listener heard: enough to compare listeners by walking over these messages alone.
+
+ghost use Rattle.std.specs.Prelude.{◌≡◌, ◌++◌, ◌∷◌, [], map, IfOk, OnOk};
+ghost use Rattle.std.specs.List.{filter};
+ghost use Rattle.mdns_listeners.specs.Marks.{is_seen, marks_by, seen_by, seen_more, seen_of};
+ghost use Rattle.mdns_listeners.specs.Numbers.{is_of};
+
+use crate::heard::{HeardAt, HeardMessage};
+use mdns_capture::Moment;
+use memory::Want;
+use std::alloc::Global;
+use std::marker::Model;
+
+/// How often a listener heard a message.
+#[derive(Clone, Copy)]
+pub(crate) enum Seen {
+    Never,
+    /// Once, at this moment.
+    Once(Moment),
+    /// More than once.
+    Often,
+}
+
+/// A message that a listener heard: its position among all messages.
+#[derive(Clone, Copy)]
+pub(crate) struct Mark {
+    pub position: usize,
+    pub seen: Seen,
+}
+
+/// The marks of one listener, by position.
+#[derive(Drop)]
+pub(crate) struct Marks {
+    items: Vec<Mark>,
+}
+
+impl Model for Marks {
+    ghost use Rattle.std.specs.Prelude.{List};
+    ghost use Rattle.mdns_listeners.specs.declared.marks.Mark.{Mark};
+
+    ghost Value = { List Mark };
+
+    ghost view = { λ a. a.items.items };
+}
+
+impl Marks {
+    /// Makes the marks of a listener.
+    pub(crate) fn new(alloc: Global, listener: usize, rows: &[HeardMessage]) -> Result<Marks, Want>
+        ensures { IfOk result (λ made. made ≡ marks_by rows.now listener) }
+    {
+        let mut items = Vec::new(alloc);
+        for (position, row) in rows.iter().enumerate() {
+            let seen = seen_in(listener, row.times());
+            if is_seen(seen) {
+                items.push(Mark { position, seen })?;
+            }
+        }
+        Ok(Marks { items })
+    }
+
+    /// Returns the marks.
+    pub(crate) fn as_slice(&self) -> &[Mark]
+        ensures { result.now ≡ self.now }
+    {
+        self.items.as_slice()
+    }
+}
+
+/// Returns how often the listener heard each of the messages.
+pub(crate) fn all_seen(
+    alloc: Global,
+    listener: usize,
+    rows: &[HeardMessage],
+) -> Result<Vec<Seen>, Want>
+    ensures { IfOk result (λ all. all.items ≡ map (seen_by listener) rows.now) }
+{
+    let mut all = Vec::with_capacity(alloc, rows.len())?;
+    for row in rows {
+        all.push(seen_in(listener, row.times()))?;
+    }
+    Ok(all)
+}
+
+/// Checks that a message was heard.
+pub(crate) fn is_seen(seen: Seen) -> bool
+    ensures { result ≡ is_seen seen }
+{
+    match seen {
+        Seen::Never => false,
+        Seen::Once(_) => true,
+        Seen::Often => true,
+    }
+}
+
+// Returns how often a message was heard by the listener, given all of its times.
+fn seen_in(listener: usize, times: &[HeardAt]) -> Seen
+    ensures { result ≡ seen_of (filter (is_of listener) times.now) }
+{
+    let mut seen = Seen::Never;
+    for at in times {
+        if at.listener == listener {
+            seen = seen_more(seen, at.moment);
+        }
+    }
+    seen
+}
+
+// Counts one more time.
+fn seen_more(seen: Seen, moment: Moment) -> Seen
+    ensures { result ≡ seen_more seen moment }
+{
+    match seen {
+        Seen::Never => Seen::Once(moment),
+        Seen::Once(_) => Seen::Often,
+        Seen::Often => Seen::Often,
+    }
+}

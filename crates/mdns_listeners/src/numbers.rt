@@ -1,0 +1,219 @@
+//! How much each listener heard, alone or not, and missed.
+
+ghost use Rattle.std.specs.Prelude.{◌≡◌, ◌*◌, ◌++◌, ◌∷◌, [], length, slice_index_or, IfOk, OnOk, Some, None};
+ghost use Rattle.std.specs.List.{count_by, list_any};
+ghost use Rattle.std.specs.Option.{option_to_list};
+ghost use Rattle.mdns_survey.specs.Span.{joined_spans};
+ghost use Rattle.mdns_listeners.specs.Numbers.{alone, heard, is_of, is_within, listened, listener_rows, missed};
+ghost use Rattle.mdns_listeners.specs.Numbers.{span_of_file, spans_of_listener, spans_of_listeners};
+
+use crate::heard::{HeardAt, HeardMessage};
+use mdns_capture::Moment;
+use mdns_survey::reading::Span;
+use memory::Want;
+use std::alloc::Global;
+use std::marker::Model;
+
+/// The time spans of a listener's files. It listened at a moment if that is within one of them, ends included.
+#[derive(Drop)]
+pub struct ListenerSpans {
+    spans: Vec<Span>,
+    // From the earliest beginning to the latest end.
+    whole: Option<Span>,
+}
+
+/// What a listener heard and missed, and from when to when it has packets.
+#[derive(Clone, Copy)]
+pub struct ListenerRow {
+    /// How many messages it heard; one that it heard twice counts twice.
+    pub heard: u128,
+    /// How many different messages it heard, and no other listener.
+    pub alone: u64,
+    /// How many different messages it never heard, though another did at a moment at which it listened.
+    pub missed: u64,
+    /// From its earliest packet to its latest; `None` if it has no packets.
+    pub span: Option<Span>,
+}
+
+// The numbers of a row.
+#[derive(Clone, Copy)]
+pub(crate) struct Numbers {
+    pub heard: u128,
+    pub alone: u64,
+    pub missed: u64,
+}
+
+impl Model for ListenerSpans {
+    ghost use Rattle.mdns_listeners.specs.Numbers.{FileSpans};
+
+    ghost Value = { FileSpans };
+
+    ghost view = { λ a. record { spans = a.spans.items; whole = a.whole } };
+}
+
+impl ListenerSpans {
+    // Makes the spans of a listener that has no files.
+    fn new(alloc: Global) -> ListenerSpans
+        ensures spans { result.spans ≡ [] }
+        ensures whole { result.whole ≡ None }
+    {
+        ListenerSpans {
+            spans: Vec::new(alloc),
+            whole: None,
+        }
+    }
+
+    // Adds the span of one more file.
+    fn push(&mut self, span: Span) -> Result<(), Want>
+        ensures spans { OnOk result (self.new.spans ≡ self.old.spans ++ span ∷ []) }
+        ensures whole { OnOk result (self.new.whole ≡ joined_spans self.old.whole (Some span)) }
+    {
+        self.spans.push(span)?;
+        self.whole = Span::both(self.whole, Some(span));
+        Ok(())
+    }
+
+    /// Returns the time spans of the files that have packets.
+    pub fn spans(&self) -> &[Span]
+        ensures { result.now ≡ self.now.spans }
+    {
+        self.spans.as_slice()
+    }
+
+    /// Returns the time span from the listener's earliest packet to its latest; `None` if it has no packets.
+    pub fn whole(&self) -> Option<Span>
+        ensures { result ≡ self.now.whole }
+    {
+        self.whole
+    }
+}
+
+/// Returns the time spans of so many listeners, given each file's listener and time span. A file without packets has no
+/// time span.
+pub fn spans_of(
+    alloc: Global,
+    count: usize,
+    of: &[usize],
+    files: &[Option<Span>],
+) -> Result<Vec<ListenerSpans>, Want>
+    ensures { IfOk result (λ all. all.items ≡ spans_of_listeners count of.now files.now) }
+{
+    let mut all = Vec::new(alloc);
+    for listener in 0..count {
+        let spans = spans_of_one(alloc, listener, of, files)?;
+        all.push(spans)?;
+    }
+    Ok(all)
+}
+
+// Returns the time spans of one listener.
+fn spans_of_one(
+    alloc: Global,
+    listener: usize,
+    of: &[usize],
+    files: &[Option<Span>],
+) -> Result<ListenerSpans, Want>
+    ensures { IfOk result (λ spans. spans ≡ spans_of_listener of.now files.now listener) }
+{
+    let mut spans = ListenerSpans::new(alloc);
+    for (file, of_file) in of.iter().enumerate() {
+        if let Some(span) = span_of_file(listener, *of_file, span_at(files, file)) {
+            spans.push(span)?;
+        }
+    }
+    Ok(spans)
+}
+
+// Returns the time span of a file if it is the listener's, given the file's listener and time span.
+fn span_of_file(listener: usize, of_file: usize, span: Option<Span>) -> Option<Span>
+    ensures { option_to_list result ≡ span_of_file listener (of_file, span) }
+{
+    if of_file == listener { span } else { None }
+}
+
+// Returns the time span of a file; `None` if there is no such file.
+fn span_at(files: &[Option<Span>], file: usize) -> Option<Span>
+    ensures { result ≡ slice_index_or files.now file None }
+{
+    if file < files.len() {
+        files[file]
+    } else {
+        None
+    }
+}
+
+/// Returns the rows of all listeners, in order, given the messages that they heard and the time spans of their files.
+pub fn listener_rows(
+    alloc: Global,
+    rows: &[HeardMessage],
+    spans: &[ListenerSpans],
+) -> Result<Vec<ListenerRow>, Want>
+    ensures { IfOk result (λ all. all.items ≡ listener_rows rows.now spans.now) }
+{
+    let mut all = Vec::with_capacity(alloc, spans.len())?;
+    for (listener, of_listener) in spans.iter().enumerate() {
+        let numbers = numbers_of(listener, of_listener.spans(), rows);
+        all.push(ListenerRow {
+            heard: numbers.heard,
+            alone: numbers.alone,
+            missed: numbers.missed,
+            span: of_listener.whole(),
+        })?;
+    }
+    Ok(all)
+}
+
+// Returns the numbers of a listener whose files have these time spans. It looks at each time of a message once, and once
+// more if the listener doesn't have it.
+pub(crate) fn numbers_of(listener: usize, spans: &[Span], rows: &[HeardMessage]) -> Numbers
+    ensures heard { result.heard ≡ heard listener rows.now }
+    ensures alone { result.alone ≡ alone listener rows.now }
+    ensures missed { result.missed ≡ missed listener spans.now rows.now }
+{
+    let mut numbers = Numbers {
+        heard: 0,
+        alone: 0,
+        missed: 0,
+    };
+    for row in rows {
+        let times = row.times();
+        let count = times_of(listener, times);
+        numbers.heard += count as u128;
+        if count == 0 {
+            if has_listened(spans, times) {
+                numbers.missed += 1;
+            }
+        } else if count == times.len() {
+            numbers.alone += 1;
+        }
+    }
+    numbers
+}
+
+// Returns how many of the times are the listener's.
+fn times_of(listener: usize, times: &[HeardAt]) -> usize
+    ensures { result ≡ count_by (is_of listener) times.now }
+{
+    times.iter().filter(|at| at.listener == listener).count()
+}
+
+// Checks that one whose files have these time spans listened at one of the times.
+fn has_listened(spans: &[Span], times: &[HeardAt]) -> bool
+    ensures { result ≡ list_any (λ at. listened spans.now at.moment) times.now }
+{
+    times.iter().any(|at| is_listening(spans, at.moment))
+}
+
+// Checks that one whose files have these time spans listened at the moment.
+fn is_listening(spans: &[Span], moment: Moment) -> bool
+    ensures { result ≡ listened spans.now moment }
+{
+    spans.iter().any(|span| span_holds(*span, moment))
+}
+
+// Checks that the moment is in the time span, ends included.
+fn span_holds(span: Span, moment: Moment) -> bool
+    ensures { result ≡ is_within moment span }
+{
+    span.first <= moment && moment <= span.last
+}
