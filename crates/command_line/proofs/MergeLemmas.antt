@@ -82,6 +82,7 @@ why-refused options (unmade.NoMoment name text) (inr before, never) rows has lin
       text.now,
       (sym has.1 ∙ before.2, sym has.0 ∙ before.1, never, is ∙ ap (λ (n : Text). no_moment merge n text.now) before.0),
     )))
+why-refused options (unmade.NoFile name prefix) none rows has line is = absurd none
 
 some-refused : (asked : (Asks × Options) × Lists) (names : List Text) (unmade : Unmade) → MakesNone asked.0.1 unmade
     → (matched : Option (Text × List Row)) → Matches AsksAsked matched asked names → (line : Text) → line ≡ unmade_text merge unmade

@@ -1,50 +1,90 @@
 -- What the subcommands of `mdnswhy` ask for.
-use Rattle.std.proofs.Common.{◌≡◌, ◌⊎◌, ap, subst, refl, inl, inr, List, [], Option, Some, None, Ok, Err, codes, string_bytes}
+use Rattle.std.proofs.Common.{◌≡◌, ◌∙◌, ◌⊎◌, ap, ap₂, sym, subst, refl, inl, inr, ℕ, List, [], Option, Some, None, Ok}
+use Rattle.std.proofs.Common.{codes, get_or, map, string_bytes, unwrap_or}
 use Rattle.std.specs.Prelude.{IsSomeAnd}
-use Rattle.clap.specs.Words.{App, Row, Text, fault_of, subcommand_of}
+use Rattle.clap.specs.Words.{App, Row, Text, all_of, fault_of, subcommand_of}
 use Rattle.mdns_browse.specs.declared.report.Form.{Form}
+use Rattle.mdns_listeners.specs.Groups.{unfit_prefix}
 use Rattle.mdns_trace.specs.declared.inquiry.Inquiry.{Inquiry}
 use Rattle.command_line.specs.declared.lists.Lists.{Lists}
-use Rattle.command_line.specs.declared.options.Both.{Both}
 use Rattle.command_line.specs.declared.options.Options.{Options}
+use Rattle.command_line.specs.declared.unmade.Unmade.{Unmade}
 use Rattle.command_line.specs.declared.unmade.Unmade.TheVariants as unmade
 use Rattle.command_line.specs.declared.words.WordsFault.{WordsFault}
 use Rattle.command_line.specs.declared.words.WordsFault.TheVariants.{Memory, Help, Refused}
 use Rattle.command_line.specs.declared.words.AskFault.TheVariants.{Words}
-use Rattle.command_line.specs.Line.{AsksAbout, AsksWithLists, Flags, HasOneForm, HasOptions, Matches}
+use Rattle.command_line.specs.Line.{AsksWithLists, Flags, HasOneForm, HasOptions, Matches, words_of}
 use Rattle.command_line.specs.Faults.{IsRefusal, IsUnasked}
-use Rattle.command_line.specs.CommandLine.{AsksInquiry, GivesTwo, IsRefusedFor, MakesInquiry, both_given, form_flags, in_form, inquiries}
-use Rattle.command_line.specs.Unmade.{unmade_text}
+use Rattle.command_line.specs.CommandLine.{AsksInquiry, GivesNoFile, GivesTwo, HasUnfit, IsRefusedFor, MakesInquiry}
+use Rattle.command_line.specs.CommandLine.{form_flags, in_form, inquiries, no_file}
+use Rattle.command_line.specs.Unmade.{MakesNoInquiry, unmade_text}
 use Rattle.command_line.proofs.TableLemmas.{IsOneOf, all-known, gives-two, one-asked}
 
 abbrev pub AsksWhy : Text → List Row → (Inquiry × Options) × Lists → Type 0
 AsksWhy = AsksWithLists (IsOneOf inquiries)
 
 pub inquiry-asked : (what : (Inquiry × Options) × Lists) (form : Form) → what.0.1.form ≡ Ok form → (name : Text) (rows : List Row)
-    → AsksWhy name rows what → AsksAbout AsksInquiry name rows (in_form what.0.0 form, what.1.about)
+    → AsksWhy name rows what → AsksWithLists AsksInquiry name rows (in_form what.0.0 form, what.1)
 inquiry-asked what form is name rows told =
-    (one-asked MakesInquiry (in_form what.0.0 form) inquiries name rows what.0 makes told.0, told.1.about)
+    (one-asked MakesInquiry (in_form what.0.0 form) inquiries name rows what.0 makes told.0, told.1)
   where
     makes : (flags : Flags) (own : Inquiry) → what.0.0 ≡ own → HasOptions flags rows what.0.1
         → MakesInquiry flags rows own (in_form what.0.0 form)
     makes flags own same has = (form, subst (HasOneForm flags rows) is has.3, ap (λ (inquiry : Inquiry). in_form inquiry form) same)
 
--- two flags that ask for forms are refused
-abbrev pub TwoForms : List Row → Text → Type 0
-TwoForms = GivesTwo (codes "mdnswhy") form_flags
+-- ---- refusals
 
-some-refused : (what : (Inquiry × Options) × Lists) (both : Both) → what.0.1.form ≡ Err both → (line : Text)
-    → line ≡ both_given (codes "mdnswhy") both.one.now both.other.now → (matched : Option (Text × List Row)) (names : List Text)
-    → Matches AsksWhy matched what names → IsSomeAnd matched (λ (m : Text × List Row). TwoForms m.1 line)
-some-refused what both is line reads None names asks = absurd asks
-some-refused what both is line reads (Some m) names asks =
-    gives-two (codes "mdnswhy") form_flags m.1 both ((all-known inquiries refl m.0 m.1 what.0 asks.0.0).2 both is) line reads
+-- two flags that ask for forms are refused, and a prefix that fits no file
+abbrev why : Text
+why = codes "mdnswhy"
 
-pub both-refused : (line : App) (words : List Text) (what : (Inquiry × Options) × Lists) (names : List Text) (both : Both)
+abbrev Refuses : List Row → Text → Type 0
+Refuses rows line = GivesTwo why form_flags rows line ⊎ GivesNoFile why rows line
+
+-- the line of the prefix at a place
+unfit-line : (prefixes : List Text) (at : Option ℕ) (name prefix line : Text)
+    → IsSomeAnd at (λ i. (name ≡ codes "listener") × (prefix ≡ get_or prefixes i [])) → line ≡ no_file why name prefix
+    → HasUnfit why prefixes at line
+unfit-line prefixes None name prefix line unfit is = absurd unfit
+unfit-line prefixes (Some i) name prefix line unfit is = is ∙ ap₂ (no_file why) unfit.0 unfit.1
+
+why-refused : (what : (Inquiry × Options) × Lists) (names : List Text) (unmade : Unmade) → MakesNoInquiry what.0.1 what.1 names unmade
+    → (name : Text) (rows : List Row) → AsksWhy name rows what → all_of (codes "FILE") rows ≡ Some names → (line : Text)
+    → line ≡ unmade_text why unmade → Refuses rows line
+why-refused what names (unmade.Both both) none name rows asks files line is =
+    inl (gives-two why form_flags rows both ((all-known inquiries refl name rows what.0 asks.0).2 both none) line is)
+why-refused what names (unmade.NoMoment flag text) none name rows asks files line is = absurd none
+why-refused what names (unmade.NoFile flag prefix) none name rows asks files line is =
+    let given = map string_bytes what.1.listeners.items in
+    let unfit = unfit-line given (unfit_prefix given names) flag.now prefix.now line none is in
+    let own = words_of (codes "listener") rows in
+    let of_rows = subst (λ (prefixes : List Text). HasUnfit why prefixes (unfit_prefix prefixes names) line) asks.1.listeners unfit in
+    inr (subst (λ (all : List Text). HasUnfit why own (unfit_prefix own all) line)
+    (sym (ap (λ (all : Option (List Text)). unwrap_or all []) files)) of_rows)
+
+some-refused : (what : (Inquiry × Options) × Lists) (names : List Text) (unmade : Unmade) → MakesNoInquiry what.0.1 what.1 names unmade
+    → (matched : Option (Text × List Row)) → Matches AsksWhy matched what names → (line : Text) → line ≡ unmade_text why unmade
+    → IsSomeAnd matched (λ (m : Text × List Row). Refuses m.1 line)
+some-refused what names unmade none None asks line is = absurd asks
+some-refused what names unmade none (Some m) asks line is = why-refused what names unmade none m.0 m.1 asks.0 asks.1 line is
+
+pub unmade-refused : (line : App) (words : List Text) (what : (Inquiry × Options) × Lists) (names : List Text) (unmade : Unmade)
     (fault : WordsFault) → fault_of line words ≡ [] → Matches AsksWhy (subcommand_of line words) what names
-    → what.0.1.form ≡ Err both → IsRefusal (unmade_text (codes "mdnswhy") (unmade.Both both)) fault
-    → IsUnasked (fault_of line words) (Words fault) ⊎ IsRefusedFor TwoForms line words (Words fault)
-both-refused line words what names both Memory none asks is refusal = inl tt
-both-refused line words what names both (Help text) none asks is refusal = absurd refusal
-both-refused line words what names both (Refused text) none asks is refusal =
-    inr (none, some-refused what both is (string_bytes text) refusal (subcommand_of line words) names asks)
+    → MakesNoInquiry what.0.1 what.1 names unmade → IsRefusal (unmade_text why unmade) fault
+    → IsUnasked (fault_of line words) (Words fault) ⊎ IsRefusedFor (GivesTwo why form_flags) line words (Words fault)
+    ⊎ IsRefusedFor (GivesNoFile why) line words (Words fault)
+unmade-refused line words what names unmade Memory none asks unmade_is is = inl tt
+unmade-refused line words what names unmade (Help text) none asks unmade_is is = absurd is
+unmade-refused line words what names unmade (Refused text) none asks unmade_is is =
+    let matched = subcommand_of line words in
+    inr (go matched (some-refused what names unmade unmade_is matched asks (string_bytes text) is))
+  where
+    Refused_for : (List Row → Text → Type 0) → Option (Text × List Row) → Type 0
+    Refused_for Why matched =
+        (fault_of line words ≡ []) × IsSomeAnd matched (λ (m : Text × List Row). Why m.1 (string_bytes text))
+
+    go : (matched : Option (Text × List Row)) → IsSomeAnd matched (λ (m : Text × List Row). Refuses m.1 (string_bytes text))
+        → Refused_for (GivesTwo why form_flags) matched ⊎ Refused_for (GivesNoFile why) matched
+    go None reason = absurd reason
+    go (Some m) (inl forms) = inl (none, forms)
+    go (Some m) (inr unfit) = inr (none, unfit)

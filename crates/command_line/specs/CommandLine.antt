@@ -1,6 +1,6 @@
 -- The command lines of `mdnsmerge` and `mdnswhy`, and what clap's matches of them ask for.
 use Rattle.std.specs.Prelude.{◌≡◌, ◌⊎◌, ◌&&◌, ◌++◌, ◌∷◌, Bool, List, Option, Some, None, IsSomeAnd, codes, map}
-use Rattle.std.specs.Prelude.{if◌then◌else◌, nat_le, string_bytes, true, false, []}
+use Rattle.std.specs.Prelude.{ℕ, if◌then◌else◌, nat_le, slice_index_or, string_bytes, true, false, []}
 use Rattle.std.specs.List.{list_all}
 use Rattle.clap.specs.Words.{App, Row, Text, fault_of, first_of, subcommand_of}
 use Rattle.mdns_capture.specs.declared.moment.Moment.{Moment}
@@ -14,6 +14,7 @@ use Rattle.mdns_survey.specs.declared.request.What.TheVariants as what
 use Rattle.mdns_survey.specs.declared.request.AsOf.{AsOf}
 use Rattle.mdns_survey.specs.declared.request.AsOf.TheVariants.{Newest, At, Before}
 use Rattle.mdns_survey.specs.declared.request.Request.TheVariants as request
+use Rattle.mdns_listeners.specs.Groups.{unfit_prefix}
 use Rattle.mdns_trace.specs.declared.inquiry.Inquiry.{Inquiry}
 use Rattle.mdns_trace.specs.declared.inquiry.Inquiry.TheVariants as inquiry
 use Rattle.mdns_trace.specs.declared.inquiry.Trace.TheVariants as trace
@@ -27,7 +28,7 @@ use Rattle.command_line.specs.declared.words.AskFault.{AskFault}
 use Rattle.command_line.specs.declared.words.AskFault.TheVariants.{Words}
 use Rattle.command_line.specs.declared.words.Task.{Task}
 use Rattle.command_line.specs.declared.words.Task.TheVariants.{Survey, Page}
-use Rattle.command_line.specs.Line.{AsksOneOf, Flags, HasForm, HasLists, HasSeconds, IsGiven, Table, line_with}
+use Rattle.command_line.specs.Line.{AsksOneOf, Flags, HasForm, HasLists, HasSeconds, IsGiven, Table, line_with, words_of}
 use Rattle.command_line.specs.Moments.{IsMomentText}
 
 -- ---- the flags
@@ -41,7 +42,10 @@ before_flag = (codes "before", takes.Moment)
 abbrev pub about_flag : Text × Takes
 about_flag = (codes "about", takes.Words)
 
--- the flags of words
+abbrev pub listener_flag : Text × Takes
+listener_flag = (codes "listener", takes.Words)
+
+-- the flags of the words that an answer is about
 abbrev pub word_flags : Flags
 word_flags = about_flag ∷ []
 
@@ -71,6 +75,10 @@ page_flags = at_flag ∷ before_flag ∷ word_flags
 -- the flags of the hearings; those of the other traces are `form_flags`, and those of the files `common_forms`
 abbrev pub hearings_flags : Flags
 hearings_flags = word_flags ++ form_flags
+
+-- the flags of what is written of listeners
+abbrev pub listeners_flags : Flags
+listeners_flags = listener_flag ∷ form_flags
 
 -- ---- `mdnsmerge`
 
@@ -173,9 +181,14 @@ is_plain = list_all (λ byte. nat_le 32 byte && nat_le byte 126)
 abbrev pub quoted : Text → Text
 quoted text = if is_plain text then 39 ∷ (text ++ codes "' ") else []
 
+-- the line of an invalid value of an option
+abbrev pub invalid : Text → Text → Text → Text → Text → Text
+invalid program what value name cure = program ++ (codes ": invalid " ++ (what ++ (codes " " ++ (quoted value ++ (codes "for --"
+    ++ (name ++ (codes ": " ++ cure)))))))
+
 abbrev pub no_moment : Text → Text → Text → Text
-no_moment program name text = program ++ (codes ": invalid moment " ++ (quoted text ++ (codes "for --" ++ (name ++ codes
-    ": give seconds since 1970 (1795332403.397617) or a date and time with its zone (2026-11-22T07:27:00Z)"))))
+no_moment program name text = invalid program (codes "moment") text name
+    (codes "give seconds since 1970 (1795332403.397617) or a date and time with its zone (2026-11-22T07:27:00Z)")
 
 -- one of them is given, and its text names no moment
 abbrev pub NamesNone : Text → Text → Text → List Row → Text → Type 0
@@ -193,7 +206,8 @@ abbrev pub inquiries : Table Inquiry
 inquiries = (codes "hearings", hearings_flags, inquiry.Trace (trace.Hearings form.Lines))
     ∷ (codes "packets", form_flags, inquiry.Trace (trace.Packets form.Lines))
     ∷ (codes "spans", form_flags, inquiry.Trace (trace.Spans form.Lines))
-    ∷ (codes "files", common_forms, inquiry.Files form.Lines) ∷ []
+    ∷ (codes "files", common_forms, inquiry.Files form.Lines)
+    ∷ (codes "listeners", listeners_flags, inquiry.Listeners form.Lines) ∷ []
 
 abbrev pub why_line : App
 why_line = line_with (codes "mdnswhy") true inquiries
@@ -204,6 +218,7 @@ in_form (inquiry.Trace (trace.Hearings own)) form = inquiry.Trace (trace.Hearing
 in_form (inquiry.Trace (trace.Packets own)) form = inquiry.Trace (trace.Packets form)
 in_form (inquiry.Trace (trace.Spans own)) form = inquiry.Trace (trace.Spans form)
 in_form (inquiry.Files own) form = inquiry.Files form
+in_form (inquiry.Listeners own) form = inquiry.Listeners form
 
 -- what a subcommand asks for, in the form that its flags ask for
 abbrev pub MakesInquiry : Flags → List Row → Inquiry → Inquiry → Type 0
@@ -212,3 +227,16 @@ MakesInquiry flags rows own asked = (form : Form) × HasForm flags rows form × 
 -- a subcommand with these matches asks for this
 abbrev pub AsksInquiry : Text → List Row → Inquiry → Type 0
 AsksInquiry = AsksOneOf MakesInquiry inquiries
+
+abbrev pub no_file : Text → Text → Text → Text
+no_file program name prefix = invalid program (codes "prefix") prefix name (codes "no FILE's name, without folders, begins with it")
+
+-- the first prefix that fits no file is at this place, if there is one, and so says the line
+abbrev pub HasUnfit : Text → List Text → Option ℕ → Text → Type 0
+HasUnfit program prefixes at line = IsSomeAnd at (λ i. line ≡ no_file program (codes "listener") (slice_index_or prefixes i []))
+
+-- a prefix is given that fits none of the files, and so says the line
+abbrev pub GivesNoFile : Text → List Row → Text → Type 0
+GivesNoFile program rows line =
+    HasUnfit program (words_of (codes "listener") rows)
+    (unfit_prefix (words_of (codes "listener") rows) (words_of (codes "FILE") rows)) line

@@ -226,17 +226,14 @@ texts_of = map (λ subject. string_bytes subject.text)
 -- The words of the options that can be repeated.
 pub record HasLists (rows : List Row) (lists : Lists) : Type 0 where
   pub about : texts_of lists.about ≡ words_of (codes "about") rows
+  pub listeners : map string_bytes lists.listeners.items ≡ words_of (codes "listener") rows
 
--- a subcommand with these matches asks for the first of two; the second is the matches, or the words of such options, or those
--- of `--about`
+-- a subcommand with these matches asks for the first of two; the second is the matches, or the words of such options
 abbrev pub AsksWithRows : {A : Type 0} → (Text → List Row → A → Type 0) → Text → List Row → A × List Row → Type 0
 AsksWithRows Asks name rows asked = Asks name rows asked.0 × (asked.1 ≡ rows)
 
 abbrev pub AsksWithLists : {A : Type 0} → (Text → List Row → A → Type 0) → Text → List Row → A × Lists → Type 0
 AsksWithLists Asks name rows asked = Asks name rows asked.0 × HasLists rows asked.1
-
-abbrev pub AsksAbout : {A : Type 0} → (Text → List Row → A → Type 0) → Text → List Row → A × List Subject → Type 0
-AsksAbout Asks name rows asked = Asks name rows asked.0 × (texts_of asked.1 ≡ words_of (codes "about") rows)
 
 -- the subcommand that was matched asks for this, of these files
 abbrev pub Matches : {A : Type 0} → (Text → List Row → A → Type 0) → Option (Text × List Row) → A → List Text → Type 0

@@ -1,10 +1,11 @@
 -- What the programs do alike.
-use Rattle.std.specs.Prelude.{◌≡◌, ℕ, ◌<◌, ◌==◌, ◌++◌, ⊤, Bool, List, [], ◌∷◌, if◌then◌else◌, string_bytes}
+use Rattle.std.specs.Prelude.{◌≡◌, ℕ, ◌<◌, ◌==◌, ◌⊎◌, ◌++◌, ⊤, Bool, List, [], ◌∷◌, if◌then◌else◌, length, slice_index_or, string_bytes}
 use Rattle.std.specs.Bool.{OnTrue, OnFalse}
 use Rattle.std.specs.Io.KnownBytes.{Appends}
 use Rattle.mdns_capture.specs.Calls.{WritesWell}
 use Rattle.mdns_capture.specs.Output.{AppendsPrefix}
 use Rattle.mdns_capture.specs.declared.stream.Sink as sink
+use Rattle.mdns_survey.specs.ProgramLines.{open_line_text}
 use Rattle.command_line.specs.declared.program.OpenFault.{OpenFault}
 use Rattle.command_line.specs.declared.program.OpenFault.TheVariants as opening
 use Rattle.command_line.specs.declared.words.WordsFault.TheVariants.{Memory, Help, Refused}
@@ -15,6 +16,11 @@ use Rattle.command_line.specs.declared.words.AskFault.TheVariants.{Version, Word
 abbrev pub IsIndexOf : ℕ → OpenFault → Type 0
 IsIndexOf count opening.Memory = ⊤
 IsIndexOf count (opening.File index) = index < count
+
+-- the error line of a program for files of which one can't be opened, or for a failed allocation
+abbrev pub IsOpenLine : List ℕ → List ℕ → List (List ℕ) → List ℕ → Type 0
+IsOpenLine program no_memory names line = (line ≡ no_memory)
+    ⊎ ((index : ℕ) × (index < length names) × (line ≡ open_line_text program (slice_index_or names index [])))
 
 -- a text without the line feeds at its end
 abbrev pub before_feeds : ℕ → List ℕ → List ℕ

@@ -1,15 +1,17 @@
 -- What options give, and why they make no task.
-use Rattle.std.specs.Prelude.{◌≡◌, ◌≢◌, ◌⊎◌, Option, Some, None, Ok, Err, codes, option_map}
+use Rattle.std.specs.Prelude.{◌≡◌, ◌≢◌, ◌⊎◌, List, [], Option, Some, None, Ok, Err, IsSomeAnd, codes, map, option_map}
+use Rattle.std.specs.Prelude.{slice_index_or, string_bytes}
 use Rattle.std.specs.Borrow.{Bor}
 use Rattle.clap.specs.Words.{Text}
 use Rattle.mdns_capture.specs.declared.moment.Moment.{Moment}
+use Rattle.mdns_listeners.specs.Groups.{unfit_prefix}
 use Rattle.command_line.specs.declared.lists.Lists.{Lists}
 use Rattle.command_line.specs.declared.mdnsmerge.Scope.{Scope}
 use Rattle.command_line.specs.declared.options.Both.{Both}
 use Rattle.command_line.specs.declared.options.Options.{Options}
 use Rattle.command_line.specs.declared.unmade.Unmade.{Unmade}
 use Rattle.command_line.specs.declared.unmade.Unmade.TheVariants as unmade
-use Rattle.command_line.specs.CommandLine.{GivesAsOf, both_given, no_moment}
+use Rattle.command_line.specs.CommandLine.{GivesAsOf, both_given, no_file, no_moment}
 use Rattle.command_line.specs.Moments.{IsMomentText}
 
 abbrev pub text_of : Option (Bor Text) → Option Text
@@ -36,8 +38,18 @@ abbrev pub MakesNone : Options → Unmade → Type 0
 MakesNone options (unmade.Both both) = AreBoth options both
 MakesNone options (unmade.NoMoment name text) =
     IsAlone name.now text.now options × ((moment : Moment) → IsMomentText text.now moment → ⊥)
+MakesNone options (unmade.NoFile name prefix) = ⊥
+
+-- for this reason the options, with these words, make no inquiry on these files
+abbrev pub MakesNoInquiry : Options → Lists → List Text → Unmade → Type 0
+MakesNoInquiry options lists names (unmade.Both both) = options.form ≡ Err both
+MakesNoInquiry options lists names (unmade.NoMoment name text) = ⊥
+MakesNoInquiry options lists names (unmade.NoFile name prefix) =
+    IsSomeAnd (unfit_prefix (map string_bytes lists.listeners.items) names) (λ at.
+    (name.now ≡ codes "listener") × (prefix.now ≡ slice_index_or (map string_bytes lists.listeners.items) at []))
 
 -- the error line of a program of that name
 abbrev pub unmade_text : Text → Unmade → Text
 unmade_text program (unmade.Both both) = both_given program both.one.now both.other.now
 unmade_text program (unmade.NoMoment name text) = no_moment program name.now text.now
+unmade_text program (unmade.NoFile name prefix) = no_file program name.now prefix.now

@@ -19,7 +19,7 @@ pub(crate) fn files<'a>(alloc: Global) -> Arg<'a>
         .help("Classic pcap captures of one link, in any order")
 }
 
-/// Copies of the names of files.
+/// Copies of words, such as the names of files.
 pub(crate) fn names_of(alloc: Global, files: &[&str]) -> Result<Vec<String>, Want>
     ensures { IfOk result (λ names. map string_bytes names.items ≡ map (λ file. file.now) files.now) }
 {

@@ -32,6 +32,14 @@ pub(crate) const ABOUT: Flag = Flag {
     help: "Only what is about a name, word or address; repeatable",
 };
 
+/// The files whose names begin so are of one listener.
+pub(crate) const LISTENER: Flag = Flag {
+    name: "listener",
+    takes: Takes::Words,
+    value: "PREFIX",
+    help: "Files named PREFIX... are one listener; repeatable",
+};
+
 /// The flags of an output: some, those of the forms that every output has, and others.
 macro_rules! with_forms {
     ([$($first:expr),*], [$($last:expr),*]) => {
@@ -72,5 +80,8 @@ pub(crate) const PAGE_FLAGS: &[Flag] = &[AT, BEFORE, ABOUT];
 pub(crate) const HEARINGS_FLAGS: &[Flag] = with_words!([], [PRETTY]);
 
 pub(crate) const TRACE_FLAGS: &[Flag] = with_forms!([], [PRETTY]);
+
+/// The flags of what is written of listeners.
+pub(crate) const LISTENERS_FLAGS: &[Flag] = with_forms!([LISTENER], [PRETTY]);
 
 pub(crate) const FILES_FLAGS: &[Flag] = with_forms!([], []);

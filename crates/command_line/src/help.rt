@@ -186,3 +186,18 @@ a line with what it is and the cure, and the files after it follow:
     west.pcap unusable gzip: unpack it with zcat FILE > NEW"
     ),
 };
+
+/// `mdnswhy listeners --help`.
+pub const LISTENERS: HelpText = HelpText {
+    about: "Whether clocks and links agree, and which listener missed what",
+    more: page!(
+        "\
+A line for each listener, then one for each two, with how far the second clock
+is ahead, in seconds, then one for each sender and listener. A message is alone
+if no other listener has it, and missed if one had it while this one listened:
+    mdnswhy listeners --listener west --listener east west*.pcap east*.pcap
+    west heard 252 alone 29 missed 7 from 1795332385.468933000 until ...
+    west east common 93 ahead -0.000028000 from -0.000051000 to ...
+    198.51.100.12 east heard 9 missed 1 from ... until ... birch.local"
+    ),
+};

@@ -6,7 +6,7 @@ mod files;
 mod flags;
 mod help;
 mod line;
-mod lists;
+pub mod lists;
 mod mdnsmerge;
 mod mdnswhy;
 mod moments;

@@ -4,7 +4,8 @@ ghost use Rattle.std.specs.Prelude.{◌≡◌, IfOk, map};
 ghost use Rattle.clap.specs.Words.{found_of, rows_of};
 ghost use Rattle.command_line.specs.Line.{HasLists, texts_of};
 
-use crate::flags::ABOUT;
+use crate::files::names_of;
+use crate::flags::{ABOUT, LISTENER};
 use clap::ArgMatches;
 use mdns_browse::about::Subject;
 use mdns_message::Want;
@@ -16,6 +17,8 @@ use std::alloc::Global;
 pub struct Lists {
     /// The words of `--about`, as what is asked about.
     pub about: Subjects,
+    /// The words of `--listener`: with which the names of one listener's files begin.
+    pub listeners: Vec<String>,
 }
 
 /// Copies of the words that are given.
@@ -23,8 +26,10 @@ pub(crate) fn lists_of(alloc: Global, given: &ArgMatches<'_>) -> Result<Lists, W
     ensures { IfOk result (HasLists (rows_of (found_of given.now))) }
 {
     let about = given.get_strs(ABOUT.name).unwrap_or(&[]);
+    let listeners = given.get_strs(LISTENER.name).unwrap_or(&[]);
     Ok(Lists {
         about: subjects_of(alloc, about)?,
+        listeners: names_of(alloc, listeners)?,
     })
 }
 

@@ -221,7 +221,7 @@ fn task_of(asks: Asks, scope: Scope) -> Task
     ensures { result ≡ task_of asks scope }
 {
     let Scope { form, as_of, lists } = scope;
-    let Lists { about } = lists;
+    let Lists { about, .. } = lists;
     match asks {
         Asks::Report(ask) => Task::Survey(Request::Report(Query {
             ask,

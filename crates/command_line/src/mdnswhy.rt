@@ -1,19 +1,23 @@
 //! The command line of `mdnswhy`.
 
-ghost use Rattle.std.specs.Prelude.{◌≡◌, ◌≢◌, ◌⊎◌, [], IfErr, IfOk, codes, map, string_bytes};
+ghost use Rattle.std.specs.Prelude.{◌≡◌, ◌≢◌, ◌⊎◌, [], IfErr, IfOk, None, Ok, codes, map, string_bytes};
 ghost use Rattle.clap.specs.Words.{fault_of};
-ghost use Rattle.command_line.specs.Line.{AsksAbout, IsAsked};
+ghost use Rattle.command_line.specs.Line.{AsksWithLists, IsAsked};
 ghost use Rattle.command_line.specs.Faults.{IsUnasked};
-ghost use Rattle.command_line.specs.CommandLine.{AsksInquiry, GivesTwo, IsRefusedFor, form_flags, in_form, why_line};
+ghost use Rattle.command_line.specs.CommandLine.{AsksInquiry, GivesNoFile, GivesTwo, IsRefusedFor, form_flags, in_form, why_line};
+ghost use Rattle.command_line.specs.Unmade.{MakesNoInquiry};
+ghost use Rattle.mdns_listeners.specs.Groups.{unfit_prefix};
 
-use crate::flags::{FILES_FLAGS, HEARINGS_FLAGS, TRACE_FLAGS};
+use crate::flags::{FILES_FLAGS, HEARINGS_FLAGS, LISTENER, LISTENERS_FLAGS, TRACE_FLAGS};
 use crate::help;
 use crate::line::{Line, Subcommand};
+use crate::lists::Lists;
+use crate::options::Options;
 use crate::read::read;
 use crate::unmade::{Unmade, refusal_of};
 use crate::words::{AskFault, Asked};
 use mdns_browse::report::Form;
-use mdns_survey::request::Subjects;
+use mdns_listeners::groups::unfit_prefix;
 use mdns_trace::{Inquiry, Trace};
 use std::alloc::Global;
 
@@ -47,41 +51,71 @@ const WHY_ASKED: Line<Inquiry> = Line {
             flags: FILES_FLAGS,
             asks: Inquiry::Files(Form::Lines),
         },
+        Subcommand {
+            name: "listeners",
+            page: help::LISTENERS,
+            flags: LISTENERS_FLAGS,
+            asks: Inquiry::Listeners(Form::Lines),
+        },
     ],
 };
 
 /// Reads the words of a command line of `mdnswhy`, of which the first is the program's name.
 ///
-/// It is a subcommand, and then one or more files. All take the flag of a form, of `files` one for programs, and `hearings`
-/// also takes `--about WORD`, any number of times. `--help` asks for help, and `--version` for the version.
+/// It is a subcommand, and then one or more files. All take the flag of a form, of `files` one for programs. `hearings` also
+/// takes `--about WORD`, and `listeners` also `--listener PREFIX`, any number of times. `--help` asks for help, and `--version`
+/// for the version.
 ///
 /// # Errors
 ///
 /// `Help` where help was asked for, `Version` where the version was, `Refused` where the words are no such command
-/// line, or give two forms, and `Memory` where an allocation failed.
-pub fn why_asked(alloc: Global, words: Vec<String>) -> Result<Asked<(Inquiry, Subjects)>, AskFault>
-    ensures asked { IfOk result (IsAsked (AsksAbout AsksInquiry) why_line (map string_bytes words.items)) }
+/// line, give two forms, or give a prefix with which no file's name begins, and `Memory` where an allocation failed.
+pub fn why_asked(alloc: Global, words: Vec<String>) -> Result<Asked<(Inquiry, Lists)>, AskFault>
+    ensures asked { IfOk result (IsAsked (AsksWithLists AsksInquiry) why_line (map string_bytes words.items)) }
     ensures files { IfOk result (λ asked. asked.names.items ≢ []) }
+    ensures fit { IfOk result (λ asked.
+        unfit_prefix (map string_bytes asked.what.1.listeners.items) (map string_bytes asked.names.items) ≡ None) }
     ensures unasked { IfErr result (λ fault. IsUnasked (fault_of why_line (map string_bytes words.items)) fault
-        ⊎ IsRefusedFor (GivesTwo (codes "mdnswhy") form_flags) why_line (map string_bytes words.items) fault) }
+        ⊎ IsRefusedFor (GivesTwo (codes "mdnswhy") form_flags) why_line (map string_bytes words.items) fault
+        ⊎ IsRefusedFor (GivesNoFile (codes "mdnswhy")) why_line (map string_bytes words.items) fault) }
 {
     read_why(alloc, words.as_slice())
 }
 
-fn read_why(alloc: Global, words: &[String]) -> Result<Asked<(Inquiry, Subjects)>, AskFault>
-    ensures asked { IfOk result (IsAsked (AsksAbout AsksInquiry) why_line (map string_bytes words.now)) }
+fn read_why(alloc: Global, words: &[String]) -> Result<Asked<(Inquiry, Lists)>, AskFault>
+    ensures asked { IfOk result (IsAsked (AsksWithLists AsksInquiry) why_line (map string_bytes words.now)) }
     ensures files { IfOk result (λ asked. asked.names.items ≢ []) }
+    ensures fit { IfOk result (λ asked.
+        unfit_prefix (map string_bytes asked.what.1.listeners.items) (map string_bytes asked.names.items) ≡ None) }
     ensures unasked { IfErr result (λ fault. IsUnasked (fault_of why_line (map string_bytes words.now)) fault
-        ⊎ IsRefusedFor (GivesTwo (codes "mdnswhy") form_flags) why_line (map string_bytes words.now) fault) }
+        ⊎ IsRefusedFor (GivesTwo (codes "mdnswhy") form_flags) why_line (map string_bytes words.now) fault
+        ⊎ IsRefusedFor (GivesNoFile (codes "mdnswhy")) why_line (map string_bytes words.now) fault) }
 {
     let asked = read(alloc, &WHY_ASKED, words)?;
     let ((inquiry, options), lists) = asked.what;
-    match options.form {
+    let names = asked.names;
+    match form_of(options, &lists, names.as_slice()) {
         Ok(form) => Ok(Asked {
-            what: (in_form(inquiry, form), lists.about),
-            names: asked.names,
+            what: (in_form(inquiry, form), lists),
+            names,
         }),
-        Err(both) => Err(AskFault::Words(refusal_of(alloc, "mdnswhy", Unmade::Both(both)))),
+        Err(unmade) => Err(AskFault::Words(refusal_of(alloc, "mdnswhy", unmade))),
+    }
+}
+
+// Returns the form that the options ask for, where each prefix fits one of the files.
+fn form_of<'a>(options: Options<'a>, lists: &'a Lists, names: &[String]) -> Result<Form, Unmade<'a>>
+    ensures ok { IfOk result (λ form. (options.entry.form ≡ Ok form)
+        × (unfit_prefix (map string_bytes lists.now.listeners.items) (map string_bytes names.now) ≡ None)) }
+    ensures err { IfErr result (MakesNoInquiry options.entry lists.now (map string_bytes names.now)) }
+{
+    let form = options.form?;
+    match unfit_prefix(lists.listeners.as_slice(), names) {
+        None => Ok(form),
+        Some(at) => Err(Unmade::NoFile {
+            name: LISTENER.name,
+            prefix: lists.listeners[at].as_str(),
+        }),
     }
 }
 
@@ -94,5 +128,6 @@ fn in_form(inquiry: Inquiry, form: Form) -> Inquiry
         Inquiry::Trace(Trace::Packets(_)) => Inquiry::Trace(Trace::Packets(form)),
         Inquiry::Trace(Trace::Spans(_)) => Inquiry::Trace(Trace::Spans(form)),
         Inquiry::Files(_) => Inquiry::Files(form),
+        Inquiry::Listeners(_) => Inquiry::Listeners(form),
     }
 }

@@ -1,25 +1,26 @@
 //! What `mdnsmerge` and `mdnswhy` do alike: they read their arguments, open files and print.
 
-ghost use Rattle.std.specs.Prelude.{◌≡◌, [], ◌∷◌, ◌++◌, IfErr, IfOk, MatchResult, length, string_bytes};
+ghost use Rattle.std.specs.Prelude.{◌≡◌, ℕ, List, [], ◌∷◌, ◌++◌, IfErr, IfOk, OnOk, MatchResult, length, map, string_bytes};
 ghost use Rattle.std.specs.Bool.{OnFalse, OnTrue};
 ghost use Rattle.std.specs.Io.KnownBytes.{Appends};
 ghost use Rattle.mdns_capture.specs.Calls.{WritesWell};
 ghost use Rattle.mdns_capture.specs.Output.{AppendsPrefix};
-ghost use Rattle.command_line.specs.Program.{AnswersFault, IsIndexOf, Prints, PrintsRefusal, Shows, trimmed};
+ghost use Rattle.command_line.specs.Program.{AnswersFault, IsIndexOf, IsOpenLine, Prints, PrintsRefusal, Shows, trimmed};
 
 use crate::words::{AskFault, WordsFault};
 use mdns_capture::{ReadAhead, Sink, Through, write_whole};
 use mdns_message::Want;
+use mdns_survey::program_lines::open_line_of;
 use mdns_survey::status::{REFUSED, WHOLE};
 use std::env::{self, Env};
 use std::fs::File;
 use std::io::ErrorKind;
 use std::rt::Files;
-use thiserror::Error;
 
-/// The error lines of a program that are the same for all files.
+/// The name of a program, and its error lines that are the same for all files.
 #[derive(Clone, Copy)]
 pub struct ErrorLines {
+    pub program: &'static str,
     /// An allocation failed.
     pub out_of_memory: &'static str,
     /// An argument isn't UTF-8.
@@ -32,6 +33,7 @@ pub struct ErrorLines {
 macro_rules! error_lines {
     ($program:literal) => {
         ErrorLines {
+            program: $program,
             out_of_memory: concat!($program, ": out of memory"),
             not_text: concat!($program, ": an argument is not UTF-8 text"),
             write_failed: concat!($program, ": write failed"),
@@ -49,13 +51,11 @@ pub const MDNSWHY: ErrorLines = error_lines!("mdnswhy");
 pub type Reader<F> = ReadAhead<Through<F>>;
 
 /// Why files were not opened.
-#[derive(Clone, Copy, Debug, Error)]
-pub enum OpenFault {
+#[derive(Clone, Copy)]
+enum OpenFault {
     /// An allocation failed.
-    #[error("Memory")]
     Memory,
     /// The first file that can't be opened, counted from 0.
-    #[error("File")]
     File { index: usize },
 }
 
@@ -75,12 +75,36 @@ pub fn arguments<R: Env + AllocGlobal>(
     }
 }
 
-/// Opens the files in order.
+/// Opens the files in order. Where one can't be opened, or an allocation fails, prints the error line on `err`.
 ///
 /// # Errors
 ///
-/// `File` with the index of the first that can't be opened, and `Memory` where an allocation failed.
-pub fn open_files<R: Files + AllocGlobal>(
+/// The exit status of a refusal.
+pub fn open_or_refuse<R: Files + AllocGlobal, E: Sink>(
+    rt: &R,
+    lines: ErrorLines,
+    names: &[String],
+    err: &mut E,
+) -> Result<Vec<Reader<R::File>>, u8>
+    ensures opened { IfOk result (λ readers. length names.now ≡ length readers.items) }
+    ensures silent { OnOk result (err.new ≡ err.old) }
+    ensures refused { IfErr result (λ status. (line : List ℕ)
+        × IsOpenLine lines.program.now lines.out_of_memory.now (map string_bytes names.now) line
+        × PrintsRefusal E.Sink err.old err.new line status) }
+{
+    match open_files(rt, names) {
+        Ok(readers) => Ok(readers),
+        Err(OpenFault::File { index }) => {
+            let line = open_line_of(rt.alloc(), lines.program, names[index].as_str());
+            print_error(line, lines, err);
+            Err(REFUSED)
+        }
+        Err(OpenFault::Memory) => Err(refuse(lines.out_of_memory, err)),
+    }
+}
+
+// Opens the files in order, up to the first that can't be opened.
+fn open_files<R: Files + AllocGlobal>(
     rt: &R,
     names: &[String],
 ) -> Result<Vec<Reader<R::File>>, OpenFault>
@@ -167,8 +191,8 @@ pub fn refuse<E: Sink>(line: &str, err: &mut E) -> u8
     REFUSED
 }
 
-/// Prints an error line, or the one of a failed allocation where there was no memory for it.
-pub fn print_error<E: Sink>(line: Result<String, Want>, lines: ErrorLines, err: &mut E)
+// Prints an error line, or the one of a failed allocation where there was no memory for it.
+fn print_error<E: Sink>(line: Result<String, Want>, lines: ErrorLines, err: &mut E)
     ensures { MatchResult line (λ line. Prints E.Sink err.old err.new (string_bytes line))
         (λ _. Prints E.Sink err.old err.new lines.out_of_memory.now) }
 {

@@ -1,7 +1,7 @@
 //! Options that make nothing, and their refusals.
 
 ghost use Rattle.std.specs.Prelude.{◌≡◌, IfOk, string_bytes};
-ghost use Rattle.command_line.specs.CommandLine.{is_plain, no_moment};
+ghost use Rattle.command_line.specs.CommandLine.{invalid, is_plain, quoted};
 ghost use Rattle.command_line.specs.Faults.{IsRefusal};
 ghost use Rattle.command_line.specs.Unmade.{unmade_text};
 ghost use Rattle.command_line.specs.declared.unmade.Unmade.TheVariants.{Both};
@@ -18,6 +18,8 @@ pub(crate) enum Unmade<'a> {
     Both(Both),
     /// The text of a flag names no moment.
     NoMoment { name: &'static str, text: &'a str },
+    /// The prefix of a flag fits no file.
+    NoFile { name: &'static str, prefix: &'a str },
 }
 
 impl<'a> From<Both> for Unmade<'a> {
@@ -27,6 +29,13 @@ impl<'a> From<Both> for Unmade<'a> {
         Unmade::Both(both)
     }
 }
+
+/// What to give as a moment.
+const A_MOMENT: &str =
+    "give seconds since 1970 (1795332403.397617) or a date and time with its zone (2026-11-22T07:27:00Z)";
+
+/// Why a prefix is refused.
+const NO_FILE: &str = "no FILE's name, without folders, begins with it";
 
 /// Returns the refusal of options by a program of that name.
 pub(crate) fn refusal_of(alloc: Global, program: &str, unmade: Unmade<'_>) -> WordsFault
@@ -46,23 +55,37 @@ fn unmade_line(alloc: Global, program: &str, unmade: Unmade<'_>) -> Result<Strin
         Unmade::Both(Both { one, other }) => Ok(format!(in alloc;
             "{program}: --{one} and --{other} can't be given together"
         )?),
-        Unmade::NoMoment { name, text } => no_moment(alloc, program, name, text),
+        Unmade::NoMoment { name, text } => invalid(alloc, program, "moment", text, name, A_MOMENT),
+        Unmade::NoFile { name, prefix } => {
+            invalid(alloc, program, "prefix", prefix, name, NO_FILE)
+        }
     }
 }
 
-// Returns the error line of a text that names no moment. The text is repeated where it is printable ASCII.
-fn no_moment(alloc: Global, program: &str, name: &str, text: &str) -> Result<String, Want>
-    ensures { IfOk result (λ line. string_bytes line ≡ no_moment program.now name.now text.now) }
+// Returns the error line of an option's invalid value. The value is repeated where it is printable ASCII.
+fn invalid(
+    alloc: Global,
+    program: &str,
+    what: &str,
+    value: &str,
+    name: &str,
+    cure: &str,
+) -> Result<String, Want>
+    ensures { IfOk result (λ line. string_bytes line ≡ invalid program.now what.now value.now name.now cure.now) }
 {
-    let quoted = if is_plain(text.as_bytes()) {
-        format!(in alloc; "'{text}' ")?
+    let quoted = quoted(alloc, value)?;
+    Ok(format!(in alloc; "{program}: invalid {what} {quoted}for --{name}: {cure}")?)
+}
+
+// Returns a text in quotes, with a blank behind it, where it is printable ASCII.
+fn quoted(alloc: Global, text: &str) -> Result<String, Want>
+    ensures { IfOk result (λ quote. string_bytes quote ≡ quoted text.now) }
+{
+    if is_plain(text.as_bytes()) {
+        Ok(format!(in alloc; "'{text}' ")?)
     } else {
-        String::new(alloc)
-    };
-    Ok(format!(in alloc;
-        "{program}: invalid moment {quoted}for --{name}: give seconds since 1970 (1795332403.397617) \
-         or a date and time with its zone (2026-11-22T07:27:00Z)"
-    )?)
+        Ok(String::new(alloc))
+    }
 }
 
 // Returns whether a text is printable ASCII.

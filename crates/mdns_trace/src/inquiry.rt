@@ -39,4 +39,6 @@ pub enum Inquiry {
     Trace(Trace),
     /// What each file is, and what to do about it, in a form.
     Files(Form),
+    /// Whether clocks and links agree, and what each listener heard and missed, in a form.
+    Listeners(Form),
 }

@@ -18,9 +18,9 @@ use mdns_browse::format::push_nanos;
 use mdns_browse::report::Form;
 use mdns_capture::{Broken, Moment, Packet, Sink, Source, write_whole};
 use mdns_message::Want;
-use mdns_survey::listen::ListenFault;
+use mdns_survey::listen::{ListenFault, listen_with};
 use mdns_survey::outcome::Found;
-use mdns_survey::reading::{Consumer, Reading, ReadingFault, Span, read_capture};
+use mdns_survey::reading::{Consumer, Reading, Span};
 use mdns_survey::summary::Summary;
 use std::alloc::Global;
 
@@ -86,13 +86,12 @@ pub(crate) fn read_spanned<R: Source + Drop>(
     ensures steady { IsTrue (R.steady reader) → IfErr result IsNoReadFault }
 {
     let mut hearings = HearingSpan { span: None };
-    match read_capture(alloc, reader, &mut hearings) {
+    match listen_with(alloc, reader, &mut hearings) {
         Ok(reading) => Ok(Spanned {
             reading,
             hearings: hearings.span,
         }),
-        Err(ReadingFault::Listen(fault)) => Err(fault),
-        Err(ReadingFault::Consumer(Want)) => Err(ListenFault::Memory),
+        Err(fault) => Err(fault),
     }
 }
 

@@ -5,14 +5,11 @@ ghost use Rattle.std.specs.Prelude.{◌≡◌, ◌≢◌, ◌≤◌, ℕ, List, 
 ghost use Rattle.mdns_capture.specs.Output.{writing};
 ghost use Rattle.mdnsmerge.specs.Task.{AnswersTask, IsTaskRefused};
 
-use command_line::program::{
-    MDNSMERGE, OpenFault, arguments, open_files, print_error, print_fault, refuse,
-};
+use command_line::program::{MDNSMERGE, arguments, open_or_refuse, print_fault, refuse};
 use command_line::{Asked, Task, asked};
 use mdns_capture::{Sink, Source, Through};
 use mdns_page::page::Page;
-use mdns_survey::answers::{answer_request, answer_with};
-use mdns_survey::program_lines::open_line;
+use mdns_survey::answers::{Named, answer_request, answer_with};
 use mdns_survey::status::REFUSED;
 use std::alloc::Global;
 use std::process::ExitCode;
@@ -42,7 +39,7 @@ fn run(rt: &HostRuntime) -> u8 {
 fn answer(rt: &HostRuntime, asked: Asked<Task>) -> u8 {
     let Asked { what, names } = asked;
     let mut err = Through(rt.stderr());
-    match open_files(rt, names.as_slice()) {
+    match open_or_refuse(rt, MDNSMERGE, names.as_slice(), &mut err) {
         Ok(readers) => answer_task(
             rt.alloc(),
             what,
@@ -51,12 +48,7 @@ fn answer(rt: &HostRuntime, asked: Asked<Task>) -> u8 {
             &mut Through(rt.stdout()),
             &mut err,
         ),
-        Err(OpenFault::File { index }) => {
-            let line = open_line(rt.alloc(), names[index].as_str());
-            print_error(line, MDNSMERGE, &mut err);
-            REFUSED
-        }
-        Err(OpenFault::Memory) => refuse(MDNSMERGE.out_of_memory, &mut err),
+        Err(status) => status,
     }
 }
 
@@ -90,7 +82,11 @@ fn answer_task<R: Source + Drop, O: Sink, E: Sink>(
                 as_of,
                 about,
             };
-            answer_with(page, true, names, readers, out, err)
+            let named = Named {
+                program: "mdnsmerge",
+                files: names,
+            };
+            answer_with(page, true, named, readers, out, err)
         }
     }
 }

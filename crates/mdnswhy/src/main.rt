@@ -1,18 +1,17 @@
 //! Explains what captures tell of Multicast DNS records: who was heard saying what, which packets told nothing and why,
-//! the time span of each file, and what each file is.
+//! the time span of each file, what each file is, and what each listener missed.
 #![tactic(auto)]
 
-use command_line::program::{
-    MDNSWHY, OpenFault, arguments, open_each, open_files, print_error, print_fault, refuse,
-};
+use command_line::lists::Lists;
+use command_line::program::{MDNSWHY, arguments, open_each, open_or_refuse, print_fault, refuse};
 use command_line::{Asked, why_asked};
 use mdns_browse::about::Subject;
 use mdns_browse::report::Form;
 use mdns_capture::Through;
+use mdns_listeners::Groups;
+use mdns_listeners::listeners::Listeners;
 use mdns_message::Want;
-use mdns_survey::program_lines::open_line_of;
-use mdns_survey::request::Subjects;
-use mdns_survey::status::REFUSED;
+use mdns_survey::answers::{Named, answer_with};
 use mdns_trace::inquiry::{Inquiry, Trace, Tracer};
 use mdns_trace::trace_answer::answer_traces;
 use mdns_trace::verdicts::answer_files;
@@ -40,19 +39,22 @@ fn run(rt: &HostRuntime) -> u8 {
 }
 
 // Writes what is asked of the files.
-fn answer(rt: &HostRuntime, asked: Asked<(Inquiry, Subjects)>) -> u8 {
+fn answer(rt: &HostRuntime, asked: Asked<(Inquiry, Lists)>) -> u8 {
     let Asked { what, names } = asked;
-    let (inquiry, about) = what;
+    let (inquiry, lists) = what;
     match inquiry {
-        Inquiry::Trace(trace) => trace_files(rt, trace, about.as_slice(), names.as_slice()),
+        Inquiry::Trace(trace) => trace_files(rt, trace, lists.about.as_slice(), names.as_slice()),
         Inquiry::Files(form) => judge_files(rt, form, names.as_slice()),
+        Inquiry::Listeners(form) => {
+            group_files(rt, form, lists.listeners.as_slice(), names.as_slice())
+        }
     }
 }
 
 // Opens the files, and writes their traces.
 fn trace_files(rt: &HostRuntime, trace: Trace, about: &[Subject], names: &[String]) -> u8 {
     let mut err = Through(rt.stderr());
-    match open_files(rt, names) {
+    match open_or_refuse(rt, MDNSWHY, names, &mut err) {
         Ok(readers) => answer_traces(
             rt.alloc(),
             Tracer { trace, about },
@@ -61,12 +63,7 @@ fn trace_files(rt: &HostRuntime, trace: Trace, about: &[Subject], names: &[Strin
             &mut Through(rt.stdout()),
             &mut err,
         ),
-        Err(OpenFault::File { index }) => {
-            let line = open_line_of(rt.alloc(), "mdnswhy", names[index].as_str());
-            print_error(line, MDNSWHY, &mut err);
-            REFUSED
-        }
-        Err(OpenFault::Memory) => refuse(MDNSWHY.out_of_memory, &mut err),
+        Err(status) => status,
     }
 }
 
@@ -83,5 +80,35 @@ fn judge_files(rt: &HostRuntime, form: Form, names: &[String]) -> u8 {
             &mut err,
         ),
         Err(Want) => refuse(MDNSWHY.out_of_memory, &mut err),
+    }
+}
+
+// Groups the files by listener, and writes what the listeners heard.
+fn group_files(rt: &HostRuntime, form: Form, prefixes: &[String], names: &[String]) -> u8 {
+    match Groups::new(rt.alloc(), names, prefixes) {
+        Ok(groups) => compare_listeners(rt, form, &groups, names),
+        Err(Want) => refuse(MDNSWHY.out_of_memory, &mut Through(rt.stderr())),
+    }
+}
+
+// Opens the files, and writes what their listeners heard.
+fn compare_listeners(rt: &HostRuntime, form: Form, groups: &Groups, names: &[String]) -> u8 {
+    let mut err = Through(rt.stderr());
+    match open_or_refuse(rt, MDNSWHY, names, &mut err) {
+        Ok(readers) => {
+            let named = Named {
+                program: "mdnswhy",
+                files: names,
+            };
+            answer_with(
+                Listeners { groups, form },
+                true,
+                named,
+                readers,
+                &mut Through(rt.stdout()),
+                &mut err,
+            )
+        }
+        Err(status) => status,
     }
 }

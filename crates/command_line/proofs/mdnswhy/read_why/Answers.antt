@@ -1,8 +1,9 @@
-use Rattle.std.proofs.Common.{◌≡◌, rules, map, string_bytes, Ok, Err}
+use Rattle.std.proofs.Common.{◌≡◌, rules, map, string_bytes, Ok}
 use Rattle.command_line.specs.CommandLine.{AsksInquiry, in_form, why_line}
-use Rattle.command_line.specs.Line.{AsksAbout, IsAsked}
+use Rattle.command_line.specs.Line.{AsksWithLists, IsAsked}
+use Rattle.command_line.specs.Unmade.{MakesNoInquiry}
 use Rattle.command_line.proofs.TableLemmas.{asks-also}
-use Rattle.command_line.proofs.WhyLemmas.{AsksWhy, both-refused, inquiry-asked}
+use Rattle.command_line.proofs.WhyLemmas.{AsksWhy, inquiry-asked, unmade-refused}
 use Rattle.command_line.proofs.mdnswhy.read_why.Goals as goal
 
 pub returns-in-Ok-clause-asked : goal.returns-in-Ok-clause-asked
@@ -13,7 +14,7 @@ returns-in-Ok-clause-asked c =
     let is : what.0.1.form ≡ Ok c.in-Ok.form = search rules in (
       asked.0,
       rw c.in_form.ensures
-          (asks-also AsksWhy (AsksAbout AsksInquiry) what (in_form what.0.0 c.in-Ok.form, what.1.about) (inquiry-asked what c.in-Ok.form is)
+          (asks-also AsksWhy (AsksWithLists AsksInquiry) what (in_form what.0.0 c.in-Ok.form, what.1) (inquiry-asked what c.in-Ok.form is)
           _ _ asked.1),
     )
 
@@ -21,7 +22,8 @@ pub returns-in-Err-clause-unasked : goal.returns-in-Err-clause-unasked
 returns-in-Err-clause-unasked c =
     let what = c.in_ok-asked.asked.what in
     let words = map string_bytes c.args.words.now in
+    let names = map string_bytes c.in_ok-asked.asked.names.items in
     let asked : IsAsked AsksWhy why_line words c.in_ok-asked.asked = c.in_ok-asked.ensures.asked in
-    let is : what.0.1.form ≡ Err c.in-Err.both = search rules in
-    both-refused why_line words what (map string_bytes c.in_ok-asked.asked.names.items) c.in-Err.both c.refusal_of.result
-    asked.0 asked.1 is c.refusal_of.ensures
+    let unmade = c.in-Err.unmade in
+    let none : MakesNoInquiry what.0.1 what.1 names unmade = search rules in
+    unmade-refused why_line words what names unmade c.refusal_of.result asked.0 asked.1 none c.refusal_of.ensures
