@@ -20,8 +20,8 @@ CAPTURES, HEARINGS = "CAPTURES", "hearings"
 
 # A name is a word, or stands for whole lines; these words stand for themselves.
 NAME = re.compile(r"(?:(?<!\S)|(?<=\\n))[A-Z][A-Z0-9_]*(?=[\s;]|\\n|$)")
-WORDS = (*NAMED, "END", "FILE", "FROM", "HEARD", "ID", "IP", "LEFT", "NEW", "OPCODE", "RCODE", "RECORD", "TAGGED", "TYPE", "UDP",
-         "UNTIL", "VLAN")
+WORDS = (*NAMED, "ALONE", "CLOCK", "COMMON", "END", "FILE", "FROM", "HEARD", "ID", "IP", "LEFT", "LISTENER", "MISSED", "NAMES",
+         "NEW", "OPCODE", "OTHER", "RCODE", "RECORD", "SENDER", "TAGGED", "THE", "TYPE", "UDP", "UNTIL", "VLAN")
 
 ANSWER = re.compile(r"(.*?)(?:beside it (.*?))?(?:status (\d)\n?)?", re.DOTALL)
 

@@ -8,6 +8,7 @@ from collections import Counter
 
 from tests.captures.wire import SECOND, STRINGS
 from tests.fuzz.explained import Explained
+from tests.fuzz.listened import Listened
 from tests.fuzz.lived import Lived
 from tests.fuzz.pages import Paged
 from tests.fuzz.told import Told
@@ -30,17 +31,20 @@ def try_case(program, why, rng, captures, second_opinion, seen):
     """Tries all oracles on some captures, and adds to what was seen."""
     case = Case(program, rng, captures, seen)
     explained, lived = Explained(why, case), Lived(case)
+    listened = Listened(case, explained)
     checks = [case.checked(name) for name in case.names]
     case.checked_together(checks)
     if case.fault:
         case.refusals()
         explained.refusals()
+        listened.refusals()
         return
     case.reports()
     case.as_json()
     explained.agree()
     case.same_text()
     case.past()
+    listened.agree()
     lived.agree()
     Told(case, explained, lived).agree()
     Paged(case, explained, lived).agree()
@@ -58,6 +62,7 @@ class Seen:
         self.lines = Counter()
         self.ends = Counter()
         self.pages = Counter()
+        self.clocks = Counter()
 
 
 class Case:

@@ -105,6 +105,12 @@ def ipv6_data(packet):
     return part(packet, IPV6_HEADER, IPV6_HEADER + number_at(header, 4))
 
 
+def source_of(frame):
+    """The address of who sent a frame of IP."""
+    at, size = (26, 4) if number_at(frame, 12) == IPV4 else (22, 16)
+    return part(frame, at, at + size)
+
+
 def part(whole, start, end):
     """The bytes from one offset to another, which are all there."""
     if not start <= end <= len(whole):

@@ -31,10 +31,18 @@ SPAN = re.compile(r"(\S+) packets (\S+) (\S+) hearings (\S+) (\S+) snap (\d+)")
 SERVER = re.compile(r"  server (\S+) (\d+) priority (\d+) weight (\d+)")
 FILE = re.compile(r"(\S+) pcap (.*) packets (\d+) (\S+) (\S+) hearings (\d+)")
 CHECKED = re.compile(r"(\S+): packets \d+ skipped (\d+) refused (\d+) messages (\d+) hearings \d+ .*")
+BETWEEN = r"from (?P<from>\S+) until (?P<until>\S+)"
+LISTENER = re.compile(rf"(?P<file>\S*) heard (?P<heard>\d+) alone (?P<alone>\d+) missed (?P<missed>\d+) {BETWEEN}")
+APART = re.compile(r"(?P<file>\S*) (?P<other>\S*) common (?P<common>\d+) ahead (?P<ahead>\S+) from (?P<low>\S+) to (?P<high>\S+) "
+                   r"by (?P<by>\d+)")
+SENDER = re.compile(rf"(?P<source>\S+) (?P<file>\S*) heard (?P<heard>\d+) missed (?P<missed>\d+) {BETWEEN}(?P<names>(?: \S+)*)")
 NOTE = re.compile(r"\S+ (?:lost (\d+) ([^:]*)|ends early|heard nothing): (.*)")
 
 # Members that are numbers.
 NUMBERS = ("ttl", "offset", "at")
+
+# Of listeners some that count are numbers, and names aren't moments, even one that is a dash.
+COUNTS, NAMES = ("heard", "alone", "missed", "common", "by"), ("file", "other", "source")
 
 
 def text_of(members):
@@ -116,7 +124,18 @@ def files_of(text, other):
                "lost": lost}
 
 
-BLOCKS = {"spans": spans_of, "instances": instances_of, "files": files_of}
+def listeners_of(text, _other):
+    """The objects of listeners, of each two, and of what each heard of a sender."""
+    for line in text.splitlines():
+        found = next(filter(None, (layout.fullmatch(line) for layout in (LISTENER, APART, SENDER))))
+        words = found.groupdict()
+        names = words.pop("names", None)
+        members = {name: word if name in NAMES else int(word) if name in COUNTS else None if word == "-" else word
+                   for name, word in words.items()}
+        yield members if names is None else {"source": members.pop("source"), "names": names.split(), **members}
+
+
+BLOCKS = {"spans": spans_of, "instances": instances_of, "files": files_of, "listeners": listeners_of}
 
 
 def json_text(command, text, other):

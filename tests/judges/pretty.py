@@ -1,14 +1,17 @@
-"""What `--pretty` must print, made of the lines of words that the same question gives: columns of `mdnsmerge`, and lines of
-`mdnswhy`."""
+"""What `--pretty` must print, made of the lines of words that the same question gives: columns of `mdnsmerge`, and lines or
+columns of `mdnswhy`."""
 
 from datetime import datetime, timedelta, timezone
 
 from tests.captures.wire import A, AAAA, SECOND, SRV, TXT
-from tests.judges.json_forms import MEMBERS, SPAN
+from tests.judges.json_forms import APART, LISTENER, MEMBERS, SENDER, SPAN
 from tests.judges.lines import gives_instance, is_service, moment_of, wire_of
 from tests.judges.shown import LABEL, bytes_of, short_ipv6, shown, shown_name, shown_words
 
 EPOCH = datetime(1970, 1, 1, tzinfo=timezone.utc)
+
+# Clocks that are no further apart are one: a tenth of the second in which goodbyes and flushes act.
+NEAR = SECOND // 10
 
 UNITS = (("d", 86_400), ("h", 3_600), ("min", 60), ("s", 1))
 
@@ -78,10 +81,11 @@ def heading(rows, one, many, now):
 
 
 def table(heads, rows):
-    """Columns as wide as their widest text, but for the last, below an empty line; nothing if there are no rows."""
+    """Columns as wide as their widest text, but for the last, below an empty line; nothing if there are no rows. Before an empty
+    last text a line ends without blanks."""
     widths = [max(len(row[column]) for row in (heads, *rows)) for column in range(len(heads) - 1)]
-    return paragraph("  ".join([f"{cell:{width}}" for cell, width in zip(row, widths)] + [row[-1]])
-                     for row in (heads, *rows)) if rows else ""
+    lines = ["  ".join([f"{cell:{width}}" for cell, width in zip(row, widths)] + [row[-1]]) for row in (heads, *rows)]
+    return paragraph(line if row[-1] else line.rstrip(" ") for line, row in zip(lines, (heads, *rows))) if rows else ""
 
 
 def paragraph(lines):
@@ -150,9 +154,8 @@ def pretty_text(trace, text):
 def pretty_hearing(line):
     moment, name, source, owner, kind, data, ttl, flush = MEMBERS["hearings"].fullmatch(line).groups()
     said = ("goodbye" if ttl == "0" else f"ttl {ttl}") + (flush or "")
-    address = short_ipv6(source) if ":" in source else source
     record = "  ".join([shown_name(owner), *shown_words(kind, data.split())])
-    return f"{millis(moment_of(moment))}  {said:14}  {address:15}  {name}  {kind:4}  {record}"
+    return f"{millis(moment_of(moment))}  {said:14}  {short_source(source):15}  {name}  {kind:4}  {record}"
 
 
 def pretty_packet(line):
@@ -170,3 +173,46 @@ def bounds(first, last):
 
 
 PRETTY = {"hearings": pretty_hearing, "packets": pretty_packet, "spans": pretty_span}
+
+
+def listeners_columns(text):
+    """What `mdnswhy listeners` prints for people, of all its plain lines: tables of listeners, of each two, and of senders."""
+    listeners, pairs, senders = ([found.groupdict() for found in map(layout.fullmatch, text.splitlines()) if found]
+                                 for layout in (LISTENER, APART, SENDER))
+    return "".join((
+        table(("LISTENER", "HEARD", "ALONE", "MISSED", "FROM", "UNTIL"),
+              [(row["file"], row["heard"], row["alone"], row["missed"], *begin_and_end(row)) for row in listeners]),
+        table(("LISTENER", "OTHER", "COMMON", "THE OTHER'S CLOCK"),
+              [(row["file"], row["other"], row["common"], clock_words(row)) for row in pairs]),
+        table(("SENDER", "LISTENER", "HEARD", "MISSED", "FROM", "UNTIL", "NAMES"),
+              [(short_source(row["source"]), row["file"], row["heard"], row["missed"], *begin_and_end(row),
+                ", ".join(map(shown_name, row["names"].split()))) for row in senders]),
+    )).removeprefix("\n")
+
+
+def begin_and_end(row):
+    return ["-" if row[name] == "-" else millis(moment_of(row[name])) for name in ("from", "until")]
+
+
+def short_source(source):
+    return short_ipv6(source) if ":" in source else source
+
+
+def clock_words(row):
+    """How far the clock of the other of two listeners is ahead, and what to do about it."""
+    if row["common"] == "0":
+        return "nothing in common: another link, or another filter?"
+    if row["by"] == "0":
+        return "can't tell: no message came once in both"
+    by = f"by {row['by']} message{'' if row['by'] == '1' else 's'} heard once in both"
+    ahead, low, high = (signed_nanos(row[name]) for name in ("ahead", "low", "high"))
+    if max(map(abs, (ahead, low, high))) <= NEAR:
+        return f"one clock: {row['ahead']} s ahead, {by}"
+    if max(ahead - low, high - ahead) <= NEAR:
+        back = row["ahead"][1:] if ahead < 0 else f"-{row['ahead']}"
+        return f"{row['ahead']} s ahead, {by}: editcap -F nsecpcap -t {back} {row['other']} shifted.pcap"
+    return f"unsteady: {row['low']} to {row['high']} s ahead, {by}"
+
+
+def signed_nanos(text):
+    return -moment_of(text[1:]) if text.startswith("-") else moment_of(text)

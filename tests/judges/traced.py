@@ -4,7 +4,7 @@ import ipaddress
 from functools import lru_cache
 
 from tests.judges.causes import DAMAGED, LOSSES, cause_of
-from tests.judges.hearings import IPV4, number_at, told_by
+from tests.judges.hearings import source_of, told_by
 from tests.judges.savefile import PACKET_HEADER, moment_of, reading_of, snapshot_length
 from tests.judges.words import data_words, kind_text, moment_text, name_text
 
@@ -19,8 +19,7 @@ def frames_of(capture):
 
 def sender_of(frame):
     """The address of who sent a frame of IP, as it is printed."""
-    at, size = (26, 4) if number_at(frame, 12) == IPV4 else (22, 16)
-    return ipaddress.ip_address(frame[at:at + size]).exploded
+    return ipaddress.ip_address(source_of(frame)).exploded
 
 
 def hearings_text(name, capture):

@@ -25,9 +25,9 @@ To record: tcpdump -i eth0 -U -w a.pcap udp port 5353
 
 
 def page(name):
-    """A page of help, as it is printed. Its line `FLAGS` names the flags that are there, unless all are."""
+    """A page of help, as it is printed. Its line `FLAGS` names the flags that are there."""
     text = (PAGES / f"{name}.txt").read_text().replace("\nEND\n", f"\n{END}")
-    return re.sub(r"(?m)^FLAGS(.*)\n", lambda line: listed_flags(line[1].split() or FLAGS), text)
+    return re.sub(r"(?m)^FLAGS(.*)\n", lambda line: listed_flags(line[1].split()), text)
 
 
 def listed_flags(flags):
@@ -58,6 +58,8 @@ COMMANDS = commands_of("program")
 ANSWERS = taking("--at", COMMANDS)
 ASKS = taking("--pretty", COMMANDS)
 
-# The commands of mdnswhy, of which all but `files` stop at a file that is no capture.
+# The commands of mdnswhy; those that stop at a file that is no capture, all but `files`; and of these those that answer file
+# after file.
 WHYS = commands_of("why")
-TRACES = taking("--pretty", WHYS)
+STRICT = taking("--pretty", WHYS)
+TRACES = tuple(command for command in STRICT if "--listener" not in flags_of(command))

@@ -115,6 +115,8 @@ WHY_RUNS = tuple(run._replace(program="mdnswhy") for run in (
     *(Run((command, "one.pcap", "cut.pcap"), 2, DAMAGED) for command in WHYS),
     Run(("hearings", "one.pcap", "text.pcap"), 2, REFUSED),
     Run(("spans", "one.pcap", "text.pcap"), 2, REFUSED),
+    *(Run(("listeners", form, "--listener", "w", *BOTH), 2, WHOLE) for form in FORMS),
+    Run(("listeners", "one.pcap", "text.pcap"), 2, REFUSED),
     Run(("hearings", "--about", "a", *BOTH), 2, WHOLE),
     Run(("hearings", "--pretty", *BOTH), 2, WHOLE),
     Run(("hearings", "missing.pcap"), 1, REFUSED, are_read=False),

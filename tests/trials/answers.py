@@ -1,5 +1,5 @@
-"""Runs over small captures: the rows of `captures.rows`, and those of `why.rows` for mdnswhy, which have their bytes, and of
-`hearings.rows` and `lives.rows`, which have what was heard.
+"""Runs over small captures: the rows of `captures.rows`, and those of `why.rows` for mdnswhy, which have their bytes, of
+`hearings.rows` and `lives.rows`, which have what was heard, and of `listeners.rows` for mdnswhy, which have either.
 
 What must come of each row stands in it."""
 
@@ -27,7 +27,8 @@ class Table(NamedTuple):
 TABLES = (Table(("captures.rows",), 171),
           Table(("hearings.rows",), 106, has_vectors=False),
           Table(("hearings.rows", "lives.rows"), 101, has_vectors=False),
-          Table(("captures.rows", "why.rows"), 197, "mdnswhy"))
+          Table(("captures.rows", "why.rows"), 197, "mdnswhy"),
+          Table(("captures.rows", "listeners.rows"), 85, "mdnswhy"))
 
 
 def try_answers(merge, folder, about=""):

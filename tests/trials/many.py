@@ -30,6 +30,17 @@ def host_life(number):
     return host_line(number).replace(" ttl ", f" from 100.{number:09} ttl ").replace("\n", " live\n")
 
 
+def bounds(first, last):
+    return f"from 100.{first:09} until 100.{last:09}"
+
+
+def group_lines(listeners):
+    """What is said of listeners, each of which has hosts that no other has, from a first to a last one."""
+    heard = [(name, last - first + 1, bounds(first, last)) for name, first, last in listeners]
+    return "".join([*(f"{name} heard {count} alone {count} missed 0 {between}\n" for name, count, between in heard),
+                    *(f"192.0.2.1 {name} heard {count} missed 0 {between}\n" for name, count, between in heard)])
+
+
 HOST_LINES = "".join(host_line(number) for number in range(FILES))
 HOST_LIVES = "".join(host_life(number) for number in range(FILES))
 
@@ -61,6 +72,19 @@ CASES = (
                  for name in with_another(COPIES, "cut.pcap"))),
 )
 
+# The first hosts, each a listener, of whom as much is said as a pipe holds; and each hundred of all, a listener, too. No two of
+# them listened at the same moment.
+FIRST_HOSTS = [(name, number, number) for number, name in enumerate(HOSTS[:300])]
+HUNDREDS = [(f"host-{number}", 100 * number, 100 * number + 99) for number in range(FILES // 100)]
+
+WHY_CASES = (
+    Case(("listeners", *(name for name, _, _ in FIRST_HOSTS)), WHOLE, group_lines(FIRST_HOSTS)),
+    Case(("listeners", *(f"--listener={name}" for name, _, _ in HUNDREDS), *HOSTS), WHOLE, group_lines(HUNDREDS)),
+    Case(("listeners", "--listener", "copy", *COPIES), WHOLE,
+         f"copy heard {FILES} alone 1 missed 0 {bounds(0, 0)}\n192.0.2.1 copy heard {FILES} missed 0 {bounds(0, 0)} a.local\n"),
+    said(["listeners", *with_another(HOSTS, "text.pcap")], "text.pcap: not a classic pcap file", "mdnswhy"),
+)
+
 
 def lay_out(folder):
     lay_out_small(folder)
@@ -76,5 +100,6 @@ def try_many(program, folder):
     """Tries all cases on a program; answers how many failed."""
     lay_out(folder)
     failed = sum(not agrees(case, program, folder) for case in CASES)
-    print(f"{len(CASES)} runs over {FILES} files and as many packets, {failed} failed")
+    failed += sum(not agrees(case, program.with_name("mdnswhy"), folder) for case in WHY_CASES)
+    print(f"{len(CASES) + len(WHY_CASES)} runs over {FILES} files and as many packets, {failed} failed")
     return failed

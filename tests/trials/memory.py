@@ -56,6 +56,10 @@ OF_LIVES = 32.0
 # of which waits for another.
 OF_ONE_TYPE, OF_TYPE = 300, 115.0
 
+# The mebibytes that the moments may take at which listeners heard few messages; and those that 40,000 different messages of 500
+# bytes may take, each of which is kept once, with the moments of both times that it comes.
+OF_MOMENTS, OF_MESSAGES = 10.0, 36.0
+
 # Instances, each heard in every so manieth file; the mebibytes that a page may take for more such files, and in all.
 SCATTERED, OF_FILES, OF_PAGE = 400, 4.0, 32.0
 
@@ -97,6 +101,10 @@ def pairs():
     yield Pair(f"{some} files", "records", ["one.pcap"] * some, ["one.pcap"])
     yield Pair(f"{some} files with one of {SCATTERED} instances each", "page", scattered(some), scattered(SCATTERED),
                growth=OF_FILES, ceiling=OF_PAGE)
+    yield Pair(f"{PACKETS} packets of few messages by listeners", "listeners", ["few.pcap"], ["few-begin.pcap"], "mdnswhy",
+               growth=OF_MOMENTS)
+    yield Pair(f"{REPEATED} messages of {REPEATED_SIZE} bytes that come twice, by listeners", "listeners", ["repeated.pcap"],
+               ["repeated-begin.pcap"], "mdnswhy", growth=OF_MESSAGES, ceiling=OF_MESSAGES)
     for trace in TRACES:
         yield Pair(f"{PACKETS} packets by {trace}", trace, ["few.pcap"], ["few-begin.pcap"], "mdnswhy")
 

@@ -18,9 +18,9 @@ from tests.judges.json_forms import SPAN, expected, json_text
 from tests.judges.lines import moment_of as moment_in
 from tests.judges.pretty import pretty_text
 from tests.judges.savefile import moment_of, reading_of, snapshot_length
-from tests.judges.traced import traced_text
+from tests.judges.traced import TEXTS, traced_text
 from tests.running import runs
-from tests.running.commands import TRACES, TWO_FORMS, WHYS, flags_of, page
+from tests.running.commands import STRICT, TRACES, TWO_FORMS, WHYS, flags_of, page
 from tests.running.runs import DAMAGED, PATIENCE, REFUSED, WHOLE, Case, agrees
 from tests.trials import command_lines
 from tests.trials.command_lines import NO_FILE, is_fit, version_of
@@ -157,7 +157,7 @@ FILES = (
 
 # What was printed before a file was refused stays; all files are opened before any is read.
 REFUSALS = (
-    *(said([trace, *words], line) for trace in TRACES for words, line in (
+    *(said([command, *words], line) for command in STRICT for words, line in (
         (["missing.pcap"], "missing.pcap: cannot be opened"),
         (["one.pcap", "skipped.pcap", "missing.pcap", "absent.pcap"], "missing.pcap: cannot be opened"),
         (["empty.pcap"], "empty.pcap: file header is cut short"),
@@ -184,12 +184,13 @@ WORDS = (
     *(misused([trace], NO_FILE, f"{trace} <FILE>...") for trace in WHYS),
     *(misused([trace, "--at", "5", "one.pcap"], "unexpected argument '--at' found", f"{trace} [OPTIONS] <FILE>...",
               "to pass '--at' as a value, use '-- --at'") for trace in WHYS),
-    *(misused([trace, "--about", "a", "one.pcap"], "unexpected argument '--about' found", f"{trace} [OPTIONS] <FILE>...",
-              "to pass '--about' as a value, use '-- --about'") for trace in WHYS if "--about" not in flags_of(trace)),
+    *(misused([trace, flag, "a", "one.pcap"], f"unexpected argument '{flag}' found", f"{trace} [OPTIONS] <FILE>...",
+              f"to pass '{flag}' as a value, use '-- {flag}'")
+      for trace in WHYS for flag in ("--about", "--listener") if flag not in flags_of(trace)),
     misused(["files", "--pretty", "one.pcap"], "unexpected argument '--pretty' found", "files [OPTIONS] <FILE>...",
             "to pass '--pretty' as a value, use '-- --pretty'"),
-    *(said([trace, *words, "one.pcap"], f"{one} and {other} can't be given together")
-      for trace in TRACES for one, other in TWO_FORMS for words in ([one, other], [other, one])),
+    *(said([command, *words, "one.pcap"], f"{one} and {other} can't be given together")
+      for command in STRICT for one, other in TWO_FORMS for words in ([one, other], [other, one])),
     *(Case((word,), WHOLE, version_of("mdnswhy")) for word in ("--version", "-V")),
 )
 
@@ -337,7 +338,7 @@ def shown_otherwise(why, names):
 
 def traced_otherwise(why, names):
     """What mdnswhy says of these captures otherwise than their bytes, and as JSON otherwise than in words."""
-    for trace in WHYS:
+    for trace in TEXTS:
         must = traced_text(trace, [(name, (EXAMPLES / name).read_bytes()) for name in names])
         printed = "".join(f"{line}\n" for line in lines_of(why, trace, *names))
         if printed != must:

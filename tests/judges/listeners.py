@@ -1,0 +1,212 @@
+"""The lines of words that `mdnswhy listeners` must print of captures, made from their bytes by its definitions, apart from the
+programs: which messages each listener heard, alone or not, and missed, and how far the clocks of two are apart.
+
+JSON and columns follow from these lines."""
+
+import os
+from collections import defaultdict
+from functools import lru_cache
+from typing import NamedTuple, Optional
+
+from tests.captures.wire import A, AAAA
+from tests.judges.hearings import number_at, payload_of, source_of, told_by
+from tests.judges.json_forms import json_text
+from tests.judges.pretty import listeners_columns
+from tests.judges.traced import frames_of
+from tests.judges.words import bytes_text, moment_text, name_text
+
+COMMAND = "listeners"
+
+# How many bytes an address of IPv4 has.
+OF_IPV4 = 4
+
+# The words that ask for each form, and what it must be by the lines of words.
+FORMS = {
+    (): lambda lines: lines,
+    ("--json",): lambda lines: json_text(COMMAND, lines, None),
+    ("--pretty",): listeners_columns,
+}
+
+
+class Message(NamedTuple):
+    """What makes messages the same: the address of the sender, and the payload."""
+    source: bytes
+    payload: bytes
+
+
+class Span(NamedTuple):
+    """From the earliest to the latest of some moments."""
+    first: int
+    last: int
+
+    def has(self, moment):
+        return self.first <= moment <= self.last
+
+    def meets(self, other):
+        return self.has(other.first) or other.has(self.first)
+
+
+def span_of(moments):
+    return Span(min(moments), max(moments)) if moments else None
+
+
+class Recorded(NamedTuple):
+    """What is in a file: the span of its packets, its messages with their moments, and whose name each address is, by the
+    owners of address records."""
+    span: Optional[Span]
+    messages: list
+    names: set
+
+
+@lru_cache(maxsize=64)
+def recorded_in(capture):
+    packets, messages, names = [], [], set()
+    for _, moment, frame in frames_of(capture):
+        packets.append(moment)
+        told = told_by(frame)
+        if told:
+            messages.append((moment, Message(source_of(frame), payload_of(frame))))
+        names.update((data, owner) for _, _, owner, kind, data in told if kind in (A, AAAA))
+    return Recorded(span_of(packets), messages, names)
+
+
+class Listener:
+    """The files of a listener, together."""
+
+    def __init__(self, name, files):
+        self.name = name
+        self.spans = [file.span for file in files if file.span]
+        self.span = span_of([moment for span in self.spans for moment in span])
+        self.heard = defaultdict(list)
+        for file in files:
+            for moment, message in file.messages:
+                self.heard[message].append(moment)
+
+    def listened(self, moment):
+        return any(span.has(moment) for span in self.spans)
+
+    def moments_of(self, messages):
+        """The moments at which it heard some messages, each as often as it did."""
+        return [moment for message in messages if message in self.heard for moment in self.heard[message]]
+
+    def missed(self, listeners, messages):
+        """How many of some messages it never heard, although another one did while it listened."""
+        return sum(any(self.listened(moment) for other in listeners for moment in other.moments_of([message]))
+                   for message in messages if message not in self.heard)
+
+    def alone(self, listeners):
+        """How many different messages no other has."""
+        return sum(not any(message in other.heard for other in listeners if other is not self) for message in self.heard)
+
+
+class Apart(NamedTuple):
+    """Two listeners: how many different messages both have, and for each that each has once how much later the other has it."""
+    one: Listener
+    other: Listener
+    common: int
+    ahead: list
+
+    @property
+    def is_shown(self):
+        spans = self.one.span, self.other.span
+        return self.common > 0 or all(spans) and spans[0].meets(spans[1])
+
+    @property
+    def quartiles(self):
+        """The median, the lesser of two, and the two quartiles."""
+        last = len(self.ahead) - 1
+        return [self.ahead[at] for at in (last // 2, last // 4, last - last // 4)] if self.ahead else None
+
+
+def apart(one, other):
+    both = [message for message in one.heard if message in other.heard]
+    once = [message for message in both if len(one.heard[message]) == len(other.heard[message]) == 1]
+    ahead = sorted(other.heard[message][0] - one.heard[message][0] for message in once)
+    return Apart(one, other, len(both), ahead)
+
+
+def base_name(name):
+    """A name without folders."""
+    return name.rpartition("/")[2]
+
+
+def listeners_of(captures, prefixes):
+    """The listeners of files, each with its name and its bytes: those that begin with the same of some prefixes are one's."""
+    files = {}
+    for number, (name, capture) in enumerate(captures):
+        prefix = next((prefix for prefix in prefixes if base_name(name).startswith(prefix)), None)
+        key = (name, number) if prefix is None else (prefix, None)
+        files.setdefault(key, []).append(recorded_in(capture))
+    return [Listener(name, some) for (name, _), some in files.items()]
+
+
+def pairs_of(listeners):
+    """Each two in order that have something in common, or whose spans meet."""
+    pairs = [apart(one, other) for at, one in enumerate(listeners) for other in listeners[at + 1:]]
+    return [pair for pair in pairs if pair.is_shown]
+
+
+def names_of(names, source):
+    """The names of an address: in the order of their lower case, and of several spellings the least."""
+    spelled = {}
+    for address, owner in names:
+        if address == source:
+            spelled.setdefault(owner.lower(), set()).add(owner)
+    return [min(spelled[folded]) for folded in sorted(spelled)]
+
+
+def listeners_text(captures, prefixes=(), form=()):
+    """What is printed of captures, each with its name, in some form."""
+    return FORMS[form](lines_text(captures, prefixes))
+
+
+def lines_text(captures, prefixes):
+    listeners = listeners_of(captures, prefixes)
+    messages = {message for listener in listeners for message in listener.heard}
+    names = {name for _, capture in captures for name in recorded_in(capture).names}
+    lines = [listener_line(listener, listeners, messages) for listener in listeners]
+    lines += map(pair_line, pairs_of(listeners))
+    for source in sorted({message.source for message in messages}, key=lambda source: (len(source), source)):
+        of_sender = [message for message in messages if message.source == source]
+        owners = [name_text(name) for name in names_of(names, source)]
+        for listener in listeners:
+            lines.append(" ".join([sender_line(source, listener, listeners, of_sender), *owners]))
+    return "".join(f"{line}\n" for line in lines)
+
+
+def listener_line(listener, listeners, messages):
+    heard = len(listener.moments_of(messages))
+    return (f"{file_text(listener.name)} heard {heard} alone {listener.alone(listeners)} "
+            f"missed {listener.missed(listeners, messages)} {bounds(listener.span)}")
+
+
+def pair_line(pair):
+    ahead, low, high = map(signed_text, pair.quartiles) if pair.quartiles else "---"
+    return (f"{file_text(pair.one.name)} {file_text(pair.other.name)} common {pair.common} "
+            f"ahead {ahead} from {low} to {high} by {len(pair.ahead)}")
+
+
+def sender_line(source, listener, listeners, messages):
+    moments = listener.moments_of(messages)
+    return (f"{source_text(source)} {file_text(listener.name)} heard {len(moments)} "
+            f"missed {listener.missed(listeners, messages)} {bounds(span_of(moments))}")
+
+
+def file_text(name):
+    return bytes_text(os.fsencode(name))
+
+
+def bounds(span):
+    first, last = map(moment_text, span) if span else "--"
+    return f"from {first} until {last}"
+
+
+def signed_text(nanos):
+    return ("-" if nanos < 0 else "") + moment_text(abs(nanos))
+
+
+def source_text(source):
+    """An address: numbers with dots, or eight groups of hexadecimal digits, none left out and without leading zeros."""
+    if len(source) == OF_IPV4:
+        return ".".join(map(str, source))
+    return ":".join(f"{number_at(source, at):x}" for at in range(0, len(source), 2))

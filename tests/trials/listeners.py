@@ -1,0 +1,238 @@
+"""Runs of `mdnswhy listeners` over what several listeners recorded, made from a seed: each form must be that of the judge, which
+reads the captures by themselves. In another order of the files the lines are the same, but that the clocks of two are told the
+other way around; and a file in two parts, which `--listener` makes one again, changes no number but what its listener missed.
+
+`listeners.rows` has small captures with their answers, worked out by hand."""
+
+import re
+import shutil
+import subprocess
+import tempfile
+from functools import partial
+from pathlib import Path
+from random import Random
+from typing import NamedTuple
+
+from tests import EXAMPLES
+from tests.captures.built import lay_out_small
+from tests.captures.listening import listenings
+from tests.judges.json_forms import APART, EXPECTED
+from tests.judges.listeners import COMMAND, FORMS, listeners_text
+from tests.judges.pretty import signed_nanos
+from tests.judges.savefile import reading_of, split_at
+from tests.running import runs
+from tests.running.runs import DAMAGED, PATIENCE, REFUSED, WHOLE, Case, agrees, differences, report_difference
+from tests.trials import command_lines
+from tests.trials.command_lines import NO_FILE
+
+said = partial(runs.said, program="mdnswhy")
+misused = partial(command_lines.misused, program="mdnswhy")
+
+# How many sets of captures are made.
+SETS = 200
+
+# What a listener missed, which is all that a file in two parts changes.
+MISSED = re.compile(r"(?<= missed )\d+")
+
+
+def lines_of_one(name):
+    """What is said of the capture of one packet, in a file whose name is printed so."""
+    between = "from 100.000000000 until 100.000000000"
+    return f"{name} heard 1 alone 1 missed 0 {between}\n192.0.2.1 {name} heard 1 missed 0 {between} a.local\n"
+
+
+# Names of files that are escaped in lines, and as they are on standard error.
+TWO_LINES = "a file\nof two lines.pcap"
+QUOTED = "back\\slash \"\u00e9\".pcap"
+IN_FOLDER = "folder/one.pcap"
+
+# Why a prefix is refused.
+UNFIT = "no FILE's name, without folders, begins with it"
+
+CASES = (
+    Case((COMMAND, "one.pcap"), WHOLE, lines_of_one("one.pcap")),
+    Case((COMMAND, "./one.pcap"), WHOLE, lines_of_one("./one.pcap")),
+    Case((COMMAND, "/dev/stdin"), WHOLE, lines_of_one("/dev/stdin"), standard_input="one.pcap"),
+    Case((COMMAND, TWO_LINES), WHOLE, lines_of_one("a\\032file\\010of\\032two\\032lines.pcap")),
+    Case((COMMAND, QUOTED), DAMAGED, lines_of_one('back\\\\slash\\032"\\195\\169".pcap'), f"mdnswhy: {QUOTED}: cut at 117\n"),
+    # A prefix begins the name behind the folders, and may have any characters.
+    Case((COMMAND, "--listener", "one", IN_FOLDER), WHOLE, lines_of_one("one")),
+    Case((COMMAND, "--listener", "back\\slash \"\u00e9", QUOTED), DAMAGED, lines_of_one('back\\\\slash\\032"\\195\\169'),
+         f"mdnswhy: {QUOTED}: cut at 117\n"),
+    said([COMMAND, "--listener", "folder", IN_FOLDER], f"invalid prefix 'folder' for --listener: {UNFIT}"),
+    said([COMMAND, "--listener", "\u00e9", "one.pcap"], f"invalid prefix for --listener: {UNFIT}"),
+    misused([COMMAND, "--listener", "one"], NO_FILE, "listeners --listener <PREFIX> <FILE>..."),
+    misused([COMMAND, "one.pcap", "--listener"], "a value is required for '--listener <PREFIX>' but none was supplied"),
+    said([COMMAND, "--json", "--listener", "west", "--pretty", "one.pcap"], "--json and --pretty can't be given together"),
+    # Nothing is printed before all files are read.
+    said([COMMAND, "one.pcap", "empty.pcap"], "empty.pcap: file header is cut short"),
+    said([COMMAND, "cut.pcap", "folder", "text.pcap"], "folder: read failed"),
+    said([COMMAND, "--listener", "t", "one.pcap", "text.pcap"], "text.pcap: not a classic pcap file"),
+    *(said([COMMAND, *form, "one.pcap"], "write failed", out_to=to) for to in ("closed", "full", "gone") for form in FORMS),
+    *(Case((COMMAND, "cut.pcap"), DAMAGED, lines_of_one("cut.pcap"), err_to=to) for to in ("closed", "full", "gone")),
+)
+
+
+def lay_out(folder):
+    lay_out_small(folder)
+    (folder / "folder").mkdir()
+    shutil.copy(folder / "one.pcap", folder / IN_FOLDER)
+    shutil.copy(folder / "one.pcap", folder / TWO_LINES)
+    shutil.copy(folder / "cut.pcap", folder / QUOTED)
+
+
+class Differs(Exception):
+    """What an answer has otherwise than it must."""
+
+
+class Trial:
+    """The runs over a set of captures, which are laid out in a folder."""
+
+    def __init__(self, program, folder, number, listening):
+        self.program, self.folder = program, folder
+        self.files, self.prefixes = dict(listening.files), listening.prefixes
+        self.rng = Random(number)
+        for name, capture in self.files.items():
+            self.add(name, capture)
+
+    def add(self, name, capture):
+        self.files[name] = capture
+        path = self.folder / name
+        path.parent.mkdir(exist_ok=True)
+        path.write_bytes(capture)
+
+    def case(self, form, names, prefixes):
+        """What is asked of files, and what must come of it."""
+        words = (COMMAND, *form, *(word for prefix in prefixes for word in ("--listener", prefix)), *names)
+        readings = {name: reading_of(self.files[name]) for name in names}
+        fault = next((f"mdnswhy: {name}: {readings[name].fault}\n" for name in names if readings[name].fault), None)
+        if fault:
+            return Case(words, REFUSED, err=fault)
+        endings = "".join(f"mdnswhy: {name}: {readings[name].ending}\n" for name in names if not readings[name].is_whole)
+        text = listeners_text([(name, self.files[name]) for name in names], prefixes, form)
+        return Case(words, DAMAGED if endings else WHOLE, text, endings)
+
+    def answer(self, form, names, prefixes):
+        """The text that is printed, which must be that of the judge."""
+        case = self.case(form, names, prefixes)
+        found = differences(case, answer_of([self.program, *case.words], self.folder))
+        if found:
+            raise Differs("\n".join([runs.command(self.program, case.words), *found]))
+        return case.out
+
+    def run(self):
+        names = list(self.files)
+        text = self.answer((), names, self.prefixes)
+        for form in list(FORMS)[1:]:
+            self.answer(form, names, self.prefixes)
+        if text:
+            self.in_another_order(names, text)
+            self.in_two_parts(names)
+
+    def in_another_order(self, names, text):
+        """In another order of the files the lines are the same, told of each two in one order."""
+        again = self.answer((), self.rng.sample(names, len(names)), self.prefixes)
+        if in_order(again) != in_order(text):
+            raise Differs(f"{names} in another order: {runs.lines_apart(in_order(text), in_order(again))}")
+
+    def in_two_parts(self, names):
+        """A file that is cut in two where a packet begins is one again by a prefix that no other file has."""
+        name = self.rng.choice(names)
+        whole = reading_of(self.files[name]).whole_part
+        packets = reading_of(whole).packets
+        if not packets:
+            return
+        self.add("parted.pcap", whole)
+        for number, part in enumerate(split_at(whole, self.rng.choice(packets).at)):
+            self.add(f"parted-{number}.pcap", part)
+        others = [other for other in names if other != name]
+        at = self.rng.randint(0, len(others))
+        prefixes = ["parted", *(prefix for prefix in self.prefixes if fits_some(prefix, others))]
+        one, two = (self.answer((), [*others[:at], *parts, *others[at:]], prefixes)
+                    for parts in (["parted.pcap"], ["parted-0.pcap", "parted-1.pcap"]))
+        if not are_alike(one, two):
+            raise Differs(f"{name} in two parts: {runs.lines_apart(one, two)}")
+
+
+def answer_of(words, folder):
+    """The status of a run, or None where it has not ended in time, and what it wrote on its two streams."""
+    try:
+        ended = subprocess.run(words, cwd=folder, stdin=subprocess.DEVNULL, capture_output=True, timeout=PATIENCE)
+    except subprocess.TimeoutExpired:
+        return None, b"", b""
+    return ended.returncode, ended.stdout, ended.stderr
+
+
+def fits_some(prefix, names):
+    return any(name.rpartition("/")[2].startswith(prefix) for name in names)
+
+
+class Clock(NamedTuple):
+    """What is said of two listeners, the lesser name first. Of an even number the lesser of two medians depends on the order."""
+    one: str
+    other: str
+    common: str
+    bounds: tuple
+    median: object
+    by: str
+
+
+def clock_of(found):
+    one, other, common, *moments, by = found.groups()
+    signs = -1 if one > other else 1
+    ahead, low, high = (None if text == "-" else signs * signed_nanos(text) for text in moments)
+    bounds = () if ahead is None else tuple(sorted((low, high)))
+    return Clock(min(one, other), max(one, other), common, bounds, ahead if int(by) % 2 else None, by)
+
+
+def in_order(text):
+    """The lines of an answer in an order that the order of files doesn't change."""
+    lines = text.splitlines()
+    clocks = [clock_of(found) for found in map(APART.fullmatch, lines) if found]
+    return "".join(f"{line}\n" for line in sorted([*map(str, clocks), *(line for line in lines if not APART.fullmatch(line))]))
+
+
+def are_alike(one, two):
+    """Whether two answers differ only in what the listener of parts missed, which is no more in parts."""
+    for line, parted in zip(one.splitlines(), two.splitlines()):
+        if line != parted:
+            missed, fewer = (int(MISSED.search(some)[0]) for some in (line, parted))
+            is_of_parts = re.match(r"(?:\S+ )?parted heard ", line) is not None
+            if not is_of_parts or fewer > missed or MISSED.sub("", line) != MISSED.sub("", parted):
+                return False
+    return one.count("\n") == two.count("\n")
+
+
+def try_sets(why, folder):
+    """Answers how many sets of captures have other answers than they must."""
+    failed = 0
+    for number, listening in enumerate(listenings(SETS, folder / "scratch")):
+        with tempfile.TemporaryDirectory(dir=folder) as place:
+            try:
+                Trial(why, Path(place), number, listening).run()
+            except Differs as what:
+                failed += 1
+                print(f"the set {number} of listenings: {what}")
+    return failed
+
+
+def try_expected():
+    """Answers how many expected outputs of the examples aren't those of the judge."""
+    captures = [(name, (EXAMPLES / name).read_bytes()) for name in ("west.pcap", "east.pcap")]
+    failed = 0
+    for form in FORMS:
+        path, must = EXPECTED / f"west-east.{COMMAND}{''.join(form).replace('--', '-')}.txt", listeners_text(captures, form=form)
+        if path.read_text("utf-8") != must:
+            failed += 1
+            report_difference(f"examples/expected/{path.name}, beside what the captures give", must, path.read_text("utf-8"))
+    return failed
+
+
+def try_listeners(merge, folder):
+    """Tries the mdnswhy that lies beside mdnsmerge; answers how many runs or sets of captures failed."""
+    why = merge.with_name("mdnswhy")
+    lay_out(folder)
+    failed = sum(not agrees(case, why, folder) for case in CASES)
+    failed += try_sets(why, folder) + try_expected()
+    print(f"{len(CASES)} runs of mdnswhy listeners, and over {SETS} sets of captures, {failed} failed")
+    return failed
