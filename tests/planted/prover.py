@@ -2,6 +2,7 @@
 
 What the prover is to be told of the libraries below is in the toolchain's own `rtlib.py`."""
 
+import json
 import os
 import shutil
 import subprocess
@@ -9,7 +10,8 @@ import sys
 from pathlib import Path
 
 from tests import TOP
-from tests.planted.verdicts import Told
+from tests.planted.bare import bare
+from tests.planted.verdicts import Told, name_of
 
 PARTS = ("src", "specs", "proofs")
 
@@ -40,6 +42,31 @@ def link_or_copy(one, other):
     return shutil.copy2(one, other)
 
 
+def texts_of(folder):
+    """The texts of a crate's sources and proofs, by their paths."""
+    files = [file for part in ("src", "proofs") for file in sorted((folder / part).rglob("*")) if file.is_file()]
+    return {str(file.relative_to(folder)): file.read_text() for file in files}
+
+
+def put_texts(room, texts):
+    """Gives a folder these sources and proofs, and no others; a file that has its text stays as it is."""
+    old = texts_of(room)
+    for path in old.keys() - texts.keys():
+        (room / path).unlink()
+    for path, text in texts.items():
+        if old.get(path) != text:
+            (room / path).parent.mkdir(parents=True, exist_ok=True)
+            (room / path).write_text(text)
+
+
+def functions_in(rlib):
+    """The functions of a library that is built, as the prover calls them; none where its file of them can't be read."""
+    try:
+        return [name.partition("::")[2] for name, _ in json.loads((rlib / "toolchain/mir.json").read_text())]
+    except (OSError, ValueError, TypeError):
+        return []
+
+
 def once(made):
     """Has a crate's stamp made only once; it is made of those of the crates below, each of which would be asked for many times."""
     known = {}
@@ -61,6 +88,7 @@ class Prover:
         self.crates = {crate.name: crate for crate in self.rtlib.crates_below(str(TOP))}
         for crate in self.crates.values():
             crate.out = open(os.devnull, "w")
+        self.functions = {}
 
     def stamp(self, name):
         """A sum of all that a verdict on a crate rests on."""
@@ -84,7 +112,7 @@ class Prover:
                     sys.exit(f"planted: {crate.name} isn't proved")
 
     def begin(self, name, room):
-        """Copies a crate, and what its last check proved, into a folder."""
+        """Copies what a crate states, and what its last check proved, into a folder."""
         folder = Path(self.crates[name].folder)
         for part in PARTS:
             if (folder / part).is_dir():
@@ -95,16 +123,30 @@ class Prover:
         else:
             (room / "incremental").mkdir()
 
-    def check(self, name, room, texts):
-        """What the prover says of a crate of which some files have other texts; a later check goes on with what this one proved."""
-        folder = Path(self.crates[name].folder)
-        for file in (room / "src").glob("*.rt"):
-            text = texts.get(f"src/{file.name}") or (folder / "src" / file.name).read_text()
-            if file.read_text() != text:
-                file.write_text(text)
-        words = self.crates[name].words(["--jobs", "1"], keeps=False)
+    def names(self, name):
+        """The functions of a crate, as the prover calls them; none where the crate isn't built, and nothing was checked yet."""
+        crate = self.crates[name]
+        if name not in self.functions and self.is_built(crate):
+            self.functions[name] = functions_in(Path(crate.rlib))
+        return self.functions.get(name, [])
+
+    def check(self, name, room, texts, kept, targets):
+        """What the prover says of the functions `targets` of a crate of which some files have other texts, and only the functions
+        `kept`, by path, have bodies and proofs; a later check goes on with what this one proved.
+
+        Where it isn't known what the prover calls a function, it is asked about the whole crate as it is."""
+        folder, names, words = Path(self.crates[name].folder), self.names(name), []
+        asked = [name_of(item, names) for item in targets]
+        whole = {**texts_of(folder), **texts}
+        if all(asked):
+            whole = bare(whole, name, names, kept)
+            words = ["--allow-holes", *[word for one in dict.fromkeys(asked) for word in ("--only", one)]]
+        put_texts(room, whole)
+        words += self.crates[name].words(["--jobs", "1"], keeps=False)
         ran = subprocess.Popen([self.rtlib.RATTLE, "check", *words, "--incremental", str(room / "incremental")], cwd=room,
                                stdin=subprocess.DEVNULL, stdout=subprocess.PIPE, stderr=subprocess.STDOUT, text=True, errors="replace")
         said = ran.stdout.read()
         _, _, used = os.wait4(ran.pid, 0)
-        return Told(said.rstrip("\n"), used.ru_utime + used.ru_stime)
+        told = Told(said.rstrip("\n"), used.ru_utime + used.ru_stime, names)
+        self.functions[name] = names or told.names
+        return told

@@ -12,6 +12,8 @@ COMPILER = re.compile(r"(?:\./)?(src/\S+?):(\d+):\d+: error\[")
 CALLEE = re.compile(r"it calls `|it waits for|cites? .*not (?:proved|admitted)|was not admitted")
 SCRIPT = re.compile(r"no goal of that name|is not in scope|has no field|has no `|is no name|no such|is not a goal")
 LIMIT = re.compile(r"ran out of|outgrew the memory limit|stopped at the step limit|could not tell")
+# What it says of a function that is proved, and of one that is proved where those that it calls are.
+PROVED = ("proved", "no holes", "depends on a hole in ")
 # How the prover names a goal: in an error, in a note, or in a list.
 GOAL = re.compile(r"(?:(?<=error: )|(?<=\()|(?<=^)|(?<=`, ))`(\w[\w-]*)`(?=:|\)|,|$)")
 GOALS = re.compile(r"did not prove ((?:`[^`]+`(?:, )?)+)")
@@ -25,14 +27,41 @@ class Verdict(NamedTuple):
     said: str
 
 
-class Told:
-    """The lines of a check, and how many seconds of a processor it took."""
+def name_of(item, names):
+    """The name of these by which the prover speaks of a function; none where that isn't one.
 
-    def __init__(self, text, seconds=0.0):
+    It calls an impl by its type and its trait: `WantFromAllocError`, `RefInOrderIntoIterator`, `AnyJoinInto`."""
+    trait = re.sub(r"<.*", "", item.trait).rpartition("::")[2]
+    owner = re.sub(r"\[(\w+)\]", lambda slice: f"Slice{slice.group(1).capitalize()}", item.owner.replace("&", "Ref"))
+    owner = re.sub(r"'\w+|\W", "", owner)
+    words = "".join(re.findall(r"\w+", owner + item.trait))
+    found = []
+    for name in names:
+        *module, last = name.split("::")
+        if last != item.name or (len(module) == 1) != (not item.owner):
+            continue
+        kind = module[-1]
+        if not item.owner:
+            rank = (module == [item.module]) * 9
+        elif kind.startswith((owner + trait, "Any" + trait)) if trait else kind == owner:
+            rank = 1 + len(os.path.commonprefix([kind, words])) + (module[0] == item.module)
+        else:
+            rank = 0
+        found.append((rank, name))
+    best = max((rank for rank, _ in found), default=0)
+    named = [name for rank, name in found if rank == best]
+    return named[0] if best and len(named) == 1 else None
+
+
+class Told:
+    """The lines of a check, how many seconds of a processor it took, and the functions of the crate as the prover calls them."""
+
+    def __init__(self, text, seconds=0.0, names=()):
         self.text, self.seconds = text, seconds
         self.lines = text.split("\n")
         found = [FUNCTION.fullmatch(line) for line in self.lines]
         self.functions = {match.group(1).partition("::")[2]: match.group(2) for match in found if match}
+        self.names = names or list(self.functions)
         places = [PLACE.match(line) for line in self.lines]
         self.places = [(match.group(1), int(match.group(2)), match.group(3)) for match in places if match]
 
@@ -40,38 +69,13 @@ class Told:
         """Whether the crate compiles, so that the prover came to a verdict on its functions."""
         return bool(self.functions)
 
-    def named(self, item):
-        """The name by which the prover speaks of a function; none where that isn't one.
-
-        It calls an impl by its type and its trait: `WantFromAllocError`, `RefInOrderIntoIterator`, `AnyJoinInto`."""
-        trait = re.sub(r"<.*", "", item.trait).rpartition("::")[2]
-        owner = re.sub(r"\[(\w+)\]", lambda slice: f"Slice{slice.group(1).capitalize()}", item.owner.replace("&", "Ref"))
-        owner = re.sub(r"'\w+|\W", "", owner)
-        words = "".join(re.findall(r"\w+", owner + item.trait))
-        found = []
-        for name in self.functions:
-            *module, last = name.split("::")
-            if last != item.name or (len(module) == 1) != (not item.owner):
-                continue
-            kind = module[-1]
-            if not item.owner:
-                rank = (module == [item.module]) * 9
-            elif kind.startswith((owner + trait, "Any" + trait)) if trait else kind == owner:
-                rank = 1 + len(os.path.commonprefix([kind, words])) + (module[0] == item.module)
-            else:
-                rank = 0
-            found.append((rank, name))
-        best = max((rank for rank, _ in found), default=0)
-        names = [name for rank, name in found if rank == best]
-        return names[0] if best and len(names) == 1 else None
-
     def verdict(self, item):
         """What the check says of a function."""
-        name = self.named(item)
-        if not name:
+        name = name_of(item, self.names)
+        if name not in self.functions:
             return Verdict(UNSETTLED, "the prover names no function so")
         said = self.functions[name]
-        if said.startswith("proved"):
+        if said.startswith(PROVED):
             return Verdict(SURVIVES, "")
         # That of a function which calls itself begins with a plus sign.
         *module, last = name.split("::")
