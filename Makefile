@@ -8,7 +8,7 @@ SOURCES := $(shell find crates crates.txt -path '*/out' -prune $(BESIDE:%=-o -pa
 # stands on the other; crates.txt says on which each stands.
 PROGRAMS := mdnsmerge mdnswhy
 CRATES := mdns_capture memory dns_name mdns_message join_map people_text mdns_join mdns_cache mdns_lives mdns_browse \
-	mdns_survey mdns_trace mdns_page command_line $(PROGRAMS)
+	mdns_survey mdns_listeners mdns_trace mdns_page command_line $(PROGRAMS)
 PROVED := $(CRATES:%=out/%.proved)
 SIDE_BY_SIDE ?= 2
 
@@ -27,7 +27,7 @@ all: $(PROGRAMS)
 $(PROGRAMS) &: $(SOURCES)
 	$(NEED_RT)
 	@mkdir -p out && rm -f $(PROVED)
-	@echo "Sixteen crates are proved now; the first time that takes 25 to 45 minutes. What the prover says is in out/*.log."
+	@echo "Seventeen crates are proved now; the first time that takes 25 to 45 minutes. What the prover says is in out/*.log."
 	@$(MAKE) --no-print-directory --jobs=$(SIDE_BY_SIDE) $(PROGRAMS:%=out/%.proved)
 	@cp $(foreach program,$(PROGRAMS),crates/$(program)/out/$(program)) .
 
@@ -40,7 +40,7 @@ $(PROVED): out/%.proved:
 		echo "mdnsmerge: $* is not proved, or not built; all that was said is in out/$*.log" >&2; \
 		exit 1; }
 	@touch $@
-	@set -- out/*.proved; echo "$$# of 16: $*"
+	@set -- out/*.proved; echo "$$# of 17: $*"
 
 # What a crate waits for: the crates that its line of crates.txt names.
 below = $(filter $(CRATES),$(shell sed -n 's/^$(1)://p' crates.txt))
