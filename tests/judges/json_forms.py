@@ -79,11 +79,11 @@ def bounds(first, last):
 
 def instances_of(text, other):
     """The objects of instances, each of a line without an indent and those below it."""
-    ends = {}
+    given = {}
     for line in other("records").splitlines():
         record = MEMBERS["records"].fullmatch(line)
         if record["type"] == "PTR":
-            ends[record["owner"].lower(), record["data"].strip()] = record["ttl"] == "0"
+            given[record["owner"].lower(), record["data"].strip()] = record["owner"], record["ttl"] == "0"
     for name, *below in (block.splitlines() for block in re.split(r"\n(?=\S)", text.removesuffix("\n")) if block):
         servers, texts = [], []
         for line in below:
@@ -96,9 +96,10 @@ def instances_of(text, other):
                 servers[-1]["addresses"] += words
             elif what == "text":
                 texts.append(words)
-        kind = name[len(LABEL.match(name)[0]) + 1:]
-        yield {"instance": name, "shown": shown_of({"instance": name}), "type": kind, "goodbye": ends[kind.lower(), name],
-               "servers": servers, "texts": texts}
+        # The type is spelled as the owner of the PTR record, and not as in the name of the instance.
+        kind, goodbye = given[name[len(LABEL.match(name)[0]) + 1:].lower(), name]
+        yield {"instance": name, "shown": shown_of({"instance": name}), "type": kind, "goodbye": goodbye, "servers": servers,
+               "texts": texts}
 
 
 def files_of(text, other):
