@@ -61,12 +61,15 @@ def owner_of(line):
 def extent(lines, first, indent):
     """Where the contract, the body and the end of the item at `first` stand."""
     clauses = body = -1
+    depth = 0
     for index in range(first, len(lines)):
         line = lines[index]
+        depth += line.count("{") - line.count("}")
         is_outer = line.startswith(indent) and not line.startswith(indent + " ")
         if body < 0 and clauses < 0 and CLAUSE.match(line):
             clauses = index
-        if body < 0 and line.endswith(";"):
+        # A record in a clause has lines that end so, too.
+        if body < 0 and depth == 0 and line.endswith(";"):
             return clauses, body, index
         if body < 0 and is_outer and line.endswith("{}"):
             return clauses, index, index
