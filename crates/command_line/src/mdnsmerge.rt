@@ -20,7 +20,7 @@ use crate::unmade::{Unmade, refusal_of};
 use crate::words::{AskFault, Asked, Task, Told, WordsFault};
 use mdns_browse::report::{Ask, Form};
 use mdns_capture::Moment;
-use mdns_survey::request::{AsOf, LivesQuery, Query, Request, What, Which};
+use mdns_survey::request::{AsOf, LivesRequest, ReportRequest, Request, What, Which};
 use std::alloc::Global;
 
 /// What a subcommand of `asked` asks for.
@@ -223,13 +223,13 @@ fn task_of(asks: Asks, scope: Scope) -> Task
     let Scope { form, as_of, lists } = scope;
     let Lists { about, .. } = lists;
     match asks {
-        Asks::Report(ask) => Task::Survey(Request::Report(Query {
+        Asks::Report(ask) => Task::Survey(Request::Report(ReportRequest {
             ask,
             form,
             as_of,
             about,
         })),
-        Asks::Lives(which) => Task::Survey(Request::Lives(LivesQuery {
+        Asks::Lives(which) => Task::Survey(Request::Lives(LivesRequest {
             which,
             form,
             as_of,

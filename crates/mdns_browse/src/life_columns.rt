@@ -13,7 +13,7 @@ use crate::columns::{push_padded, wider, word_for};
 use crate::life_text::{Layout, reason_word};
 use crate::record_shown::push_shown_record;
 use mdns_capture::Moment;
-use mdns_lives::{Life, Reason, Which};
+use mdns_lives::{EndReason, Life, Which};
 use mdns_message::{Resource, Want};
 use people_text::moment_text::push_millis;
 
@@ -142,12 +142,12 @@ fn end_shown(end: Moment, life: &Life) -> &'static str
 }
 
 // Returns what is said of a life that goes on, and will end for this reason unless the record is heard again.
-fn open_word(reason: Reason) -> &'static str
+fn open_word(reason: EndReason) -> &'static str
     ensures { result.now ≡ open_text reason }
 {
     match reason {
-        Reason::RanOut => "live",
-        Reason::Goodbye => "live, said goodbye",
-        Reason::Flushed => "live, flushed",
+        EndReason::RanOut => "live",
+        EndReason::Goodbye => "live, said goodbye",
+        EndReason::Flushed => "live, flushed",
     }
 }

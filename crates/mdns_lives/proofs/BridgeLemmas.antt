@@ -15,8 +15,8 @@ use Rattle.mdns_cache.specs.Live.{IsHeard, IsLast}
 use Rattle.mdns_cache.specs.Live.{life_of, IsStruck}
 use Rattle.mdns_lives.specs.declared.life.Heard.{Heard}
 use Rattle.mdns_lives.specs.declared.life.Life.{Life}
-use Rattle.mdns_lives.specs.declared.life.Reason.{Reason}
-use Rattle.mdns_lives.specs.declared.life.Reason.TheVariants.{RanOut, Goodbye, Flushed}
+use Rattle.mdns_lives.specs.declared.life.EndReason.{EndReason}
+use Rattle.mdns_lives.specs.declared.life.EndReason.TheVariants.{RanOut, Goodbye, Flushed}
 use Rattle.mdns_lives.specs.Lives.{heard_until, IsLiveThen, IsStruckAt, IsEndFor, EndsThen, AreLives}
 use Rattle.mdns_lives.specs.History.{heard_of, IsHistory, AreFlushes, IsUpTo, IsLastAt, IsLiveAt, IsFlushEnd, IsEndBy}
 use Rattle.mdns_lives.specs.History.{EndsBy, AreLivesBy}
@@ -159,12 +159,13 @@ module _ (some_last : SomeLast) (heard : List Hearing) (key : Key) (history : Li
 
   -- ---- reasons
 
-  end_for-into : (l : Latest) (end : ℕ) (reason : Reason) → IsEndFor heard key l end reason → IsEndBy flushes (heard_as l) end reason
+  end_for-into : (l : Latest) (end : ℕ) (reason : EndReason) → IsEndFor heard key l end reason
+      → IsEndBy flushes (heard_as l) end reason
   end_for-into l end RanOut e = e
   end_for-into l end Goodbye e = e
   end_for-into l end Flushed e = (e.0, flush_end-into l.moment.nanos end e.1)
 
-  end_for-from : (l : Latest) (h : Heard) (end : ℕ) (reason : Reason) → l.moment.nanos ≡ h.moment.nanos → l.ttl ≡ h.ttl
+  end_for-from : (l : Latest) (h : Heard) (end : ℕ) (reason : EndReason) → l.moment.nanos ≡ h.moment.nanos → l.ttl ≡ h.ttl
       → IsEndBy flushes h end reason → IsEndFor heard key l end reason
   end_for-from l h end RanOut e f p = let out = out-same l h e f in (omega (arith, f, p.0), p.1 ∙ sym out)
   end_for-from l h end Goodbye e f p = let out = out-same l h e f in (omega (arith, f, p.0), p.1 ∙ sym out)

@@ -7,8 +7,8 @@ use Rattle.mdns_cache.specs.Live.{life_of}
 use Rattle.mdns_cache.proofs.StandsPartLemmas.{Contains-nil, Contains-head, Contains-later, Contains-cases}
 use Rattle.mdns_lives.specs.declared.life.Heard.{Heard}
 use Rattle.mdns_lives.specs.declared.life.Life.{Life}
-use Rattle.mdns_lives.specs.declared.life.Reason.{Reason}
-use Rattle.mdns_lives.specs.declared.life.Reason.TheVariants.{RanOut, Goodbye, Flushed}
+use Rattle.mdns_lives.specs.declared.life.EndReason.{EndReason}
+use Rattle.mdns_lives.specs.declared.life.EndReason.TheVariants.{RanOut, Goodbye, Flushed}
 use Rattle.mdns_lives.specs.History.{IsUpTo, IsLastAt, IsLiveAt, IsEndBy, EndsBy, AreLivesBy}
 use Rattle.mdns_lives.specs.Seconds.{second_of, AreEndsOf}
 use Rattle.mdns_lives.proofs.OrderLemmas.{IsUpTo-itself, IsUpTo-onward, either_order, no_later, same_heard}
@@ -93,7 +93,7 @@ module _ (flushes : List ℕ) where
             absurd (omega (arith, later, old, l));
       }
 
-  ends-late : (last : Heard) (end : ℕ) (reason : Reason) → IsEndBy flushes last end reason → last.moment.nanos + second ≤ end
+  ends-late : (last : Heard) (end : ℕ) (reason : EndReason) → IsEndBy flushes last end reason → last.moment.nanos + second ≤ end
   ends-late last end RanOut e = let long = life-second last.ttl in omega (arith, long, e.1)
   ends-late last end Goodbye e = let long = life-second last.ttl in omega (arith, long, e.1)
   ends-late last end Flushed e = grind arith

@@ -13,8 +13,8 @@ use Rattle.mdns_cache.specs.Live.{life_of, IsLive}
 use Rattle.mdns_cache.specs.Live.{IsEnd}
 use Rattle.mdns_cache.proofs.StandsPartLemmas.{IsLast-same, IsLast-among}
 use Rattle.mdns_lives.specs.declared.life.Life.{Life}
-use Rattle.mdns_lives.specs.declared.life.Reason.{Reason}
-use Rattle.mdns_lives.specs.declared.life.Reason.TheVariants.{RanOut, Goodbye, Flushed}
+use Rattle.mdns_lives.specs.declared.life.EndReason.{EndReason}
+use Rattle.mdns_lives.specs.declared.life.EndReason.TheVariants.{RanOut, Goodbye, Flushed}
 use Rattle.mdns_lives.specs.Lives.{heard_until, heard_before, IsLiveThen, IsDuring, IsInOne, AreApart, AreApartAfter, IsEndFor}
 use Rattle.mdns_lives.specs.Lives.{EndsThen, AreLives}
 use Rattle.mdns_cache.proofs.StandsPartLemmas.{Contains-cases, Contains-nil}
@@ -64,7 +64,7 @@ one_ending heard others key same x y e p q =
       by x.reason y.reason (subst (λ n. IsEndFor heard key p.last n x.reason) e p.ends) q.ends out ttl,
     )
   where
-    by : (r s : Reason) → IsEndFor heard key p.last y.until r → IsEndFor others key q.last y.until s
+    by : (r s : EndReason) → IsEndFor heard key p.last y.until r → IsEndFor others key q.last y.until s
         → p.last.moment.nanos + life_of p.last.ttl ≡ q.last.moment.nanos + life_of q.last.ttl → p.last.ttl ≡ q.last.ttl → r ≡ s
     by RanOut RanOut p q out ttl = refl
     by RanOut Goodbye p q out ttl = absurd (omega (arith, p.0, q.0, ttl))
@@ -84,7 +84,7 @@ one_list_among heard others key xs ys same p q =
     (λ now w. (q.exactly now).0 (live_then-among now heard others key same ((p.exactly now).1 w)))
     (λ now w. (p.exactly now).0 (live_then-among now others heard key back ((q.exactly now).1 w))) p.ends q.ends
 
-ends-among : (heard others : List Hearing) (key : Key) → SameHearings heard others → (l : Latest) (end : ℕ) (r : Reason)
+ends-among : (heard others : List Hearing) (key : Key) → SameHearings heard others → (l : Latest) (end : ℕ) (r : EndReason)
     → IsEndFor heard key l end r → IsEndFor others key l end r
 ends-among heard others key same l end RanOut e = e
 ends-among heard others key same l end Goodbye e = e

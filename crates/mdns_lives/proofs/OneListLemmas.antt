@@ -5,7 +5,7 @@ use Rattle.std.proofs.lemmas.Bool.{cases_lt}
 use Rattle.mdns_join.specs.laws.Latest.{moment-same}
 use Rattle.mdns_lives.specs.declared.life.Heard.{Heard}
 use Rattle.mdns_lives.specs.declared.life.Life.{Life}
-use Rattle.mdns_lives.specs.declared.life.Reason.{Reason}
+use Rattle.mdns_lives.specs.declared.life.EndReason.{EndReason}
 use Rattle.mdns_lives.specs.History.{IsEndBy, EndsBy, AreLivesBy}
 use Rattle.mdns_lives.specs.Lives.{IsInOne, AreApartAfter, AreApart}
 use Rattle.mdns_cache.proofs.StandsPartLemmas.{Contains-head, Contains-later}
@@ -53,7 +53,7 @@ rest-within x y xs ys a e into now w = grind (arith, after_low)
 
 -- ---- the reason of an end
 
-same_reason : (flushes : List ℕ) (a b : Heard) (end : ℕ) (r s : Reason) → a.moment.nanos ≡ b.moment.nanos → a.ttl ≡ b.ttl
+same_reason : (flushes : List ℕ) (a b : Heard) (end : ℕ) (r s : EndReason) → a.moment.nanos ≡ b.moment.nanos → a.ttl ≡ b.ttl
     → IsEndBy flushes a end r → IsEndBy flushes b end s → r ≡ s
 same_reason flushes a b end r s e f p q = grind arith
 

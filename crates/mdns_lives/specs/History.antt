@@ -9,8 +9,8 @@ use Rattle.mdns_join.specs.Kept.{has, IsStruckBy}
 use Rattle.mdns_cache.specs.Live.{life_of, IsFlushedAt}
 use Rattle.mdns_lives.specs.declared.life.Heard.{Heard}
 use Rattle.mdns_lives.specs.declared.life.Life.{Life}
-use Rattle.mdns_lives.specs.declared.life.Reason.{Reason}
-use Rattle.mdns_lives.specs.declared.life.Reason.TheVariants.{RanOut, Goodbye, Flushed}
+use Rattle.mdns_lives.specs.declared.life.EndReason.{EndReason}
+use Rattle.mdns_lives.specs.declared.life.EndReason.TheVariants.{RanOut, Goodbye, Flushed}
 use Rattle.mdns_lives.specs.Lives.{IsInOne, AreApart}
 
 -- ---- what is kept of the hearings
@@ -70,7 +70,7 @@ pub record IsFlushEnd (flushes : List ℕ) (t end : ℕ) : Type 0 where
   pub at_it : flush + second ≡ end
 
 -- a record with this last hearing ends then for that reason
-abbrev pub IsEndBy : List ℕ → Heard → ℕ → Reason → Type 0
+abbrev pub IsEndBy : List ℕ → Heard → ℕ → EndReason → Type 0
 IsEndBy flushes last end RanOut = (0 < last.ttl) × (end ≡ last.moment.nanos + life_of last.ttl)
 IsEndBy flushes last end Goodbye = (last.ttl ≡ 0) × (end ≡ last.moment.nanos + life_of last.ttl)
 IsEndBy flushes last end Flushed = (end < last.moment.nanos + life_of last.ttl) × IsFlushEnd flushes last.moment.nanos end

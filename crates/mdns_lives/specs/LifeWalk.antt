@@ -2,8 +2,8 @@
 use Rattle.std.specs.Prelude.{◌≡◌, ℕ, ◌+◌, ◌≤◌, ◌==◌, nat_lt, nat_le, if◌then◌else◌, List, [], ◌∷◌}
 use Rattle.mdns_lives.specs.declared.life.Heard.{Heard}
 use Rattle.mdns_lives.specs.declared.life.Life.{Life}
-use Rattle.mdns_lives.specs.declared.life.Reason.{Reason}
-use Rattle.mdns_lives.specs.declared.life.Reason.TheVariants.{RanOut, Goodbye, Flushed}
+use Rattle.mdns_lives.specs.declared.life.EndReason.{EndReason}
+use Rattle.mdns_lives.specs.declared.life.EndReason.TheVariants.{RanOut, Goodbye, Flushed}
 use Rattle.mdns_cache.specs.Live.{life_of}
 use Rattle.mdns_cache.specs.LentRecords.{end_of}
 
@@ -20,7 +20,7 @@ abbrev pub GiveSameEnds : ℕ → List ℕ → List ℕ → Type 0
 GiveSameEnds low fs gs = (t out : ℕ) → low ≤ t → end_of fs t out ≡ end_of gs t out
 
 -- and why it ends
-abbrev pub reason_after : List ℕ → Heard → Reason
+abbrev pub reason_after : List ℕ → Heard → EndReason
 reason_after flushes h =
     if nat_lt (end_after flushes h) (out_of h) then Flushed else (if h.ttl == 0 then Goodbye else RanOut)
 

@@ -21,7 +21,7 @@ mod waiting;
 
 pub use changes::ChosenWalk;
 pub use chronicle::Chronicle;
-pub use life::{Heard, Life, Reason, Which};
+pub use life::{EndReason, Heard, Life, Which};
 pub use live_since::LiveSince;
 pub use lives::{Lives, LivesWalk, RecordLives};
 pub use recording::Recording;

@@ -13,7 +13,7 @@ pub struct Heard {
 
 /// Why a life ends.
 #[derive(Clone, Copy)]
-pub enum Reason {
+pub enum EndReason {
     /// The TTL of its last hearing ran out. Texts say `expired`.
     RanOut,
     /// Its last hearing was a goodbye, one second before (RFC 6762, section 10.1).
@@ -33,7 +33,7 @@ pub struct Life {
     /// Its end, in nanoseconds since 1970. It may be later than the greatest `Moment`.
     pub until: u64,
     /// Why it ends.
-    pub reason: Reason,
+    pub reason: EndReason,
 }
 
 /// Which lives of each record.

@@ -9,7 +9,7 @@ ghost use Rattle.mdns_cache.specs.LentRecords.{end_of};
 ghost use Rattle.mdns_lives.specs.History.{AreInOrder, AreLivesBy};
 ghost use Rattle.mdns_lives.specs.LifeWalk.{GiveSameEnds, life_after, lives_from, walked};
 
-use crate::life::{Heard, Life, Reason};
+use crate::life::{EndReason, Heard, Life};
 use crate::packed::Packed;
 use mdns_cache::lifetime::life;
 use mdns_capture::Moment;
@@ -91,11 +91,11 @@ fn life_after(later: &[Moment], heard: Heard) -> Life
     let out = heard.moment.nanos() + life(heard.ttl);
     let until = end_by(later, out);
     let reason = if until < out {
-        Reason::Flushed
+        EndReason::Flushed
     } else if heard.ttl == 0 {
-        Reason::Goodbye
+        EndReason::Goodbye
     } else {
-        Reason::RanOut
+        EndReason::RanOut
     };
     Life {
         from: heard.moment,

@@ -4,8 +4,8 @@ use Rattle.std.specs.Prelude.{List, [], ◌++◌, ◌∷◌, codes, string_bytes
 use Rattle.std.specs.List.{join_by}
 use Rattle.mdns_capture.specs.Text.{ending_text}
 use Rattle.mdns_lives.specs.declared.life.Life.{Life}
-use Rattle.mdns_lives.specs.declared.life.Reason.{Reason}
-use Rattle.mdns_lives.specs.declared.life.Reason.TheVariants.{RanOut, Goodbye, Flushed}
+use Rattle.mdns_lives.specs.declared.life.EndReason.{EndReason}
+use Rattle.mdns_lives.specs.declared.life.EndReason.TheVariants.{RanOut, Goodbye, Flushed}
 use Rattle.mdns_browse.specs.declared.about.Subject.{Subject}
 use Rattle.mdns_survey.specs.ProgramLines.{is_whole}
 use Rattle.people_text.specs.MomentText.{millis_text}
@@ -19,7 +19,7 @@ use Rattle.mdns_page.specs.declared.axis.Axis.{Axis}
 -- ---- how many instances ended
 
 -- the life ended for this reason before the end of the captures
-abbrev pub is_ended : Axis → Reason → Life → Bool
+abbrev pub is_ended : Axis → EndReason → Life → Bool
 is_ended axis reason life = if goes_on axis life then false else is_for reason life.reason
 
 -- ---- the first line

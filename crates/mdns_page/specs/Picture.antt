@@ -4,8 +4,8 @@ use Rattle.std.specs.Prelude.{List, [], ◌∷◌, ◌++◌, codes}
 use Rattle.std.specs.Fmt.{decimal}
 use Rattle.std.specs.List.{filter_map, flat_map}
 use Rattle.mdns_lives.specs.declared.life.Life.{Life}
-use Rattle.mdns_lives.specs.declared.life.Reason.{Reason}
-use Rattle.mdns_lives.specs.declared.life.Reason.TheVariants.{RanOut, Goodbye, Flushed}
+use Rattle.mdns_lives.specs.declared.life.EndReason.{EndReason}
+use Rattle.mdns_lives.specs.declared.life.EndReason.TheVariants.{RanOut, Goodbye, Flushed}
 use Rattle.mdns_page.specs.Axis.{place, place_end}
 use Rattle.mdns_page.specs.BarTitles.{life_title}
 use Rattle.mdns_page.specs.declared.axis.Axis.{Axis}
@@ -19,14 +19,14 @@ use Rattle.mdns_page.specs.declared.picture.Stroke.TheVariants.{Bar, Server, Pin
 abbrev pub goes_on : Axis → Life → Bool
 goes_on axis life = nat_lt axis.end.nanos life.until
 
-abbrev pub is_for : Reason → Reason → Bool
+abbrev pub is_for : EndReason → EndReason → Bool
 is_for RanOut RanOut = true
 is_for Goodbye Goodbye = true
 is_for Flushed Flushed = true
 is_for _ _ = false
 
 -- where the life ended, if it did so for this reason
-abbrev pub end_mark : Axis → Reason → Life → Option Mark
+abbrev pub end_mark : Axis → EndReason → Life → Option Mark
 end_mark axis reason life =
     let end = place_end axis life.from.nanos life.until in
     if goes_on axis life then None else (if is_for reason life.reason then Some (record { begin = end; end = end }) else None)

@@ -8,7 +8,7 @@ ghost use Rattle.mdns_page.specs.Timeline.{counted_lent, lives_in, lives_lent};
 ghost use Rattle.mdns_page.specs.BarTitles.{IsLess, life_title};
 
 use crate::timeline_rows::CountedRow;
-use mdns_lives::{Life, Reason, RecordLives};
+use mdns_lives::{EndReason, Life, RecordLives};
 use mdns_message::Want;
 use people_text::durations::push_duration;
 use people_text::moment_text::push_millis;
@@ -100,7 +100,7 @@ pub(crate) fn push_life_title(to: &mut String, goes_on: bool, life: &Life) -> Re
 }
 
 // Returns why a life ended, or that it goes on.
-fn end_word(goes_on: bool, reason: Reason) -> &'static str
+fn end_word(goes_on: bool, reason: EndReason) -> &'static str
     ensures { result.now ≡ (if goes_on then codes "still " ++ open_text reason else reason_text reason) }
 {
     if goes_on {
@@ -111,23 +111,23 @@ fn end_word(goes_on: bool, reason: Reason) -> &'static str
 
 /// Returns what is said of a life that goes on after the end of the captures: a flush or a goodbye ends it, unless the
 /// record is heard again.
-pub(crate) fn open_word(reason: Reason) -> &'static str
+pub(crate) fn open_word(reason: EndReason) -> &'static str
     ensures { result.now ≡ codes "still " ++ open_text reason }
 {
     match reason {
-        Reason::RanOut => "still live",
-        Reason::Goodbye => "still live, said goodbye",
-        Reason::Flushed => "still live, flushed",
+        EndReason::RanOut => "still live",
+        EndReason::Goodbye => "still live, said goodbye",
+        EndReason::Flushed => "still live, flushed",
     }
 }
 
 /// Returns why a life ended, as a word.
-pub(crate) fn reason_word(reason: Reason) -> &'static str
+pub(crate) fn reason_word(reason: EndReason) -> &'static str
     ensures { result.now ≡ reason_text reason }
 {
     match reason {
-        Reason::RanOut => "expired",
-        Reason::Goodbye => "goodbye",
-        Reason::Flushed => "flushed",
+        EndReason::RanOut => "expired",
+        EndReason::Goodbye => "goodbye",
+        EndReason::Flushed => "flushed",
     }
 }

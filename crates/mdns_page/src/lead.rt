@@ -5,7 +5,7 @@ ghost use Rattle.std.specs.Prelude.{◌≡◌, ◌-◌, ◌&&◌, ◌∷◌, ◌
 ghost use Rattle.std.specs.List.{flat_map};
 ghost use Rattle.std.specs.String.{string_bytes};
 ghost use Rattle.mdns_capture.specs.Text.{ending_text};
-ghost use Rattle.mdns_lives.specs.declared.life.Reason.TheVariants.{Goodbye};
+ghost use Rattle.mdns_lives.specs.declared.life.EndReason.TheVariants.{Goodbye};
 ghost use Rattle.people_text.specs.Shown.{shown};
 ghost use Rattle.mdns_page.specs.Captures.{facts_lent};
 ghost use Rattle.mdns_page.specs.Html.{isolated};
@@ -22,7 +22,7 @@ use crate::row_text::live_rows;
 use crate::timeline_rows::CountedRow;
 use mdns_browse::Subject;
 use mdns_capture::Ending;
-use mdns_lives::{Life, Reason};
+use mdns_lives::{EndReason, Life};
 use mdns_message::Want;
 use mdns_survey::status::is_whole;
 use people_text::moment_text::push_millis;
@@ -54,9 +54,9 @@ fn push_live_line(to: &mut String, axis: Axis, rows: &[CountedRow<'_>]) -> Resul
 {
     let live = live_rows(axis, rows);
     let said = said_count(axis, rows);
-    let goodbyes = ended_count(axis, Reason::Goodbye, rows);
-    let flushed = ended_count(axis, Reason::Flushed, rows);
-    let expired = ended_count(axis, Reason::RanOut, rows);
+    let goodbyes = ended_count(axis, EndReason::Goodbye, rows);
+    let flushed = ended_count(axis, EndReason::Flushed, rows);
+    let expired = ended_count(axis, EndReason::RanOut, rows);
     to.push_str("<p class=\"lead\">")?;
     push_count(
         to,
@@ -104,13 +104,13 @@ fn has_said(axis: Axis, lives: &[Life]) -> bool
     ensures { result ≡ unwrap_or (option_map (λ life. goes_on axis life && is_for Goodbye life.reason) (slice_get lives.now (length lives.now - 1))) false }
 {
     match lives.last() {
-        Some(life) => goes_on(axis, life) && is_for(Reason::Goodbye, life.reason),
+        Some(life) => goes_on(axis, life) && is_for(EndReason::Goodbye, life.reason),
         None => false,
     }
 }
 
 // Returns how many records' last lives ended for a reason.
-fn ended_count(axis: Axis, reason: Reason, rows: &[CountedRow<'_>]) -> usize
+fn ended_count(axis: Axis, reason: EndReason, rows: &[CountedRow<'_>]) -> usize
     ensures { result ≡ count_last (is_ended axis reason) (map counted_lent rows.now) }
 {
     let mut count = 0;
@@ -121,7 +121,7 @@ fn ended_count(axis: Axis, reason: Reason, rows: &[CountedRow<'_>]) -> usize
 }
 
 // Checks that the last of some lives ended for a reason.
-fn has_ended(axis: Axis, reason: Reason, lives: &[Life]) -> bool
+fn has_ended(axis: Axis, reason: EndReason, lives: &[Life]) -> bool
     ensures { result ≡ unwrap_or (option_map (is_ended axis reason) (slice_get lives.now (length lives.now - 1))) false }
 {
     match lives.last() {
@@ -131,7 +131,7 @@ fn has_ended(axis: Axis, reason: Reason, lives: &[Life]) -> bool
 }
 
 // Checks that a life ended for a reason before the end of the captures.
-fn is_ended(axis: Axis, reason: Reason, life: &Life) -> bool
+fn is_ended(axis: Axis, reason: EndReason, life: &Life) -> bool
     ensures { result ≡ is_ended axis reason life.now }
 {
     if goes_on(axis, life) {

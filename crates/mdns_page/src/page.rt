@@ -55,13 +55,13 @@ impl<'a> Question for Page<'a> {
     ghost use Rattle.mdns_survey.specs.Filter.{filter_of};
     ghost use Rattle.mdns_page.specs.Page.{asked_page};
 
-    type Listener = EachChronicling;
+    type Collector = EachChronicling;
 
     ghost asked = { λ page. asked_page (map string_bytes page.names.now) page.about page.as_of };
 
     ghost Heard = { λ page. EachChronicled (filter_of page.as_of) };
 
-    fn listener(&self, alloc: Global) -> Result<EachChronicling, Want> {
+    fn collector(&self, alloc: Global) -> Result<EachChronicling, Want> {
         EachChronicling::new(alloc, self.as_of.filter())
     }
 }
@@ -70,15 +70,15 @@ impl<'a> TextAnswer for Page<'a> {
     fn text(
         self,
         alloc: Global,
-        listener: EachChronicling,
+        collector: EachChronicling,
         readings: &[Reading],
     ) -> Result<String, ReportFault> {
         let axis = axis_of(self.as_of, readings);
-        if let Some(newest) = newest_after(&listener.all, axis.end) {
+        if let Some(newest) = newest_after(&collector.all, axis.end) {
             return Err(ReportFault::Early { newest });
         }
         let about = self.about.as_slice();
-        match page_of(alloc, self.names, &listener, readings, axis, about) {
+        match page_of(alloc, self.names, &collector, readings, axis, about) {
             Ok(text) => Ok(text),
             Err(Want) => Err(ReportFault::Memory),
         }

@@ -11,7 +11,7 @@ ghost use Rattle.mdns_page.specs.Timeline.{lives_lent};
 
 use crate::axis::Axis;
 use crate::bar_titles::push_life_title;
-use mdns_lives::{Life, Reason, RecordLives};
+use mdns_lives::{EndReason, Life, RecordLives};
 use mdns_message::Want;
 
 /// A kind of stroke. All strokes of a kind that a record has are one path.
@@ -22,9 +22,9 @@ pub(crate) enum Stroke {
     /// Such a bar for a life of a server, which is an SRV record of the row's instance.
     Server,
     /// An upright line where a life ended for this reason.
-    Pin(Reason),
+    Pin(EndReason),
     /// The head of that line.
-    Head(Reason),
+    Head(EndReason),
     /// A tick where the record was first heard in a second, in the lane that begins at this height.
     Tick(u64),
     /// A thick tick where its goodbye was heard, in a second that has one.
@@ -179,7 +179,7 @@ fn bar_mark(axis: Axis, life: &Life) -> Mark
 }
 
 // Returns where a life ended, if it did so for this reason.
-fn end_mark(axis: Axis, reason: Reason, life: &Life) -> Option<Mark>
+fn end_mark(axis: Axis, reason: EndReason, life: &Life) -> Option<Mark>
     ensures { result ≡ end_mark axis reason life.now }
 {
     if goes_on(axis, life) || !is_for(reason, life.reason) {
@@ -197,13 +197,13 @@ pub(crate) fn goes_on(axis: Axis, life: &Life) -> bool
 }
 
 /// Checks that a reason is this one.
-pub(crate) fn is_for(reason: Reason, other: Reason) -> bool
+pub(crate) fn is_for(reason: EndReason, other: EndReason) -> bool
     ensures { result ≡ is_for reason other }
 {
     match (reason, other) {
-        (Reason::RanOut, Reason::RanOut) => true,
-        (Reason::Goodbye, Reason::Goodbye) => true,
-        (Reason::Flushed, Reason::Flushed) => true,
+        (EndReason::RanOut, EndReason::RanOut) => true,
+        (EndReason::Goodbye, EndReason::Goodbye) => true,
+        (EndReason::Flushed, EndReason::Flushed) => true,
         _ => false,
     }
 }
@@ -239,12 +239,12 @@ fn class_of(stroke: Stroke) -> &'static str
     match stroke {
         Stroke::Bar => "b",
         Stroke::Server => "s",
-        Stroke::Pin(Reason::Goodbye) => "m1",
-        Stroke::Pin(Reason::RanOut) => "m2",
-        Stroke::Pin(Reason::Flushed) => "m3",
-        Stroke::Head(Reason::Goodbye) => "h1",
-        Stroke::Head(Reason::RanOut) => "h2",
-        Stroke::Head(Reason::Flushed) => "h3",
+        Stroke::Pin(EndReason::Goodbye) => "m1",
+        Stroke::Pin(EndReason::RanOut) => "m2",
+        Stroke::Pin(EndReason::Flushed) => "m3",
+        Stroke::Head(EndReason::Goodbye) => "h1",
+        Stroke::Head(EndReason::RanOut) => "h2",
+        Stroke::Head(EndReason::Flushed) => "h3",
         Stroke::Tick(_) => "t",
         Stroke::GoodbyeTick(_) => "z",
     }

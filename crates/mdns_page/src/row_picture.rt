@@ -10,7 +10,7 @@ ghost use Rattle.mdns_page.specs.Timeline.{lives_lent, seconds_lent};
 use crate::lanes::{push_height, push_lanes};
 use crate::look::Look;
 use crate::picture::{Stroke, push_bars, push_path, push_servers};
-use mdns_lives::{Life, Reason, RecordLives, SecondHeard};
+use mdns_lives::{EndReason, Life, RecordLives, SecondHeard};
 use mdns_message::Want;
 
 /// Appends the picture of some lives, which are in order of time: a bar for each, one for each life of the servers,
@@ -31,11 +31,11 @@ pub(crate) fn push_picture(
     push_picture_begin(to, look.lanes)?;
     push_bars(to, axis, look.titled, Stroke::Bar, lives)?;
     push_servers(to, axis, look.titled, servers)?;
-    push_path(to, axis, Stroke::Pin(Reason::Goodbye), lives)?;
-    push_path(to, axis, Stroke::Head(Reason::Goodbye), lives)?;
-    push_path(to, axis, Stroke::Pin(Reason::RanOut), lives)?;
-    push_path(to, axis, Stroke::Pin(Reason::Flushed), lives)?;
-    push_path(to, axis, Stroke::Head(Reason::Flushed), lives)?;
+    push_path(to, axis, Stroke::Pin(EndReason::Goodbye), lives)?;
+    push_path(to, axis, Stroke::Head(EndReason::Goodbye), lives)?;
+    push_path(to, axis, Stroke::Pin(EndReason::RanOut), lives)?;
+    push_path(to, axis, Stroke::Pin(EndReason::Flushed), lives)?;
+    push_path(to, axis, Stroke::Head(EndReason::Flushed), lives)?;
     push_lanes(to, axis, look.lanes, heard)?;
     to.push_str("</svg>")?;
     Ok(())

@@ -42,12 +42,12 @@ hears-more Stands left hearer new_hearer reading heard = grind (arith, all_heari
 
 -- one reader was listened to more
 pub listened-more : {R L : Type 0} (HeardAll : L → L → List (List PacketAt) → List (List Outcome) → Type 0)
-    (remaining : R → Option (List ℕ)) (readers : List R) (reader : R) (first listener new_listener : L)
+    (remaining : R → Option (List ℕ)) (readers : List R) (reader : R) (first collector new_collector : L)
     (readings new : List Reading) (reading : Reading)
-    → Listened HeardAll (map remaining readers) first listener readings
-    → ListensTo HeardAll (remaining reader) listener new_listener reading → new ≡ readings ++ reading ∷ []
-    → Listened HeardAll (map remaining (readers ++ reader ∷ [])) first new_listener new
-listened-more HeardAll remaining readers reader first listener new_listener readings new reading old heard added =
+    → Listened HeardAll (map remaining readers) first collector readings
+    → ListensTo HeardAll (remaining reader) collector new_collector reading → new ≡ readings ++ reading ∷ []
+    → Listened HeardAll (map remaining (readers ++ reader ∷ [])) first new_collector new
+listened-more HeardAll remaining readers reader first collector new_collector readings new reading old heard added =
     let lefts : map remaining readers ++ remaining reader ∷ [] ≡ map remaining (readers ++ reader ∷ []) =
     sym (map-append remaining readers (reader ∷ [])) in
     let packets : List (List PacketAt) = old.packets ++ heard.packets ∷ [] in
@@ -60,22 +60,22 @@ listened-more HeardAll remaining readers reader first listener new_listener read
           (all_left-more (map remaining readers) old.packets old.outcomes readings (remaining reader) heard.packets heard.outcomes
           reading old.read heard.is_reading));
       hears = λ begun earlier before stood.
-          subst (HeardAll begun new_listener (earlier ++ packets)) (append_assoc before old.outcomes (heard.outcomes ∷ []))
-          (subst (λ (ps : List (List PacketAt)). HeardAll begun new_listener ps ((before ++ old.outcomes) ++ heard.outcomes ∷ []))
+          subst (HeardAll begun new_collector (earlier ++ packets)) (append_assoc before old.outcomes (heard.outcomes ∷ []))
+          (subst (λ (ps : List (List PacketAt)). HeardAll begun new_collector ps ((before ++ old.outcomes) ++ heard.outcomes ∷ []))
           (append_assoc earlier old.packets (heard.packets ∷ []))
           (heard.hears begun (earlier ++ old.packets) (before ++ old.outcomes) (old.hears begun earlier before stood)));
     }
 
 -- no reader was listened to
-pub listened-nothing : {L : Type 0} (HeardAll : L → L → List (List PacketAt) → List (List Outcome) → Type 0) (listener : L)
-    (readings : List Reading) → readings ≡ [] → Listened HeardAll [] listener listener readings
-listened-nothing HeardAll listener readings none = record {
+pub listened-nothing : {L : Type 0} (HeardAll : L → L → List (List PacketAt) → List (List Outcome) → Type 0) (collector : L)
+    (readings : List Reading) → readings ≡ [] → Listened HeardAll [] collector collector readings
+listened-nothing HeardAll collector readings none = record {
   packets = [];
   outcomes = [];
   read = subst (λ (rs : List Reading). AllLeft [] [] [] rs) (sym none) tt;
   hears = λ begun earlier before stood.
-      subst (HeardAll begun listener (earlier ++ [])) (sym (append-nil before))
-      (subst (λ (ps : List (List PacketAt)). HeardAll begun listener ps before) (sym (append-nil earlier)) stood);
+      subst (HeardAll begun collector (earlier ++ [])) (sym (append-nil before))
+      (subst (λ (ps : List (List PacketAt)). HeardAll begun collector ps before) (sym (append-nil earlier)) stood);
 }
 
 -- WHAT THE READINGS SAY

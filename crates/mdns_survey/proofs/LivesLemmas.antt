@@ -21,7 +21,7 @@ use Rattle.mdns_browse.specs.declared.report.Form.TheVariants.{Lines, Json, Pret
 use Rattle.mdns_lives.specs.declared.life.Which.{Which}
 use Rattle.mdns_lives.specs.Changes.{chosen}
 use Rattle.mdns_browse.specs.LifeText.{end_width, lives_head, lives_in, lives_report, lives_text}
-use Rattle.mdns_survey.specs.declared.request.LivesQuery.{LivesQuery}
+use Rattle.mdns_survey.specs.declared.request.LivesRequest.{LivesRequest}
 use Rattle.mdns_survey.specs.declared.reading.Reading.{Reading}
 use Rattle.mdns_survey.specs.declared.request.AsOf.{AsOf}
 use Rattle.mdns_survey.specs.declared.request.AsOf.TheVariants.{Newest, At, Before}
@@ -155,35 +155,36 @@ module _ (end : ℕ) (rows : List (Latest × List Life)) (layout : Layout) where
 
 -- THE LIVES OF THE READERS LISTENED TO
 
-module _ {Heard : List (List PacketAt) → List (List Outcome) → Type 0} (query : LivesQuery) (lefts : List (Option (List ℕ)))
+module _ {Heard : List (List PacketAt) → List (List Outcome) → Type 0} (request : LivesRequest) (lefts : List (Option (List ℕ)))
     (readings : List Reading) (begin end : Moment) (hears : HearsReaders Heard lefts readings)
-    (begins : begin.nanos ≡ captures_begin query.as_of (all_moments hears.packets))
-    (ends : end.nanos ≡ captures_end query.as_of (all_moments hears.packets))
-    (latest : (hearing : Hearing) → Contains (counted (filter_of query.as_of) hears.outcomes) hearing
+    (begins : begin.nanos ≡ captures_begin request.as_of (all_moments hears.packets))
+    (ends : end.nanos ≡ captures_end request.as_of (all_moments hears.packets))
+    (latest : (hearing : Hearing) → Contains (counted (filter_of request.as_of) hears.outcomes) hearing
     → hearing.moment.nanos ≤ end.nanos)
-    (rows shown : List Row) (lives : AreAllLives (counted (filter_of query.as_of) hears.outcomes) rows)
-    (are : shown ≡ chosen query.which rows) (layout : Layout)
-    (fits : FitsForm query.form end.nanos (kept_rows query.about shown) layout) (head text : List ℕ)
-    (heads : Heads query.form readings head)
-    (is : text ≡ head ++ lives_head query.which query.form layout.count layout.width begin.nanos end.nanos) (out : Writing) where
+    (rows shown : List Row) (lives : AreAllLives (counted (filter_of request.as_of) hears.outcomes) rows)
+    (are : shown ≡ chosen request.which rows) (layout : Layout)
+    (fits : FitsForm request.form end.nanos (kept_rows request.about shown) layout) (head text : List ℕ)
+    (heads : Heads request.form readings head)
+    (is : text ≡ head ++ lives_head request.which request.form layout.count layout.width begin.nanos end.nanos)
+    (out : Writing) where
   abbrev kept : List Row
-  kept = kept_rows query.about (chosen query.which rows)
+  kept = kept_rows request.about (chosen request.which rows)
 
   abbrev report : List ℕ
-  report = lives_report query.which query.form begin.nanos end.nanos kept
+  report = lives_report request.which request.form begin.nanos end.nanos kept
 
-  all_kept : kept_rows query.about shown ≡ kept
-  all_kept = ap (kept_rows query.about) are
+  all_kept : kept_rows request.about shown ≡ kept
+  all_kept = ap (kept_rows request.about) are
 
   -- the text that stands before rows, and the text of some of them
-  text-fits : (some : List Row) → text ++ flat_map (lives_text query.form layout.width end.nanos) some
-      ≡ head ++ (rows_head query.which query.form begin.nanos end.nanos (kept_rows query.about shown)
-      ++ flat_map (lives_text query.form (end_width end.nanos (kept_rows query.about shown)) end.nanos) some)
+  text-fits : (some : List Row) → text ++ flat_map (lives_text request.form layout.width end.nanos) some
+      ≡ head ++ (rows_head request.which request.form begin.nanos end.nanos (kept_rows request.about shown)
+      ++ flat_map (lives_text request.form (end_width end.nanos (kept_rows request.about shown)) end.nanos) some)
   text-fits some = grind (arith, head-fits, append_assoc, lines-fit)
 
   -- the rows are the lives of all records of the captures
   surveys-lives : (captures : List (List ℕ)) → lefts ≡ map (λ x. Some x) captures
-      → SurveysLives query.which query.form query.about captures query.as_of (summaries_of readings) report
+      → SurveysLives request.which request.form request.about captures request.as_of (summaries_of readings) report
   surveys-lives captures known = record {
     packets = hears.packets;
     outcomes = hears.outcomes;
@@ -192,28 +193,30 @@ module _ {Heard : List (List PacketAt) → List (List Outcome) → Type 0} (quer
       latest = λ hearing among. subst (λ n. hearing.moment.nanos ≤ n) ends (latest hearing among);
       rows = rows;
       lives = lives;
-      lines = ap (λ n. lives_report query.which query.form n end.nanos kept) begins
-          ∙ ap (λ n. lives_report query.which query.form (captures_begin query.as_of (all_moments hears.packets)) n kept) ends;
+      lines = ap (λ n. lives_report request.which request.form n end.nanos kept) begins
+          ∙ ap (λ n. lives_report request.which request.form (captures_begin request.as_of (all_moments hears.packets)) n kept)
+          ends;
     };
   }
 
   -- and they stand after the head
   is-head : (captures : List (List ℕ)) → lefts ≡ map (λ x. Some x) captures
-      → IsHead query.form captures (summaries_of readings) head
-  is-head captures known = known-head query.form lefts hears.packets hears.outcomes readings head heads hears.read captures known
+      → IsHead request.form captures (summaries_of readings) head
+  is-head captures known = known-head request.form lefts hears.packets hears.outcomes readings head heads hears.read captures known
 
-  with-head : IsAnswer (asked_lives query) lefts (summaries_of readings) (head ++ report)
+  with-head : IsAnswer (asked_lives request) lefts (summaries_of readings) (head ++ report)
   with-head = λ captures known. (head, (report, refl, is-head captures known, surveys-lives captures known))
 
   -- all rows were written
-  pub writes-lives : Appends out.old out.new (text ++ flat_map (lives_text query.form layout.width end.nanos) (kept_rows query.about shown))
-      → WritesAnswer (asked_lives query) lefts (summaries_of readings) out
+  pub writes-lives : Appends out.old out.new (text ++ flat_map (lives_text request.form layout.width end.nanos)
+      (kept_rows request.about shown))
+      → WritesAnswer (asked_lives request) lefts (summaries_of readings) out
   writes-lives written = grind (arith, with-head, all_kept, text-fits)
 
   -- rows that aren't written whole are a refused survey
   pub stops-lives : (fault : SurveyFault)
-      → StopsRows text (lives_text query.form layout.width end.nanos) (kept_rows query.about shown) out fault
-      → Refuses (asked_lives query) lefts out fault
+      → StopsRows text (lives_text request.form layout.width end.nanos) (kept_rows request.about shown) out fault
+      → Refuses (asked_lives request) lefts out fault
   unfolding surveys-lives
   stops-lives (File index fault) stops = absurd stops
   stops-lives (Early newest) stops = absurd stops
@@ -225,9 +228,10 @@ module _ {Heard : List (List PacketAt) → List (List Outcome) → Type 0} (quer
     lives = report;
     surveys = surveys-lives captures known;
     written = subst
-        (λ n. WritesFirstRows head query.which query.form (captures_begin query.as_of (all_moments hears.packets)) n kept out) ends
-        (subst (λ n. WritesFirstRows head query.which query.form n end.nanos kept out) begins
-        (subst (λ (xs : List Row). WritesFirstRows head query.which query.form begin.nanos end.nanos xs out) all_kept
+        (λ n. WritesFirstRows head request.which request.form (captures_begin request.as_of (all_moments hears.packets)) n kept out)
+        ends
+        (subst (λ n. WritesFirstRows head request.which request.form n end.nanos kept out) begins
+        (subst (λ (xs : List Row). WritesFirstRows head request.which request.form begin.nanos end.nanos xs out) all_kept
         (stops.0, (stops.1.0, stops.1.1, subst (Appends out.old out.new) (text-fits stops.0) stops.1.2))));
   })
   stops-lives Write stops = λ captures known. (
@@ -236,7 +240,8 @@ module _ {Heard : List (List PacketAt) → List (List Outcome) → Type 0} (quer
       head ++ report,
       with-head captures known,
       subst
-          (λ (xs : List Row). AppendsPrefix out.old out.new (head ++ lives_report query.which query.form begin.nanos end.nanos xs))
-          all_kept (subst (AppendsPrefix out.old out.new) (text-fits (kept_rows query.about shown)) stops),
+          (λ (xs : List Row). AppendsPrefix out.old out.new
+          (head ++ lives_report request.which request.form begin.nanos end.nanos xs))
+          all_kept (subst (AppendsPrefix out.old out.new) (text-fits (kept_rows request.about shown)) stops),
     ),
   )

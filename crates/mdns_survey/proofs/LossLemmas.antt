@@ -7,7 +7,7 @@ use Rattle.mdns_capture.specs.declared.cause.Cause.{Cause}
 use Rattle.mdns_capture.specs.declared.frame.Skip.{Skip}
 use Rattle.mdns_capture.specs.Frame.{FrameCarries, cause_of, skip_of, skip_of_cause}
 use Rattle.mdns_capture.specs.Savefile.{PacketAt}
-use Rattle.mdns_survey.specs.declared.outcome.Why.TheVariants as why
+use Rattle.mdns_survey.specs.declared.outcome.SkipReason.TheVariants as why
 use Rattle.mdns_survey.specs.Reasons.{loses_frame, row_of}
 use Rattle.mdns_survey.specs.Reading.{CountsLoss}
 

@@ -14,7 +14,7 @@ use Rattle.mdns_message.specs.Message.{MessageReads}
 use Rattle.mdns_browse.specs.Services.{AreEach}
 use Rattle.mdns_survey.specs.declared.outcome.Found.{Found}
 use Rattle.mdns_survey.specs.declared.outcome.Found.TheVariants as found
-use Rattle.mdns_survey.specs.declared.outcome.Why.{Why}
+use Rattle.mdns_survey.specs.declared.outcome.SkipReason.{SkipReason}
 use Rattle.mdns_survey.specs.declared.skips.Skips.{Skips}
 use Rattle.mdns_survey.specs.Outcomes.{ComesTo}
 use Rattle.mdns_survey.specs.Listen.{outcome_of}
@@ -55,12 +55,13 @@ each-length Is [] (other ∷ ys) each = absurd each
 each-length Is (first ∷ xs) [] each = absurd each
 each-length Is (first ∷ xs) (other ∷ ys) each = omega (arith, each-length Is xs ys each.1)
 
-count-push : (own : Why) (whys : List (Option Why)) (why : Option Why)
+count-push : (own : SkipReason) (whys : List (Option SkipReason)) (why : Option SkipReason)
     → count_by (is_why own) (whys ++ why ∷ []) ≡ count_by (is_why own) whys + cond (is_why own why) 1 0
-count-push own whys why = sum_by_push (λ (w : Option Why). cond (is_why own w) 1 0) whys why
+count-push own whys why = sum_by_push (λ (w : Option SkipReason). cond (is_why own w) 1 0) whys why
 
 -- the count of each reason after one packet more that is skipped for `why`
-count-more : (counts : List ℕ) (whys : List (Option Why)) (why own : Why) (place next : ℕ) → place ≡ (row_of why).place
+count-more : (counts : List ℕ) (whys : List (Option SkipReason)) (why own : SkipReason) (place next : ℕ)
+    → place ≡ (row_of why).place
     → place < length counts → next ≡ get_or counts place 0 + 1 → get_or counts (row_of own).place 0 ≡ count_by (is_why own) whys
     → get_or (set counts place next) (row_of own).place 0 ≡ count_by (is_why own) (whys ++ Some why ∷ [])
 count-more counts whys why own place next at within more is = grind (
@@ -82,7 +83,7 @@ counts-no-skip packet skips is packets few counted = record {
 }
 
 -- a packet that is skipped is counted for its reason
-pub counts-skip : (packet : PacketAt) (why : Why) (skips new_skips : Skips) (place next : ℕ) → place ≡ (row_of why).place
+pub counts-skip : (packet : PacketAt) (why : SkipReason) (skips new_skips : Skips) (place next : ℕ) → place ≡ (row_of why).place
     → place < length skips.counts → (get_or skips.counts place 0 < most_packets → next ≡ get_or skips.counts place 0 + 1)
     → new_skips.counts ≡ set skips.counts place next → IsSkipOf packet (Some why) → CountsSkip packet skips new_skips
 counts-skip packet why skips new_skips place next at within adds new is packets few counted = grind (

@@ -28,14 +28,14 @@ use Rattle.mdns_survey.specs.Listen.{IsNoReadFault}
 use Rattle.mdns_survey.specs.declared.listen.ListenFault.{ListenFault}
 use Rattle.mdns_survey.specs.declared.request.AsOf.{AsOf}
 use Rattle.mdns_survey.specs.declared.request.AsOf.TheVariants.{Newest, At, Before}
-use Rattle.mdns_survey.specs.declared.request.Query.{Query}
+use Rattle.mdns_survey.specs.declared.request.ReportRequest.{ReportRequest}
 use Rattle.mdns_survey.specs.Head.{Heads}
-use Rattle.mdns_survey.specs.Question.{HearsReaders, IsAnswer, IsTooEarly, Refuses, asked_query}
+use Rattle.mdns_survey.specs.Question.{HearsReaders, IsAnswer, IsTooEarly, Refuses, asked_report}
 use Rattle.mdns_survey.specs.Filter.{counted, filter_of}
-use Rattle.mdns_survey.specs.Request.{IsEarly, at_or_newest, moment_of, plain_query}
+use Rattle.mdns_survey.specs.Request.{IsEarly, at_or_newest, moment_of, plain_request}
 use Rattle.mdns_survey.specs.Readings.{summaries_of}
-use Rattle.mdns_survey.specs.Surveys.{all_hearings, IsAsOf, ReportsQuery, SurveysBy}
-use Rattle.mdns_survey.specs.Surveys.{SurveysQuery, SurveysReport}
+use Rattle.mdns_survey.specs.Surveys.{all_hearings, IsAsOf, ReportsRequest, SurveysBy}
+use Rattle.mdns_survey.specs.Surveys.{SurveysReport, SurveysRequest}
 use Rattle.mdns_survey.proofs.ListenedLemmas.{known-head, known-read}
 use Rattle.mdns_survey.proofs.SelectedLemmas.{counted-at, is-earlier}
 use Rattle.mdns_capture.specs.Output.{Writing}
@@ -123,14 +123,16 @@ pub on-time : (newest : Option Moment) (now : Moment) (text : String Global)
 on-time None now text never = tt
 on-time (Some found) now text never = grind (arith, not-less)
 
--- the report as of that moment, which no hearing is later than, is what the query asks for
-pub reports-as-of : (query : Query) (newest : Option Moment) (heard : List Hearing) (at : Option Moment) (default now : Moment)
+-- the report as of that moment, which no hearing is later than, is what the request asks for
+pub reports-as-of : (request : ReportRequest) (newest : Option Moment) (heard : List Hearing)
+    (at : Option Moment) (default now : Moment)
     (text : List ℕ) → MatchOption newest (heard ≡ []) (IsNewest heard)
-    → MatchOption newest (default.nanos ≡ 0) (λ m. default ≡ m) → at ≡ moment_of query.as_of → now ≡ unwrap_or at default
+    → MatchOption newest (default.nanos ≡ 0) (λ m. default ≡ m) → at ≡ moment_of request.as_of → now ≡ unwrap_or at default
     → ((hearing : Hearing) → Contains heard hearing → hearing.moment.nanos ≤ now.nanos)
-    → IsReportIn query.about query.form query.ask heard now.nanos text
-    → ReportsQuery query heard text
-reports-as-of query newest heard at default now text tells is_default is_at is_now latest reports = grind (arith, as-of, unwrap_or)
+    → IsReportIn request.about request.form request.ask heard now.nanos text
+    → ReportsRequest request heard text
+reports-as-of request newest heard at default now text tells is_default is_at is_now latest reports =
+    grind (arith, as-of, unwrap_or)
 
 -- a moment earlier than the newest of the hearings that count is one that was asked for, and earlier than all others
 pub early-counted : (as_of : AsOf) (newest : Moment) (outcomes : List (List Outcome))
@@ -170,10 +172,11 @@ module _ {Heard : List (List PacketAt) → List (List Outcome) → Type 0} (left
       )
 
   -- the report on the hearings that count, after its head
-  pub answers-query : (query : Query) (head report text : List ℕ) → Heads query.form readings head → text ≡ head ++ report
-      → ReportsQuery query (counted (filter_of query.as_of) hears.outcomes) report
-      → IsAnswer (asked_query query) lefts (summaries_of readings) text
-  answers-query query head report text heads is reports = grind (arith, known-head, read-heard)
+  pub answers-request : (request : ReportRequest) (head report text : List ℕ) → Heads request.form readings head
+      → text ≡ head ++ report
+      → ReportsRequest request (counted (filter_of request.as_of) hears.outcomes) report
+      → IsAnswer (asked_report request) lefts (summaries_of readings) text
+  answers-request request head report text heads is reports = grind (arith, known-head, read-heard)
 
 -- the reader that failed is the one at its place
 spares-steady : {R : Type 0} (steady : R → Bool) (readers before : List R) (reader : R) (after : List R) (count : ℕ) (fault : ListenFault)
@@ -207,30 +210,31 @@ module _ (Is Same : List Hearing → ℕ → List ℕ → Type 0)
       → SurveysBy Is captures as_of summaries text → SurveysBy Same captures as_of summaries text
   surveys-too captures as_of summaries text survey = grind arith
 
--- a survey by the report in lines of words is the one that a plain query asks for
+-- a survey by the report in lines of words is the one that a plain request asks for
 pub plain-survey : AboutAll → (captures : List (List ℕ)) (ask : Ask) (at : Option Moment) (summaries : List Summary) (text : List ℕ)
-    → SurveysBy (IsReport ask) captures (at_or_newest at) summaries text ↔ SurveysReport captures (plain_query ask at) summaries text
+    → SurveysBy (IsReport ask) captures (at_or_newest at) summaries text
+    ↔ SurveysReport captures (plain_request ask at) summaries text
 plain-survey all captures ask at summaries text = grind (arith, surveys-too)
 
--- the text that a plain query asks for has no head
+-- the text that a plain request asks for has no head
 plain-alone : (ask : Ask) (at : Option Moment) (captures : List (List ℕ)) (summaries : List Summary) (text : List ℕ)
-    → SurveysQuery captures (plain_query ask at) summaries text → SurveysReport captures (plain_query ask at) summaries text
+    → SurveysRequest captures (plain_request ask at) summaries text → SurveysReport captures (plain_request ask at) summaries text
 plain-alone ask at captures summaries text surveys = grind arith
 
-pub surveys-plain : AboutAll → (ask : Ask) (at : Option Moment) (query : Query) → query ≡ plain_query ask at
+pub surveys-plain : AboutAll → (ask : Ask) (at : Option Moment) (request : ReportRequest) → request ≡ plain_request ask at
     → (captures : List (List ℕ)) (summaries : List Summary) (text : List ℕ)
-    → SurveysQuery captures query summaries text → SurveysBy (IsReport ask) captures (at_or_newest at) summaries text
-surveys-plain all ask at query is captures summaries text survey = grind (arith, plain-survey, plain-alone)
+    → SurveysRequest captures request summaries text → SurveysBy (IsReport ask) captures (at_or_newest at) summaries text
+surveys-plain all ask at request is captures summaries text survey = grind (arith, plain-survey, plain-alone)
 
 refused_plainly : AboutAll → (ask : Ask) (at : Option Moment) (lefts : List (Option (List ℕ))) (out : Writing) (fault : SurveyFault)
-    → Refuses (asked_query (plain_query ask at)) lefts out fault → RefusesBy (IsReport ask) lefts (at_or_newest at) out fault
+    → Refuses (asked_report (plain_request ask at)) lefts out fault → RefusesBy (IsReport ask) lefts (at_or_newest at) out fault
 refused_plainly all ask at lefts out (File index fault) refuses = refuses
 refused_plainly all ask at lefts out (Early newest) refuses = refuses
 refused_plainly all ask at lefts out Memory refuses = tt
 refused_plainly all ask at lefts out Write refuses = grind (arith, surveys-plain)
 
-pub refuses-plain : AboutAll → (ask : Ask) (at : Option Moment) (query : Query) → query ≡ plain_query ask at
+pub refuses-plain : AboutAll → (ask : Ask) (at : Option Moment) (request : ReportRequest) → request ≡ plain_request ask at
     → (lefts : List (Option (List ℕ))) (out : Writing) (fault : SurveyFault)
-    → Refuses (asked_query query) lefts out fault → RefusesBy (IsReport ask) lefts (at_or_newest at) out fault
-refuses-plain all ask at query is lefts out fault refuses =
-    refused_plainly all ask at lefts out fault (subst (λ (q : Query). Refuses (asked_query q) lefts out fault) is refuses)
+    → Refuses (asked_report request) lefts out fault → RefusesBy (IsReport ask) lefts (at_or_newest at) out fault
+refuses-plain all ask at request is lefts out fault refuses =
+    refused_plainly all ask at lefts out fault (subst (λ (q : ReportRequest). Refuses (asked_report q) lefts out fault) is refuses)

@@ -10,9 +10,9 @@ use Rattle.mdns_browse.specs.declared.report.Form.{Form}
 use Rattle.mdns_browse.specs.Report.{IsReportIn}
 use Rattle.mdns_survey.specs.declared.request.AsOf.{AsOf}
 use Rattle.mdns_survey.specs.declared.request.AsOf.TheVariants.{Newest, At, Before}
-use Rattle.mdns_survey.specs.declared.request.Query.{Query}
+use Rattle.mdns_survey.specs.declared.request.ReportRequest.{ReportRequest}
 use Rattle.mdns_survey.specs.Filter.{filter_of, selected}
-use Rattle.mdns_survey.specs.Surveys.{IsAsOf, ReportsQuery, SurveysReport}
+use Rattle.mdns_survey.specs.Surveys.{IsAsOf, ReportsRequest, SurveysReport}
 use Rattle.mdns_survey.proofs.FactLemmas.{IsByFacts}
 use Rattle.mdns_survey.proofs.SelectedLemmas.{counted-all, same_selected}
 
@@ -83,44 +83,46 @@ one_now Newest hearings now other (inr first) (inr second) =
 
 -- THE TEXT
 
-pub shared_text : SharedReport → (query : Query) (hearings others : List Hearing) (text : List ℕ)
-    → SameHearings hearings others → ReportsQuery query hearings text → ReportsQuery query others text
-shared_text shared query hearings others text same over = record {
+pub shared_text : SharedReport → (request : ReportRequest) (hearings others : List Hearing) (text : List ℕ)
+    → SameHearings hearings others → ReportsRequest request hearings text → ReportsRequest request others text
+shared_text shared request hearings others text same over = record {
   now = over.now;
-  moment = shared_now query.as_of hearings others over.now same over.moment;
+  moment = shared_now request.as_of hearings others over.now same over.moment;
   latest = λ hearing among. over.latest hearing (same.back hearing among);
-  reports = shared query.about query.form query.ask hearings others over.now text same over.reports;
+  reports = shared request.about request.form request.ask hearings others over.now text same over.reports;
 }
 
-one_text : OneReport → (query : Query) (hearings : List Hearing) (text other : List ℕ)
-    → ReportsQuery query hearings text → ReportsQuery query hearings other → text ≡ other
-one_text one query hearings text other first second =
-    let now = one_now query.as_of hearings first.now second.now first.moment second.moment in
-    one query.about query.form query.ask hearings hearings first.now text other
+one_text : OneReport → (request : ReportRequest) (hearings : List Hearing) (text other : List ℕ)
+    → ReportsRequest request hearings text → ReportsRequest request hearings other → text ≡ other
+one_text one request hearings text other first second =
+    let now = one_now request.as_of hearings first.now second.now first.moment second.moment in
+    one request.about request.form request.ask hearings hearings first.now text other
     (record { into = λ hearing among. among; back = λ hearing among. among })
-    first.reports (subst (λ (n : ℕ). IsReportIn query.about query.form query.ask hearings n other) (sym now) second.reports)
+    first.reports (subst (λ (n : ℕ). IsReportIn request.about request.form request.ask hearings n other) (sym now) second.reports)
 
 -- a report is written by the hearings that count
-pub report-by-facts : SharedReport → OneReport → (query : Query) → IsByFacts (λ captures. SurveysReport captures query)
-report-by-facts shared one query = record {
-  Writes = λ heard moments. ReportsQuery query (selected (filter_of query.as_of) heard);
+pub report-by-facts : SharedReport → OneReport → (request : ReportRequest) → IsByFacts (λ captures. SurveysReport captures request)
+report-by-facts shared one request = record {
+  Writes = λ heard moments. ReportsRequest request (selected (filter_of request.as_of) heard);
   to = λ captures summaries text survey. record {
     packets = survey.packets;
     outcomes = survey.outcomes;
     read = survey.read;
-    writes = subst (λ (hs : List Hearing). ReportsQuery query hs text) (counted-all (filter_of query.as_of) survey.outcomes)
+    writes = subst (λ (hs : List Hearing). ReportsRequest request hs text) (counted-all (filter_of request.as_of) survey.outcomes)
         survey.reports;
   };
   from = λ captures summaries text by. record {
     packets = by.packets;
     outcomes = by.outcomes;
     read = by.read;
-    reports = subst (λ (hs : List Hearing). ReportsQuery query hs text) (sym (counted-all (filter_of query.as_of) by.outcomes))
+    reports = subst (λ (hs : List Hearing). ReportsRequest request hs text)
+        (sym (counted-all (filter_of request.as_of) by.outcomes))
         by.writes;
   };
   shared = λ heard others moments more text same writes.
-      shared_text shared query (selected (filter_of query.as_of) heard) (selected (filter_of query.as_of) others) text
-      (same_selected (filter_of query.as_of) heard others
+      shared_text shared request (selected (filter_of request.as_of) heard) (selected (filter_of request.as_of) others) text
+      (same_selected (filter_of request.as_of) heard others
       record { into = λ hearing among. same.into (inl hearing) among; back = λ hearing among. same.back (inl hearing) among }) writes;
-  one = λ heard moments text other first second. one_text one query (selected (filter_of query.as_of) heard) text other first second;
+  one = λ heard moments text other first second.
+      one_text one request (selected (filter_of request.as_of) heard) text other first second;
 }

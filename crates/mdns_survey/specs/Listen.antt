@@ -83,9 +83,9 @@ pub record HearsCapture {H : Type 0} (Stands : H → H → List Hearing → Type
 
 -- The reading is that of a capture, and its packets, with their outcomes, were heard after those of the captures before it.
 pub record ListensTo {L : Type 0} (HeardAll : L → L → List (List PacketAt) → List (List Outcome) → Type 0)
-    (left : Option (List ℕ)) (listener new_listener : L) (reading : Reading) : Type 0 where
+    (left : Option (List ℕ)) (collector new_collector : L) (reading : Reading) : Type 0 where
   pub packets : List PacketAt
   pub outcomes : List Outcome
   pub is_reading : IsReadingOf left packets outcomes reading
-  pub hears : (begun : L) (earlier : List (List PacketAt)) (before : List (List Outcome)) → HeardAll begun listener earlier before
-      → HeardAll begun new_listener (earlier ++ packets ∷ []) (before ++ outcomes ∷ [])
+  pub hears : (begun : L) (earlier : List (List PacketAt)) (before : List (List Outcome)) → HeardAll begun collector earlier before
+      → HeardAll begun new_collector (earlier ++ packets ∷ []) (before ++ outcomes ∷ [])

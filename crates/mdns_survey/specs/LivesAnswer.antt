@@ -17,7 +17,7 @@ use Rattle.mdns_browse.specs.About.{keeps_record}
 use Rattle.mdns_browse.specs.LifeText.{end_width, lives_head, lives_in, lives_report, lives_text}
 use Rattle.mdns_survey.specs.declared.request.AsOf.{AsOf}
 use Rattle.mdns_survey.specs.declared.request.AsOf.TheVariants.{Newest, At, Before}
-use Rattle.mdns_survey.specs.declared.request.LivesQuery.{LivesQuery}
+use Rattle.mdns_survey.specs.declared.request.LivesRequest.{LivesRequest}
 use Rattle.mdns_survey.specs.declared.summary.Summary.{Summary}
 use Rattle.mdns_survey.specs.Outcomes.{AllRead, Outcome}
 use Rattle.mdns_survey.specs.Head.{IsHead}
@@ -71,11 +71,11 @@ pub record SurveysLives (which : Which) (form : Form) (about : List Subject) (ca
   pub writes : WritesLives which form about (counted (filter_of as_of) outcomes) (captures_begin as_of (all_moments packets))
       (captures_end as_of (all_moments packets)) text
 
--- the text is the lives that the query asks for, after the head
-abbrev pub SurveysLivesWithHead : LivesQuery → List (List ℕ) → List Summary → List ℕ → Type 0
-SurveysLivesWithHead query captures summaries text =
-    (head : List ℕ) × ((lives : List ℕ) × (text ≡ head ++ lives) × IsHead query.form captures summaries head
-    × SurveysLives query.which query.form query.about captures query.as_of summaries lives)
+-- the text is the lives that the request asks for, after the head
+abbrev pub SurveysLivesWithHead : LivesRequest → List (List ℕ) → List Summary → List ℕ → Type 0
+SurveysLivesWithHead request captures summaries text =
+    (head : List ℕ) × ((lives : List ℕ) × (text ≡ head ++ lives) × IsHead request.form captures summaries head
+    × SurveysLives request.which request.form request.about captures request.as_of summaries lives)
 
 -- WHY A SURVEY IS REFUSED
 
@@ -87,11 +87,12 @@ WritesFirstRows head which form begin end rows out =
     ++ flat_map (lives_text form (end_width end rows) end) first)))
 
 -- the head was written, what stands before the lives, and all lines of some first records
-pub record WritesFirstRecords (query : LivesQuery) (captures : List (List ℕ)) (out : Writing) : Type 0 where
+pub record WritesFirstRecords (request : LivesRequest) (captures : List (List ℕ)) (out : Writing) : Type 0 where
   pub summaries : List Summary
   pub head : List ℕ
-  pub is_head : IsHead query.form captures summaries head
+  pub is_head : IsHead request.form captures summaries head
   pub lives : List ℕ
-  pub surveys : SurveysLives query.which query.form query.about captures query.as_of summaries lives
-  pub written : WritesFirstRows head query.which query.form (captures_begin query.as_of (all_moments surveys.packets))
-      (captures_end query.as_of (all_moments surveys.packets)) (kept_rows query.about (chosen query.which surveys.writes.rows)) out
+  pub surveys : SurveysLives request.which request.form request.about captures request.as_of summaries lives
+  pub written : WritesFirstRows head request.which request.form (captures_begin request.as_of (all_moments surveys.packets))
+      (captures_end request.as_of (all_moments surveys.packets))
+      (kept_rows request.about (chosen request.which surveys.writes.rows)) out

@@ -7,8 +7,8 @@ use Rattle.mdns_capture.specs.Savefile.{PacketAt}
 use Rattle.mdns_survey.specs.declared.reading.Reading.{Reading}
 use Rattle.mdns_survey.specs.declared.request.AsOf.{AsOf}
 use Rattle.mdns_survey.specs.declared.request.AsOf.TheVariants.{Newest}
-use Rattle.mdns_survey.specs.declared.request.LivesQuery.{LivesQuery}
-use Rattle.mdns_survey.specs.declared.request.Query.{Query}
+use Rattle.mdns_survey.specs.declared.request.LivesRequest.{LivesRequest}
+use Rattle.mdns_survey.specs.declared.request.ReportRequest.{ReportRequest}
 use Rattle.mdns_survey.specs.declared.request.Request.{Request}
 use Rattle.mdns_survey.specs.declared.request.Request.TheVariants.{Report, Lives, Check}
 use Rattle.mdns_survey.specs.declared.summary.Summary.{Summary}
@@ -19,7 +19,7 @@ use Rattle.mdns_survey.specs.ProgramLines.{check_lines_text}
 use Rattle.mdns_survey.specs.LivesAnswer.{SurveysLivesWithHead, WritesFirstRecords}
 use Rattle.mdns_survey.specs.Refusals.{FirstFails, HasNewest}
 use Rattle.mdns_survey.specs.Request.{IsEarly}
-use Rattle.mdns_survey.specs.Surveys.{AllLeft, SurveysQuery}
+use Rattle.mdns_survey.specs.Surveys.{AllLeft, SurveysRequest}
 
 -- What is asked of captures: which text answers it over captures with these summaries; as of when; whether nothing is written
 -- before the text is complete; and else what may have been written when an allocation failed.
@@ -42,18 +42,18 @@ pub record IsCheck (names captures : List (List ℕ)) (summaries : List Summary)
   pub lines : text ≡ check_lines_text names summaries
 
 -- a report
-abbrev pub asked_query : Query → Asked
-asked_query query = asked_at_once (λ captures. SurveysQuery captures query) query.as_of
+abbrev pub asked_report : ReportRequest → Asked
+asked_report request = asked_at_once (λ captures. SurveysRequest captures request) request.as_of
 
 -- lives of records
-abbrev pub asked_lives : LivesQuery → Asked
-asked_lives query =
-    record { Answers = SurveysLivesWithHead query; as_of = query.as_of; at_once = false; Stops = WritesFirstRecords query }
+abbrev pub asked_lives : LivesRequest → Asked
+asked_lives request =
+    record { Answers = SurveysLivesWithHead request; as_of = request.as_of; at_once = false; Stops = WritesFirstRecords request }
 
 -- what a request asks for of captures with these names
 abbrev pub asked_of : Request → List (List ℕ) → Asked
-asked_of (Report query) names = asked_query query
-asked_of (Lives query) names = asked_lives query
+asked_of (Report request) names = asked_report request
+asked_of (Lives request) names = asked_lives request
 asked_of Check names = asked_at_once (λ captures. IsCheck names captures) Newest
 
 -- THE ANSWER

@@ -3,7 +3,7 @@ use Rattle.std.specs.Prelude.{◌≡◌, ℕ, ◌+◌, List, map, sum_by}
 use Rattle.std.specs.List.{flat_map}
 use Rattle.mdns_capture.specs.declared.moment.Moment.{Moment}
 use Rattle.mdns_capture.specs.Savefile.{PacketAt}
-use Rattle.mdns_survey.specs.declared.outcome.Why.{Why}
+use Rattle.mdns_survey.specs.declared.outcome.SkipReason.{SkipReason}
 use Rattle.mdns_survey.specs.declared.reading.Reading.{Reading}
 use Rattle.mdns_survey.specs.declared.summary.Summary.{Summary}
 use Rattle.mdns_survey.specs.Listen.{packet_moments}
@@ -24,7 +24,7 @@ abbrev pub lost_in : List Reading → ℕ
 lost_in readings = sum_by (λ reading. reading.lost + reading.summary.tally.refused) readings
 
 -- how many packets were skipped for this reason, by the readings
-abbrev pub skipped_in : Why → List Reading → ℕ
+abbrev pub skipped_in : SkipReason → List Reading → ℕ
 skipped_in why readings = sum_by (λ reading. count_of why reading.skips) readings
 
 -- how many messages are damaged, by the readings

@@ -4,19 +4,19 @@ use Rattle.std.specs.Option.{option_map_or}
 use Rattle.mdns_capture.specs.declared.cause.Cause.TheVariants as cause
 use Rattle.mdns_capture.specs.Frame.{cause_of}
 use Rattle.mdns_capture.specs.Savefile.{PacketAt}
-use Rattle.mdns_survey.specs.declared.outcome.Why.{Why}
-use Rattle.mdns_survey.specs.declared.outcome.Why.TheVariants as why
+use Rattle.mdns_survey.specs.declared.outcome.SkipReason.{SkipReason}
+use Rattle.mdns_survey.specs.declared.outcome.SkipReason.TheVariants as why
 
 -- The place of a reason, the checks of frames in their order first; its words, which lead to the cure; and whether a packet that
 -- is skipped for it lost what it said: bytes are missing, a header is broken, or there is a VLAN tag. Packets that are skipped for
 -- other reasons say nothing of records.
-pub record WhyRow : Type 0 where
+pub record ReasonRow : Type 0 where
   pub place : ℕ
   pub words : List ℕ
   pub loses : Bool
 
 -- the row of a reason; each has a place of its own
-abbrev pub row_of : Why → WhyRow
+abbrev pub row_of : SkipReason → ReasonRow
 row_of (why.Frame cause.EthernetCut) = record { place = 0; words = codes "cut within the Ethernet header"; loses = true }
 row_of (why.Frame cause.VlanTag) = record { place = 1; words = codes "VLAN tag"; loses = true }
 row_of (why.Frame cause.EtherType) = record { place = 2; words = codes "neither IPv4 nor IPv6"; loses = false }

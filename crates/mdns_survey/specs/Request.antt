@@ -5,7 +5,7 @@ use Rattle.mdns_browse.specs.declared.report.Ask.{Ask}
 use Rattle.mdns_browse.specs.declared.report.Form.TheVariants.{Lines}
 use Rattle.mdns_survey.specs.declared.request.AsOf.{AsOf}
 use Rattle.mdns_survey.specs.declared.request.AsOf.TheVariants.{Newest, At, Before}
-use Rattle.mdns_survey.specs.declared.request.Query.{Query}
+use Rattle.mdns_survey.specs.declared.request.ReportRequest.{ReportRequest}
 use Rattle.mdns_survey.specs.declared.request.Request.{Request}
 use Rattle.mdns_survey.specs.declared.request.Request.TheVariants as request
 use Rattle.mdns_survey.specs.declared.request.What.{What}
@@ -28,9 +28,9 @@ IsEarly (At moment) newest = moment.nanos < newest.nanos
 IsEarly _ newest = ⊥
 
 -- the report in lines of words on all hearings, about everything
-abbrev pub plain_query : Ask → Option Moment → Query
-plain_query ask at = record { ask = ask; form = Lines; as_of = at_or_newest at; about = [] }
+abbrev pub plain_request : Ask → Option Moment → ReportRequest
+plain_request ask at = record { ask = ask; form = Lines; as_of = at_or_newest at; about = [] }
 
 abbrev pub request_of : What → Request
-request_of (what.Report ask at) = request.Report (plain_query ask at)
+request_of (what.Report ask at) = request.Report (plain_request ask at)
 request_of what.Check = request.Check

@@ -9,7 +9,7 @@ use Rattle.mdns_browse.specs.Report.{IsReportIn}
 use Rattle.mdns_survey.specs.Outcomes.{AllRead, Outcome, hearings_in}
 use Rattle.mdns_survey.specs.declared.request.AsOf.{AsOf}
 use Rattle.mdns_survey.specs.declared.request.AsOf.TheVariants.{Newest, At, Before}
-use Rattle.mdns_survey.specs.declared.request.Query.{Query}
+use Rattle.mdns_survey.specs.declared.request.ReportRequest.{ReportRequest}
 use Rattle.mdns_survey.specs.declared.reading.Reading.{Reading}
 use Rattle.mdns_survey.specs.declared.summary.Summary.{Summary}
 use Rattle.mdns_survey.specs.Head.{IsHead}
@@ -41,18 +41,18 @@ pub record SurveysBy (Is : List Hearing → ℕ → List ℕ → Type 0) (captur
   pub read : AllRead captures packets outcomes summaries
   pub reports : ReportsBy Is (counted (filter_of as_of) outcomes) as_of text
 
--- the report is what the query asks for over all captures, and over some hearings
-abbrev pub SurveysReport : List (List ℕ) → Query → List Summary → List ℕ → Type 0
-SurveysReport captures query = SurveysBy (IsReportIn query.about query.form query.ask) captures query.as_of
+-- the report is what the request asks for over all captures, and over some hearings
+abbrev pub SurveysReport : List (List ℕ) → ReportRequest → List Summary → List ℕ → Type 0
+SurveysReport captures request = SurveysBy (IsReportIn request.about request.form request.ask) captures request.as_of
 
-abbrev pub ReportsQuery : Query → List Hearing → List ℕ → Type 0
-ReportsQuery query heard = ReportsBy (IsReportIn query.about query.form query.ask) heard query.as_of
+abbrev pub ReportsRequest : ReportRequest → List Hearing → List ℕ → Type 0
+ReportsRequest request heard = ReportsBy (IsReportIn request.about request.form request.ask) heard request.as_of
 
--- the text is the report that the query asks for over all captures, after its head
-abbrev pub SurveysQuery : List (List ℕ) → Query → List Summary → List ℕ → Type 0
-SurveysQuery captures query summaries text =
+-- the text is the report that the request asks for over all captures, after its head
+abbrev pub SurveysRequest : List (List ℕ) → ReportRequest → List Summary → List ℕ → Type 0
+SurveysRequest captures request summaries text =
     (head : List ℕ) × ((report : List ℕ) × (text ≡ head ++ report)
-    × IsHead query.form captures summaries head × SurveysReport captures query summaries report)
+    × IsHead request.form captures summaries head × SurveysReport captures request summaries report)
 
 -- each capture has its packets and their outcomes, and its reading of the bytes that its reader had left
 abbrev pub AllLeft : List (Option (List ℕ)) → List (List PacketAt) → List (List Outcome) → List Reading → Type 0
@@ -68,9 +68,9 @@ HearsAll {H} Stands begun hearer packets outcomes = Stands begun hearer (all_hea
 -- The readers listened to: each capture has its packets, which came to its outcomes, and its reading, and the packets of all
 -- captures, with their outcomes, were heard.
 pub record Listened {L : Type 0} (HeardAll : L → L → List (List PacketAt) → List (List Outcome) → Type 0)
-    (lefts : List (Option (List ℕ))) (listener new_listener : L) (readings : List Reading) : Type 0 where
+    (lefts : List (Option (List ℕ))) (collector new_collector : L) (readings : List Reading) : Type 0 where
   pub packets : List (List PacketAt)
   pub outcomes : List (List Outcome)
   pub read : AllLeft lefts packets outcomes readings
-  pub hears : (begun : L) (earlier : List (List PacketAt)) (before : List (List Outcome)) → HeardAll begun listener earlier before
-      → HeardAll begun new_listener (earlier ++ packets) (before ++ outcomes)
+  pub hears : (begun : L) (earlier : List (List PacketAt)) (before : List (List Outcome)) → HeardAll begun collector earlier before
+      → HeardAll begun new_collector (earlier ++ packets) (before ++ outcomes)

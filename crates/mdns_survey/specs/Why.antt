@@ -8,12 +8,12 @@ use Rattle.mdns_message.specs.Message.{IsShort, IsQuery, IsIgnored}
 use Rattle.mdns_message.specs.FirstMessageFault.{MessageFails}
 use Rattle.mdns_survey.specs.declared.outcome.Found.{Found}
 use Rattle.mdns_survey.specs.declared.outcome.Found.TheVariants as found
-use Rattle.mdns_survey.specs.declared.outcome.Why.{Why}
-use Rattle.mdns_survey.specs.declared.outcome.Why.TheVariants as why
+use Rattle.mdns_survey.specs.declared.outcome.SkipReason.{SkipReason}
+use Rattle.mdns_survey.specs.declared.outcome.SkipReason.TheVariants as why
 
 -- Why a packet with that frame is skipped: the check that the frame fails first, or else that it carries a message
 -- which isn't a response, or is to be ignored (RFC 6762, section 18).
-abbrev pub IsSkippedFor : List ℕ → Why → Type 0
+abbrev pub IsSkippedFor : List ℕ → SkipReason → Type 0
 IsSkippedFor frame (why.Frame cause) = cause_of frame ≡ Some cause
 IsSkippedFor frame why.Query = (payload : List ℕ) × FrameCarries frame payload × IsQuery payload
 IsSkippedFor frame why.Ignored = (payload : List ℕ) × FrameCarries frame payload × IsIgnored payload

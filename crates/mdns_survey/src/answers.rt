@@ -74,7 +74,7 @@ pub fn answer_request<R: Source + Drop, O: Sink, E: Sink>(
         files: names,
     };
     match request {
-        Request::Report(query) => answer_with(query, true, named, readers, out, err),
+        Request::Report(report) => answer_with(report, true, named, readers, out, err),
         Request::Lives(lives) => answer_with(lives, true, named, readers, out, err),
         Request::Check => answer_with(Check { names }, false, named, readers, out, err),
     }
@@ -131,13 +131,13 @@ impl<'a> Question for Check<'a> {
     ghost use Rattle.mdns_survey.specs.Question.{asked_of};
     ghost use Rattle.mdns_survey.specs.declared.request.Request.TheVariants.{Check as CheckRequest};
 
-    type Listener = Forgetful;
+    type Collector = Forgetful;
 
     ghost asked = { λ check. asked_of CheckRequest (map string_bytes check.names.now) };
 
     ghost Heard = { λ _ _ _ _. Unit {0} };
 
-    fn listener(&self, alloc: Global) -> Result<Forgetful, Want> {
+    fn collector(&self, alloc: Global) -> Result<Forgetful, Want> {
         Ok(Forgetful::new(alloc))
     }
 }
@@ -146,10 +146,10 @@ impl<'a> TextAnswer for Check<'a> {
     fn text(
         self,
         alloc: Global,
-        listener: Forgetful,
+        collector: Forgetful,
         readings: &[Reading],
     ) -> Result<String, ReportFault> {
-        drop(listener);
+        drop(collector);
         match check_lines(alloc, self.names, readings) {
             Ok(text) => Ok(text),
             Err(Want) => Err(ReportFault::Memory),

@@ -10,14 +10,14 @@ ghost use Rattle.mdns_survey.specs.declared.each_capture.EachChronicling.{EachCh
 
 use crate::filter::{Filter, Filtered};
 use crate::hearer::finished;
-use crate::listen::{ListenFault, Listener, hear_capture};
+use crate::listen::{Collector, ListenFault, hear_capture};
 use crate::reading::Reading;
 use mdns_capture::Source;
 use mdns_lives::{Chronicle, Lives, Recording};
 use mdns_message::Want;
 use std::alloc::Global;
 
-/// A listener that chronicles the hearings that count, of each capture and of all. It takes longer than chronicling all
+/// A collector that chronicles the hearings that count, of each capture and of all. It takes longer than chronicling all
 /// together, and about twice the memory.
 #[derive(Drop)]
 pub struct EachChronicling {
@@ -27,7 +27,7 @@ pub struct EachChronicling {
 }
 
 impl EachChronicling {
-    /// Makes a listener that has listened to no capture.
+    /// Makes a collector that has listened to no capture.
     pub fn new(alloc: Global, filter: Filter) -> Result<EachChronicling, Want>
         ensures filter { IfOk result (λ chronicling. chronicling.filter ≡ filter) }
         ensures nothing { IfOk result (λ chronicling. ChroniclesAll chronicling chronicling [] []) }
@@ -53,12 +53,12 @@ impl EachChronicling {
 }
 
 /// Each capture is heard by a `Recording` of its own, since a chronicle of all doesn't tell them apart.
-impl Listener for EachChronicling {
+impl Collector for EachChronicling {
     ghost use Rattle.mdns_survey.specs.Chronicling.{ChroniclesAll};
 
     ghost HeardAll = { ChroniclesAll };
 
-    fn listen_to<R: Source + Drop>(
+    fn collect_from<R: Source + Drop>(
         &mut self,
         alloc: Global,
         reader: R,

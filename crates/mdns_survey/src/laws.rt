@@ -15,11 +15,11 @@ ghost use Rattle.mdns_browse.specs.declared.report.Ask.{Ask};
 ghost use Rattle.mdns_browse.specs.declared.report.Form.{Form};
 ghost use Rattle.mdns_survey.specs.declared.request.AsOf.{AsOf};
 ghost use Rattle.mdns_survey.specs.declared.request.AsOf.TheVariants.{At, Before};
-ghost use Rattle.mdns_survey.specs.declared.request.Query.{Query};
+ghost use Rattle.mdns_survey.specs.declared.request.ReportRequest.{ReportRequest};
 ghost use Rattle.mdns_survey.specs.declared.summary.Summary.{Summary};
 ghost use Rattle.mdns_survey.specs.Outcomes.{ComesTo, Outcome, CaptureTells};
 ghost use Rattle.mdns_survey.specs.LivesAnswer.{SurveysLives};
-ghost use Rattle.mdns_survey.specs.Request.{at_or_newest, plain_query};
+ghost use Rattle.mdns_survey.specs.Request.{at_or_newest, plain_request};
 ghost use Rattle.mdns_survey.specs.Span.{HasEnds, span_of};
 ghost use Rattle.mdns_survey.specs.Surveys.{SurveysBy, SurveysReport};
 ghost use Rattle.mdns_survey.specs.Laws.{AreBefore, SameCaptures, with_capture, with_both_parts};
@@ -58,10 +58,10 @@ pub fn span_has_ends()
     ensures { (moments : List Moment) → HasEnds moments (span_of moments) }
 {}
 
-/// Captures have at most one text that a query asks for, and one list of summaries.
+/// Captures have at most one text that a request asks for, and one list of summaries.
 pub fn one_survey()
-    ensures { (captures : List (List ℕ)) (query : Query) (summaries more : List Summary) (text other : List ℕ)
-        → SurveysReport captures query summaries text → SurveysReport captures query more other
+    ensures { (captures : List (List ℕ)) (request : ReportRequest) (summaries more : List Summary) (text other : List ℕ)
+        → SurveysReport captures request summaries text → SurveysReport captures request more other
         → (summaries ≡ more) × (text ≡ other) }
 {
     one_telling();
@@ -69,11 +69,11 @@ pub fn one_survey()
     same_report_in();
 }
 
-/// The report in lines of words on all hearings is the one that a plain query asks for.
+/// The report in lines of words on all hearings is the one that a plain request asks for.
 pub fn plain_survey()
     ensures { (captures : List (List ℕ)) (ask : Ask) (at : Option Moment) (summaries : List Summary) (text : List ℕ)
         → SurveysBy (IsReport ask) captures (at_or_newest at) summaries text
-        ↔ SurveysReport captures (plain_query ask at) summaries text }
+        ↔ SurveysReport captures (plain_request ask at) summaries text }
 {
     report_about_all();
 }
@@ -87,15 +87,15 @@ pub fn before_none_later()
         ↔ SurveysBy (IsReportIn about form ask) captures (At before) summaries text }
 {}
 
-/// The same captures, in whatever order and however often, have the same text that a query asks for: a text for one list
+/// The same captures, in whatever order and however often, have the same text that a request asks for: a text for one list
 /// of them is one for the other, and there is no second one.
 pub fn same_text()
-    ensures shared { (captures others : List (List ℕ)) (query : Query) (summaries : List Summary) (text : List ℕ)
+    ensures shared { (captures others : List (List ℕ)) (request : ReportRequest) (summaries : List Summary) (text : List ℕ)
         → SameCaptures captures others
-        → SurveysReport captures query summaries text → (more : List Summary) × SurveysReport others query more text }
-    ensures same { (captures others : List (List ℕ)) (query : Query) (summaries more : List Summary)
+        → SurveysReport captures request summaries text → (more : List Summary) × SurveysReport others request more text }
+    ensures same { (captures others : List (List ℕ)) (request : ReportRequest) (summaries more : List Summary)
         (text other : List ℕ) → SameCaptures captures others
-        → SurveysReport captures query summaries text → SurveysReport others query more other → text ≡ other }
+        → SurveysReport captures request summaries text → SurveysReport others request more other → text ≡ other }
 {
     one_telling();
     one_reading();
@@ -129,26 +129,26 @@ pub fn same_lives()
     one_all();
 }
 
-/// A capture can be cut in two where a packet header begins, the file header repeated, and the text that a query asks for
+/// A capture can be cut in two where a packet header begins, the file header repeated, and the text that a request asks for
 /// stays the same: a text with the whole is one with its parts and the reverse, and there is no second one. Not so where
 /// the capture ends as `Many`: its second part may go on.
 pub fn split_text()
     ensures parts { (before after : List (List ℕ)) (bytes : List ℕ) (front back : List PacketAt) (ending : Ending)
-        (query : Query) (summaries : List Summary) (text : List ℕ)
+        (request : ReportRequest) (summaries : List Summary) (text : List ℕ)
         → ((place : ℕ) → slice_index bytes place < 256)
         → CaptureReads bytes (front ++ back) ending → ((at : ℕ) → ending ≢ Many at)
-        → SurveysReport (with_capture before bytes after) query summaries text
-        → (more : List Summary) × SurveysReport (with_both_parts before front bytes after) query more text }
+        → SurveysReport (with_capture before bytes after) request summaries text
+        → (more : List Summary) × SurveysReport (with_both_parts before front bytes after) request more text }
     ensures whole { (before after : List (List ℕ)) (bytes : List ℕ) (front back : List PacketAt) (ending : Ending)
-        (query : Query) (summaries : List Summary) (text : List ℕ)
+        (request : ReportRequest) (summaries : List Summary) (text : List ℕ)
         → CaptureReads bytes (front ++ back) ending → ((at : ℕ) → ending ≢ Many at)
-        → SurveysReport (with_both_parts before front bytes after) query summaries text
-        → (more : List Summary) × SurveysReport (with_capture before bytes after) query more text }
+        → SurveysReport (with_both_parts before front bytes after) request summaries text
+        → (more : List Summary) × SurveysReport (with_capture before bytes after) request more text }
     ensures same { (before after : List (List ℕ)) (bytes : List ℕ) (front back : List PacketAt) (ending : Ending)
-        (query : Query) (summaries more : List Summary) (text other : List ℕ)
+        (request : ReportRequest) (summaries more : List Summary) (text other : List ℕ)
         → CaptureReads bytes (front ++ back) ending → ((at : ℕ) → ending ≢ Many at)
-        → SurveysReport (with_capture before bytes after) query summaries text
-        → SurveysReport (with_both_parts before front bytes after) query more other → text ≡ other }
+        → SurveysReport (with_capture before bytes after) request summaries text
+        → SurveysReport (with_both_parts before front bytes after) request more other → text ≡ other }
     // The parts are of bytes too, so each may be cut again.
     ensures bytes { (bytes : List ℕ) (front : List PacketAt)
         → ((place : ℕ) → slice_index bytes place < 256)

@@ -100,13 +100,13 @@ pub fn listen_with<R: Source + Drop, C: Consumer<Fault = Want>>(
     }
 }
 
-/// A listener to captures, one after another.
-pub trait Listener {
-    // The packets of each capture, with their outcomes, that a listener heard to get from the first state to the second.
+/// Collects from captures, one after another.
+pub trait Collector {
+    // The packets of each capture, with their outcomes, that a collector heard to get from the first state to the second.
     ghost HeardAll: { Self → Self → List (List PacketAt) → List (List Outcome) → Type 0 };
 
-    /// Listens to a capture. It stops after 4,294,967,295 packets. After an error nothing is promised of what it has heard.
-    fn listen_to<R: Source + Drop>(
+    /// Collects from a capture. It stops after 4,294,967,295 packets. After an error nothing is promised of what it has heard.
+    fn collect_from<R: Source + Drop>(
         &mut self,
         alloc: Global,
         reader: R,
@@ -118,12 +118,12 @@ pub trait Listener {
 }
 
 /// A hearer takes the hearings of all captures alike.
-impl<H: Hearer> Listener for H {
+impl<H: Hearer> Collector for H {
     ghost use Rattle.mdns_survey.specs.Surveys.{HearsAll};
 
     ghost HeardAll = { HearsAll H.Stands };
 
-    fn listen_to<R: Source + Drop>(
+    fn collect_from<R: Source + Drop>(
         &mut self,
         alloc: Global,
         reader: R,

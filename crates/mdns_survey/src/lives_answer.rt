@@ -24,7 +24,7 @@ use crate::hearer::finished;
 use crate::question::{Answer, Question};
 use crate::reading::Reading;
 use crate::readings::{captures_begin, captures_end};
-use crate::request::LivesQuery;
+use crate::request::LivesRequest;
 use crate::survey::SurveyFault;
 use mdns_browse::about::{Subject, keeps_record};
 use mdns_browse::life_text::{Layout, push_lives, push_lives_head};
@@ -37,18 +37,18 @@ use std::alloc::Global;
 /// How many bytes of lines wait before they are written.
 const PIECE: usize = 65_536;
 
-impl Question for LivesQuery {
+impl Question for LivesRequest {
     ghost use Rattle.mdns_survey.specs.Chronicling.{Chronicled};
     ghost use Rattle.mdns_survey.specs.Filter.{filter_of};
     ghost use Rattle.mdns_survey.specs.Question.{asked_lives};
 
-    type Listener = Filtered<Recording>;
+    type Collector = Filtered<Recording>;
 
     ghost asked = { asked_lives };
 
     ghost Heard = { λ question now. Chronicled (filter_of question.as_of) now.hearer };
 
-    fn listener(&self, alloc: Global) -> Result<Filtered<Recording>, Want> {
+    fn collector(&self, alloc: Global) -> Result<Filtered<Recording>, Want> {
         Ok(Filtered {
             hearer: Recording::new(alloc),
             filter: self.as_of.filter(),
@@ -63,15 +63,15 @@ impl Question for LivesQuery {
 /// The lines are written in pieces of 64 KiB or more, each of which ends with the last line of a record. In
 /// `Form::Pretty` all lives are found twice, first for the widths of the columns.
 /// After `Memory` nothing was written, or the head, the heading and all lines of some first records.
-impl Answer for LivesQuery {
+impl Answer for LivesRequest {
     fn write<W: Sink>(
         self,
         alloc: Global,
-        listener: Filtered<Recording>,
+        collector: Filtered<Recording>,
         readings: &[Reading],
         out: &mut W,
     ) -> Result<(), SurveyFault> {
-        let lives = match finished(listener.hearer) {
+        let lives = match finished(collector.hearer) {
             Ok(lives) => lives,
             Err(Want) => return Err(SurveyFault::Memory),
         };
@@ -126,17 +126,17 @@ struct RowLines<'a> {
 // Returns what stands before the lives: the head of captures with these readings, and the heading.
 fn text_before(
     alloc: Global,
-    query: &LivesQuery,
+    request: &LivesRequest,
     readings: &[Reading],
     layout: Layout,
     begin: Moment,
     end: Moment,
 ) -> Result<String, Want>
-    ensures { IfOk result (λ text. (head : List ℕ) × Heads query.now.form readings.now head × (string_bytes text
-        ≡ head ++ lives_head query.now.which query.now.form layout.count layout.width begin.nanos end.nanos)) }
+    ensures { IfOk result (λ text. (head : List ℕ) × Heads request.now.form readings.now head × (string_bytes text
+        ≡ head ++ lives_head request.now.which request.now.form layout.count layout.width begin.nanos end.nanos)) }
 {
-    let mut text = head_in(alloc, query.form, readings)?;
-    push_lives_head(&mut text, query.which, query.form, layout, begin, end)?;
+    let mut text = head_in(alloc, request.form, readings)?;
+    push_lives_head(&mut text, request.which, request.form, layout, begin, end)?;
     Ok(text)
 }
 

@@ -16,7 +16,7 @@ use mdns_message::{MessageFault, MessageReader, Want};
 
 /// Why a packet is skipped.
 #[derive(Clone, Copy)]
-pub enum Why {
+pub enum SkipReason {
     /// Its frame carries no Multicast DNS payload: this check of it fails first.
     Frame(Cause),
     /// It carries a query (RFC 6762, section 18.2).
@@ -26,7 +26,7 @@ pub enum Why {
     Ignored,
 }
 
-impl Why {
+impl SkipReason {
     /// Returns in words why a packet is skipped, so that they lead to the cure.
     pub fn words(self) -> &'static str
         ensures { result.now ≡ (row_of self).words }
@@ -40,7 +40,7 @@ impl Why {
 pub enum Found<'a> {
     /// Its frame carries no Multicast DNS payload, or a message that isn't a response, or is to be ignored
     /// (RFC 6762, section 18).
-    Skipped(Why),
+    Skipped(SkipReason),
     /// It carries a damaged message. The fault is never `Query`, `Ignored` or `Memory`.
     Refused(MessageFault),
     /// It carries a message, which was sent from this address, and whose hearings the reader lends.
@@ -73,8 +73,8 @@ pub fn found_of<'a>(
             source,
             message: reader,
         }),
-        Err(MessageFault::Query) => Ok(Found::Skipped(Why::Query)),
-        Err(MessageFault::Ignored) => Ok(Found::Skipped(Why::Ignored)),
+        Err(MessageFault::Query) => Ok(Found::Skipped(SkipReason::Query)),
+        Err(MessageFault::Ignored) => Ok(Found::Skipped(SkipReason::Ignored)),
         Err(MessageFault::Memory) => Err(Want),
         Err(fault) => Ok(Found::Refused(fault)),
     }

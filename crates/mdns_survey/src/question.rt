@@ -10,31 +10,31 @@ ghost use Rattle.mdns_survey.specs.Question.{Asked, HearsReaders, IsAnswer, IsTo
 ghost use Rattle.mdns_survey.specs.Readings.{summaries_of};
 ghost use Rattle.mdns_survey.specs.Refusals.{BlamesReaders, BlamesWriter, Leaves};
 
-use crate::listen::Listener;
+use crate::listen::Collector;
 use crate::reading::Reading;
 use crate::readings::summaries_of;
 use crate::summary::Summary;
-use crate::survey::{SurveyFault, listen_all};
+use crate::survey::{SurveyFault, collect_all};
 use mdns_browse::report::ReportFault;
 use mdns_capture::{Broken, Sink, Source, write_whole};
 use mdns_message::Want;
 use std::alloc::Global;
 
-/// A question on captures: who listens to them for it.
+/// A question on captures: what collects from them for it.
 pub trait Question {
-    type Listener: Listener + Drop;
+    type Collector: Collector + Drop;
 
     // What is asked.
     ghost asked: { Self → Asked };
 
-    // A listener for the question heard these packets, with these outcomes, and no others.
-    ghost Heard: { Self → Self.Listener → List (List PacketAt) → List (List Outcome) → Type 0 };
+    // A collector for the question heard these packets, with these outcomes, and no others.
+    ghost Heard: { Self → Self.Collector → List (List PacketAt) → List (List Outcome) → Type 0 };
 
-    /// Makes a listener that has listened to no capture.
-    fn listener(&self, alloc: Global) -> Result<Self::Listener, Want>
-        ensures nothing { IfOk result (λ begun. Self.Listener.HeardAll begun begun [] []) }
-        ensures heard { IfOk result (λ begun. (now : Self.Listener) (packets : List (List PacketAt))
-            (outcomes : List (List Outcome)) → Self.Listener.HeardAll begun now packets outcomes
+    /// Makes a collector that has listened to no capture.
+    fn collector(&self, alloc: Global) -> Result<Self::Collector, Want>
+        ensures nothing { IfOk result (λ begun. Self.Collector.HeardAll begun begun [] []) }
+        ensures heard { IfOk result (λ begun. (now : Self.Collector) (packets : List (List PacketAt))
+            (outcomes : List (List Outcome)) → Self.Collector.HeardAll begun now packets outcomes
             → Heard self.now now packets outcomes) };
 }
 
@@ -44,15 +44,15 @@ pub trait Answer: Question {
     fn write<W: Sink>(
         self,
         alloc: Global,
-        listener: Self::Listener,
+        collector: Self::Collector,
         readings: &[Reading],
         out: &mut W,
     ) -> Result<(), SurveyFault>
         ensures written { OnOk result ((lefts : List (Option (List ℕ)))
-            → HearsReaders (Self.Heard self listener) lefts readings.now
+            → HearsReaders (Self.Heard self collector) lefts readings.now
             → WritesAnswer (Self.asked self) lefts (summaries_of readings.now) (writing W.Sink out.old out.new)) }
         ensures refused { IfErr result (λ fault. (lefts : List (Option (List ℕ)))
-            → HearsReaders (Self.Heard self listener) lefts readings.now
+            → HearsReaders (Self.Heard self collector) lefts readings.now
             → Refuses (Self.asked self) lefts (writing W.Sink out.old out.new) fault) }
         ensures listened { IfErr result (λ fault. IfFile fault (λ _ _. ⊥)) }
         ensures untouched { IfErr result (Leaves (Self.asked self).at_once out.old out.new) }
@@ -66,14 +66,14 @@ pub trait TextAnswer: Question {
     fn text(
         self,
         alloc: Global,
-        listener: Self::Listener,
+        collector: Self::Collector,
         readings: &[Reading],
     ) -> Result<String, ReportFault>
         ensures right { IfOk result (λ text. (lefts : List (Option (List ℕ)))
-            → HearsReaders (Self.Heard self listener) lefts readings.now
+            → HearsReaders (Self.Heard self collector) lefts readings.now
             → IsAnswer (Self.asked self) lefts (summaries_of readings.now) (string_bytes text)) }
         ensures early { IfErr result (λ fault. IfEarly fault (λ newest. (lefts : List (Option (List ℕ)))
-            → HearsReaders (Self.Heard self listener) lefts readings.now
+            → HearsReaders (Self.Heard self collector) lefts readings.now
             → IsTooEarly (Self.asked self).as_of lefts newest)) };
 }
 
@@ -81,11 +81,11 @@ impl<Q: TextAnswer> Answer for Q {
     fn write<W: Sink>(
         self,
         alloc: Global,
-        listener: Q::Listener,
+        collector: Q::Collector,
         readings: &[Reading],
         out: &mut W,
     ) -> Result<(), SurveyFault> {
-        let text = match self.text(alloc, listener, readings) {
+        let text = match self.text(alloc, collector, readings) {
             Ok(text) => text,
             Err(ReportFault::Early { newest }) => return Err(SurveyFault::Early { newest }),
             Err(ReportFault::Memory) => return Err(SurveyFault::Memory),
@@ -119,11 +119,11 @@ pub fn survey_with<R: Source + Drop, Q: Answer + Drop, W: Sink>(
     ensures writer { IfErr result (BlamesWriter (writing W.Sink out.old out.new)) }
     ensures unfailed { OnOk result (W.failures out.new ≡ W.failures out.old) }
 {
-    let mut listener = match question.listener(alloc) {
-        Ok(listener) => listener,
+    let mut collector = match question.collector(alloc) {
+        Ok(collector) => collector,
         Err(Want) => return Err(SurveyFault::Memory),
     };
-    let readings = match listen_all(alloc, readers, &mut listener) {
+    let readings = match collect_all(alloc, readers, &mut collector) {
         Ok(readings) => readings,
         // The clauses name this very fault, and `?` would convert it.
         Err(fault) => return Err(fault),
@@ -132,7 +132,7 @@ pub fn survey_with<R: Source + Drop, Q: Answer + Drop, W: Sink>(
         Ok(summaries) => summaries,
         Err(Want) => return Err(SurveyFault::Memory),
     };
-    match question.write(alloc, listener, readings.as_slice(), out) {
+    match question.write(alloc, collector, readings.as_slice(), out) {
         Ok(()) => Ok(summaries),
         Err(fault) => Err(fault),
     }

@@ -19,7 +19,7 @@ ghost use Rattle.mdns_survey.specs.Span.{earlier_moment, joined_spans, span_at};
 ghost use Rattle.mdns_survey.specs.Why.{IsPayloadOf, SaysWhy};
 
 use crate::listen::ListenFault;
-use crate::outcome::{Found, Why, found_of};
+use crate::outcome::{Found, SkipReason, found_of};
 use crate::reasons::row_of;
 use crate::skips::{Skips, why_of};
 use crate::summary::{Summary, Tally};
@@ -232,7 +232,7 @@ fn take_packet<C: Consumer>(
             return Ok(pass(
                 packet,
                 &[],
-                &Found::Skipped(Why::Frame(cause)),
+                &Found::Skipped(SkipReason::Frame(cause)),
                 consumer,
                 tally,
                 skips,
@@ -278,7 +278,7 @@ fn count_loss(lost: &mut u32, cause: Cause)
     requires { lost.old < most_packets }
     ensures { (packet : PacketAt) → cause_of packet.frame ≡ Some cause → CountsLoss packet lost.old lost.new }
 {
-    if row_of(Why::Frame(cause)).loses {
+    if row_of(SkipReason::Frame(cause)).loses {
         *lost += 1;
     }
 }

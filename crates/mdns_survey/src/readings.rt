@@ -8,7 +8,7 @@ ghost use Rattle.mdns_survey.specs.Readings.{summaries_of};
 ghost use Rattle.mdns_survey.specs.Reasons.{lost_frames};
 ghost use Rattle.mdns_survey.specs.Span.{span_of};
 
-use crate::outcome::Why;
+use crate::outcome::SkipReason;
 use crate::reading::{Reading, Span};
 use crate::request::AsOf;
 use crate::summary::Summary;
@@ -41,7 +41,7 @@ pub fn lost_packets(readings: &[Reading]) -> u128
 }
 
 /// Returns how many packets of all captures were skipped for this reason.
-pub fn skipped_packets(readings: &[Reading], why: Why) -> u128
+pub fn skipped_packets(readings: &[Reading], why: SkipReason) -> u128
     ensures { result ≡ skipped_in why readings.now }
 {
     let mut skipped = 0;

@@ -2,7 +2,7 @@
 
 ghost use Rattle.std.specs.Prelude.{◌≡◌};
 ghost use Rattle.mdns_survey.specs.Filter.{filter_of};
-ghost use Rattle.mdns_survey.specs.Request.{at_or_newest, moment_of, plain_query, request_of};
+ghost use Rattle.mdns_survey.specs.Request.{at_or_newest, moment_of, plain_request, request_of};
 
 use crate::filter::Filter;
 use mdns_browse::about::Subject;
@@ -40,7 +40,7 @@ impl Model for Subjects {
 
 /// A report that is asked for, on all captures together.
 #[derive(Drop)]
-pub struct Query {
+pub struct ReportRequest {
     pub ask: Ask,
     pub form: Form,
     pub as_of: AsOf,
@@ -54,7 +54,7 @@ pub struct Query {
 /// The captures end at the moment of `as_of`, or with `AsOf::Newest` at the latest packet's moment, also of a packet
 /// without hearings, or at 0 where there are no packets.
 #[derive(Drop)]
-pub struct LivesQuery {
+pub struct LivesRequest {
     pub which: Which,
     pub form: Form,
     pub as_of: AsOf,
@@ -65,9 +65,9 @@ pub struct LivesQuery {
 #[derive(Drop)]
 pub enum Request {
     /// A report.
-    Report(Query),
+    Report(ReportRequest),
     /// The lives of records: from when until when each was live, and why each life ended.
-    Lives(LivesQuery),
+    Lives(LivesRequest),
     /// One line for each capture: what was counted, and how its reading ended.
     Check,
 }
@@ -131,12 +131,12 @@ impl AsOf {
     }
 }
 
-impl Query {
-    /// Returns the query for a report in lines of words on all hearings, about everything.
-    pub(crate) fn plain(alloc: Global, ask: Ask, at: Option<Moment>) -> Query
-        ensures { result ≡ plain_query ask at }
+impl ReportRequest {
+    /// Returns the request for a report in lines of words on all hearings, about everything.
+    pub(crate) fn plain(alloc: Global, ask: Ask, at: Option<Moment>) -> ReportRequest
+        ensures { result ≡ plain_request ask at }
     {
-        Query {
+        ReportRequest {
             ask,
             form: Form::Lines,
             as_of: AsOf::at_or_newest(at),
@@ -151,7 +151,7 @@ impl What {
         ensures { result ≡ request_of self }
     {
         match self {
-            What::Report { ask, at } => Request::Report(Query::plain(alloc, ask, at)),
+            What::Report { ask, at } => Request::Report(ReportRequest::plain(alloc, ask, at)),
             What::Check => Request::Check,
         }
     }

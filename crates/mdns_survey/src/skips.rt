@@ -5,7 +5,7 @@ ghost use Rattle.mdns_capture.specs.Limits.{most_packets};
 ghost use Rattle.mdns_capture.specs.Savefile.{PacketAt};
 ghost use Rattle.mdns_survey.specs.Skips.{CountsSkip, CountsSkips, IsSkipOf, count_of, why_of};
 
-use crate::outcome::{Found, Why};
+use crate::outcome::{Found, SkipReason};
 use crate::reasons::row_of;
 
 /// How many packets of a capture were skipped for each reason.
@@ -24,14 +24,14 @@ impl Skips {
     }
 
     /// Returns how many packets were skipped for this reason.
-    pub fn count(&self, why: Why) -> u32
+    pub fn count(&self, why: SkipReason) -> u32
         ensures { result ≡ count_of why self.now }
     {
         self.counts[row_of(why).place]
     }
 
     /// Counts one packet more, which was skipped for this reason, or wasn't skipped.
-    pub(crate) fn add(&mut self, why: Option<Why>)
+    pub(crate) fn add(&mut self, why: Option<SkipReason>)
         ensures { (packet : PacketAt) → IsSkipOf packet why → CountsSkip packet self.old self.new }
     {
         let Some(why) = why else {
@@ -43,7 +43,7 @@ impl Skips {
 }
 
 /// Returns why a packet is skipped, or `None` if it isn't.
-pub(crate) fn why_of(found: &Found) -> Option<Why>
+pub(crate) fn why_of(found: &Found) -> Option<SkipReason>
     ensures { result ≡ why_of found.now }
 {
     match *found {

@@ -7,18 +7,18 @@ ghost use Rattle.mdns_cache.specs.Contents.{StandsFor};
 ghost use Rattle.mdns_cache.specs.Live.{IsNewest};
 ghost use Rattle.mdns_browse.specs.Report.{IsReport};
 ghost use Rattle.mdns_capture.specs.Output.{writing};
-ghost use Rattle.mdns_survey.specs.Question.{Refuses, asked_query};
+ghost use Rattle.mdns_survey.specs.Question.{Refuses, asked_report};
 ghost use Rattle.mdns_survey.specs.Request.{at_or_newest};
-ghost use Rattle.mdns_survey.specs.Surveys.{SurveysBy, SurveysQuery, Listened};
+ghost use Rattle.mdns_survey.specs.Surveys.{SurveysBy, SurveysRequest, Listened};
 ghost use Rattle.mdns_survey.specs.Refusals.{BlamesReaders, BlamesWriter, LeavesOut};
 ghost use Rattle.mdns_survey.specs.Refusals.{RefusesBy, RefusesReaders};
 
 use crate::filter::Filtered;
 use crate::head::headed;
-use crate::listen::{ListenFault, Listener};
+use crate::listen::{Collector, ListenFault};
 use crate::question::{Question, TextAnswer, survey_with};
 use crate::reading::Reading;
-use crate::request::Query;
+use crate::request::ReportRequest;
 use crate::summary::Summary;
 use mdns_browse::laws::report_about_all;
 use mdns_browse::report::{Ask, ReportFault, report_in};
@@ -74,48 +74,48 @@ pub fn survey<R: Source + Drop, W: Sink>(
     ensures unfailed { OnOk result (W.failures out.new ≡ W.failures out.old) }
 {
     report_about_all();
-    survey_query(alloc, readers, Query::plain(alloc, ask, at), out)
+    survey_request(alloc, readers, ReportRequest::plain(alloc, ask, at), out)
 }
 
-/// Surveys as `survey` does, in the query's form, and about its subjects. In `Form::Pretty` the report has a head: a
+/// Surveys as `survey` does, in the request's form, and about its subjects. In `Form::Pretty` the report has a head: a
 /// line of how many packets were lost, if any were, and a line if nothing was heard; both count all packets of all
 /// captures. With `AsOf::Before` only the hearings earlier than its moment count, wherever they come in the captures
 /// (one at the moment itself isn't earlier), and there is no `Early`. A summary counts all packets, also those whose
 /// hearings don't count.
-pub fn survey_query<R: Source + Drop, W: Sink>(
+pub fn survey_request<R: Source + Drop, W: Sink>(
     alloc: Global,
     readers: Vec<R>,
-    query: Query,
+    request: ReportRequest,
     out: &mut W,
 ) -> Result<Vec<Summary>, SurveyFault>
     ensures written { IfOk result (λ summaries. (captures : List (List ℕ))
         → map R.remaining readers.items ≡ map Some captures
-        → (text : List ℕ) × SurveysQuery captures query summaries.items text
+        → (text : List ℕ) × SurveysRequest captures request summaries.items text
         × Appends (W.written out.old) (W.written out.new) text) }
-    ensures refused { IfErr result (Refuses (asked_query query) (map R.remaining readers.items)
+    ensures refused { IfErr result (Refuses (asked_report request) (map R.remaining readers.items)
         (writing W.Sink out.old out.new)) }
     ensures untouched { IfErr result (LeavesOut out.old out.new) }
     ensures readers { IfErr result (BlamesReaders R.steady readers.items) }
     ensures writer { IfErr result (BlamesWriter (writing W.Sink out.old out.new)) }
     ensures unfailed { OnOk result (W.failures out.new ≡ W.failures out.old) }
 {
-    survey_with(alloc, readers, query, out)
+    survey_with(alloc, readers, request, out)
 }
 
-/// A cache of the hearings that count answers a query.
-impl Question for Query {
+/// A cache of the hearings that count answers a request for a report.
+impl Question for ReportRequest {
     ghost use Rattle.mdns_cache.specs.Repeats.{StandsWith};
     ghost use Rattle.mdns_survey.specs.Filter.{counted, filter_of};
-    ghost use Rattle.mdns_survey.specs.Question.{asked_query};
+    ghost use Rattle.mdns_survey.specs.Question.{asked_report};
 
-    type Listener = Filtered<Listening>;
+    type Collector = Filtered<Listening>;
 
-    ghost asked = { asked_query };
+    ghost asked = { asked_report };
 
-    ghost Heard = { λ query now packets outcomes. StandsWith now.hearer.contents now.hearer.memory
-        (counted (filter_of query.as_of) outcomes) };
+    ghost Heard = { λ request now packets outcomes. StandsWith now.hearer.contents now.hearer.memory
+        (counted (filter_of request.as_of) outcomes) };
 
-    fn listener(&self, alloc: Global) -> Result<Filtered<Listening>, Want> {
+    fn collector(&self, alloc: Global) -> Result<Filtered<Listening>, Want> {
         Ok(Filtered {
             hearer: Listening::new(alloc),
             filter: self.as_of.filter(),
@@ -123,14 +123,14 @@ impl Question for Query {
     }
 }
 
-impl TextAnswer for Query {
+impl TextAnswer for ReportRequest {
     fn text(
         self,
         alloc: Global,
-        listener: Filtered<Listening>,
+        collector: Filtered<Listening>,
         readings: &[Reading],
     ) -> Result<String, ReportFault> {
-        let cache = match listener.hearer.finish() {
+        let cache = match collector.hearer.finish() {
             Ok(cache) => cache,
             Err(Want) => return Err(ReportFault::Memory),
         };
@@ -160,14 +160,14 @@ fn newest_or_epoch(cache: &Cache) -> Moment
     }
 }
 
-/// Listens to each reader in order, by `listener`. Returns one reading for each reader, in order.
-pub(crate) fn listen_all<R: Source + Drop, L: Listener>(
+/// Listens to each reader in order, by `collector`. Returns one reading for each reader, in order.
+pub(crate) fn collect_all<R: Source + Drop, L: Collector>(
     alloc: Global,
     readers: Vec<R>,
-    listener: &mut L,
+    collector: &mut L,
 ) -> Result<Vec<Reading>, SurveyFault>
     ensures listened { IfOk result (λ readings.
-        Listened L.HeardAll (map R.remaining readers.items) listener.old listener.new readings.items) }
+        Listened L.HeardAll (map R.remaining readers.items) collector.old collector.new readings.items) }
     ensures refused { IfErr result (RefusesReaders (map R.remaining readers.items)) }
     ensures readers { IfErr result (BlamesReaders R.steady readers.items) }
 {
@@ -177,7 +177,7 @@ pub(crate) fn listen_all<R: Source + Drop, L: Listener>(
     };
     for reader in readers {
         let index = readings.len();
-        let reading = match listener.listen_to(alloc, reader) {
+        let reading = match collector.collect_from(alloc, reader) {
             Ok(reading) => reading,
             Err(fault) => return Err(SurveyFault::File { index, fault }),
         };

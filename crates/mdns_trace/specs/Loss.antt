@@ -1,7 +1,7 @@
 -- What a capture lost, and what to do about it.
 use Rattle.std.specs.Prelude.{ℕ, ◌==◌, if◌then◌else◌, List, [], ◌∷◌, ◌++◌, codes, decimal}
 use Rattle.mdns_capture.specs.declared.cause.Cause.TheVariants as cause
-use Rattle.mdns_survey.specs.declared.outcome.Why.TheVariants as why
+use Rattle.mdns_survey.specs.declared.outcome.SkipReason.TheVariants as why
 use Rattle.mdns_survey.specs.declared.reading.Reading.{Reading}
 use Rattle.mdns_survey.specs.Skips.{count_of}
 use Rattle.mdns_survey.specs.Reasons.{row_of}

@@ -13,7 +13,7 @@ use Rattle.mdns_capture.specs.Source.{IsSourceOf}
 use Rattle.mdns_message.specs.declared.fault.MessageFault.{MessageFault}
 use Rattle.mdns_message.specs.declared.hearing.Hearing.{Hearing}
 use Rattle.mdns_survey.specs.declared.listen.ListenFault.TheVariants.{Begin, Memory}
-use Rattle.mdns_survey.specs.declared.outcome.Why.{Why}
+use Rattle.mdns_survey.specs.declared.outcome.SkipReason.{SkipReason}
 use Rattle.mdns_survey.specs.declared.reading.ReadingFault.{ReadingFault}
 use Rattle.mdns_survey.specs.declared.reading.ReadingFault.TheVariants as reading
 use Rattle.mdns_survey.specs.declared.summary.Summary.{Summary}
@@ -53,7 +53,7 @@ packet_text form file packet untold = entry_text form file (packet_entry packet 
 -- without a record that is listed: of class IN, and of a type that `RecordType` has.
 abbrev pub IsPacketLine : Form → List ℕ → PacketAt → Outcome → List ℕ → Type 0
 IsPacketLine form file packet skipped text =
-    (why : Why) × IsSkippedFor packet.frame why × (text ≡ packet_text form file packet (untold.Skipped why))
+    (why : SkipReason) × IsSkippedFor packet.frame why × (text ≡ packet_text form file packet (untold.Skipped why))
 IsPacketLine form file packet refused text =
     (damage : MessageFault) × IsRefusedFor packet.frame damage × (text ≡ packet_text form file packet (untold.Refused damage))
 IsPacketLine form file packet (heard []) text = text ≡ packet_text form file packet untold.Unlisted

@@ -4,7 +4,7 @@ use crate::span_line::Spanned;
 use crate::verdict::Verdict;
 use mdns_capture::{Packet, SourceAddress};
 use mdns_message::{BorrowedHearing, MessageFault};
-use mdns_survey::outcome::Why;
+use mdns_survey::outcome::SkipReason;
 
 /// What is said at once of a file.
 #[derive(Clone, Copy)]
@@ -29,7 +29,7 @@ pub(crate) enum Entry<'a> {
 #[derive(Clone, Copy)]
 pub(crate) enum Untold {
     /// It was skipped.
-    Skipped(Why),
+    Skipped(SkipReason),
     /// Its message is damaged.
     Refused(MessageFault),
     /// Its response has no record that is listed.

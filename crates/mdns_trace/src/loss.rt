@@ -6,7 +6,7 @@ ghost use Rattle.mdns_trace.specs.Loss.{cure_of, loss_text, lost_to, words_of};
 
 use mdns_capture::Cause;
 use mdns_message::Want;
-use mdns_survey::outcome::Why;
+use mdns_survey::outcome::SkipReason;
 use mdns_survey::reading::Reading;
 
 /// What packets are lost to.
@@ -38,7 +38,7 @@ impl Loss {
         ensures { result ≡ lost_to self reading.now }
     {
         match self {
-            Loss::Check(cause) => reading.skips.count(Why::Frame(cause)),
+            Loss::Check(cause) => reading.skips.count(SkipReason::Frame(cause)),
             Loss::Damage => reading.summary.tally.refused,
         }
     }
@@ -48,7 +48,7 @@ impl Loss {
         ensures { result.now ≡ words_of self }
     {
         match self {
-            Loss::Check(cause) => Why::Frame(cause).words(),
+            Loss::Check(cause) => SkipReason::Frame(cause).words(),
             Loss::Damage => "refused",
         }
     }

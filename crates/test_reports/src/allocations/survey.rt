@@ -13,8 +13,8 @@ use mdns_survey::listen::ListenFault;
 use mdns_survey::status::{DAMAGED, REFUSED, WHOLE};
 use mdns_survey::survey::{SurveyFault, survey};
 use mdns_survey::{
-    AsOf, Query, Request, Subjects, Summary, Tally, What, check_line, ending_line, fault_line,
-    open_line,
+    AsOf, ReportRequest, Request, Subjects, Summary, Tally, What, check_line, ending_line,
+    fault_line, open_line,
 };
 use std::alloc::Global;
 use std::cell::Cell;
@@ -197,7 +197,7 @@ fn is_answer(
 // Asks for the records heard before the later one of two captures, which comes first.
 fn past_status(alloc: Global, out: &mut SlowWriter, err: &mut SlowWriter) -> Result<u8, Want> {
     let later = later_packet();
-    let request = Request::Report(Query {
+    let request = Request::Report(ReportRequest {
         ask: Ask::Records,
         form: Form::Lines,
         as_of: AsOf::Before(at(150, 0)?),

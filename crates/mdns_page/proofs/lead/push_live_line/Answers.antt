@@ -1,8 +1,8 @@
 use Rattle.std.proofs.Common.{◌∙◌, ◌++◌, ap, codes, map, ℕ}
 use Rattle.std.specs.String.{string_bytes}
 use Rattle.people_text.specs.MomentText.{millis_text}
-use Rattle.mdns_lives.specs.declared.life.Reason.{Reason}
-use Rattle.mdns_lives.specs.declared.life.Reason.TheVariants.{Goodbye, Flushed}
+use Rattle.mdns_lives.specs.declared.life.EndReason.{EndReason}
+use Rattle.mdns_lives.specs.declared.life.EndReason.TheVariants.{Goodbye, Flushed}
 use Rattle.mdns_page.specs.Counts.{count_text}
 use Rattle.mdns_page.specs.Lead.{is_ended, live_line, others_text, said_text}
 use Rattle.mdns_page.specs.Timeline.{count_last, counted_lent}
@@ -12,7 +12,7 @@ use Rattle.mdns_page.proofs.lead.push_live_line.Goals as goal
 pub returns : goal.returns
 unfolding live_line
 returns c =
-    let ended = λ (reason : Reason). count_last (is_ended c.args.axis reason) (map counted_lent c.args.rows.now) in
+    let ended = λ (reason : EndReason). count_last (is_ended c.args.axis reason) (map counted_lent c.args.rows.now) in
     parts9 _ _ _ _ _ _ _ _ _ _ _ _ _ _ _ _ _ _ _ c.in_ok-push_str.ensures.bytes
     (c.in_ok-push_count.ensures
     ∙ ap (λ (n : ℕ). string_bytes c.push_str.new.self ++ count_text n (codes "service instance was") (codes "service instances were"))

@@ -1,7 +1,7 @@
 use Rattle.std.proofs.Common.{◌==◌, [], codes, if◌then◌else◌, map}
 use Rattle.std.specs.List.{flat_map}
 use Rattle.std.specs.String.{string_bytes}
-use Rattle.mdns_lives.specs.declared.life.Reason.TheVariants.{RanOut, Goodbye, Flushed}
+use Rattle.mdns_lives.specs.declared.life.EndReason.TheVariants.{RanOut, Goodbye, Flushed}
 use Rattle.mdns_page.specs.Captures.{each_from}
 use Rattle.mdns_page.specs.Lanes.{lane_text}
 use Rattle.mdns_page.specs.Picture.{bars, mark_of, path}

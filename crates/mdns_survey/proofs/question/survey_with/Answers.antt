@@ -6,8 +6,8 @@ use Rattle.mdns_survey.proofs.question.survey_with.Goals as goal
 pub returns-in-Ok-write-clause-written : goal.returns-in-Ok-write-clause-written
 returns-in-Ok-write-clause-written g c = grind (
   arith,
-  answer-summed (g.Q.Question.asked c.args.question) _ (writing g.W.Sink c.args.out.now c.write.new.out) c.in-Ok-listen_all.readings.items c.as_slice.result.now c.as_slice-2.result.now c.in-Ok-summaries_of.summaries.items c.as_slice.ensures.value c.as_slice-2.ensures.value c.in-Ok-summaries_of.ensures (c.in-Ok-write.ensures.written _ (hears-readers g.Q.Listener.Listener.HeardAll (g.Q.Question.Heard c.args.question) _ c.in-Ok.listener c.listen_all.new.listener _ _ c.in-Ok.ensures.nothing c.in-Ok.ensures.heard c.as_slice-2.ensures.value c.in-Ok-listen_all.ensures.listened)),
-  hears-readers g.Q.Listener.Listener.HeardAll (g.Q.Question.Heard c.args.question) _ c.in-Ok.listener c.listen_all.new.listener _ _ c.in-Ok.ensures.nothing c.in-Ok.ensures.heard c.as_slice-2.ensures.value c.in-Ok-listen_all.ensures.listened,
+  answer-summed (g.Q.Question.asked c.args.question) _ (writing g.W.Sink c.args.out.now c.write.new.out) c.in-Ok-collect_all.readings.items c.as_slice.result.now c.as_slice-2.result.now c.in-Ok-summaries_of.summaries.items c.as_slice.ensures.value c.as_slice-2.ensures.value c.in-Ok-summaries_of.ensures (c.in-Ok-write.ensures.written _ (hears-readers g.Q.Collector.Collector.HeardAll (g.Q.Question.Heard c.args.question) _ c.in-Ok.collector c.collect_all.new.collector _ _ c.in-Ok.ensures.nothing c.in-Ok.ensures.heard c.as_slice-2.ensures.value c.in-Ok-collect_all.ensures.listened)),
+  hears-readers g.Q.Collector.Collector.HeardAll (g.Q.Question.Heard c.args.question) _ c.in-Ok.collector c.collect_all.new.collector _ _ c.in-Ok.ensures.nothing c.in-Ok.ensures.heard c.as_slice-2.ensures.value c.in-Ok-collect_all.ensures.listened,
 )
 
 pub returns-clause-refused : goal.returns-clause-refused

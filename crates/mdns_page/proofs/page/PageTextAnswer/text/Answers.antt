@@ -23,10 +23,10 @@ returns-in-Ok-clause-right c = λ lefts hears.
     let axis = c.axis_of-axis.result in
     let names = map string_bytes c.args.self.names.now in
     let text = string_bytes c.in-Ok.text in
-    surveys-page names c.args.self.about c.args.self.as_of lefts c.args.readings.now c.args.listener axis text hears hears.heard
+    surveys-page names c.args.self.about c.args.self.as_of lefts c.args.readings.now c.args.collector axis text hears hears.heard
     (c.axis_of-axis.ensures hears.packets (have-spans lefts hears.packets hears.outcomes c.args.readings.now hears.read))
     c.in_default.ensures.none
     (subst (λ (about : List Subject). (each : List (List Hearing)) (heard : List Hearing)
-    → AreEach Chronicles c.args.listener.captures.items each → Chronicles c.args.listener.all heard
+    → AreEach Chronicles c.args.collector.captures.items each → Chronicles c.args.collector.all heard
     → ((hearing : Hearing) → Contains heard hearing → hearing.moment.nanos ≤ axis.end.nanos)
     → WritesPage about names c.args.readings.now each heard axis text) c.as_slice-about.ensures c.in-Ok.ensures)

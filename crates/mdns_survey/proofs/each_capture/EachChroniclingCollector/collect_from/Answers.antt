@@ -1,6 +1,6 @@
 use Rattle.std.proofs.Common.{refl}
 use Rattle.mdns_survey.proofs.EachLemmas.{listens-each}
-use Rattle.mdns_survey.proofs.each_capture.EachChroniclingListener.listen_to.Goals as goal
+use Rattle.mdns_survey.proofs.each_capture.EachChroniclingCollector.collect_from.Goals as goal
 
 pub returns-in-Ok-add-clause-heard : goal.returns-in-Ok-add-clause-heard
 returns-in-Ok-add-clause-heard g c =

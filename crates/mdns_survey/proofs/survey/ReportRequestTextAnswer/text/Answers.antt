@@ -3,23 +3,23 @@ use Rattle.mdns_capture.specs.declared.moment.Moment.{Moment}
 use Rattle.mdns_browse.specs.Report.{IsReportIn}
 use Rattle.mdns_browse.specs.declared.about.Subject.{Subject}
 use Rattle.mdns_survey.specs.Filter.{counted, filter_of}
-use Rattle.mdns_survey.proofs.SurveyLemmas.{answers-query, early-asked, early-weaker, is-newest, none-later, on-time, reports-as-of}
+use Rattle.mdns_survey.proofs.SurveyLemmas.{answers-request, early-asked, early-weaker, is-newest, none-later, on-time, reports-as-of}
 use Rattle.mdns_survey.proofs.SurveyLemmas.{too-early}
-use Rattle.mdns_survey.proofs.survey.QueryTextAnswer.text.Goals as goal
+use Rattle.mdns_survey.proofs.survey.ReportRequestTextAnswer.text.Goals as goal
 
 pub returns-in-Ok-headed-clause-right : goal.returns-in-Ok-headed-clause-right
 returns-in-Ok-headed-clause-right c = λ lefts hears.
-    let query = c.args.self in
+    let request = c.args.self in
     let now = c.unwrap_or-now.result in
-    let heard = counted (filter_of query.as_of) hears.outcomes in
+    let heard = counted (filter_of request.as_of) hears.outcomes in
     let stands = c.in-Ok.ensures heard hears.heard in
     let tells = c.newest_or_epoch.ensures.newest heard stands in
     let report = string_bytes c.in-Ok-report_in.report in
-    answers-query lefts c.args.readings.now hears query c.in-Ok-headed.ensures.0 report (string_bytes c.in-Ok-headed.text)
+    answers-request lefts c.args.readings.now hears request c.in-Ok-headed.ensures.0 report (string_bytes c.in-Ok-headed.text)
     c.in-Ok-headed.ensures.1 c.in-Ok-headed.ensures.2
-    (reports-as-of query _ heard c.moment.result _ now report tells c.newest_or_epoch.ensures.value c.moment.ensures
+    (reports-as-of request _ heard c.moment.result _ now report tells c.newest_or_epoch.ensures.value c.moment.ensures
     c.unwrap_or-now.ensures (none-later _ heard now tells (on-time _ now c.in-Ok-report_in.report c.in-Ok-report_in.ensures.never))
-    (subst (λ (about : List Subject). IsReportIn about query.form query.ask heard now.nanos report) c.as_slice-about.ensures
+    (subst (λ (about : List Subject). IsReportIn about request.form request.ask heard now.nanos report) c.as_slice-about.ensures
     (c.in-Ok-report_in.ensures.written heard stands)))
 
 pub returns-in-Err-report_in-clause-early : goal.returns-in-Err-report_in-clause-early

@@ -1,6 +1,6 @@
 use Rattle.std.proofs.lemmas.Result.{IfOk-weaker}
 use Rattle.mdns_survey.proofs.ListenedLemmas.{hears-more}
-use Rattle.mdns_survey.proofs.listen.AnyListener.listen_to.Goals as goal
+use Rattle.mdns_survey.proofs.listen.AnyCollector.collect_from.Goals as goal
 
 pub returns-clause-heard : goal.returns-clause-heard
 returns-clause-heard g c =

@@ -2,7 +2,7 @@ use Rattle.std.proofs.Common.{refl}
 use Rattle.mdns_cache.specs.Repeats.{StandsWith}
 use Rattle.mdns_survey.specs.Filter.{filter_of}
 use Rattle.mdns_survey.proofs.SelectedLemmas.{counted-heard}
-use Rattle.mdns_survey.proofs.survey.QueryQuestion.listener.Goals as goal
+use Rattle.mdns_survey.proofs.survey.ReportRequestQuestion.collector.Goals as goal
 
 pub returns-clause-nothing : goal.returns-clause-nothing
 returns-clause-nothing c = (refl, c.new.ensures)

@@ -2,7 +2,7 @@ use Rattle.std.proofs.Common.{refl}
 use Rattle.mdns_lives.specs.Recording.{RecordsAll}
 use Rattle.mdns_survey.specs.Filter.{filter_of}
 use Rattle.mdns_survey.proofs.SelectedLemmas.{counted-heard}
-use Rattle.mdns_survey.proofs.lives_answer.LivesQueryQuestion.listener.Goals as goal
+use Rattle.mdns_survey.proofs.lives_answer.LivesRequestQuestion.collector.Goals as goal
 
 pub returns-clause-nothing : goal.returns-clause-nothing
 returns-clause-nothing c = (refl, c.new.ensures)
