@@ -15,7 +15,7 @@ use crate::report::Form;
 use crate::report_json::Objects;
 use crate::report_lines::push_life;
 use mdns_capture::Moment;
-use mdns_lives::{Life, Reason, Which};
+use mdns_lives::{EndReason, Life, Which};
 use mdns_message::{Resource, Want};
 
 /// How many lives there are, and how wide their columns are.
@@ -83,6 +83,10 @@ pub fn push_lives(
     ensures { OnOk result (string_bytes text.new
         ≡ string_bytes text.old ++ flat_map (life_text form width end.nanos resource.now) lives.now) }
 {
+    // Most records have no changes, and a record's text costs more than finding that.
+    if lives.is_empty() {
+        return Ok(());
+    }
     match form {
         Form::Lines => push_lines(text, end, resource, lives),
         Form::Json => push_objects(text, end, resource, lives),
@@ -164,13 +168,13 @@ pub(crate) fn end_word(end: Moment, life: &Life) -> &'static str
 }
 
 /// Returns why a life ended, as a word of seven letters.
-pub(crate) fn reason_word(reason: Reason) -> &'static str
+pub(crate) fn reason_word(reason: EndReason) -> &'static str
     ensures word { result.now ≡ reason_text reason }
     ensures short { length result.now ≤ 7 }
 {
     match reason {
-        Reason::RanOut => "expired",
-        Reason::Goodbye => "goodbye",
-        Reason::Flushed => "flushed",
+        EndReason::RanOut => "expired",
+        EndReason::Goodbye => "goodbye",
+        EndReason::Flushed => "flushed",
     }
 }

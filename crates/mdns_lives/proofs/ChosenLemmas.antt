@@ -1,6 +1,6 @@
 -- Which record sets have changed, by each set alone.
 use Rattle.std.proofs.Common.{◌≡◌, ◌≢◌, Bool, true, false, ◌&&◌, ◌||◌, ◌==◌, not, if◌then◌else◌, cond, IsTrue, ◌↔◌, ℕ}
-use Rattle.std.proofs.Common.{List, [], ◌∷◌, ◌++◌, map, slice_get, Option, Some, unwrap_or}
+use Rattle.std.proofs.Common.{List, [], ◌∷◌, ◌++◌, length, map, slice_get, Option, Some, unwrap_or}
 use Rattle.std.proofs.Common.{refl, sym, ap, ◌∙◌, subst, true≢false, append_assoc, append-nil, arith}
 use Rattle.std.specs.List.{AllByRecursion, filter, list_any}
 use Rattle.std.specs.List.Sorted.{IsStrictlySortedBy}
@@ -28,7 +28,7 @@ use Rattle.mdns_lives.specs.Changes.{AreOf, AreOfOne, begins_in, begins_of, by_s
 use Rattle.mdns_lives.specs.Changes.{has_changed, is_between, is_of_set, is_shared, kept_if, left_of, strays}
 use Rattle.mdns_lives.specs.Lives.{AreApart}
 use Rattle.mdns_lives.specs.LentLives.{row_lent}
-use Rattle.mdns_lives.proofs.ChangesLemmas.{BeganAt, changes-stray}
+use Rattle.mdns_lives.proofs.ChangesLemmas.{begins-sorted, own-stay, BeganAt, changes-stray}
 use Rattle.mdns_lives.proofs.LiveLifeLemmas.{Row, row_record}
 use Rattle.mdns_cache.proofs.LiveWalkLemmas.{key_after}
 
@@ -307,3 +307,14 @@ kept-set (x ∷ set) first begun changed at one sorted is =
         ≡ list_any (λ (row : RecordLives). strays row.lives.items begun) some
     any-lent [] = refl
     any-lent (row ∷ some) = ap (λ b. strays row.lives.items begun || b) (any-lent some)
+
+-- a record that is alone in its set has no change
+pub kept-alone : (set : List RecordLives) (first : RecordLives) → length set ≡ 1 → Some first ≡ slice_get set 0
+    → AreOfOne (map row_lent set) → changes_in (map row_lent set) ≡ map (kept_if false) (map row_lent set)
+kept-alone [] first one at own = absurd (omega (arith, one))
+kept-alone (row ∷ []) first one at own =
+    let lives = row.lives.items in
+    kept-set (row ∷ []) first (begins_of lives) false at own
+    (sym (ap ascending (append-nil (begins_of lives)) ∙ begins-sorted lives own.1))
+    (grind (arith, own-stay lives))
+kept-alone (row ∷ other ∷ set) first one at own = absurd (omega (arith, one))

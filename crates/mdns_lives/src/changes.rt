@@ -209,6 +209,10 @@ fn has_changed(alloc: Global, set: &[RecordLives<'_>]) -> Result<bool, Want>
     if is_shared(&first.last) {
         return Ok(false);
     }
+    // A record alone has none before it, and most records are alone in their set.
+    if set.len() == 1 {
+        return Ok(false);
+    }
     let mut begun = beginnings(alloc, set)?;
     sort(&mut begun);
     Ok(any_strays(set, begun.as_slice()))

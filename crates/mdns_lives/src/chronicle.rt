@@ -90,7 +90,7 @@ impl Chronicle {
         Ok(())
     }
 
-    /// Adds a hearing at each of the moments that wait, whatever its own is. After `Want` it may have been added in part.
+    /// Adds a hearing at each of the moments that wait, whatever its own is. After `Want` the contents are not specified.
     pub(crate) fn hear_at_each(
         &mut self,
         hearing: BorrowedHearing<'_>,

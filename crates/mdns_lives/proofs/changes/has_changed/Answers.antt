@@ -1,11 +1,11 @@
-use Rattle.std.proofs.Common.{◌&&◌, ◌∙◌, false, ap, map, not, refl, sym}
+use Rattle.std.proofs.Common.{◌&&◌, ◌∙◌, arith, false, ap, map, not, refl, sym}
 use Rattle.std.specs.List.{list_any}
 use Rattle.mdns_join.specs.Kept.{ascending}
 use Rattle.mdns_join.specs.Nanos.{nanos_of}
 use Rattle.mdns_lives.specs.Changes.{begins_in, strays}
 use Rattle.mdns_lives.specs.LentLives.{row_lent}
 use Rattle.mdns_lives.specs.declared.lives.RecordLives.{RecordLives}
-use Rattle.mdns_lives.proofs.ChosenLemmas.{kept-set}
+use Rattle.mdns_lives.proofs.ChosenLemmas.{kept-alone, kept-set}
 use Rattle.mdns_lives.proofs.changes.has_changed.Goals as goal
 
 pub returns-then-is_shared-clause-ok : goal.returns-then-is_shared-clause-ok
@@ -25,3 +25,7 @@ returns-clause-ok c =
     (ap nanos_of c.as_slice.ensures.value ∙ c.sort.ensures ∙ ap ascending c.in_ok-begun.ensures)
     (c.any_strays.ensures
     ∙ ap (λ b. not b && list_any (λ (row : RecordLives). strays row.lives.items begun) set) own)
+
+pub returns-then-set-eq1-clause-ok : goal.returns-then-set-eq1-clause-ok
+returns-then-set-eq1-clause-ok c =
+    kept-alone c.args.set.now c.in-Some.first.now (omega (arith, c.if-set-eq1.true)) c.in-Some.ensures.value c.requires
