@@ -2,7 +2,7 @@
 -- kept once.
 use Rattle.std.proofs.Common.{◌≡◌, ◌≢◌, ℕ, suc, ◌<◌, ◌≤◌, ◌⊎◌, ⊎_elim, inl, inr, Bool, true, false, cond, List}
 use Rattle.std.proofs.Common.{[], ◌∷◌, ◌++◌}
-use Rattle.std.proofs.Common.{length, get_or, set, Contains, Some, None, append-nil, refl, sym, ap, subst, ◌∙◌, arith}
+use Rattle.std.proofs.Common.{length, get_or, set, Contains, Some, None, append-nil, append_assoc, refl, sym, ap, subst, ◌∙◌, arith}
 use Rattle.std.proofs.Common.{if◌then◌else◌}
 use Rattle.std.specs.List.{All, dedup, dedup_from, cons_option}
 use Rattle.std.specs.Option.{option_map}
@@ -15,7 +15,8 @@ use Rattle.std.specs.declared.cmp.Ordering.TheVariants.{Less, Equal, Greater}
 use Rattle.std.proofs.lemmas.Bool.{false≢true, cases_eq}
 use Rattle.std.proofs.lemmas.Cmp.{nat_list_cmp_total, on_total, then_total, tied_itself, upto}
 use Rattle.std.proofs.lemmas.List.{length-set, get_or-set_same, get_or-set_other, get_or_default, set-get_or}
-use Rattle.std.proofs.lemmas.List.Elements.{Contains-append_left, Contains-push, Contains-push_cases, Contains-get_or, All-head}
+use Rattle.std.proofs.lemmas.List.Elements.{Contains-append_left, Contains-append_right, Contains-append_cases, Contains-push}
+use Rattle.std.proofs.lemmas.List.Elements.{Contains-push_cases, Contains-get_or, All-head}
 use Rattle.std.proofs.lemmas.List.Elements.{All-tail, filter_map-append}
 use Rattle.std.proofs.lemmas.List.Kept.{IsStrictlySortedBy-dedup, Contains-from_dedup}
 use Rattle.std.proofs.lemmas.List.Sorted.{IsPermutation-sym, Contains-permutation, sorted_far, ranks_by}
@@ -26,7 +27,7 @@ use Rattle.mdns_message.specs.declared.hearing.Hearing.{Hearing}
 use Rattle.mdns_message.specs.laws.Resource.{bytes_cmp-exact, both_tie}
 use Rattle.mdns_cache.proofs.StandsPartLemmas.{Contains-nil, Contains-head, Contains-later, Contains-cases}
 use Rattle.mdns_listeners.specs.declared.names.Named.{Named}
-use Rattle.mdns_listeners.specs.Names.{Covers, HoldsNames, IsAtMost, named, named_in, told_in, respelled, address_in}
+use Rattle.mdns_listeners.specs.Names.{AddsNames, Covers, HoldsNames, IsAtMost, SufficeFor, named, named_in, told_in, respelled, address_in}
 use Rattle.mdns_listeners.specs.Names.{address_bytes, address_cmp, by_name, by_spelling}
 
 -- ---- orders
@@ -252,25 +253,54 @@ module _ (names sorted kept : List Named) (moved : IsPermutation names sorted) (
 
 -- ---- hearings
 
-pub HoldsNames-more : (held new : List Named) (heard : List Hearing) (h : Hearing) (source : SourceAddress)
-    → address_in h.heard.body ≡ Some source
-    → ((told : List Named) → Covers held told → Covers new (told ++ named source h.heard.owner ∷ [])) → HoldsNames held heard
-    → HoldsNames new (heard ++ h ∷ [])
-HoldsNames-more held new heard h source is more holds = record {
-  covers = subst (Covers new)
-      (ap (λ o. told_in heard ++ cons_option (option_map (λ s. named s h.heard.owner) o) []) (sym is)
-      ∙ sym (filter_map-append named_in heard (h ∷ [])))
-      (more (told_in heard) holds.covers);
+Covers-itself : (names : List Named) → Covers names names
+Covers-itself names = record { among = λ x m. m; each = λ x m. (x, m, IsAtMost-itself x) }
+
+adds-none : (held : List Named) → AddsNames held held []
+adds-none held told covers = subst (Covers held) (sym (append-nil told)) covers
+
+-- the name that a hearing tells, if any
+pub adds-told : (old new : List Named) (h : Hearing) (source : SourceAddress) → address_in h.heard.body ≡ Some source
+    → AddsNames old new (named source h.heard.owner ∷ []) → AddsNames old new (told_in (h ∷ []))
+adds-told old new h source is =
+    subst (AddsNames old new) (ap (λ o. cons_option (option_map (λ s. named s h.heard.owner) o) []) (sym is))
+
+pub adds-untold : (held : List Named) (h : Hearing) → address_in h.heard.body ≡ None → AddsNames held held (told_in (h ∷ []))
+adds-untold held h none =
+    subst (AddsNames held held) (ap (λ o. cons_option (option_map (λ s. named s h.heard.owner) o) []) (sym none)) (adds-none held)
+
+-- the names of some hearings, and then of one more
+pub adds_first : (held : List Named) → AddsNames held held (told_in [])
+adds_first held = adds-none held
+
+pub adds_next : (a b c : List Named) (heard : List Hearing) (h : Hearing) → AddsNames a b (told_in heard)
+    → AddsNames b c (told_in (h ∷ [])) → AddsNames a c (told_in (heard ++ h ∷ []))
+adds_next a b c heard h p q told covers =
+    subst (Covers c)
+    (append_assoc told (told_in heard) (told_in (h ∷ []))
+    ∙ ap (λ ns. told ++ ns) (sym (filter_map-append named_in heard (h ∷ []))))
+    (q (told ++ told_in heard) (p told covers))
+
+-- names suffice for those that were held before, and for those that were added
+pub adds_keeps : (old new more : List Named) → AddsNames old new more → SufficeFor new old
+adds_keeps old new more adds x m = (adds old (Covers-itself old)).each x (Contains-append_left old more x m)
+
+pub adds-suffice : (old new more : List Named) → AddsNames old new more → SufficeFor new more
+adds-suffice old new more adds x m = (adds old (Covers-itself old)).each x (Contains-append_right old more x m)
+
+pub suffice-onward : (a b c : List Named) → SufficeFor a b → SufficeFor b c → SufficeFor a c
+suffice-onward a b c p q x m = let w = q x m in let v = p w.0 w.1 in (v.0, v.1, IsAtMost-onward v.0 w.0 x v.2 w.2)
+
+pub suffice-adds : (held more : List Named) → SufficeFor held more → AddsNames held held more
+suffice-adds held more suffice told covers = record {
+  among = λ x m. Contains-append_left told more x (covers.among x m);
+  each = λ x m. ⊎_elim (covers.each x) (suffice x) (Contains-append_cases told more x m);
 }
 
-pub HoldsNames-same : (held : List Named) (heard : List Hearing) (h : Hearing) → address_in h.heard.body ≡ None → HoldsNames held heard
-    → HoldsNames held (heard ++ h ∷ [])
-HoldsNames-same held heard h none holds = record {
-  covers = subst (Covers held)
-      (sym (append-nil (told_in heard))
-      ∙ ap (λ o. told_in heard ++ cons_option (option_map (λ s. named s h.heard.owner) o) []) (sym none)
-      ∙ sym (filter_map-append named_in heard (h ∷ [])))
-      holds.covers;
+pub HoldsNames-more : (old new : List Named) (heard more : List Hearing) → AddsNames old new (told_in more) → HoldsNames old heard
+    → HoldsNames new (heard ++ more)
+HoldsNames-more old new heard more adds holds = record {
+  covers = subst (Covers new) (sym (filter_map-append named_in heard more)) (adds (told_in heard) holds.covers);
 }
 
 pub HoldsNames-kept : (kept held : List Named) (heard : List Hearing) → Covers kept held → HoldsNames held heard → HoldsNames kept heard

@@ -1,15 +1,27 @@
 -- Messages that are kept, and what was told.
-use Rattle.std.proofs.Common.{◌≡◌, ℕ, ◌<◌, ◌≤◌, inl, inr, List, [], ◌∷◌, ◌++◌, length, get_or, Result, Ok}
+use Rattle.std.proofs.Common.{◌≡◌, ℕ, ◌<◌, ◌==◌, if◌then◌else◌, inl, inr, List, [], ◌∷◌, ◌++◌, drop, length, get_or, map, Result, Ok}
 use Rattle.std.proofs.Common.{Err, OnOk, OnErr, refl, sym, ap, ◌∙◌, subst, arith, length-append}
-use Rattle.std.specs.List.{All}
+use Rattle.std.specs.List.{All, cons_option}
 use Rattle.std.specs.List.Sorted.{IsPermutation}
+use Rattle.std.proofs.Math.Seq.{drop-append_seam}
 use Rattle.std.proofs.lemmas.Bool.{cases_lt}
 use Rattle.std.proofs.lemmas.List.{get_or_append_left, get_or-map, get_or_push, length-map, length_push, map_push}
 use Rattle.std.proofs.lemmas.List.Elements.{All-map, All-push, Contains-get_or}
 use Rattle.std.proofs.lemmas.List.Sorted.{All-permutation as all_permuted, Contains-permutation, length_permutation}
+use Rattle.mdns_capture.specs.declared.moment.Moment.{Moment}
+use Rattle.mdns_message.specs.declared.hearing.Hearing.{Hearing}
+use Rattle.mdns_message.specs.Message.{MessageReads, hearing_of}
+use Rattle.mdns_message.specs.RecordAt.{HeardRecord}
+use Rattle.mdns_message.proofs.MessageLawLemmas.{one_hearing_list}
+use Rattle.mdns_cache.specs.Repeats.{ReadsAs}
+use Rattle.mdns_cache.proofs.MemoryLemmas.{reads_as}
+use Rattle.mdns_cache.proofs.RepeatLemmas.{reads-at}
 use Rattle.mdns_listeners.specs.declared.kept.Noted.{Noted}
+use Rattle.mdns_listeners.specs.declared.names.Named.{Named}
 use Rattle.mdns_listeners.specs.Heard.{HasWholeAddress}
-use Rattle.mdns_listeners.specs.Kept.{AreKept, ArePlaced, Keeps, KeptMessage, kept_messages, told_by}
+use Rattle.mdns_listeners.specs.Kept.{AreKept, ArePlaced, IsRead, KeptMessage, kept_messages, next_kept, payload_in, told_by}
+use Rattle.mdns_listeners.specs.Names.{SufficeFor, named_in, told_in}
+use Rattle.mdns_listeners.proofs.HeldNameLemmas.{suffice-onward}
 use Rattle.mdns_listeners.proofs.RowLemmas.{map-agree}
 
 -- ---- whole addresses
@@ -30,114 +42,153 @@ pub on-err : {T E P : Type 0} (r : Result T E) → P → OnErr r P
 on-err (Ok x) p = tt
 on-err (Err e) p = p
 
--- ---- messages that are kept
+-- ---- payloads
 
-message-push : (kept : List KeptMessage) (one : KeptMessage) → get_or (kept_messages (kept ++ one ∷ [])) (length kept) [] ≡ one.message
+pub payload_after : {E : Type 0} (r : Result (Unit {0}) E) (version : ℕ) (octets payload message : List ℕ)
+    → OnOk r (message ≡ version ∷ octets ++ payload) → length octets ≡ (if version == 4 then 4 else 16)
+    → OnOk r (payload_in message ≡ payload)
+payload_after (Ok x) version octets payload message is size =
+    ap payload_in is ∙ ap (λ n. drop n (octets ++ payload)) (sym size) ∙ drop-append_seam octets payload
+payload_after (Err e) version octets payload message is size = tt
+
+-- ---- messages that were read
+
+any-moment : (t u : Moment) (told : List HeardRecord) → told_in (map (hearing_of t) told) ≡ told_in (map (hearing_of u) told)
+any-moment t u [] = refl
+any-moment t u (r ∷ rs) = ap (cons_option (named_in (hearing_of t r))) (any-moment t u rs)
+
+-- a message tells the same names at each moment
+told-alike : (t u : Moment) (message : List ℕ) (hs gs : List Hearing) → MessageReads t message hs → MessageReads u message gs
+    → told_in hs ≡ told_in gs
+told-alike t u message hs gs reads read =
+    ap told_in (one_hearing_list t message hs (map (hearing_of t) read.told) reads (reads-at u message gs read t))
+    ∙ any-moment t u read.told ∙ ap told_in (sym read.heard)
+
+is-read : (names : List Named) (one : KeptMessage) (payload : List ℕ) (t : Moment) (hs : List Hearing)
+    → ((i : ℕ) → get_or payload i 0 < 256) → payload_in one.message ≡ payload → MessageReads t payload hs → (hs ≡ [] → ⊥)
+    → length hs ≡ one.hearings → SufficeFor names (told_in hs) → IsRead names one
+is-read names one payload t [] fits is reads some counted suffice = absurd (some refl)
+is-read names one payload t (h ∷ hs) fits is reads some counted suffice = record {
+  some = omega (arith, counted);
+  reads = λ u. subst (λ m. ReadsAs u m one.hearings) (sym is) (reads_as payload one.hearings t (h ∷ hs) fits reads counted u);
+  named = λ u gs read. subst (SufficeFor names)
+      (told-alike t u payload (h ∷ hs) gs reads (subst (λ m. MessageReads u m gs) is read)) suffice;
+}
+
+module _ (names : List Named) (one : KeptMessage) (payload : List ℕ) (read : IsRead names one) (is : payload_in one.message ≡ payload)
+    (t : Moment) where
+  pub known-reads : ReadsAs t payload one.hearings
+  known-reads = subst (λ m. ReadsAs t m one.hearings) is (read.reads t)
+
+  pub known-some : (hs : List Hearing) → MessageReads t payload hs → hs ≡ [] → ⊥
+  known-some hs reads none =
+      omega (
+        arith,
+        read.some,
+        known-reads.counted,
+        ap length (one_hearing_list t payload known-reads.hearings hs known-reads.reads reads ∙ none),
+      )
+
+  pub known-named : (hs : List Hearing) → MessageReads t payload hs → SufficeFor names (told_in hs)
+  known-named hs reads = read.named t hs (subst (λ m. MessageReads t m hs) (sym is) reads)
+
+-- ---- what is kept and told after a message more
+
+pub kept-names : (kept : List KeptMessage) (times : List Noted) (old new : List Named) → AreKept kept times old → SufficeFor new old
+    → AreKept kept times new
+kept-names kept times old new are keeps = record {
+  placed = are.placed;
+  addressed = are.addressed;
+  read = λ k d l. let read = are.read k d l in record {
+    some = read.some;
+    reads = read.reads;
+    named = λ t hs reads. suffice-onward new old (told_in hs) keeps (read.named t hs reads);
+  };
+  within = are.within;
+}
+
+placed-push : (kept : List KeptMessage) (one : KeptMessage) → one.place ≡ length kept
+    → ((k : ℕ) (d : KeptMessage) → k < length kept → (get_or kept k d).place ≡ k)
+    → (k : ℕ) (d : KeptMessage) → k < length (kept ++ one ∷ []) → (get_or (kept ++ one ∷ []) k d).place ≡ k
+placed-push kept one is placed k d l = elim (cases_lt k (length kept)) [
+  | inl less ↦ ap (λ o. o.place) (get_or_append_left kept (one ∷ []) d k less) ∙ placed k d less
+  | inr last ↦
+      let end : length kept ≡ k = omega (arith, l, last, length_push kept one) in
+      ap (λ o. o.place) (get_or_push kept one d k end) ∙ is ∙ end
+]
+
+kept-push : (kept : List KeptMessage) (times : List Noted) (names : List Named) (one : KeptMessage) → AreKept kept times names
+    → one.place ≡ length kept → HasWholeAddress one.message → IsRead names one → AreKept (kept ++ one ∷ []) times names
+kept-push kept times names one are last whole read = record {
+  placed = placed-push kept one last are.placed;
+  addressed = All-push (λ o. HasWholeAddress o.message) kept one are.addressed whole;
+  read = All-push (IsRead names) kept one are.read read;
+  within = λ i d l. omega (arith, are.within i d l, length_push kept one);
+}
+
+-- a message that was read is kept, and names suffice for its hearings
+pub kept-more : (kept new : List KeptMessage) (times : List Noted) (old names : List Named) (payload message bytes : List ℕ) (t : Moment)
+    (hs : List Hearing) (count : ℕ) → AreKept kept times old → SufficeFor names old → SufficeFor names (told_in hs)
+    → ((i : ℕ) → get_or payload i 0 < 256) → message ≡ bytes → HasWholeAddress bytes → payload_in bytes ≡ payload
+    → MessageReads t payload hs → (hs ≡ [] → ⊥) → count ≡ length hs → new ≡ kept ++ next_kept kept message count ∷ []
+    → AreKept new times names
+kept-more kept new times old names payload message bytes t hs count are keeps suffice fits is whole carried reads some counted more =
+    let one = next_kept kept message count in
+    subst (λ (ks : List KeptMessage). AreKept ks times names) (sym more)
+    (kept-push kept times names one (kept-names kept times old names are keeps) refl (subst HasWholeAddress (sym is) whole)
+    (is-read names one payload t hs fits (ap payload_in is ∙ carried) reads some (sym counted) suffice))
+
+pub kept-noted : (kept : List KeptMessage) (times : List Noted) (names : List Named) (noted : Noted) → AreKept kept times names
+    → noted.place < length kept → AreKept kept (times ++ noted ∷ []) names
+kept-noted kept times names noted are within = record {
+  placed = are.placed;
+  addressed = are.addressed;
+  read = are.read;
+  within = All-push (λ n. n.place < length kept) times noted are.within within;
+}
+
+-- what was told before stays so
+pub told-push : (kept : List KeptMessage) (times : List Noted) (names : List Named) (one : KeptMessage) → AreKept kept times names
+    → told_by (kept_messages (kept ++ one ∷ [])) times ≡ told_by (kept_messages kept) times
+told-push kept times names one are =
+    map-agree _ _ times (λ i d l. λ j. record {
+      message = before (get_or times i d).place (are.within i d l) j;
+      at = (get_or times i d).at;
+    })
+  where
+    before : (p : ℕ) → p < length kept → get_or (kept_messages (kept ++ one ∷ [])) p [] ≡ get_or (kept_messages kept) p []
+    before p l = ap (λ ms. get_or ms p []) (map_push (λ (o : KeptMessage). o.message) kept one)
+        ∙ get_or_append_left (kept_messages kept) (one.message ∷ []) [] p (omega (arith, l, length-map kept (λ o. o.message)))
+
+pub told-noted : (messages : List (List ℕ)) (times : List Noted) (noted : Noted) (message : List ℕ)
+    → get_or messages noted.place [] ≡ message
+    → told_by messages (times ++ noted ∷ []) ≡ told_by messages times ++ record { message = message; at = noted.at } ∷ []
+told-noted messages times noted message is =
+    map_push _ times noted ∙ ap (λ m. told_by messages times ++ record { message = m; at = noted.at } ∷ []) is
+
+pub message-push : (kept : List KeptMessage) (one : KeptMessage)
+    → get_or (kept_messages (kept ++ one ∷ [])) (length kept) [] ≡ one.message
 message-push kept one =
     ap (λ ms. get_or ms (length kept) []) (map_push (λ (o : KeptMessage). o.message) kept one)
     ∙ get_or_push (kept_messages kept) one.message [] (length kept) (length-map kept (λ o. o.message))
 
-pub keeps_found : (kept : List KeptMessage) (message : List ℕ) (place : ℕ) → place < length kept
-    → get_or (kept_messages kept) place [] ≡ message → Keeps kept kept message place
-keeps_found kept message place within own = record { within = within; own = own; more = inl refl }
-
-pub keeps_new : (old new : List KeptMessage) (message : List ℕ) (place : ℕ) → place ≡ length old
-    → new ≡ old ++ record { message = message; place = place } ∷ [] → Keeps old new message place
-keeps_new old new message place is more =
-    let one : KeptMessage = record { message = message; place = place } in
-    record {
-      within = omega (arith, is, ap length more, length_push old one);
-      own = (λ i. get_or (kept_messages (more i)) (is i) []) ∙ message-push old one;
-      more = inr (more ∙ ap (λ p. old ++ record { message = message; place = p } ∷ []) is);
-    }
-
--- ---- what is kept and told after a message more
-
-kept-longer : (old new : List KeptMessage) (message : List ℕ) (place : ℕ) → Keeps old new message place → length old ≤ length new
-kept-longer old new message place k = elim k.more [
-  | inl same ↦ omega (arith, ap length same)
-  | inr more ↦ omega (arith, ap length more, length_push old (record { message = message; place = length old }))
-]
-
-kept-before : (old new : List KeptMessage) (message : List ℕ) (place p : ℕ) → Keeps old new message place → p < length old
-    → get_or (kept_messages new) p [] ≡ get_or (kept_messages old) p []
-kept-before old new message place p k l = elim k.more [
-  | inl same ↦ ap (λ ks. get_or (kept_messages ks) p []) same
-  | inr more ↦
-      let one : KeptMessage = record { message = message; place = length old } in
-      ap (λ ks. get_or (kept_messages ks) p []) more
-      ∙ ap (λ ms. get_or ms p []) (map_push (λ (o : KeptMessage). o.message) old one)
-      ∙ get_or_append_left (kept_messages old) (message ∷ []) [] p (omega (arith, length-map old (λ o. o.message)))
-]
-
-placed-push : (old : List KeptMessage) (one : KeptMessage) → one.place ≡ length old
-    → ((k : ℕ) (d : KeptMessage) → k < length old → (get_or old k d).place ≡ k)
-    → (k : ℕ) (d : KeptMessage) → k < length (old ++ one ∷ []) → (get_or (old ++ one ∷ []) k d).place ≡ k
-placed-push old one is placed k d l = elim (cases_lt k (length old)) [
-  | inl less ↦ ap (λ o. o.place) (get_or_append_left old (one ∷ []) d k less) ∙ placed k d less
-  | inr last ↦
-      let end : length old ≡ k = omega (arith, l, last, length_push old one) in
-      ap (λ o. o.place) (get_or_push old one d k end) ∙ is ∙ end
-]
-
--- the messages and their times stay kept
-pub kept-same : (old new : List KeptMessage) (times : List Noted) (message : List ℕ) (place : ℕ) → AreKept old times
-    → HasWholeAddress message → Keeps old new message place → AreKept new times
-kept-same old new times message place kept whole k = elim k.more [
-  | inl same ↦ subst (λ ks. AreKept ks times) (sym same) kept
-  | inr more ↦
-      let one : KeptMessage = record { message = message; place = length old } in
-      subst (λ ks. AreKept ks times) (sym more) (record {
-        placed = placed-push old one refl kept.placed;
-        addressed = All-push (λ o. HasWholeAddress o.message) old one kept.addressed whole;
-        within = λ i d l. omega (arith, kept.within i d l, length_push old one);
-      })
-]
-
-pub kept-more : (old new : List KeptMessage) (times : List Noted) (message : List ℕ) (noted : Noted) → AreKept old times
-    → HasWholeAddress message → Keeps old new message noted.place → AreKept new (times ++ noted ∷ [])
-kept-more old new times message noted kept whole k =
-    let same = kept-same old new times message noted.place kept whole k in
-    record {
-      placed = same.placed;
-      addressed = same.addressed;
-      within = All-push (λ n. n.place < length new) times noted same.within k.within;
-    }
-
--- what was told stays so
-pub told-same : (old new : List KeptMessage) (times : List Noted) (message : List ℕ) (place : ℕ) → AreKept old times
-    → Keeps old new message place → told_by (kept_messages new) times ≡ told_by (kept_messages old) times
-told-same old new times message place kept k =
-    map-agree _ _ times (λ i d l. λ j. record {
-      message = kept-before old new message place (get_or times i d).place k (kept.within i d l) j;
-      at = (get_or times i d).at;
-    })
-
-pub told-more : (old new : List KeptMessage) (times : List Noted) (message : List ℕ) (noted : Noted) → AreKept old times
-    → Keeps old new message noted.place
-    → told_by (kept_messages new) (times ++ noted ∷ [])
-    ≡ told_by (kept_messages old) times ++ record { message = message; at = noted.at } ∷ []
-told-more old new times message noted kept k =
-    map_push _ times noted
-    ∙ (λ i. told-same old new times message noted.place kept k i ++ record { message = k.own i; at = noted.at } ∷ [])
-
 -- what was told has whole addresses
-pub told-whole : (kept : List KeptMessage) (times : List Noted) → AreKept kept times
+pub told-whole : (kept : List KeptMessage) (times : List Noted) (names : List Named) → AreKept kept times names
     → All (λ told. HasWholeAddress told.message) (told_by (kept_messages kept) times)
-told-whole kept times is =
+told-whole kept times names is =
     All-map (λ told. HasWholeAddress told.message) _ times (λ i d l.
     let place = (get_or times i d).place in
-    let one : KeptMessage = record { message = []; place = 0 } in
+    let one : KeptMessage = record { message = []; place = 0; hearings = 0 } in
     subst HasWholeAddress (sym (get_or-map (λ (o : KeptMessage). o.message) kept place one [] (is.within i d l)))
     (is.addressed place one (is.within i d l)))
 
 -- ---- messages in another order
 
-pub placed-permuted : (kept others : List KeptMessage) (times : List Noted) → AreKept kept times → IsPermutation kept others
-    → ArePlaced (kept_messages kept) others
-placed-permuted kept others times is moved =
+pub placed-permuted : (kept others : List KeptMessage) (times : List Noted) (names : List Named) → AreKept kept times names
+    → IsPermutation kept others → ArePlaced (kept_messages kept) others
+placed-permuted kept others times names is moved =
     let long : length (kept_messages kept) ≡ length kept = length-map kept (λ o. o.message) in
-    let none : KeptMessage = record { message = []; place = 0 } in
+    let none : KeptMessage = record { message = []; place = 0; hearings = 0 } in
     record {
       long = length_permutation kept others moved ∙ sym long;
       within = all_permuted (λ o. o.place < length (kept_messages kept)) kept others moved
@@ -153,6 +204,6 @@ placed-permuted kept others times is moved =
           );
     }
 
-pub within-permuted : (kept others : List KeptMessage) (times : List Noted) → AreKept kept times → IsPermutation kept others
-    → All (λ noted. noted.place < length others) times
-within-permuted kept others times is moved = λ k d l. omega (arith, is.within k d l, length_permutation kept others moved)
+pub within-permuted : (kept others : List KeptMessage) (times : List Noted) (names : List Named) → AreKept kept times names
+    → IsPermutation kept others → All (λ noted. noted.place < length others) times
+within-permuted kept others times names is moved = λ k d l. omega (arith, is.within k d l, length_permutation kept others moved)

@@ -5,7 +5,6 @@ use Rattle.std.proofs.lemmas.Grind.{flat_map-append}
 use Rattle.std.proofs.lemmas.List.{get_or_past, map-append, take_all, take_more}
 use Rattle.std.specs.Prelude.{min}
 use Rattle.std.proofs.lemmas.List.Elements.{All-append, All-cons, All-nil}
-use Rattle.mdns_capture.specs.declared.moment.Moment.{Moment}
 use Rattle.mdns_capture.specs.declared.source_address.SourceAddress.{SourceAddress}
 use Rattle.mdns_capture.specs.Frame.{FrameCarries}
 use Rattle.mdns_capture.specs.Savefile.{PacketAt}
@@ -18,9 +17,11 @@ use Rattle.mdns_survey.specs.Surveys.{all_hearings}
 use Rattle.mdns_listeners.specs.declared.listeners.Gatherer.{Gatherer}
 use Rattle.mdns_listeners.specs.declared.senders.SenderRow.{SenderRow}
 use Rattle.mdns_survey.specs.declared.reading.Span.{Span}
+use Rattle.mdns_listeners.specs.declared.heard.HeardAt.{HeardAt}
 use Rattle.mdns_listeners.specs.Heard.{HeardRow, Told, message_bytes}
 use Rattle.mdns_listeners.specs.Numbers.{FileSpans, spans_of_listeners}
-use Rattle.mdns_listeners.specs.Listeners.{AreNamed, CapturesTell, Gathered, Gathers, HearsMessage, SaysFacts, TellAll, Tells, listener_at}
+use Rattle.mdns_listeners.specs.Kept.{HeardSoFar, HearsMessage}
+use Rattle.mdns_listeners.specs.Listeners.{AreNamed, CapturesTell, Gathered, Gathers, SaysFacts, TellAll, Tells, heard_at, listener_at}
 use Rattle.mdns_listeners.specs.declared.named.NamedSender.{NamedSender as LentSender}
 use Rattle.mdns_listeners.specs.Named.{NamedSender, sender_lent}
 use Rattle.mdns_listeners.specs.Names.{AreNames, HoldsNames}
@@ -88,31 +89,33 @@ pub hearings-more : (outcomes : List Outcome) (outcome : Outcome)
 hearings-more outcomes outcome = flat_map-append hearings_of_outcome outcomes (outcome ∷ [])
     ∙ ap (λ l. hearings_in outcomes ++ l) (append-nil (hearings_of_outcome outcome))
 
--- a message that a listener heard
-abbrev told_by : ℕ → SourceAddress → List ℕ → Moment → List Told
-told_by listener source payload moment =
-    record { message = message_bytes source payload; at = record { listener = listener; moment = moment } } ∷ []
+-- a message that was heard
+abbrev told_by : SourceAddress → List ℕ → HeardAt → List Told
+told_by source payload at = record { message = message_bytes source payload; at = at } ∷ []
 
 -- a packet that told its hearings was taken
 pub gathers-told : (begun old new : Gatherer) (packets : List PacketAt) (outcomes : List Outcome) (packet : PacketAt)
     (source : SourceAddress) (payload : List ℕ) (hearings : List Hearing) → Gathers begun old packets outcomes
-    → HearsMessage source payload packet.moment hearings old new → IsSourceOf packet.frame source → FrameCarries packet.frame payload
+    → new.of.items ≡ old.of.items → new.place ≡ old.place
+    → HearsMessage source payload (heard_at old packet.moment) hearings old.messages new.messages
+    → IsSourceOf packet.frame source → FrameCarries packet.frame payload
     → (hearings ≡ [] → ⊥) → Gathers begun new (packets ++ packet ∷ []) (outcomes ++ heard hearings ∷ [])
-gathers-told begun old new packets outcomes packet source payload [] took hears sent carries some = absurd (some refl)
-gathers-told begun old new packets outcomes packet source payload (hearing ∷ hearings) took hears sent carries some =
+gathers-told begun old new packets outcomes packet source payload [] took of place hears sent carries some = absurd (some refl)
+gathers-told begun old new packets outcomes packet source payload (hearing ∷ hearings) took of place hears sent carries some =
     let listener = listener_at begun.of.items begun.place in
-    let one = told_by listener source payload packet.moment in
+    let one = told_by source payload (heard_at begun packet.moment) in
     let same : listener_at old.of.items old.place ≡ listener =
     ap (λ of. listener_at of old.place) took.of ∙ ap (listener_at begun.of.items) took.place in
     record {
-      of = hears.of ∙ took.of;
-      place = hears.place ∙ took.place;
+      of = of ∙ took.of;
+      place = place ∙ took.place;
       told = took.told ++ one;
       tell = tell-more listener packets outcomes packet (heard (hearing ∷ hearings)) took.told one took.tell
           (source, (payload, sent, carries, refl));
-      messages = hears.messages ∙ ap (λ l. old.messages ++ told_by l source payload packet.moment) same
-          ∙ ap (λ ts. ts ++ one) took.messages ∙ append_assoc begun.messages took.told one;
-      names = λ earlier held. subst (HoldsNames new.names)
+      messages = hears.told
+          ∙ ap (λ l. old.messages.told ++ told_by source payload (record { listener = l; moment = packet.moment })) same
+          ∙ ap (λ ts. ts ++ one) took.messages ∙ append_assoc begun.messages.told took.told one;
+      names = λ earlier held. subst (HoldsNames new.messages.names)
           (append_assoc earlier (hearings_in outcomes) (hearing ∷ hearings)
           ∙ ap (λ l. earlier ++ l) (sym (hearings-more outcomes (heard (hearing ∷ hearings)))))
           (hears.names (earlier ++ hearings_in outcomes) (took.names earlier held));
@@ -133,7 +136,7 @@ gathers-nothing begun now packets outcomes packet outcome took tells none =
       tell = subst (TellAll listener (packets ++ packet ∷ []) (outcomes ++ outcome ∷ [])) (append-nil took.told)
           (tell-more listener packets outcomes packet outcome took.told [] took.tell tells);
       messages = took.messages;
-      names = λ earlier held. subst (λ hs. HoldsNames now.names (earlier ++ hs)) (sym same) (took.names earlier held);
+      names = λ earlier held. subst (λ hs. HoldsNames now.messages.names (earlier ++ hs)) (sym same) (took.names earlier held);
     }
 
 pub gathers-untold : (begun now : Gatherer) (packets : List PacketAt) (outcomes : List Outcome) (packet : PacketAt)
@@ -151,17 +154,16 @@ gathers-none now = record {
   place = refl;
   told = [];
   tell = refl;
-  messages = sym (append-nil now.messages);
-  names = λ earlier held. subst (HoldsNames now.names) (sym (append-nil earlier)) held;
+  messages = sym (append-nil now.messages.told);
+  names = λ earlier held. subst (HoldsNames now.messages.names) (sym (append-nil earlier)) held;
 }
 
 -- one capture more was read
 pub gathered-more : (of : List ℕ) (old now new : Gatherer) (packets : List (List PacketAt)) (outcomes : List (List Outcome))
     (next : List PacketAt) (come : List Outcome) → Gathered of old packets outcomes → Gathers old now next come
     → new.of.items ≡ now.of.items → new.place ≡ min (suc now.place) (length now.of.items) → new.messages ≡ now.messages
-    → new.names ≡ now.names
     → Gathered of new (packets ++ next ∷ []) (outcomes ++ come ∷ [])
-gathered-more of old now new packets outcomes next come gathered took same_of counted same_messages same_names =
+gathered-more of old now new packets outcomes next come gathered took same_of counted same_messages =
     let plus_zero : length packets ≡ 0 + length packets = omega arith in
     let at : listener_at old.of.items old.place ≡ listener_at of (0 + length packets) =
     ap (λ l. listener_at l old.place) gathered.listeners ∙ ap (listener_at of) gathered.place ∙ at-min of (length packets)
@@ -173,11 +175,11 @@ gathered-more of old now new packets outcomes next come gathered took same_of co
       place = counted ∙ ap (λ of_now. min (suc now.place) (length of_now)) listeners
           ∙ ap (λ n. min (suc n) (length of)) reached ∙ min-suc (length packets) (length of)
           ∙ ap (λ n. min n (length of)) (sym (length-snoc packets next));
-      tell = subst (CapturesTell of 0 (packets ++ next ∷ []) (outcomes ++ come ∷ [])) (sym (same_messages ∙ took.messages))
-          (captures-more of 0 packets outcomes next come old.messages took.told gathered.tell
+      tell = subst (CapturesTell of 0 (packets ++ next ∷ []) (outcomes ++ come ∷ [])) (sym (ap (λ m. m.told) same_messages ∙ took.messages))
+          (captures-more of 0 packets outcomes next come old.messages.told took.told gathered.tell
           (subst (λ l. TellAll l next come took.told) at took.tell));
-      names = subst (λ held. HoldsNames held (all_hearings (outcomes ++ come ∷ []))) (sym same_names)
-          (subst (HoldsNames now.names) (all_hearings-more outcomes come) (took.names (all_hearings outcomes) gathered.names));
+      names = subst (λ (m : HeardSoFar). HoldsNames m.names (all_hearings (outcomes ++ come ∷ []))) (sym same_messages)
+          (subst (HoldsNames now.messages.names) (all_hearings-more outcomes come) (took.names (all_hearings outcomes) gathered.names));
     }
 
 -- THE NAMES OF ROWS

@@ -1,16 +1,43 @@
--- Messages that are kept once, and the times at which they were told, each with the place of its message.
-use Rattle.std.specs.Prelude.{◌≡◌, ℕ, ◌-◌, ◌<◌, ◌⊎◌, ◌≢◌, Bool, List, [], ◌∷◌, ◌++◌, length, map, slice_index, slice_index_or}
+-- Messages that are kept once, the times at which they were told, each with the place of its message, and the names of senders
+-- that are held with them.
+use Rattle.std.specs.Prelude.{◌≡◌, ℕ, ◌-◌, ◌<◌, ◌⊎◌, ◌≢◌, ◌==◌, Bool, List, [], ◌∷◌, ◌++◌, drop, length, map}
+use Rattle.std.specs.Prelude.{if◌then◌else◌, slice_index, slice_index_or}
 use Rattle.std.specs.List.{All, Contains}
 use Rattle.std.specs.List.Sorted.{IsSortedBy}
 use Rattle.std.specs.Cmp.Lexicographic.{slice_cmp}
 use Rattle.std.specs.Ordering.{is_lt, nat_cmp}
+use Rattle.mdns_capture.specs.declared.moment.Moment.{Moment}
+use Rattle.mdns_capture.specs.declared.source_address.SourceAddress.{SourceAddress}
+use Rattle.mdns_message.specs.declared.hearing.Hearing.{Hearing}
+use Rattle.mdns_message.specs.Message.{MessageReads}
+use Rattle.mdns_cache.specs.Repeats.{ReadsAs}
+use Rattle.mdns_listeners.specs.declared.heard.HeardAt.{HeardAt}
 use Rattle.mdns_listeners.specs.declared.kept.Noted.{Noted}
-use Rattle.mdns_listeners.specs.Heard.{Told, HasWholeAddress, HeardRow, messages_of, times_of}
+use Rattle.mdns_listeners.specs.declared.names.Named.{Named}
+use Rattle.mdns_listeners.specs.Heard.{Told, HasWholeAddress, HeardRow, message_bytes, messages_of, times_of}
+use Rattle.mdns_listeners.specs.Names.{HoldsNames, SufficeFor, told_in}
 
--- a message, and its place among those kept
+-- a message, its place among those kept, and how many hearings it has
 pub record KeptMessage : Type 0 where
   pub message : List ℕ
   pub place : ℕ
+  pub hearings : ℕ
+
+-- what was told, and the names of senders that are held
+pub record HeardSoFar : Type 0 where
+  pub told : List Told
+  pub names : List Named
+
+-- a message was heard, with these hearings
+pub record HearsMessage (source : SourceAddress) (payload : List ℕ) (at : HeardAt) (hearings : List Hearing) (old new : HeardSoFar)
+    : Type 0 where
+  pub told : new.told ≡ old.told ++ record { message = message_bytes source payload; at = at } ∷ []
+  pub names : (earlier : List Hearing) → HoldsNames old.names earlier → HoldsNames new.names (earlier ++ hearings)
+
+-- the payload of a message: what follows the version of IP and the address
+abbrev pub payload_in : List ℕ → List ℕ
+payload_in [] = []
+payload_in (version ∷ rest) = drop (if version == 4 then 4 else 16) rest
 
 -- the messages that are kept
 abbrev pub kept_messages : List KeptMessage → List (List ℕ)
@@ -20,17 +47,23 @@ kept_messages kept = map (λ one. one.message) kept
 abbrev pub told_by : List (List ℕ) → List Noted → List Told
 told_by messages times = map (λ noted. record { message = slice_index_or messages noted.place []; at = noted.at }) times
 
--- Each message knows its place and has its sender's address, and each time has the place of a message.
-pub record AreKept (kept : List KeptMessage) (times : List Noted) : Type 0 where
+-- At any moment a message's payload reads to so many hearings, at least one, and the names that are held suffice for theirs.
+pub record IsRead (names : List Named) (one : KeptMessage) : Type 0 where
+  pub some : 0 < one.hearings
+  pub reads : (moment : Moment) → ReadsAs moment (payload_in one.message) one.hearings
+  pub named : (moment : Moment) (hearings : List Hearing) → MessageReads moment (payload_in one.message) hearings
+      → SufficeFor names (told_in hearings)
+
+-- Each message knows its place, has its sender's address and was read, and each time has the place of a message.
+pub record AreKept (kept : List KeptMessage) (times : List Noted) (names : List Named) : Type 0 where
   pub placed : (k : ℕ) (d : KeptMessage) → k < length kept → (slice_index_or kept k d).place ≡ k
   pub addressed : All (λ one. HasWholeAddress one.message) kept
+  pub read : All (IsRead names) kept
   pub within : All (λ noted. noted.place < length kept) times
 
--- A message is at a place among those that are kept now, and those that were kept before are at theirs.
-pub record Keeps (old new : List KeptMessage) (message : List ℕ) (place : ℕ) : Type 0 where
-  pub within : place < length new
-  pub own : slice_index_or (kept_messages new) place [] ≡ message
-  pub more : (new ≡ old) ⊎ (new ≡ old ++ record { message = message; place = length old } ∷ [])
+-- a message with so many hearings at the place after the last one
+abbrev pub next_kept : List KeptMessage → List ℕ → ℕ → KeptMessage
+next_kept kept message hearings = record { message = message; place = length kept; hearings = hearings }
 
 -- whether a message is below another
 abbrev pub is_below : KeptMessage → KeptMessage → Bool

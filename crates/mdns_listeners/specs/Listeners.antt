@@ -23,6 +23,7 @@ use Rattle.mdns_listeners.specs.Names.{AreNames, HoldsNames}
 use Rattle.mdns_listeners.specs.Numbers.{FileSpans, listener_rows, spans_of_listeners}
 use Rattle.mdns_listeners.specs.Pairs.{pair_rows}
 use Rattle.mdns_listeners.specs.Senders.{sender_rows}
+use Rattle.mdns_listeners.specs.declared.heard.HeardAt.{HeardAt}
 use Rattle.mdns_listeners.specs.declared.listeners.Gatherer.{Gatherer}
 use Rattle.mdns_listeners.specs.declared.senders.SenderRow.{SenderRow}
 
@@ -107,16 +108,9 @@ asked_listeners groups form = asked_at_once (λ captures. AreListeners groups fo
 
 -- ---- while captures are read
 
--- a gatherer heard a message, with these hearings
-pub record HearsMessage (source : SourceAddress) (payload : List ℕ) (moment : Moment) (hearings : List Hearing)
-    (old new : Gatherer) : Type 0 where
-  pub of : new.of.items ≡ old.of.items
-  pub place : new.place ≡ old.place
-  pub messages : new.messages ≡ old.messages ++ record {
-    message = message_bytes source payload;
-    at = record { listener = listener_at old.of.items old.place; moment = moment };
-  } ∷ []
-  pub names : (earlier : List Hearing) → HoldsNames old.names earlier → HoldsNames new.names (earlier ++ hearings)
+-- when the listener whose capture a gatherer reads hears a packet of that moment
+abbrev pub heard_at : Gatherer → Moment → HeardAt
+heard_at gatherer moment = record { listener = listener_at gatherer.of.items gatherer.place; moment = moment }
 
 -- A gatherer took these packets, with their outcomes, of the capture that it reads.
 pub record Gathers (begun now : Gatherer) (packets : List PacketAt) (outcomes : List Outcome) : Type 0 where
@@ -124,15 +118,16 @@ pub record Gathers (begun now : Gatherer) (packets : List PacketAt) (outcomes : 
   pub place : now.place ≡ begun.place
   pub told : List Told
   pub tell : TellAll (listener_at begun.of.items begun.place) packets outcomes told
-  pub messages : now.messages ≡ begun.messages ++ told
-  pub names : (earlier : List Hearing) → HoldsNames begun.names earlier → HoldsNames now.names (earlier ++ hearings_in outcomes)
+  pub messages : now.messages.told ≡ begun.messages.told ++ told
+  pub names : (earlier : List Hearing) → HoldsNames begun.messages.names earlier
+      → HoldsNames now.messages.names (earlier ++ hearings_in outcomes)
 
 -- A gatherer that had read nothing took these captures, whose listeners these are.
 pub record Gathered (of : List ℕ) (now : Gatherer) (packets : List (List PacketAt)) (outcomes : List (List Outcome)) : Type 0 where
   pub listeners : now.of.items ≡ of
   pub place : now.place ≡ min (length packets) (length of)
-  pub tell : CapturesTell of 0 packets outcomes now.messages
-  pub names : HoldsNames now.names (all_hearings outcomes)
+  pub tell : CapturesTell of 0 packets outcomes now.messages.told
+  pub names : HoldsNames now.messages.names (all_hearings outcomes)
 
 -- the same from a first state to a second
 abbrev pub GathersAll : Gatherer → Gatherer → List (List PacketAt) → List (List Outcome) → Type 0

@@ -1,7 +1,7 @@
 -- The names that a sender goes by: the owners of the A and AAAA records whose data is its address (RFC 1035, section 3.4.1; RFC
 -- 3596). Names that are equal once folded (RFC 6762, section 16) count once, in their least spelling. A list of hearings is
 -- read as a set: only which hearings it contains counts.
-use Rattle.std.specs.Prelude.{◌≡◌, ◌≢◌, ◌↔◌, ℕ, List, ◌∷◌, Option, None, Some, map, option_map, Contains, if◌then◌else◌}
+use Rattle.std.specs.Prelude.{◌≡◌, ◌≢◌, ◌↔◌, ℕ, List, ◌∷◌, ◌++◌, Option, None, Some, map, option_map, Contains, if◌then◌else◌}
 use Rattle.std.specs.List.{filter_map}
 use Rattle.std.specs.List.Sorted.{IsStrictlySortedBy}
 use Rattle.std.specs.Cmp.Lexicographic.{slice_cmp}
@@ -85,6 +85,14 @@ pub record Covers (held told : List Named) : Type 0 where
 -- names are held that suffice for those of all senders
 pub record HoldsNames (held : List Named) (heard : List Hearing) : Type 0 where
   pub covers : Covers held (told_in heard)
+
+-- the names that are held suffice for those told: each of these has one that is at most it
+abbrev pub SufficeFor : List Named → List Named → Type 0
+SufficeFor held told = (other : Named) → Contains told other → (one : Named) × Contains held one × IsAtMost one other
+
+-- the new names cover what the old ones covered, and more that was told
+abbrev pub AddsNames : List Named → List Named → List Named → Type 0
+AddsNames old new more = (told : List Named) → Covers old told → Covers new (told ++ more)
 
 -- by address, then by folded name
 abbrev pub by_name : Named → Named → Ordering

@@ -1,24 +1,34 @@
-//! The different messages that listeners heard, gathered from all messages in the order in which these were read.
+//! The different messages that listeners heard, gathered from all messages in the order in which these were read, and the names
+//! of their senders. A message that comes again isn't read again.
 
-ghost use Rattle.std.specs.Prelude.{◌≡◌, ◌<◌, ◌++◌, ◌∷◌, [], length, slice_index_or, IfOk, IfSome, OnErr, OnOk};
+ghost use Rattle.std.specs.Prelude.{◌≡◌, ◌≢◌, ◌<◌, ◌++◌, ◌∷◌, [], List, length, slice_index_or, IfNone, IfOk, IfSome, OnErr, OnOk};
 ghost use Rattle.std.specs.List.{All};
+ghost use Rattle.mdns_message.specs.declared.hearing.Hearing.{Hearing};
+ghost use Rattle.mdns_message.specs.Message.{MessageReads};
+ghost use Rattle.mdns_cache.specs.Repeats.{ReadsAs};
 ghost use Rattle.mdns_listeners.specs.Heard.{message_bytes, AreHeardIn, HasWholeAddress};
-ghost use Rattle.mdns_listeners.specs.Kept.{kept_messages, Keeps};
+ghost use Rattle.mdns_listeners.specs.Kept.{HearsMessage, kept_messages, next_kept, payload_in};
+ghost use Rattle.mdns_listeners.specs.Names.{HoldsNames, ListsNames};
 
 use crate::heard::{HeardAt, HeardMessage};
 use crate::kept::{Kept, Noted};
+use crate::names::{Names, SenderNames};
 use crate::order::sort;
 use crate::rows::rows_of;
 use join_map::index::{Index, REACH, Slot};
 use mdns_capture::SourceAddress;
+use mdns_message::MessageReader;
 use memory::{Want, same_bytes};
 use std::alloc::Global;
 use std::hash::{FoldHasher, Hasher};
 use std::marker::Model;
 
-/// All messages that listeners heard, in the order in which they were read. Each different message is kept once.
+/// All messages that listeners heard, in the order in which they were read, and the names of their senders. Each different
+/// message is kept once.
 #[derive(Drop)]
 pub struct HeardMessages {
+    alloc: Global,
+
     // The different messages. One that the index doesn't find again is here twice.
     kept: Vec<Kept>,
 
@@ -28,73 +38,114 @@ pub struct HeardMessages {
     // Each time that a message was heard.
     times: Vec<Noted>,
 
-    // The bytes of the message that was heard last.
+    names: SenderNames,
+
+    // The bytes of the message that was looked for last.
     message: Vec<u8>,
 }
 
 impl Model for HeardMessages {
-    ghost use Rattle.std.specs.Prelude.{List};
-    ghost use Rattle.mdns_listeners.specs.Heard.{Told};
-    ghost use Rattle.mdns_listeners.specs.Kept.{told_by, kept_messages, AreKept};
+    ghost use Rattle.mdns_listeners.specs.Kept.{told_by, kept_messages, AreKept, HeardSoFar};
 
-    ghost Value = { List Told };
+    ghost Value = { HeardSoFar };
 
-    ghost view = { λ a. told_by (kept_messages a.kept.items) a.times.items };
+    ghost view = { λ a. record { told = told_by (kept_messages a.kept.items) a.times.items; names = a.names } };
 
-    ghost invariant = { λ a. AreKept a.kept.items a.times.items };
+    ghost invariant = { λ a. AreKept a.kept.items a.times.items a.names };
 }
 
 impl HeardMessages {
     /// No messages. It allocates nothing yet.
     pub fn new(alloc: Global) -> HeardMessages
-        ensures { result ≡ [] }
+        ensures told { result.told ≡ [] }
+        ensures names { HoldsNames result.names [] }
     {
         HeardMessages {
+            alloc,
             kept: Vec::new(alloc),
             places: Index::new(alloc),
             times: Vec::new(alloc),
+            names: SenderNames::new(alloc),
             message: Vec::new(alloc),
         }
     }
 
-    /// Adds a message that a listener heard. After `Want` the messages are as before.
-    pub fn hear(
+    /// Adds a message that is kept already, without reading it again, and returns the number of its hearings. `None` if the
+    /// message isn't found, or if an allocation failed; then nothing changes.
+    pub fn hear_again(
         &mut self,
-        alloc: Global,
         source: &SourceAddress,
         payload: &[u8],
         at: HeardAt,
+    ) -> Option<usize>
+        ensures reads { IfSome result (ReadsAs at.moment payload.now) }
+        ensures hears { IfSome result (λ _. (hearings : List Hearing) → MessageReads at.moment payload.now hearings
+            → (hearings ≢ []) × HearsMessage source.now payload.now at hearings self.old self.new) }
+        ensures none { IfNone result (self.new ≡ self.old) }
+    {
+        write_message(&mut self.message, source, payload).ok()?;
+        let place = find(self.kept.as_slice(), &self.places, self.message.as_slice())?;
+        let hearings = self.kept[place].hearings();
+        self.times.push(Noted { place, at }).ok()?;
+        Some(hearings)
+    }
+
+    /// Adds a message that `hear_again` didn't find, and its names. After `Want` the messages are as before, and some of the
+    /// names may have been added.
+    pub fn hear(
+        &mut self,
+        source: &SourceAddress,
+        payload: &[u8],
+        at: HeardAt,
+        read: &MessageReader,
     ) -> Result<(), Want>
-        ensures ok { OnOk result (self.new ≡ self.old ++ record { message = message_bytes source.now payload.now; at = at } ∷ []) }
-        ensures err { OnErr result (self.new ≡ self.old) }
+        requires reads { MessageReads at.moment payload.now read.now }
+        requires some { read.now ≢ [] }
+        ensures ok { OnOk result (HearsMessage source.now payload.now at read.now self.old self.new) }
+        ensures err { OnErr result (self.new.told ≡ self.old.told) }
     {
         write_message(&mut self.message, source, payload)?;
         let message = self.message.as_slice();
-        let place = place_of(&mut self.kept, &mut self.places, alloc, message)?;
+
+        // The names come first: those of a message that is kept are held, also if a later allocation fails.
+        self.names.hear_all(read)?;
+        let place = self.kept.len();
+        keep(
+            &mut self.kept,
+            &mut self.places,
+            self.alloc,
+            message,
+            read.len(),
+        )?;
         self.times.push(Noted { place, at })?;
         Ok(())
     }
 
-    /// Returns the different messages, ascending by their bytes. After `Want` they are lost.
-    pub fn finish(self, alloc: Global) -> Result<Vec<HeardMessage>, Want>
-        ensures heard { IfOk result (λ rows. AreHeardIn self rows.items) }
-        ensures addresses { IfOk result (λ rows. All (λ row. HasWholeAddress row.message) rows.items) }
+    /// Returns the different messages, ascending by their bytes, and the names of the senders. After `Want` they are lost.
+    pub fn finish(self) -> Result<(Vec<HeardMessage>, Names), Want>
+        ensures heard { IfOk result (λ found. AreHeardIn self.told found.0.items) }
+        ensures addresses { IfOk result (λ found. All (λ row. HasWholeAddress row.message) found.0.items) }
+        ensures names { IfOk result (λ found. (heard : List Hearing) → HoldsNames self.names heard → ListsNames found.1 heard) }
     {
         let HeardMessages {
+            alloc,
             mut kept,
             times,
+            names,
             ..
         } = self;
         sort(kept.as_mut_slice());
-        rows_of(alloc, kept, times.as_slice())
+        let rows = rows_of(alloc, kept, times.as_slice())?;
+        Ok((rows, names.finish()?))
     }
 }
 
 // Replaces the bytes in `message` by those of a message.
-#[tactic(auto, using(crate::proofs::KeptLemmas::whole_v4, crate::proofs::KeptLemmas::whole_v6))]
+#[tactic(auto, using(crate::proofs::KeptLemmas::whole_v4, crate::proofs::KeptLemmas::whole_v6, crate::proofs::KeptLemmas::payload_after))]
 fn write_message(message: &mut Vec<u8>, source: &SourceAddress, payload: &[u8]) -> Result<(), Want>
     ensures ok { OnOk result (message.new.items ≡ message_bytes source.now payload.now) }
     ensures addressed { OnOk result (HasWholeAddress message.new.items) }
+    ensures payload { OnOk result (payload_in message.new.items ≡ payload.now) }
 {
     match source {
         SourceAddress::V4(octets) => write_parts(message, 4, octets, payload),
@@ -119,24 +170,6 @@ fn write_parts<const N: usize>(
     Ok(())
 }
 
-// Returns the place of a message, which is kept if it isn't found. After `Want` the messages are as before.
-#[tactic(auto, using(crate::proofs::KeptLemmas::keeps_found))]
-fn place_of(
-    kept: &mut Vec<Kept>,
-    places: &mut Index,
-    alloc: Global,
-    message: &[u8],
-) -> Result<usize, Want>
-    ensures ok { IfOk result (λ place. Keeps kept.old.items kept.new.items message.now place) }
-    ensures err { OnErr result (kept.new.items ≡ kept.old.items) }
-{
-    let hash = message_hash(message);
-    match find(kept.as_slice(), places, hash, message) {
-        Some(place) => Ok(place),
-        None => keep(kept, places, alloc, hash, message),
-    }
-}
-
 // Hashes a message. Only speed depends on the hash.
 fn message_hash(message: &[u8]) -> u64 {
     let mut hasher = FoldHasher::default();
@@ -144,11 +177,12 @@ fn message_hash(message: &[u8]) -> u64 {
     hasher.finish()
 }
 
-// Finds the place of a message with this hash.
-fn find(kept: &[Kept], places: &Index, hash: u64, message: &[u8]) -> Option<usize>
+// Finds the place of a message.
+fn find(kept: &[Kept], places: &Index, message: &[u8]) -> Option<usize>
     ensures within { IfSome result (λ place. place < length kept.now) }
     ensures found { IfSome result (λ place. slice_index_or (kept_messages kept.now) place [] ≡ message.now) }
 {
+    let hash = message_hash(message);
     for tried in 0..REACH {
         match places.slot(hash, tried) {
             Slot::Free => return None,
@@ -165,21 +199,20 @@ fn find(kept: &[Kept], places: &Index, hash: u64, message: &[u8]) -> Option<usiz
     None
 }
 
-// Keeps a message, and returns its place. After `Want` the messages are as before.
-#[tactic(auto, using(crate::proofs::KeptLemmas::keeps_new))]
+// Keeps a message with so many hearings. After `Want` the messages are as before.
 fn keep(
     kept: &mut Vec<Kept>,
     places: &mut Index,
     alloc: Global,
-    hash: u64,
     message: &[u8],
-) -> Result<usize, Want>
-    ensures ok { IfOk result (λ place. Keeps kept.old.items kept.new.items message.now place) }
+    hearings: usize,
+) -> Result<(), Want>
+    ensures ok { OnOk result (kept.new.items ≡ kept.old.items ++ next_kept kept.old.items message.now hearings ∷ []) }
     ensures err { OnErr result (kept.new.items ≡ kept.old.items) }
 {
     let place = kept.len();
-    let one = Kept::new(alloc, message, place)?;
-    places.note(alloc, hash, place)?;
+    let one = Kept::new(alloc, message, place, hearings)?;
+    places.note(alloc, message_hash(message), place)?;
     kept.push(one)?;
-    Ok(place)
+    Ok(())
 }

@@ -14,11 +14,12 @@ pub(crate) struct Noted {
     pub(crate) at: HeardAt,
 }
 
-/// A message, and its place among those kept.
+/// A message, its place among those kept, and how many hearings it has.
 #[derive(Drop)]
 pub(crate) struct Kept {
     message: Vec<u8>,
     place: usize,
+    hearings: usize,
 
     // Eight bytes of the message, by which it is sorted.
     word: u64,
@@ -29,17 +30,23 @@ impl Model for Kept {
 
     ghost Value = { KeptMessage };
 
-    ghost view = { λ a. record { message = a.message.items; place = a.place } };
+    ghost view = { λ a. record { message = a.message.items; place = a.place; hearings = a.hearings } };
 }
 
 impl Kept {
     /// Copies a message.
-    pub(crate) fn new(alloc: Global, message: &[u8], place: usize) -> Result<Kept, Want>
-        ensures { IfOk result (λ kept. kept ≡ record { message = message.now; place = place }) }
+    pub(crate) fn new(
+        alloc: Global,
+        message: &[u8],
+        place: usize,
+        hearings: usize,
+    ) -> Result<Kept, Want>
+        ensures { IfOk result (λ kept. kept ≡ record { message = message.now; place = place; hearings = hearings }) }
     {
         Ok(Kept {
             message: Vec::from_slice(alloc, message)?,
             place,
+            hearings,
             word: 0,
         })
     }
@@ -49,6 +56,13 @@ impl Kept {
         ensures { result.now ≡ self.now.message }
     {
         self.message.as_slice()
+    }
+
+    /// Returns how many hearings the message has.
+    pub(crate) fn hearings(&self) -> usize
+        ensures { result ≡ self.now.hearings }
+    {
+        self.hearings
     }
 
     /// Returns the eight bytes by which the message is sorted.
@@ -68,11 +82,7 @@ impl Kept {
         ensures message { result.0.items ≡ self.message }
         ensures place { result.1 ≡ self.place }
     {
-        let Kept {
-            message,
-            place,
-            word: _,
-        } = self;
+        let Kept { message, place, .. } = self;
         (message, place)
     }
 }

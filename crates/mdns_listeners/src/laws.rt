@@ -5,6 +5,7 @@ ghost use Rattle.std.specs.List.{All, sum_by};
 ghost use Rattle.std.specs.List.Sorted.{IsPermutation};
 ghost use Rattle.mdns_listeners.specs.declared.heard.HeardAt.{HeardAt};
 ghost use Rattle.mdns_listeners.specs.Heard.{AreHeardIn, HasWholeAddress, HeardRow, Told, messages_of, times_of};
+ghost use Rattle.mdns_listeners.specs.Pairs.{AreAhead, ascending_of, differences};
 ghost use Rattle.mdns_listeners.specs.Parts.{joined_rows};
 ghost use Rattle.mdns_capture.specs.declared.source_address.SourceAddress.{SourceAddress};
 ghost use Rattle.mdns_message.specs.declared.hearing.Hearing.{Hearing};
@@ -36,6 +37,12 @@ pub fn order_changes_no_count()
 pub fn rows_have_addresses()
     ensures { (all : List Told) (rows : List HeardRow) → AreHeardIn all rows → All (λ told. HasWholeAddress told.message) all
         → All (λ row. HasWholeAddress row.message) rows }
+{}
+
+/// The list of which the median and the quartiles are taken has the difference of each message that both listeners heard once, and
+/// no others, in ascending order.
+pub fn differences_in_order()
+    ensures { (one other : ℕ) (rows : List HeardRow) → AreAhead one other rows (ascending_of (differences one other rows)) }
 {}
 
 /// A sender goes by one list of names, whatever the order and the repeats of the hearings.

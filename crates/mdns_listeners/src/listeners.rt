@@ -1,6 +1,6 @@
 //! The question which listener heard which messages.
 
-ghost use Rattle.std.specs.Prelude.{◌≡◌, ◌≤◌, [], suc, IfOk, List, OnOk, length, map, min, string_bytes};
+ghost use Rattle.std.specs.Prelude.{◌≡◌, ◌≤◌, [], suc, IfOk, List, length, map, min, string_bytes};
 ghost use Rattle.std.specs.Cmp.Lexicographic.{slice_cmp};
 ghost use Rattle.std.specs.List.{All};
 ghost use Rattle.std.specs.List.Sorted.{IsStrictlySortedBy};
@@ -10,7 +10,7 @@ ghost use Rattle.mdns_message.specs.declared.hearing.Hearing.{Hearing};
 ghost use Rattle.mdns_survey.specs.Outcomes.{Outcome};
 ghost use Rattle.mdns_survey.specs.Readings.{HaveSpans};
 ghost use Rattle.mdns_listeners.specs.Heard.{HasWholeAddress, messages_of};
-ghost use Rattle.mdns_listeners.specs.Listeners.{AreNamed, Gathered, HearsMessage, IsTextOf, SaysFacts, listener_at};
+ghost use Rattle.mdns_listeners.specs.Listeners.{AreNamed, Gathered, IsTextOf, SaysFacts, heard_at};
 ghost use Rattle.mdns_listeners.specs.Named.{sender_lent};
 ghost use Rattle.mdns_listeners.specs.Names.{ListsNames};
 
@@ -19,14 +19,14 @@ use crate::gatherer::HeardMessages;
 use crate::groups::Groups;
 use crate::heard::{HeardAt, HeardMessage};
 use crate::named::NamedSender;
-use crate::names::{Names, SenderNames};
+use crate::names::Names;
 use crate::numbers::{ListenerSpans, listener_rows, spans_of};
 use crate::pairs::pair_rows;
 use crate::senders::{SenderRow, sender_rows};
 use mdns_browse::report::{Form, ReportFault};
-use mdns_capture::{Moment, Packet, Source, SourceAddress};
-use mdns_message::{MessageReader, Want};
-use mdns_survey::listen::{ListenFault, Listener, listen_with};
+use mdns_capture::{Moment, Packet, Source, payload_and_source};
+use mdns_message::Want;
+use mdns_survey::listen::{Collector, ListenFault, listen_with};
 use mdns_survey::outcome::Found;
 use mdns_survey::question::{Question, TextAnswer};
 use mdns_survey::reading::{Consumer, Reading, Span};
@@ -42,13 +42,11 @@ pub struct Listeners<'a> {
 /// Gathers the messages of captures, and the names of their senders.
 #[derive(Drop)]
 pub struct Gatherer {
-    alloc: Global,
     // The listener of each capture.
     of: Vec<usize>,
     // How many captures were read, or how many there are, if that is less.
     place: usize,
     messages: HeardMessages,
-    names: SenderNames,
 }
 
 impl Gatherer {
@@ -57,22 +55,21 @@ impl Gatherer {
         ensures { IfOk result (λ gatherer. Gathered of.now gatherer [] []) }
     {
         Ok(Gatherer {
-            alloc,
             of: Vec::from_slice(alloc, of)?,
             place: 0,
             messages: HeardMessages::new(alloc),
-            names: SenderNames::new(alloc),
         })
     }
 
-    // Returns the listener of the capture that is read.
-    fn listener(&self) -> usize
-        ensures { result ≡ listener_at self.now.of.items self.now.place }
+    // Returns when the listener whose capture is read hears a packet captured at `moment`.
+    fn heard_at(&self, moment: Moment) -> HeardAt
+        ensures { result ≡ heard_at self.now moment }
     {
-        match self.of.get(self.place) {
+        let listener = match self.of.get(self.place) {
             Some(listener) => *listener,
             None => 0,
-        }
+        };
+        HeardAt { listener, moment }
     }
 
     // Goes on to the next capture, if there is one.
@@ -80,7 +77,6 @@ impl Gatherer {
         ensures of { self.new.of.items ≡ self.old.of.items }
         ensures place { self.new.place ≡ min (suc self.old.place) (length self.old.of.items) }
         ensures messages { self.new.messages ≡ self.old.messages }
-        ensures names { self.new.names ≡ self.old.names }
     {
         let len = self.of.len();
         self.place = if self.place < len {
@@ -88,24 +84,6 @@ impl Gatherer {
         } else {
             len
         };
-    }
-
-    // Adds a message that was captured at `moment`. After `Want` it may have been added in part.
-    fn hear(
-        &mut self,
-        moment: Moment,
-        source: &SourceAddress,
-        payload: &[u8],
-        message: &MessageReader,
-    ) -> Result<(), Want>
-        ensures { OnOk result (HearsMessage source.now payload.now moment message.now self.old self.new) }
-    {
-        let at = HeardAt {
-            listener: self.listener(),
-            moment,
-        };
-        self.messages.hear(self.alloc, source, payload, at)?;
-        self.names.hear_all(message)
     }
 }
 
@@ -125,19 +103,26 @@ impl Consumer for Gatherer {
                 if message.is_empty() {
                     return Ok(());
                 }
-                self.hear(packet.moment, source, payload, message)
+                let at = self.heard_at(packet.moment);
+                self.messages.hear(source, payload, at, message)
             }
             Found::Skipped(_) | Found::Refused(_) => Ok(()),
         }
     }
+
+    fn take_again(&mut self, packet: &Packet<'_>, payload: &[u8]) -> Option<usize> {
+        let (_, source) = payload_and_source(packet.frame).ok()?;
+        let at = self.heard_at(packet.moment);
+        self.messages.hear_again(&source, payload, at)
+    }
 }
 
-impl Listener for Gatherer {
+impl Collector for Gatherer {
     ghost use Rattle.mdns_listeners.specs.Listeners.{GathersAll};
 
     ghost HeardAll = { GathersAll };
 
-    fn listen_to<R: Source + Drop>(
+    fn collect_from<R: Source + Drop>(
         &mut self,
         alloc: Global,
         reader: R,
@@ -155,13 +140,13 @@ impl Listener for Gatherer {
 impl<'a> Question for Listeners<'a> {
     ghost use Rattle.mdns_listeners.specs.Listeners.{Gathered, asked_listeners};
 
-    type Listener = Gatherer;
+    type Collector = Gatherer;
 
     ghost asked = { λ listeners. asked_listeners listeners.groups.now listeners.form };
 
     ghost Heard = { λ listeners. Gathered listeners.groups.now.of };
 
-    fn listener(&self, alloc: Global) -> Result<Gatherer, Want> {
+    fn collector(&self, alloc: Global) -> Result<Gatherer, Want> {
         Gatherer::new(alloc, self.groups.of())
     }
 }
@@ -170,10 +155,10 @@ impl<'a> TextAnswer for Listeners<'a> {
     fn text(
         self,
         alloc: Global,
-        listener: Gatherer,
+        collector: Gatherer,
         readings: &[Reading],
     ) -> Result<String, ReportFault> {
-        match text_of(alloc, self.groups, self.form, listener, readings) {
+        match text_of(alloc, self.groups, self.form, collector, readings) {
             Ok(text) => Ok(text),
             Err(Want) => Err(ReportFault::Memory),
         }
@@ -192,13 +177,8 @@ fn text_of(
         → Gathered groups.now.of gatherer packets outcomes → HaveSpans packets readings.now
         → IsTextOf groups.now form packets outcomes (string_bytes text)) }
 {
-    let Gatherer {
-        messages,
-        names,
-        ..
-    } = gatherer;
-    let rows = messages.finish(alloc)?;
-    let names = names.finish()?;
+    let Gatherer { messages, .. } = gatherer;
+    let (rows, names) = messages.finish()?;
     let files = spans_in(alloc, readings)?;
     let count = groups.names().len();
     let spans = spans_of(alloc, count, groups.of(), files.as_slice())?;

@@ -6,8 +6,8 @@ ghost use Rattle.std.specs.List.Sorted.{IsPermutation, IsSorted, IsStrictlySorte
 ghost use Rattle.dns_name.specs.Name.{folded};
 ghost use Rattle.mdns_message.specs.declared.hearing.Hearing.{Hearing};
 ghost use Rattle.mdns_message.specs.Borrowed.{body_lent, hearing_lent};
-ghost use Rattle.mdns_listeners.specs.Names.{AreNames, Covers, HoldsNames, ListsNames};
-ghost use Rattle.mdns_listeners.specs.Names.{address_cmp, address_in, by_name, by_spelling, named, respelled};
+ghost use Rattle.mdns_listeners.specs.Names.{AddsNames, AreNames, Covers, HoldsNames, ListsNames, SufficeFor};
+ghost use Rattle.mdns_listeners.specs.Names.{address_cmp, address_in, by_name, by_spelling, named, respelled, told_in};
 
 use dns_name::BorrowedName;
 use dns_name::fold::is_folded;
@@ -85,8 +85,7 @@ impl SenderNames {
     /// Takes the name of an A or AAAA record; other records are ignored. A name that is known in a spelling no greater
     /// allocates nothing. After `Want` the names are as before.
     pub fn hear(&mut self, hearing: &BorrowedHearing<'_>) -> Result<(), Want>
-        ensures ok { OnOk result ((heard : List Hearing) → HoldsNames self.old heard
-            → HoldsNames self.new (heard ++ hearing_lent hearing.now ∷ [])) }
+        ensures ok { OnOk result (AddsNames self.old self.new (told_in (hearing_lent hearing.now ∷ []))) }
         ensures err { OnErr result (self.new ≡ self.old) }
     {
         match address_in(&hearing.heard.body) {
@@ -95,10 +94,10 @@ impl SenderNames {
         }
     }
 
-    /// Takes the names of all hearings of a message. After `Want` some of them may have been taken.
+    /// Takes the names of all hearings of a message. After `Want` the names still suffice for those that were taken before.
     pub fn hear_all(&mut self, message: &MessageReader) -> Result<(), Want>
-        ensures { OnOk result ((heard : List Hearing) → HoldsNames self.old heard
-            → HoldsNames self.new (heard ++ message.now)) }
+        ensures ok { OnOk result (AddsNames self.old self.new (told_in message.now)) }
+        ensures keeps { SufficeFor self.new self.old }
     {
         for hearing in message {
             self.hear(&hearing)?;
@@ -125,8 +124,7 @@ impl SenderNames {
         owner: &BorrowedName<'_>,
         hash: u64,
     ) -> Result<(), Want>
-        ensures ok { OnOk result ((told : List Named) → Covers self.old told
-            → Covers self.new (told ++ named source owner.now ∷ [])) }
+        ensures ok { OnOk result (AddsNames self.old self.new (named source owner.now ∷ [])) }
         ensures err { OnErr result (self.new ≡ self.old) }
     {
         match self.find(&source, owner, hash) {

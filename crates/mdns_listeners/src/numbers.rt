@@ -1,4 +1,4 @@
-//! How much each listener heard, alone or not, and missed.
+//! When each listener listened, and how much it heard, alone or not, and missed.
 
 ghost use Rattle.std.specs.Prelude.{◌≡◌, ◌*◌, ◌++◌, ◌∷◌, [], length, slice_index_or, IfOk, OnOk, Some, None};
 ghost use Rattle.std.specs.List.{count_by, list_any};
@@ -94,13 +94,13 @@ pub fn spans_of(
     alloc: Global,
     count: usize,
     of: &[usize],
-    files: &[Option<Span>],
+    spans_by_file: &[Option<Span>],
 ) -> Result<Vec<ListenerSpans>, Want>
-    ensures { IfOk result (λ all. all.items ≡ spans_of_listeners count of.now files.now) }
+    ensures { IfOk result (λ all. all.items ≡ spans_of_listeners count of.now spans_by_file.now) }
 {
     let mut all = Vec::new(alloc);
     for listener in 0..count {
-        let spans = spans_of_one(alloc, listener, of, files)?;
+        let spans = spans_of_one(alloc, listener, of, spans_by_file)?;
         all.push(spans)?;
     }
     Ok(all)
@@ -111,13 +111,13 @@ fn spans_of_one(
     alloc: Global,
     listener: usize,
     of: &[usize],
-    files: &[Option<Span>],
+    spans_by_file: &[Option<Span>],
 ) -> Result<ListenerSpans, Want>
-    ensures { IfOk result (λ spans. spans ≡ spans_of_listener of.now files.now listener) }
+    ensures { IfOk result (λ spans. spans ≡ spans_of_listener of.now spans_by_file.now listener) }
 {
     let mut spans = ListenerSpans::new(alloc);
     for (file, of_file) in of.iter().enumerate() {
-        if let Some(span) = span_of_file(listener, *of_file, span_at(files, file)) {
+        if let Some(span) = span_of_file(listener, *of_file, span_at(spans_by_file, file)) {
             spans.push(span)?;
         }
     }
@@ -132,11 +132,11 @@ fn span_of_file(listener: usize, of_file: usize, span: Option<Span>) -> Option<S
 }
 
 // Returns the time span of a file; `None` if there is no such file.
-fn span_at(files: &[Option<Span>], file: usize) -> Option<Span>
-    ensures { result ≡ slice_index_or files.now file None }
+fn span_at(spans_by_file: &[Option<Span>], file: usize) -> Option<Span>
+    ensures { result ≡ slice_index_or spans_by_file.now file None }
 {
-    if file < files.len() {
-        files[file]
+    if file < spans_by_file.len() {
+        spans_by_file[file]
     } else {
         None
     }

@@ -60,7 +60,7 @@ pub fn pair_rows(
     Ok(all)
 }
 
-// Returns the marks of so many listeners.
+// Returns for each listener marks of the messages that it heard; `count` is how many listeners there are.
 fn all_marks(alloc: Global, count: usize, rows: &[HeardMessage]) -> Result<Vec<Marks>, Want>
     ensures { IfOk result (λ all. all.items ≡ map (marks_by rows.now) (range_with_len 0 count)) }
 {

@@ -7,7 +7,7 @@ use Rattle.mdns_listeners.proofs.listeners.text_of.Goals as goal
 
 pub returns : goal.returns
 returns c = IfOk-weaker c.facts_text.result _ _ (λ text written packets outcomes gathered have. record {
-  told = c.args.gatherer.messages;
+  told = c.args.gatherer.messages.told;
   tell = gathered.tell;
   rows = c.in_ok-rows.rows.items;
   are_heard = c.in_ok-rows.ensures.heard;
@@ -15,5 +15,5 @@ returns c = IfOk-weaker c.facts_text.result _ _ (λ text written packets outcome
       (c.as_slice-3.ensures.value ∙ c.in_ok-spans.ensures ∙ spans-as _ _ _ _ _ _
       (sym (length-map c.names-count.result.now string_bytes) ∙ ap length c.names-count.ensures) c.of.ensures.of
       (c.as_slice.ensures.value ∙ c.in_ok-files.ensures ∙ have))
-      (written (all_hearings outcomes) (c.in_ok-names.ensures (all_hearings outcomes) gathered.names));
+      (written (all_hearings outcomes) (c.in_ok-rows.ensures.names (all_hearings outcomes) gathered.names));
 }) c.facts_text.ensures

@@ -2,9 +2,8 @@ use Rattle.std.proofs.Common.{◌≡◌, ◌∙◌, ap, length, rules, subst, sy
 use Rattle.std.specs.List.{All}
 use Rattle.std.specs.List.Sorted.{IsPermutation}
 use Rattle.std.proofs.lemmas.List.{take_at}
-use Rattle.std.proofs.lemmas.Result.{IfOk-weaker}
 use Rattle.mdns_listeners.specs.Heard.{AreHeardIn, HasWholeAddress}
-use Rattle.mdns_listeners.specs.Kept.{ArePlaced, kept_messages, told_by}
+use Rattle.mdns_listeners.specs.Kept.{ArePlaced, HeardSoFar, kept_messages, told_by}
 use Rattle.mdns_listeners.proofs.HeardLemmas.{heard-whole}
 use Rattle.mdns_listeners.proofs.KeptLemmas.{placed-permuted, told-whole}
 use Rattle.mdns_listeners.proofs.gatherer.HeardMessages.finish.Goals as goal
@@ -17,7 +16,7 @@ rows_of-requires-clause-placed c =
     let moved = subst (λ ks. IsPermutation ks sorted) c.as_mut_slice.ensures.value c.sort.ensures.permutation in (
       kept_messages kept,
       subst (ArePlaced (kept_messages kept)) (sym (take_at sorted _ c.self.inside.kept.len long))
-          (placed-permuted kept sorted c.self.inside.times.items c.self.invariant moved),
+          (placed-permuted kept sorted c.self.inside.times.items c.self.inside.names c.self.invariant moved),
     )
 
 pub returns-clause-heard : goal.returns-clause-heard
@@ -27,9 +26,10 @@ returns-clause-heard c =
     let long : length sorted ≡ c.self.inside.kept.len = search rules in
     let moved = subst (λ ks. IsPermutation ks sorted) c.as_mut_slice.ensures.value c.sort.ensures.permutation in
     let placed = subst (ArePlaced (kept_messages kept)) (sym (take_at sorted _ c.self.inside.kept.len long))
-    (placed-permuted kept sorted c.self.inside.times.items c.self.invariant moved) in
-    IfOk-weaker c.rows_of.result _ _ (λ rows heard. subst (λ all. AreHeardIn all rows.items)
-    (ap (told_by (kept_messages kept)) c.as_slice.ensures.value ∙ c.self.view_is) (heard (kept_messages kept) placed)) c.rows_of.ensures
+    (placed-permuted kept sorted c.self.inside.times.items c.self.inside.names c.self.invariant moved) in
+    subst (λ all. AreHeardIn all c.in_ok-rows.rows.items)
+    (ap (told_by (kept_messages kept)) c.as_slice.ensures.value ∙ ap (λ (s : HeardSoFar). s.told) c.self.view_is)
+    (c.in_ok-rows.ensures (kept_messages kept) placed)
 
 pub returns-clause-addresses : goal.returns-clause-addresses
 returns-clause-addresses c =
@@ -38,7 +38,7 @@ returns-clause-addresses c =
     let long : length sorted ≡ c.self.inside.kept.len = search rules in
     let moved = subst (λ ks. IsPermutation ks sorted) c.as_mut_slice.ensures.value c.sort.ensures.permutation in
     let placed = subst (ArePlaced (kept_messages kept)) (sym (take_at sorted _ c.self.inside.kept.len long))
-    (placed-permuted kept sorted c.self.inside.times.items c.self.invariant moved) in
-    IfOk-weaker c.rows_of.result _ _ (λ rows heard. heard-whole _ rows.items (heard (kept_messages kept) placed)
+    (placed-permuted kept sorted c.self.inside.times.items c.self.inside.names c.self.invariant moved) in
+    heard-whole _ c.in_ok-rows.rows.items (c.in_ok-rows.ensures (kept_messages kept) placed)
     (subst (λ times. All (λ told. HasWholeAddress told.message) (told_by (kept_messages kept) times)) (sym c.as_slice.ensures.value)
-    (told-whole kept c.self.inside.times.items c.self.invariant))) c.rows_of.ensures
+    (told-whole kept c.self.inside.times.items c.self.inside.names c.self.invariant))

@@ -1,5 +1,5 @@
 use Rattle.mdns_listeners.proofs.ListenersLemmas.{gathered-more, gathers-none}
-use Rattle.mdns_listeners.proofs.listeners.GathererListener.listen_to.Goals as goal
+use Rattle.mdns_listeners.proofs.listeners.GathererCollector.collect_from.Goals as goal
 
 pub returns-in-Ok-clause-heard : goal.returns-in-Ok-clause-heard
 returns-in-Ok-clause-heard g c =
@@ -11,5 +11,5 @@ returns-in-Ok-clause-heard g c =
       hears = λ begun earlier before gathered.
           gathered-more begun.of.items c.args.self.now c.listen_with.new.consumer c.go_on.new.self earlier before taken.packets
           taken.outcomes gathered (taken.took c.args.self.now (gathers-none c.args.self.now)) c.go_on.ensures.of
-          c.go_on.ensures.place c.go_on.ensures.messages c.go_on.ensures.names;
+          c.go_on.ensures.place c.go_on.ensures.messages;
     }
