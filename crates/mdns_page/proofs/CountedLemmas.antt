@@ -23,21 +23,21 @@ use Rattle.mdns_page.proofs.LiveLemmas.{each-count}
 
 module _ {X Y : Type 0} (Is : X → Y → Type 0) where
   -- a pair more
-  each-more : (xs : List X) (ys : List Y) (x : X) (y : Y) → AreEach Is xs ys → Is x y → AreEach Is (xs ++ x ∷ []) (ys ++ y ∷ [])
+  pub each-more : (xs : List X) (ys : List Y) (x : X) (y : Y) → AreEach Is xs ys → Is x y → AreEach Is (xs ++ x ∷ []) (ys ++ y ∷ [])
   each-more [] [] x y are is = (is, tt)
   each-more [] (z ∷ zs) x y are is = absurd are
   each-more (w ∷ ws) [] x y are is = absurd are
   each-more (w ∷ ws) (z ∷ zs) x y are is = (are.0, each-more ws zs x y are.1 is)
 
   -- the last pair, and those before it
-  record LastPair (xs : List X) (x : X) (ys : List Y) : Type 0 where
-    before : List Y
-    last : Y
-    parts : ys ≡ before ++ last ∷ []
-    are : AreEach Is xs before
-    is : Is x last
+  pub record LastPair (xs : List X) (x : X) (ys : List Y) : Type 0 where
+    pub before : List Y
+    pub last : Y
+    pub parts : ys ≡ before ++ last ∷ []
+    pub are : AreEach Is xs before
+    pub is : Is x last
 
-  each-last : (xs : List X) (x : X) (ys : List Y) → AreEach Is (xs ++ x ∷ []) ys → LastPair xs x ys
+  pub each-last : (xs : List X) (x : X) (ys : List Y) → AreEach Is (xs ++ x ∷ []) ys → LastPair xs x ys
   each-last [] x [] are = absurd are
   each-last [] x (y ∷ []) are = record { before = []; last = y; parts = refl; are = tt; is = are.0 }
   each-last [] x (y ∷ z ∷ zs) are = absurd are.1
@@ -51,7 +51,7 @@ module _ {X Y : Type 0} (Is : X → Y → Type 0) where
 abbrev pub shown_seconds : (many : Bool) → List (List SecondHeard) → List (List SecondHeard)
 shown_seconds many captures = if many then filter (λ seconds. nat_lt 0 (length seconds)) captures else captures
 
-shown-more : (many : Bool) (captures : List (List SecondHeard)) (seconds : List SecondHeard)
+pub shown-more : (many : Bool) (captures : List (List SecondHeard)) (seconds : List SecondHeard)
     → shown_seconds many (captures ++ seconds ∷ []) ≡ shown_seconds many captures ++ shown_seconds many (seconds ∷ [])
 shown-more true captures seconds = filter-append (λ seconds. nat_lt 0 (length seconds)) captures (seconds ∷ [])
 shown-more false captures seconds = refl
@@ -89,15 +89,3 @@ row-more Is rows row more pushed all is =
     All-same Is (map counted_lent more) (map counted_lent rows ++ counted_lent row ∷ [])
     (ap (map counted_lent) pushed ∙ map-append counted_lent rows (row ∷ []))
     (All-append Is (map counted_lent rows) (counted_lent row ∷ []) all (All-cons Is (counted_lent row) [] is (All-nil Is)))
-
--- a row that has the seconds counts the captures
-pub row-counted : (chronicles : List Accounts) (row : Row) → row.capture_count ≡ length chronicles
-    → ((each : List (List Hearing)) → AreEach Chronicles chronicles each
-    → AreShownBy (nat_lt 4 (length chronicles)) each (record_of row.last) row.heard)
-    → (each : List (List Hearing)) → AreEach Chronicles chronicles each → IsCounted each row
-row-counted chronicles row count heard each are =
-    let same = each-count Chronicles chronicles each are in
-    record {
-      count = count ∙ same;
-      heard = subst (λ (n : ℕ). AreShownBy (nat_lt 4 n) each (record_of row.last) row.heard) same (heard each are);
-    }

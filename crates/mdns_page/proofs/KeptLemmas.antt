@@ -94,13 +94,21 @@ module _ {X K : Type 0} (c : K → K → Ordering) (key : X → K) (p : X → Bo
       cond_both (p x) (x ∷ filter p xs) (filter p xs) (λ ys. AllByRecursion P (map key ys)) (λ _. (all.0, rest)) (λ _. rest)
 
   -- those that pass stay in order
-  sorted-filter : (xs : List X) → IsStrictlySortedBy c (map key xs) → IsStrictlySortedBy c (map key (filter p xs))
+  pub sorted-filter : (xs : List X) → IsStrictlySortedBy c (map key xs) → IsStrictlySortedBy c (map key (filter p xs))
   unfolding IsStrictlySortedBy
   sorted-filter [] sorted = tt
   sorted-filter (x ∷ xs) sorted =
       let rest = sorted-filter xs sorted.1 in
       cond_both (p x) (x ∷ filter p xs) (filter p xs) (λ ys. IsStrictlySortedBy c (map key ys))
       (λ _. (above-filter (λ k. c (key x) k ≡ Less) xs sorted.0, rest)) (λ _. rest)
+
+-- the rows of a page that may be large
+pub few-sorted : (large : Bool) (rows : List (Latest × List Life))
+    → IsStrictlySortedBy key_cmp (map (λ (row : Latest × List Life). record_of row.0) rows)
+    → IsStrictlySortedBy key_cmp (map (λ (row : Latest × List Life). record_of row.0) (if large then [] else rows))
+unfolding IsStrictlySortedBy
+few-sorted true rows sorted = tt
+few-sorted false rows sorted = sorted
 
 module _ (heard : List Hearing) (rows : List (Latest × List Life)) (are : AreAllLives heard rows) where
   -- some of the records, and the last hearings that are looked up

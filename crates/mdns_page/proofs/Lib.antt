@@ -2,6 +2,7 @@ mod BareLemmas
 pub mod CountLemmas
 mod CountedLemmas
 mod GroupLemmas
+mod HearerLemmas
 pub mod HtmlLemmas
 mod KeptLemmas
 mod LaneLemmas

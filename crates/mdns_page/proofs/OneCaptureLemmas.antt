@@ -8,8 +8,8 @@ use Rattle.mdns_capture.specs.declared.cause.Cause.{Cause}
 use Rattle.mdns_capture.specs.Savefile.{PacketAt}
 use Rattle.mdns_message.specs.Message.{IsIgnored, IsQuery}
 use Rattle.mdns_browse.specs.Services.{AreEach}
-use Rattle.mdns_survey.specs.declared.outcome.Why.{Why}
-use Rattle.mdns_survey.specs.declared.outcome.Why.TheVariants as why
+use Rattle.mdns_survey.specs.declared.outcome.SkipReason.{SkipReason}
+use Rattle.mdns_survey.specs.declared.outcome.SkipReason.TheVariants as why
 use Rattle.mdns_survey.specs.declared.reading.Reading.{Reading}
 use Rattle.mdns_survey.specs.declared.summary.Summary.{Summary}
 use Rattle.mdns_survey.specs.Outcomes.{Outcome}
@@ -41,11 +41,11 @@ pub record IsAlike (a b : Reading) : Type 0 where
   pub summary : a.summary ≡ b.summary
   pub lost : a.lost ≡ b.lost
   pub span : a.span ≡ b.span
-  pub skips : (reason : Why) → count_of reason a.skips ≡ count_of reason b.skips
+  pub skips : (reason : SkipReason) → count_of reason a.skips ≡ count_of reason b.skips
 
 module _ (payload : OnePayload) (never : NeverBoth) (by_cause : SkipsByCause) where
   -- a frame that fails a check carries nothing
-  carries-none : (packet : PacketAt) (cause : Cause) (reason : Option Why) → IsSkipOf packet (Some (why.Frame cause))
+  carries-none : (packet : PacketAt) (cause : Cause) (reason : Option SkipReason) → IsSkipOf packet (Some (why.Frame cause))
       → IsSkipOf packet reason → ((other : Cause) → reason ≡ Some (why.Frame other) → ⊥) → ⊥
   carries-none packet cause (Some (why.Frame other)) fails is not_frame = not_frame other refl
   carries-none packet cause (Some why.Query) fails is not_frame =
@@ -56,7 +56,7 @@ module _ (payload : OnePayload) (never : NeverBoth) (by_cause : SkipsByCause) wh
       let both : None ≡ Some cause = sym (no-cause never by_cause packet.frame is.0 is.1) ∙ fails in absurd cc
 
   -- a packet is skipped for one reason
-  one-why : (packet : PacketAt) (a b : Option Why) → IsSkipOf packet a → IsSkipOf packet b → a ≡ b
+  one-why : (packet : PacketAt) (a b : Option SkipReason) → IsSkipOf packet a → IsSkipOf packet b → a ≡ b
   one-why packet (Some (why.Frame cause)) (Some (why.Frame other)) is too =
       ap (λ (c : Option Cause). option_map (λ (d : Cause). why.Frame d) c) (sym is ∙ too)
   one-why packet (Some (why.Frame cause)) (Some why.Query) is too =
@@ -139,7 +139,7 @@ facts-alike (name ∷ names) (x ∷ xs) (y ∷ ys) alike =
 -- ---- the table of skipped packets
 
 module _ (readings others : List Reading) (alike : AreEach IsAlike readings others) where
-  skipped-alike : (reason : Why) → skipped_in reason readings ≡ skipped_in reason others
+  skipped-alike : (reason : SkipReason) → skipped_in reason readings ≡ skipped_in reason others
   skipped-alike reason =
       sums-alike (λ (r : Reading). count_of reason r.skips) (λ a b same. same.skips reason) readings others alike
 
@@ -156,10 +156,10 @@ module _ (readings others : List Reading) (alike : AreEach IsAlike readings othe
   table-alike : table_text readings ≡ table_text others
   unfolding table_text
   table-alike i =
-      codes "<table>\n" ++ flat_map (λ (warning : List ℕ × List Why). flat_map (λ (reason : Why).
+      codes "<table>\n" ++ flat_map (λ (warning : List ℕ × List SkipReason). flat_map (λ (reason : SkipReason).
       row_text (skipped-alike reason i) (row_of reason).words true warning.0) warning.1) warnings
       ++ row_text (refused-alike i) (codes "damaged message") true (codes "damaged: refused whole")
-      ++ flat_map (λ (reason : Why). row_text (skipped-alike reason i) (row_of reason).words false (codes "normal")) reasons
+      ++ flat_map (λ (reason : SkipReason). row_text (skipped-alike reason i) (row_of reason).words false (codes "normal")) reasons
       ++ codes "</table>\n"
 
   pub section-alike : skipped_text readings ≡ skipped_text others

@@ -4,8 +4,8 @@ use Rattle.std.specs.List.{flat_map}
 use Rattle.mdns_capture.specs.declared.cause.Cause.TheVariants.{DatagramCut, EtherType, EthernetCut, ExtensionHeader, Fragment}
 use Rattle.mdns_capture.specs.declared.cause.Cause.TheVariants.{FragmentHeader, Group, HeaderCut, IpHeader, Port, Protocol}
 use Rattle.mdns_capture.specs.declared.cause.Cause.TheVariants.{TotalLength, UdpLength, VlanTag}
-use Rattle.mdns_survey.specs.declared.outcome.Why.{Why}
-use Rattle.mdns_survey.specs.declared.outcome.Why.TheVariants.{Frame, Ignored, Query}
+use Rattle.mdns_survey.specs.declared.outcome.SkipReason.{SkipReason}
+use Rattle.mdns_survey.specs.declared.outcome.SkipReason.TheVariants.{Frame, Ignored, Query}
 use Rattle.mdns_survey.specs.declared.reading.Reading.{Reading}
 use Rattle.mdns_survey.specs.Readings.{refused_in, skipped_in}
 use Rattle.mdns_survey.specs.Reasons.{row_of}
@@ -14,7 +14,7 @@ use Rattle.mdns_page.specs.Counts.{commas}
 -- ---- the reasons
 
 -- what reasons mean that need attention, with these: bytes weren't read, or a format is broken
-unfoldable pub warnings : List (List ℕ × List Why)
+unfoldable pub warnings : List (List ℕ × List SkipReason)
 warnings =
     (codes "not read: split the capture into its VLANs", Frame VlanTag ∷ [])
     ∷ (codes "bytes are missing: record with tcpdump -s 0", Frame EthernetCut ∷ Frame HeaderCut ∷ Frame DatagramCut ∷ [])
@@ -23,7 +23,7 @@ warnings =
     ∷ (codes "a broken sender", Ignored ∷ []) ∷ []
 
 -- the other reasons
-unfoldable pub others : List Why
+unfoldable pub others : List SkipReason
 others = Query ∷ Frame Port ∷ Frame Group ∷ Frame Protocol ∷ Frame EtherType ∷ Frame ExtensionHeader ∷ []
 
 -- ---- the table
@@ -35,7 +35,7 @@ row_text count cause bold meaning =
     ++ (if bold then codes "<b class=\"warn\">" ++ meaning ++ codes "</b>" else meaning) ++ codes "</td></tr>\n"
 
 -- the row of the packets that were skipped for a reason
-abbrev pub skipped_row : List Reading → (bold : Bool) → (meaning : List ℕ) → Why → List ℕ
+abbrev pub skipped_row : List Reading → (bold : Bool) → (meaning : List ℕ) → SkipReason → List ℕ
 skipped_row readings bold meaning reason = row_text (skipped_in reason readings) (row_of reason).words bold meaning
 
 -- a row for each reason of some packet, first for those that need attention, damaged messages among them

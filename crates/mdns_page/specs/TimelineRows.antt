@@ -1,5 +1,5 @@
 -- In which seconds captures heard a record.
-use Rattle.std.specs.Prelude.{◌≡◌, nat_lt, Bool, if◌then◌else◌, List, length}
+use Rattle.std.specs.Prelude.{◌≡◌, ◌≢◌, ◌⊎◌, nat_lt, Bool, false, if◌then◌else◌, List, [], ◌∷◌, ◌++◌, length}
 use Rattle.std.specs.List.{filter}
 use Rattle.mdns_message.specs.declared.hearing.Hearing.{Hearing}
 use Rattle.mdns_message.specs.declared.key.Key.{Key}
@@ -20,3 +20,39 @@ pub record AreShownBy (many : Bool) (each : List (List Hearing)) (key : Key) (he
 pub record IsCounted (each : List (List Hearing)) (row : Row) : Type 0 where
   pub count : row.capture_count ≡ length each
   pub heard : AreShownBy (nat_lt 4 (length each)) each (record_of row.last) row.heard
+
+-- ---- as rows are made
+
+-- the captures in which records are looked up one by one: all where there are few of them, and otherwise none
+abbrev pub few_of : {C : Type 0} → List C → List C
+few_of captures = if nat_lt 4 (length captures) then [] else captures
+
+-- the row counts the captures, and has the seconds of its record in those in which it is looked up
+pub record IsBegun (each : List (List Hearing)) (row : Row) : Type 0 where
+  pub count : row.capture_count ≡ length each
+  pub heard : AreShownBy false (few_of each) (record_of row.last) row.heard
+
+-- the row without seconds
+abbrev pub unheard : Row → Row
+unheard row = record { last = row.last; lives = row.lives; servers = row.servers; capture_count = row.capture_count; heard = [] }
+
+-- the row with the seconds of one capture more, if that heard its record
+abbrev pub heard_too : Row → List SecondHeard → Row
+heard_too row seconds = record {
+  last = row.last;
+  lives = row.lives;
+  servers = row.servers;
+  capture_count = row.capture_count;
+  heard = row.heard ++ filter (λ some. nat_lt 0 (length some)) (seconds ∷ []);
+}
+
+-- the row has more than before what a capture with these hearings tells of its record
+pub record HearsCapture (heard : List Hearing) (old new : Row) : Type 0 where
+  pub seconds : List SecondHeard
+  pub are : AreSecondsHeard heard (record_of old.last) seconds
+  pub is : new ≡ heard_too old seconds
+
+-- the row does if its record has this key, and is as before otherwise
+abbrev pub HearsRecord : List Hearing → Key → Row → Row → Type 0
+HearsRecord heard key old new =
+    ((record_of old.last ≡ key) × HearsCapture heard old new) ⊎ ((record_of old.last ≢ key) × (new ≡ old))

@@ -1,6 +1,6 @@
 //! A page about the service instances of captures, for people: one HTML file that shows in pictures and in words when each
 //! was live, and each address of a host and each name that isn't one label and its type, by the records that several
-//! listeners heard. After `Want` a part of what a function appends may have been appended.
+//! listeners heard. After `Want` the contents of a text that was appended to are not specified.
 #![tactic(auto)]
 
 mod about_heard;
@@ -11,6 +11,7 @@ mod counts;
 mod document;
 mod group;
 mod heard_words;
+mod hearers;
 mod html;
 mod kept_records;
 mod lanes;

@@ -9,7 +9,7 @@ ghost use Rattle.mdns_page.specs.SkippedSection.{skipped_text, others, row_text,
 use crate::counts::push_commas;
 use mdns_capture::Cause;
 use mdns_message::Want;
-use mdns_survey::outcome::Why;
+use mdns_survey::outcome::SkipReason;
 use mdns_survey::reading::Reading;
 use mdns_survey::readings::{refused_packets, skipped_packets};
 
@@ -70,21 +70,36 @@ fn push_warnings(to: &mut String, readings: &[Reading]) -> Result<(), Want>
     push_warning(
         to,
         readings,
-        Why::Frame(Cause::VlanTag),
+        SkipReason::Frame(Cause::VlanTag),
         "not read: split the capture into its VLANs",
     )?;
-    push_warning(to, readings, Why::Frame(Cause::EthernetCut), MISSING)?;
-    push_warning(to, readings, Why::Frame(Cause::HeaderCut), MISSING)?;
-    push_warning(to, readings, Why::Frame(Cause::DatagramCut), MISSING)?;
-    push_warning(to, readings, Why::Frame(Cause::Fragment), UNLESS_TOLD)?;
-    push_warning(to, readings, Why::Frame(Cause::FragmentHeader), UNLESS_TOLD)?;
-    push_warning(to, readings, Why::Frame(Cause::IpHeader), BROKEN)?;
-    push_warning(to, readings, Why::Frame(Cause::TotalLength), BROKEN)?;
-    push_warning(to, readings, Why::Frame(Cause::UdpLength), BROKEN)?;
-    push_warning(to, readings, Why::Ignored, "a broken sender")
+    push_warning(to, readings, SkipReason::Frame(Cause::EthernetCut), MISSING)?;
+    push_warning(to, readings, SkipReason::Frame(Cause::HeaderCut), MISSING)?;
+    push_warning(to, readings, SkipReason::Frame(Cause::DatagramCut), MISSING)?;
+    push_warning(
+        to,
+        readings,
+        SkipReason::Frame(Cause::Fragment),
+        UNLESS_TOLD,
+    )?;
+    push_warning(
+        to,
+        readings,
+        SkipReason::Frame(Cause::FragmentHeader),
+        UNLESS_TOLD,
+    )?;
+    push_warning(to, readings, SkipReason::Frame(Cause::IpHeader), BROKEN)?;
+    push_warning(to, readings, SkipReason::Frame(Cause::TotalLength), BROKEN)?;
+    push_warning(to, readings, SkipReason::Frame(Cause::UdpLength), BROKEN)?;
+    push_warning(to, readings, SkipReason::Ignored, "a broken sender")
 }
 
-fn push_warning(to: &mut String, readings: &[Reading], why: Why, meaning: &str) -> Result<(), Want>
+fn push_warning(
+    to: &mut String,
+    readings: &[Reading],
+    why: SkipReason,
+    meaning: &str,
+) -> Result<(), Want>
     ensures { OnOk result (string_bytes to.new
         ≡ string_bytes to.old ++ skipped_row readings.now true meaning.now why) }
 {
@@ -115,15 +130,15 @@ fn push_others(to: &mut String, readings: &[Reading]) -> Result<(), Want>
     ensures { OnOk result (string_bytes to.new
         ≡ string_bytes to.old ++ flat_map (skipped_row readings.now false (codes "normal")) others) }
 {
-    push_other(to, readings, Why::Query)?;
-    push_other(to, readings, Why::Frame(Cause::Port))?;
-    push_other(to, readings, Why::Frame(Cause::Group))?;
-    push_other(to, readings, Why::Frame(Cause::Protocol))?;
-    push_other(to, readings, Why::Frame(Cause::EtherType))?;
-    push_other(to, readings, Why::Frame(Cause::ExtensionHeader))
+    push_other(to, readings, SkipReason::Query)?;
+    push_other(to, readings, SkipReason::Frame(Cause::Port))?;
+    push_other(to, readings, SkipReason::Frame(Cause::Group))?;
+    push_other(to, readings, SkipReason::Frame(Cause::Protocol))?;
+    push_other(to, readings, SkipReason::Frame(Cause::EtherType))?;
+    push_other(to, readings, SkipReason::Frame(Cause::ExtensionHeader))
 }
 
-fn push_other(to: &mut String, readings: &[Reading], why: Why) -> Result<(), Want>
+fn push_other(to: &mut String, readings: &[Reading], why: SkipReason) -> Result<(), Want>
     ensures { OnOk result (string_bytes to.new
         ≡ string_bytes to.old ++ skipped_row readings.now false (codes "normal") why) }
 {

@@ -1,6 +1,6 @@
 //! The rows of the timeline: records with their lives, those of their servers, and the seconds in which captures heard them.
 
-ghost use Rattle.std.specs.Prelude.{◌≡◌, ◌++◌, ◌∷◌, [], if◌then◌else◌, List, IfOk, OnOk, length, map, nat_lt};
+ghost use Rattle.std.specs.Prelude.{◌≡◌, false, List, IfOk, map};
 ghost use Rattle.std.specs.List.{All, filter};
 ghost use Rattle.std.specs.List.Sorted.{IsStrictlySortedBy};
 ghost use Rattle.mdns_message.specs.Resource.{key_cmp, key_of};
@@ -11,12 +11,13 @@ ghost use Rattle.mdns_join.specs.declared.latest.Latest.{Latest};
 ghost use Rattle.mdns_lives.specs.declared.life.Life.{Life};
 ghost use Rattle.mdns_lives.specs.Chronicle.{Chronicles};
 ghost use Rattle.mdns_lives.specs.LentLives.{row_lent};
-ghost use Rattle.mdns_page.specs.TimelineRows.{AreShownBy, IsCounted};
+ghost use Rattle.mdns_page.specs.TimelineRows.{AreShownBy, IsBegun, IsCounted, few_of};
 ghost use Rattle.mdns_page.specs.KeptRecords.{is_of};
 ghost use Rattle.mdns_page.specs.Servers.{servers_of};
 ghost use Rattle.mdns_page.specs.Timeline.{Row, counted_lent, seconds_lent};
 
 use crate::captures::FEW_CAPTURES;
+use crate::hearers::add_hearers;
 use crate::kept_records::{TimelinePart, is_of};
 use crate::servers::servers_of;
 use mdns_lives::{Lives, RecordLives, SecondHeard};
@@ -47,8 +48,29 @@ pub(crate) fn counted_rows<'a>(
     ensures records { IfOk result (λ rows.
         map (λ (row : Row). (row.last, row.lives)) (map counted_lent rows.items)
         ≡ filter (λ row. is_of part row.0) (map row_lent records.now)) }
+    ensures heard { IfOk result (λ rows. IsStrictlySortedBy key_cmp (map (λ (row : Latest × List Life). record_of row.0) (map row_lent records.now))
+        → (each : List (List Hearing)) → AreEach Chronicles chronicles.now each → All (IsCounted each) (map counted_lent rows.items)) }
+    ensures servers { IfOk result (λ rows. IsStrictlySortedBy key_cmp (map (λ (row : Latest × List Life). record_of row.0) (map row_lent servers.now))
+        → All (λ (row : Row). row.servers ≡ servers_of (map row_lent servers.now) (body_of row.last)) (map counted_lent rows.items)) }
+{
+    let mut rows = begun_rows(alloc, part, records, servers, chronicles)?;
+    add_hearers(alloc, &mut rows, chronicles)?;
+    Ok(rows)
+}
+
+// Makes the rows; where there are many captures, without the seconds in which these heard the records.
+fn begun_rows<'a>(
+    alloc: Global,
+    part: TimelinePart,
+    records: &'a [RecordLives<'a>],
+    servers: &'a [RecordLives<'a>],
+    chronicles: &[Lives],
+) -> Result<Vec<CountedRow<'a>>, Want>
+    ensures records { IfOk result (λ rows.
+        map (λ (row : Row). (row.last, row.lives)) (map counted_lent rows.items)
+        ≡ filter (λ row. is_of part row.0) (map row_lent records.now)) }
     ensures heard { IfOk result (λ rows. (each : List (List Hearing)) → AreEach Chronicles chronicles.now each
-        → All (IsCounted each) (map counted_lent rows.items)) }
+        → All (IsBegun each) (map counted_lent rows.items)) }
     ensures servers { IfOk result (λ rows. IsStrictlySortedBy key_cmp (map (λ (row : Latest × List Life). record_of row.0) (map row_lent servers.now))
         → All (λ (row : Row). row.servers ≡ servers_of (map row_lent servers.now) (body_of row.last)) (map counted_lent rows.items)) }
 {
@@ -57,13 +79,13 @@ pub(crate) fn counted_rows<'a>(
         if !is_of(part, &record.last) {
             continue;
         }
-        rows.push(counted_row(alloc, record, servers, chronicles)?)?;
+        rows.push(begun_row(alloc, record, servers, chronicles)?)?;
     }
     Ok(rows)
 }
 
 // Makes the row of a record.
-fn counted_row<'a>(
+fn begun_row<'a>(
     alloc: Global,
     record: &'a RecordLives<'a>,
     servers: &'a [RecordLives<'a>],
@@ -71,11 +93,11 @@ fn counted_row<'a>(
 ) -> Result<CountedRow<'a>, Want>
     ensures record { IfOk result (λ row. ((counted_lent row).last, (counted_lent row).lives) ≡ row_lent «record».now) }
     ensures heard { IfOk result (λ row. (each : List (List Hearing)) → AreEach Chronicles chronicles.now each
-        → IsCounted each (counted_lent row)) }
+        → IsBegun each (counted_lent row)) }
     ensures servers { IfOk result (λ row. IsStrictlySortedBy key_cmp (map (λ (row : Latest × List Life). record_of row.0) (map row_lent servers.now))
         → (counted_lent row).servers ≡ servers_of (map row_lent servers.now) (body_of (counted_lent row).last)) }
 {
-    let heard = heard_by(alloc, chronicles, record.last.resource)?;
+    let heard = heard_by(alloc, few_of(chronicles), record.last.resource)?;
     Ok(CountedRow {
         record,
         servers: servers_of(servers, &record.last.resource.body),
@@ -84,36 +106,28 @@ fn counted_row<'a>(
     })
 }
 
-// Returns the whole seconds in which each capture heard a record; where there are many captures, of those that heard it.
+// Returns the captures in which records are looked up one by one: none where there are many.
+fn few_of(chronicles: &[Lives]) -> &[Lives]
+    ensures { result.now ≡ few_of chronicles.now }
+{
+    if chronicles.len() > FEW_CAPTURES {
+        return &chronicles[..0];
+    }
+    chronicles
+}
+
+// Returns the whole seconds in which each capture heard a record.
 fn heard_by(
     alloc: Global,
     chronicles: &[Lives],
     resource: &Resource,
 ) -> Result<Vec<Vec<SecondHeard>>, Want>
     ensures { IfOk result (λ heard. (each : List (List Hearing)) → AreEach Chronicles chronicles.now each
-        → AreShownBy (nat_lt 4 (length chronicles.now)) each (key_of resource.now) (map seconds_lent heard.items)) }
+        → AreShownBy false each (key_of resource.now) (map seconds_lent heard.items)) }
 {
-    let many = chronicles.len() > FEW_CAPTURES;
     let mut heard = Vec::new(alloc);
     for chronicle in chronicles {
-        push_shown(&mut heard, many, chronicle.seconds_heard(resource)?)?;
+        heard.push(chronicle.seconds_heard(resource)?)?;
     }
     Ok(heard)
-}
-
-// Appends the seconds in which a capture heard a record; where there are many captures, only if it heard it.
-fn push_shown(
-    to: &mut Vec<Vec<SecondHeard>>,
-    many: bool,
-    seconds: Vec<SecondHeard>,
-) -> Result<(), Want>
-    ensures { OnOk result (map seconds_lent to.new.items
-        ≡ map seconds_lent to.old.items ++ (if many then filter (λ some. nat_lt 0 (length some)) (seconds_lent seconds ∷ [])
-        else seconds_lent seconds ∷ [])) }
-{
-    if many && seconds.is_empty() {
-        return Ok(());
-    }
-    to.push(seconds)?;
-    Ok(())
 }

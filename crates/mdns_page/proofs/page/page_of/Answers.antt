@@ -20,7 +20,7 @@ use Rattle.mdns_page.specs.Page.{live_at_end}
 use Rattle.mdns_page.specs.Timeline.{Row, counted_lent, is_open}
 use Rattle.mdns_page.specs.declared.kept_records.TimelinePart.{TimelinePart}
 use Rattle.mdns_page.specs.declared.kept_records.TimelinePart.TheVariants.{Addresses, Instances, Names}
-use Rattle.mdns_page.proofs.KeptLemmas.{looked_up-sorted, some-sorted}
+use Rattle.mdns_page.proofs.KeptLemmas.{few-sorted, looked_up-sorted, some-sorted}
 use Rattle.mdns_page.proofs.page.page_of.Goals as goal
 
 pub returns : goal.returns
@@ -53,6 +53,9 @@ returns c = λ each heard chronicled all latest.
     let few : map row_lent c.unless_large-few.result.now ≡ (if is_large (length rows) then [] else records) =
     c.unless_large-few.ensures
     ∙ ap (λ (large : Bool). if large then [] else records) (c.is_large.ensures ∙ ap is_large count) in
+    let Ascending = λ (rs : List (Latest × List Life)).
+    IsStrictlySortedBy key_cmp (map (λ (row : Latest × List Life). record_of row.0) rs) in
+    let few_in_order = subst Ascending (sym few) (few-sorted (is_large (length rows)) records in_order) in
     let are = λ (part : TimelinePart) (large : Bool) (made : List Row) (own : AreRows part large each records made).
     subst (λ (rs : List (Latest × List Life)). AreRows part large each rs made) kept own in
     let filtered = λ (part : TimelinePart). ap (filter (λ (row : Latest × List Life). is_of part row.0)) few in
@@ -86,19 +89,19 @@ returns c = λ each heard chronicled all latest.
       instances = rows;
       are_instances = are Instances _ rows (record {
         are = c.in_ok-rows.ensures.records;
-        counted = c.in_ok-rows.ensures.heard each chronicles;
+        counted = c.in_ok-rows.ensures.heard in_order each chronicles;
         served = c.in_ok-rows.ensures.servers in_order;
       });
       addresses = addresses;
       are_addresses = are Addresses _ addresses (record {
         are = c.in_ok-addresses.ensures.records ∙ filtered Addresses;
-        counted = c.in_ok-addresses.ensures.heard each chronicles;
+        counted = c.in_ok-addresses.ensures.heard few_in_order each chronicles;
         served = c.in_ok-addresses.ensures.servers in_order;
       });
       others = others;
       are_others = are Names _ others (record {
         are = c.in_ok-others.ensures.records ∙ filtered Names;
-        counted = c.in_ok-others.ensures.heard each chronicles;
+        counted = c.in_ok-others.ensures.heard few_in_order each chronicles;
         served = c.in_ok-others.ensures.servers in_order;
       });
       written = c.in_ok-push_page.ensures ∙ ap (λ (text : List ℕ). text ++ page isolated shown) c.new-text.ensures.bytes

@@ -1,46 +1,26 @@
-use Rattle.std.proofs.Common.{◌≡◌, ◌∙◌, ◌++◌, ◌∷◌, [], List, ap, cond, map, sym}
-use Rattle.std.proofs.lemmas.List.{append-nil, map-append}
-use Rattle.mdns_join.specs.declared.latest.Latest.{Latest}
+use Rattle.std.proofs.Common.{◌≡◌, ◌∙◌, map}
+use Rattle.std.specs.List.{All}
 use Rattle.mdns_lives.specs.LentLives.{row_lent}
-use Rattle.mdns_lives.specs.declared.life.Life.{Life}
 use Rattle.mdns_browse.specs.Services.{body_of}
-use Rattle.mdns_page.specs.TimelineRows.{IsCounted}
-use Rattle.mdns_page.specs.KeptRecords.{is_of}
 use Rattle.mdns_page.specs.Servers.{servers_of}
 use Rattle.mdns_page.specs.Timeline.{Row, counted_lent}
-use Rattle.mdns_page.proofs.CountedLemmas.{record_in, row-more}
-use Rattle.mdns_page.proofs.KeptLemmas.{kept-more}
+use Rattle.mdns_page.proofs.HearerLemmas.{all-kept, records-kept, rows-sorted}
 use Rattle.mdns_page.proofs.timeline_rows.counted_rows.Goals as goal
 
--- a record of another part
-pub loop-record-preserved-then-not-is_of : goal.loop-record-preserved-then-not-is_of
-loop-record-preserved-then-not-is_of c =
-    let keep = λ (row : Latest × List Life). is_of c.args.part row.0 in
-    let so_far = c.loop-record.invariant in (
-      sym (append-nil _)
-          ∙ ap (λ kept. map record_in (map counted_lent c.loop-record.rows.items) ++ cond kept (row_lent c.record-item.result ∷ []) [])
-          (sym c.if-not-is_of.true ∙ c.is_of.ensures)
-          ∙ sym (kept-more keep row_lent c.args.records.now c.loop-record.record-index c.record-item.result _ c.loop-record-test.true
-          c.record-item.is so_far.0),
-      so_far.1,
-      so_far.2,
-    )
+pub returns-clause-records : goal.returns-clause-records
+returns-clause-records c =
+    records-kept (map counted_lent c.add_hearers.new.rows.items) (map counted_lent c.in_ok-rows.rows.items)
+    c.in_ok-add_hearers.ensures.same
+    ∙ c.in_ok-rows.ensures.records
 
-pub loop-record-preserved : goal.loop-record-preserved
-loop-record-preserved c =
-    let keep = λ (row : Latest × List Life). is_of c.args.part row.0 in
-    let rows = c.loop-record.rows.items in
-    let so_far = c.loop-record.invariant in
-    let row = c.in_ok-counted_row.field-0 in
-    let made = c.in_ok-counted_row.ensures in
-    let pushed = c.in_ok-push.ensures.items in (
-      ap (λ found. map record_in (map counted_lent found)) pushed ∙ ap (map record_in) (map-append counted_lent rows (row ∷ []))
-          ∙ map-append record_in (map counted_lent rows) (counted_lent row ∷ [])
-          ∙ ap (λ one. map record_in (map counted_lent rows) ++ one ∷ []) made.record
-          ∙ ap (λ kept. map record_in (map counted_lent rows) ++ cond kept (row_lent c.record-item.result ∷ []) [])
-          (sym c.if-not-is_of.false ∙ c.is_of.ensures)
-          ∙ sym (kept-more keep row_lent c.args.records.now c.loop-record.record-index c.record-item.result _ c.loop-record-test.true
-          c.record-item.is so_far.0),
-      λ each are. row-more (IsCounted each) rows row _ pushed (so_far.1 each are) (made.heard each are),
-      λ sorted. row-more (λ (row : Row). row.servers ≡ servers_of (map row_lent c.args.servers.now) (body_of row.last)) rows row _ pushed (so_far.2 sorted) (made.servers sorted),
-    )
+pub returns-clause-heard : goal.returns-clause-heard
+returns-clause-heard c = λ sorted each are.
+    c.in_ok-add_hearers.ensures.heard
+    (rows-sorted c.args.part (map counted_lent c.in_ok-rows.rows.items) (map row_lent c.args.records.now)
+    c.in_ok-rows.ensures.records sorted) each are (c.in_ok-rows.ensures.heard each are)
+
+pub returns-clause-servers : goal.returns-clause-servers
+returns-clause-servers c = λ sorted.
+    all-kept (λ (row : Row). row.servers ≡ servers_of (map row_lent c.args.servers.now) (body_of row.last))
+    (map counted_lent c.add_hearers.new.rows.items) (map counted_lent c.in_ok-rows.rows.items) c.in_ok-add_hearers.ensures.same
+    (c.in_ok-rows.ensures.servers sorted)

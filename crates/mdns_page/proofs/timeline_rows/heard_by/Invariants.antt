@@ -1,4 +1,4 @@
-use Rattle.std.proofs.Common.{List, map, take}
+use Rattle.std.proofs.Common.{List, false, map, take}
 use Rattle.mdns_message.specs.declared.hearing.Hearing.{Hearing}
 use Rattle.mdns_message.specs.Resource.{key_of}
 use Rattle.mdns_lives.specs.Chronicle.{Chronicles}
@@ -10,4 +10,4 @@ use Rattle.mdns_page.proofs.timeline_rows.heard_by.Given as goal
 -- the seconds of the captures so far
 abbrev pub invariant-loop-chronicle : goal.invariant-loop-chronicle
 invariant-loop-chronicle l = (each : List (List Hearing)) → AreEach Chronicles (take l.chronicle-index l.chronicles) each
-    → AreShownBy l.many each (key_of l.resource) (map seconds_lent l.heard.items)
+    → AreShownBy false each (key_of l.resource) (map seconds_lent l.heard.items)

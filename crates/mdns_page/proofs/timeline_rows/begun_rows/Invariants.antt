@@ -9,17 +9,17 @@ use Rattle.mdns_lives.specs.declared.life.Life.{Life}
 use Rattle.mdns_lives.specs.Chronicle.{Chronicles}
 use Rattle.mdns_lives.specs.LentLives.{row_lent}
 use Rattle.mdns_browse.specs.Services.{AreEach, body_of}
-use Rattle.mdns_page.specs.TimelineRows.{IsCounted}
+use Rattle.mdns_page.specs.TimelineRows.{IsBegun}
 use Rattle.mdns_page.specs.KeptRecords.{is_of}
 use Rattle.mdns_page.specs.Servers.{servers_of}
 use Rattle.mdns_page.specs.Timeline.{Row, counted_lent}
-use Rattle.mdns_page.proofs.timeline_rows.counted_rows.Given as goal
+use Rattle.mdns_page.proofs.timeline_rows.begun_rows.Given as goal
 
 -- the rows of the records so far
 abbrev pub invariant-loop-record : goal.invariant-loop-record
 invariant-loop-record l =
     (map (λ (row : Row). (row.last, row.lives)) (map counted_lent l.rows.items)
     ≡ filter (λ row. is_of l.part row.0) (map row_lent (take l.record-index l.records)))
-    × ((each : List (List Hearing)) → AreEach Chronicles l.chronicles each → All (IsCounted each) (map counted_lent l.rows.items))
+    × ((each : List (List Hearing)) → AreEach Chronicles l.chronicles each → All (IsBegun each) (map counted_lent l.rows.items))
     × (IsStrictlySortedBy key_cmp (map (λ (row : Latest × List Life). record_of row.0) (map row_lent l.servers))
     → All (λ (row : Row). row.servers ≡ servers_of (map row_lent l.servers) (body_of row.last)) (map counted_lent l.rows.items))

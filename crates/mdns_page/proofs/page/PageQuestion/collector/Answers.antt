@@ -2,7 +2,7 @@ use Rattle.std.proofs.Common.{◌∙◌, subst}
 use Rattle.std.proofs.lemmas.Result.{IfOk-weaker}
 use Rattle.mdns_survey.specs.Chronicling.{EachChronicled}
 use Rattle.mdns_survey.specs.declared.filter.Filter.{Filter}
-use Rattle.mdns_page.proofs.page.PageQuestion.listener.Goals as goal
+use Rattle.mdns_page.proofs.page.PageQuestion.collector.Goals as goal
 
 pub returns-clause-heard : goal.returns-clause-heard
 returns-clause-heard c =
