@@ -2,9 +2,9 @@
 
 `refuse_allocation.c` is loaded into each run and refuses one allocation, the first, the second and so on, until a run
 meets no refusal; of a command without options it refuses in further sweeps the next one, too, and all later ones. A run
-of mdnsmerge that met a refusal must say so, and answer nothing else, unless it remembers messages; mdnswhy prints while
-it reads, so it may have printed the beginning of its answer; lives are printed record by record, so those of the first
-records may have been printed. But a file is read without the buffer that is refused it, so the answer must be whole
+of mdnsmerge that met a refusal must say so, and answer nothing else, unless it remembers messages, as `mdnswhy listeners`
+does, too; mdnswhy prints while it reads, so it may have printed the beginning of its answer; lives are printed record by
+record, so those of the first records may have been printed. But a file is read without the buffer that is refused it, so the answer must be whole
 then. A test that met one must pass: it makes the refused call again, and compares with what the call gives where
 nothing was refused. Where all later ones are refused, too, it must fail.
 
@@ -77,7 +77,8 @@ class Run(NamedTuple):
     @property
     def remembers(self):
         """Whether the run remembers messages that come again, and does without where memory for that is refused."""
-        return self.program == "mdnsmerge" and self.are_read and self.files > 0
+        is_one = self.program == "mdnsmerge" or self.words[:1] == ("listeners",)
+        return is_one and self.are_read and self.files > 0
 
     @property
     def in_a_row(self):

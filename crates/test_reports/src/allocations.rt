@@ -1,10 +1,12 @@
 //! Calls that are repeated after a failed allocation. Each test passes whichever one allocation fails, and if none
 //! does: the scripts in trials/ let one after another fail.
 
+use mdns_browse::report::Form;
 use mdns_message::Want;
 use std::alloc::Global;
 
 mod browse;
+mod listeners;
 mod survey;
 mod words;
 
@@ -17,6 +19,8 @@ enum Call {
     Answer(survey::AnswerTest),
     WriteFileLines,
     WriteFaultLines,
+    Group,
+    Compare(Form),
     ReadWords,
 }
 
@@ -28,6 +32,8 @@ fn run(alloc: Global, call: Call) -> Result<bool, Want> {
         Call::Answer(test) => survey::answers(alloc, test),
         Call::WriteFileLines => survey::writes_file_lines(alloc),
         Call::WriteFaultLines => survey::writes_fault_lines(alloc),
+        Call::Group => listeners::are_grouped(alloc),
+        Call::Compare(form) => listeners::are_compared(alloc, form),
         Call::ReadWords => words::are_read(alloc),
     }
 }

@@ -10,6 +10,8 @@ mod hearings;
 #[cfg(test)]
 mod listen;
 #[cfg(test)]
+mod listeners;
+#[cfg(test)]
 mod requests;
 #[cfg(test)]
 mod slow;

@@ -6,10 +6,12 @@ use crate::requests::PACKET;
 use crate::slow::{FAILING_CALLS, Trial, passes_unread, two_names};
 use crate::words::words_of;
 use command_line::{Task, asked};
-use mdns_browse::report::Ask;
+use mdns_browse::report::{Ask, Form};
+use mdns_listeners::Groups;
+use mdns_listeners::listeners::Listeners;
 use mdns_page::page::Page;
 use mdns_survey::survey::{SurveyFault, survey};
-use mdns_survey::{AsOf, ListenFault, Request, Subjects, survey_query, survey_with};
+use mdns_survey::{AsOf, ListenFault, Request, Subjects, survey_request, survey_with};
 use std::alloc::Global;
 use test_values::lines::AT_100;
 use test_values::streams::{SlowReader, SlowWriter, slow_writer};
@@ -58,6 +60,7 @@ enum Call {
     Survey,
     /// The one that answers this command line of `mdnsmerge`.
     Answer(&'static [&'static str]),
+    Listeners,
 }
 
 const CALLS: &[Call] = &[
@@ -68,6 +71,7 @@ const CALLS: &[Call] = &[
     Call::Answer(&["mdnsmerge", "lives", "a"]),
     Call::Answer(&["mdnsmerge", "changes", "--pretty", "a"]),
     Call::Answer(&["mdnsmerge", "page", "a"]),
+    Call::Listeners,
 ];
 
 fn page_fault(
@@ -88,6 +92,20 @@ fn page_fault(
     survey_with(alloc, readers, page, out).err()
 }
 
+fn listeners_fault(
+    alloc: Global,
+    readers: Vec<SlowReader<'_>>,
+    out: &mut SlowWriter,
+) -> Option<SurveyFault> {
+    let names = two_names(alloc).ok()?;
+    let groups = Groups::new(alloc, names.as_slice(), &[]).ok()?;
+    let question = Listeners {
+        groups: &groups,
+        form: Form::Lines,
+    };
+    survey_with(alloc, readers, question, out).err()
+}
+
 fn task_fault(
     alloc: Global,
     task: Task,
@@ -95,7 +113,7 @@ fn task_fault(
     out: &mut SlowWriter,
 ) -> Option<SurveyFault> {
     match task {
-        Task::Survey(Request::Report(query)) => survey_query(alloc, readers, query, out).err(),
+        Task::Survey(Request::Report(report)) => survey_request(alloc, readers, report, out).err(),
         Task::Survey(Request::Lives(lives)) => survey_with(alloc, readers, lives, out).err(),
         Task::Survey(Request::Check) => None,
         Task::Page { as_of, about } => page_fault(alloc, as_of, about, readers, out),
@@ -119,6 +137,7 @@ fn fault_by(
     match call {
         Call::Survey => survey(alloc, readers, Ask::Records, None, out).err(),
         Call::Answer(line) => task_fault(alloc, task_of(alloc, line)?, readers, out),
+        Call::Listeners => listeners_fault(alloc, readers, out),
     }
 }
 

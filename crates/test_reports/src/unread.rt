@@ -1,13 +1,14 @@
 //! Runs over captures of which a read fails: what they write, and their exit status.
 
 use crate::asserts::no_row_failed;
+use crate::listeners::listeners_status;
 use crate::slow::{Trial, passes_at_each_call, two_names};
 use crate::traces::{FIRST_UNREAD, FIRST_UNREAD_JSON, HEARING, SECOND_UNREAD, SPAN, files_of};
 use mdns_browse::report::{Ask, Form};
 use mdns_page::page::Page;
 use mdns_survey::answers::{Named, answer_request, answer_with};
 use mdns_survey::status::REFUSED;
-use mdns_survey::{AsOf, LivesQuery, Query, Request, Subjects, Which};
+use mdns_survey::{AsOf, LivesRequest, ReportRequest, Request, Subjects, Which};
 use mdns_trace::{Trace, Tracer, answer_files, answer_traces};
 use std::alloc::Global;
 use test_values::streams::{SlowReader, SlowWriter, slow_writer};
@@ -21,6 +22,7 @@ enum Run {
     Check,
     Trace(Trace),
     Files(Form),
+    Listeners(Form),
 }
 
 // Returns the request of a run.
@@ -28,13 +30,13 @@ fn request_of(alloc: Global, run: Run) -> Request {
     let about = Subjects::new(Vec::new(alloc));
     let as_of = AsOf::Newest;
     match run {
-        Run::Report => Request::Report(Query {
+        Run::Report => Request::Report(ReportRequest {
             ask: Ask::Instances,
             form: Form::Json,
             as_of,
             about,
         }),
-        Run::Lives => Request::Lives(LivesQuery {
+        Run::Lives => Request::Lives(LivesRequest {
             which: Which::All,
             form: Form::Lines,
             as_of,
@@ -80,6 +82,7 @@ fn status_of(
     }
     match run {
         Run::Files(form) => files_status(alloc, form, names, readers, out, err),
+        Run::Listeners(form) => listeners_status(alloc, form, names, readers, out, err),
         Run::Trace(trace) => Some(answer_traces(
             alloc,
             Tracer { trace, about: &[] },
@@ -161,6 +164,18 @@ const RUNS: &[(Run, usize, &str, &str)] = &[
     (Run::Files(Form::Lines), 0, FIRST_UNREAD, ""),
     (Run::Files(Form::Lines), 1, SECOND_UNREAD, ""),
     (Run::Files(Form::Json), 0, FIRST_UNREAD_JSON, ""),
+    (
+        Run::Listeners(Form::Lines),
+        0,
+        "",
+        "mdnswhy: a.pcap: read failed\n",
+    ),
+    (
+        Run::Listeners(Form::Pretty),
+        1,
+        "",
+        "mdnswhy: b.pcap: read failed\n",
+    ),
 ];
 
 fn failed_run(alloc: Global) -> Option<usize> {

@@ -63,7 +63,8 @@ fn is_report(what: What, ask: Ask, second: Option<u32>) -> bool {
     what == What::Report { ask, at }
 }
 
-fn are_names(names: &[String], expected: &[&str]) -> bool {
+/// Returns whether these are the names.
+pub(crate) fn are_names(names: &[String], expected: &[&str]) -> bool {
     for (name, expected) in names.iter().zip(expected) {
         if name.as_str() != *expected {
             return false;

@@ -7,6 +7,7 @@
 pub mod caches;
 pub mod flushes;
 pub mod joins;
+pub mod listeners;
 pub mod lists;
 pub mod lives;
 pub mod messages;
@@ -25,7 +26,7 @@ use mdns_browse::{Ask, Form};
 use mdns_capture::{ReadAhead, Through};
 use mdns_survey::answers::answer_request;
 use mdns_survey::open_line;
-use mdns_survey::request::{AsOf, Query, Request, Subjects};
+use mdns_survey::request::{AsOf, ReportRequest, Request, Subjects};
 use mdns_survey::status::REFUSED;
 use std::alloc::Global;
 use std::env::{self, Env};
@@ -69,7 +70,7 @@ fn answer(rt: &HostRuntime, names: &[String]) -> u8 {
 
 // Returns the request for all instances as of the newest hearing, for people.
 fn instances_as_columns(alloc: Global) -> Request {
-    Request::Report(Query {
+    Request::Report(ReportRequest {
         ask: Ask::Instances,
         form: Form::Pretty,
         as_of: AsOf::Newest,

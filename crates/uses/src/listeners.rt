@@ -1,0 +1,142 @@
+//! What listeners heard of one link: asking captures, rows of messages, and what the laws of these say.
+
+ghost use Rattle.std.specs.Prelude.{◌≡◌, ◌≢◌, ◌≤◌, [], ℕ, List, length, map, slice_index, slice_index_or, string_bytes, codes, true};
+ghost use Rattle.std.specs.Prelude.{Some, option_map, unwrap_or, IfNone, IfOk, IfSome, if◌then◌else◌};
+ghost use Rattle.std.specs.List.{All, list_all, sum_by};
+ghost use Rattle.std.specs.List.Sorted.{IsPermutation};
+ghost use Rattle.mdns_capture.specs.Output.{writing};
+ghost use Rattle.mdns_survey.specs.Answer.{Reports};
+ghost use Rattle.mdns_listeners.specs.Clock.{is_one_clock};
+ghost use Rattle.mdns_listeners.specs.Groups.{grouped};
+ghost use Rattle.mdns_listeners.specs.Heard.{AreHeardIn, HasWholeAddress, Told, times_of};
+ghost use Rattle.mdns_listeners.specs.Listeners.{AreListeners};
+ghost use Rattle.mdns_listeners.specs.Numbers.{is_of, listener_rows};
+ghost use Rattle.mdns_listeners.specs.Pairs.{pair_rows};
+ghost use Rattle.mdns_listeners.specs.Senders.{sender_rows};
+
+use mdns_browse::Form;
+use mdns_capture::{Sink, Source, Through};
+use mdns_listeners::clock::is_one_clock;
+use mdns_listeners::laws::order_changes_no_count;
+use mdns_listeners::listeners::Listeners;
+use mdns_listeners::{
+    Groups, HeardMessage, ListenerRow, ListenerSpans, PairRow, SenderRow, listener_rows, pair_rows,
+    sender_rows,
+};
+use mdns_message::Want;
+use mdns_survey::answers::{Named, answer_with};
+use mdns_survey::question::survey_with;
+use mdns_survey::status::REFUSED;
+use mdns_survey::summary::Summary;
+use mdns_survey::survey::SurveyFault;
+use std::alloc::Global;
+
+/// Returns a summary of each capture, and the lines of what the listeners heard. `names` has one name for each capture.
+pub fn listeners_of<R: Source + Drop>(
+    alloc: Global,
+    names: &[String],
+    prefixes: &[String],
+    captures: Vec<R>,
+) -> Result<(Vec<Summary>, Vec<u8>), SurveyFault>
+    ensures { IfOk result (λ told. (bytes : List (List ℕ)) → map R.remaining captures.items ≡ map Some bytes
+        → AreListeners (grouped (map string_bytes prefixes.now) (map string_bytes names.now)) Form.Lines bytes
+        told.0.items told.1.items) }
+{
+    let groups = match Groups::new(alloc, names, prefixes) {
+        Ok(groups) => groups,
+        Err(Want) => return Err(SurveyFault::Memory),
+    };
+    let mut text = Through(Vec::new(alloc));
+    let question = Listeners {
+        groups: &groups,
+        form: Form::Lines,
+    };
+    let summaries = survey_with(alloc, captures, question, &mut text)?;
+    Ok((summaries, text.0))
+}
+
+/// Writes what the listeners of the files heard to `out` for people, and error lines to `err`, and returns the exit status.
+pub fn compare<R: Source + Drop, O: Sink, E: Sink>(
+    groups: &Groups,
+    names: &[String],
+    readers: Vec<R>,
+    out: &mut O,
+    err: &mut E,
+) -> u8
+    requires { length names.now ≡ length readers.items }
+    ensures { result ≢ REFUSED → (captures : List (List ℕ)) → map R.remaining readers.items ≡ map Some captures
+        → Reports (AreListeners groups.now Form.Pretty) true (codes "mdnswhy") (map string_bytes names.now) captures
+        (writing O.Sink out.old out.new) (writing E.Sink err.old err.new) result }
+{
+    let question = Listeners {
+        groups,
+        form: Form::Pretty,
+    };
+    let named = Named {
+        program: "mdnswhy",
+        files: names,
+    };
+    answer_with(question, true, named, readers, out, err)
+}
+
+/// Returns the name of the listener that a file belongs to; `None` where there is no such file.
+pub fn listener_of(groups: &Groups, file: usize) -> Option<&str>
+    ensures some { IfSome result (λ name. name.now ≡ slice_index_or groups.now.names (slice_index groups.now.of file) []) }
+    ensures none { IfNone result (length groups.now.of ≤ file) }
+{
+    let of = groups.of();
+    if file < of.len() {
+        Some(groups.names()[of[file]].as_str())
+    } else {
+        None
+    }
+}
+
+/// The rows of listeners, of pairs of them, and of senders.
+#[derive(Drop)]
+pub struct Rows {
+    pub listeners: Vec<ListenerRow>,
+    pub pairs: Vec<PairRow>,
+    pub senders: Vec<SenderRow>,
+}
+
+/// Returns all rows of messages, of which `HeardMessages::finish` promises what is asked of them.
+pub fn rows_of(alloc: Global, heard: &[HeardMessage], spans: &[ListenerSpans]) -> Result<Rows, Want>
+    requires heard { (told : List Told) × AreHeardIn told heard.now }
+    requires addresses { All (λ row. HasWholeAddress row.message) heard.now }
+    ensures listeners { IfOk result (λ rows. rows.listeners.items ≡ listener_rows heard.now spans.now) }
+    ensures pairs { IfOk result (λ rows. rows.pairs.items ≡ pair_rows heard.now spans.now) }
+    ensures senders { IfOk result (λ rows. rows.senders.items ≡ sender_rows heard.now spans.now) }
+{
+    Ok(Rows {
+        listeners: listener_rows(alloc, heard, spans)?,
+        pairs: pair_rows(alloc, heard, spans)?,
+        senders: sender_rows(alloc, heard, spans)?,
+    })
+}
+
+/// Returns whether the clocks of each two listeners agree, as far as messages tell that both heard exactly once.
+pub fn have_one_clock(pairs: &[PairRow]) -> bool
+    ensures { result ≡ list_all (λ pair. unwrap_or (option_map is_one_clock pair.quartiles) true) pairs.now }
+{
+    pairs.iter().all(agree)
+}
+
+// Returns whether the clocks of two listeners agree, as far as such messages tell.
+fn agree(pair: &PairRow) -> bool
+    ensures { result ≡ unwrap_or (option_map is_one_clock pair.now.quartiles) true }
+{
+    match pair.quartiles {
+        Some(quartiles) => is_one_clock(quartiles),
+        None => true,
+    }
+}
+
+/// The order in which messages are told doesn't change how often a listener heard one.
+pub fn as_often_in_any_order()
+    ensures { (listener : ℕ) (message : List ℕ) (told more : List Told) → IsPermutation told more
+        → sum_by (λ at. if is_of listener at then 1 else 0) (times_of message more)
+        ≡ sum_by (λ at. if is_of listener at then 1 else 0) (times_of message told) }
+{
+    order_changes_no_count();
+}
