@@ -72,6 +72,15 @@ positions-more prefixes earlier [] more = rw (append-nil earlier) refl
 positions-more prefixes earlier (file ∷ files) more =
     grind (arith, positions-more prefixes (earlier ++ file ∷ []) files more, append_assoc)
 
+positions-each : (prefixes earlier files : List (List ℕ)) → length (positions_after prefixes earlier files) ≡ length files
+positions-each prefixes earlier [] = refl
+positions-each prefixes earlier (file ∷ files) = grind (arith, positions-each prefixes (earlier ++ file ∷ []) files)
+
+-- each file has one listener
+pub one_each : (prefixes : List (List ℕ)) (files : List (String Global))
+    → length (listener_positions prefixes (map string_bytes files)) ≡ length files
+one_each prefixes files = grind (arith, positions-each prefixes [] (map string_bytes files), length-map files string_bytes)
+
 pub names_push : (prefixes earlier : List (List ℕ)) (file : List ℕ)
     → listener_names prefixes (earlier ++ file ∷ [])
     ≡ listener_names prefixes earlier

@@ -32,7 +32,8 @@ impl Groups {
     /// listener by itself, also if another file has the same name. Listeners stand in the order of their first files.
     #[tactic(auto, using(crate::proofs::GroupLemmas::positions_push, crate::proofs::GroupLemmas::all_within, crate::proofs::GroupLemmas::nothing_begun))]
     pub fn new(alloc: Global, files: &[String], prefixes: &[String]) -> Result<Groups, Want>
-        ensures { IfOk result (λ groups. groups ≡ grouped (map string_bytes prefixes.now) (map string_bytes files.now)) }
+        ensures groups { IfOk result (λ groups. groups ≡ grouped (map string_bytes prefixes.now) (map string_bytes files.now)) }
+        ensures each { IfOk result (λ groups. length groups.of ≡ length files.now) }
     {
         let mut names = Vec::new(alloc);
         let mut of = Vec::new(alloc);

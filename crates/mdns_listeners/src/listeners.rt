@@ -144,6 +144,9 @@ impl<'a> Question for Listeners<'a> {
 
     ghost asked = { λ listeners. asked_listeners listeners.groups.now listeners.form };
 
+    // Groups of as many files.
+    ghost Fits = { λ listeners count. length listeners.groups.now.of ≡ count };
+
     ghost Heard = { λ listeners. Gathered listeners.groups.now.of };
 
     fn collector(&self, alloc: Global) -> Result<Gatherer, Want> {

@@ -1,6 +1,6 @@
 //! The page on several captures.
 
-ghost use Rattle.std.specs.Prelude.{◌≡◌, ◌≤◌, ◌++◌, ◌∷◌, [], Contains, IfOk, List, OnOk, map, string_bytes};
+ghost use Rattle.std.specs.Prelude.{◌≡◌, ◌≤◌, ◌++◌, ◌∷◌, [], Contains, IfOk, List, OnOk, length, map, string_bytes};
 ghost use Rattle.std.specs.List.{filter};
 ghost use Rattle.mdns_message.specs.declared.hearing.Hearing.{Hearing};
 ghost use Rattle.mdns_cache.specs.Live.{NoneLater};
@@ -58,6 +58,9 @@ impl<'a> Question for Page<'a> {
     type Collector = EachChronicling;
 
     ghost asked = { λ page. asked_page (map string_bytes page.names.now) page.about page.as_of };
+
+    // A name for each capture.
+    ghost Fits = { λ page count. length page.names.now ≡ count };
 
     ghost Heard = { λ page. EachChronicled (filter_of page.as_of) };
 

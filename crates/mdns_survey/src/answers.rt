@@ -97,7 +97,8 @@ pub fn answer_with<R: Source + Drop, Q: Answer + Drop, O: Sink, E: Sink>(
     out: &mut O,
     err: &mut E,
 ) -> u8
-    requires { length named.files.now ≡ length readers.items }
+    requires named { length named.files.now ≡ length readers.items }
+    requires fits { Q.Fits question (length readers.items) }
     ensures status { result ≤ 2 }
     ensures answers { result ≢ REFUSED → (captures : List (List ℕ))
         → map R.remaining readers.items ≡ map Some captures
@@ -134,6 +135,9 @@ impl<'a> Question for Check<'a> {
     type Collector = Forgetful;
 
     ghost asked = { λ check. asked_of CheckRequest (map string_bytes check.names.now) };
+
+    // A name for each capture.
+    ghost Fits = { λ check count. length check.names.now ≡ count };
 
     ghost Heard = { λ _ _ _ _. Unit {0} };
 

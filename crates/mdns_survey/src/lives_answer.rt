@@ -46,6 +46,8 @@ impl Question for LivesRequest {
 
     ghost asked = { asked_lives };
 
+    ghost Fits = { λ _ _. Unit {0} };
+
     ghost Heard = { λ question now. Chronicled (filter_of question.as_of) now.hearer };
 
     fn collector(&self, alloc: Global) -> Result<Filtered<Recording>, Want> {

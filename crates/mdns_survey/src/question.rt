@@ -1,6 +1,6 @@
 //! Questions on captures, and the survey that answers each.
 
-ghost use Rattle.std.specs.Prelude.{◌≡◌, ℕ, [], map, IfErr, IfOk, List, OnOk, Option, string_bytes};
+ghost use Rattle.std.specs.Prelude.{◌≡◌, ℕ, [], length, map, IfErr, IfOk, List, OnOk, Option, string_bytes};
 ghost use Rattle.mdns_capture.specs.Output.{writing};
 ghost use Rattle.mdns_capture.specs.Savefile.{PacketAt};
 ghost use Rattle.mdns_browse.specs.Report.{IfEarly};
@@ -27,6 +27,9 @@ pub trait Question {
     // What is asked.
     ghost asked: { Self → Asked };
 
+    // It can be asked of so many captures.
+    ghost Fits: { Self → ℕ → Type 0 };
+
     // A collector for the question heard these packets, with these outcomes, and no others.
     ghost Heard: { Self → Self.Collector → List (List PacketAt) → List (List Outcome) → Type 0 };
 
@@ -48,6 +51,7 @@ pub trait Answer: Question {
         readings: &[Reading],
         out: &mut W,
     ) -> Result<(), SurveyFault>
+        requires { Self.Fits self (length readings.now) }
         ensures written { OnOk result ((lefts : List (Option (List ℕ)))
             → HearsReaders (Self.Heard self collector) lefts readings.now
             → WritesAnswer (Self.asked self) lefts (summaries_of readings.now) (writing W.Sink out.old out.new)) }
@@ -69,6 +73,7 @@ pub trait TextAnswer: Question {
         collector: Self::Collector,
         readings: &[Reading],
     ) -> Result<String, ReportFault>
+        requires { Self.Fits self (length readings.now) }
         ensures right { IfOk result (λ text. (lefts : List (Option (List ℕ)))
             → HearsReaders (Self.Heard self collector) lefts readings.now
             → IsAnswer (Self.asked self) lefts (summaries_of readings.now) (string_bytes text)) }
@@ -109,6 +114,7 @@ pub fn survey_with<R: Source + Drop, Q: Answer + Drop, W: Sink>(
     question: Q,
     out: &mut W,
 ) -> Result<Vec<Summary>, SurveyFault>
+    requires { Q.Fits question (length readers.items) }
     // Over readers whose bytes are known, an answer over all of them was written, and nothing else.
     ensures written { IfOk result (λ summaries. WritesAnswer (Q.asked question) (map R.remaining readers.items)
         summaries.items (writing W.Sink out.old out.new)) }

@@ -1,6 +1,6 @@
 //! The report over several captures.
 
-ghost use Rattle.std.specs.Prelude.{◌≡◌, ℕ, IfOk, IfErr, OnOk, MatchOption, List, [], map, Some};
+ghost use Rattle.std.specs.Prelude.{◌≡◌, ℕ, IfOk, IfErr, OnOk, MatchOption, List, [], length, map, Some};
 ghost use Rattle.std.specs.Io.KnownBytes.{Appends};
 ghost use Rattle.mdns_message.specs.declared.hearing.Hearing.{Hearing};
 ghost use Rattle.mdns_cache.specs.Contents.{StandsFor};
@@ -112,6 +112,8 @@ impl Question for ReportRequest {
 
     ghost asked = { asked_report };
 
+    ghost Fits = { λ _ _. Unit {0} };
+
     ghost Heard = { λ request now packets outcomes. StandsWith now.hearer.contents now.hearer.memory
         (counted (filter_of request.as_of) outcomes) };
 
@@ -168,6 +170,7 @@ pub(crate) fn collect_all<R: Source + Drop, L: Collector>(
 ) -> Result<Vec<Reading>, SurveyFault>
     ensures listened { IfOk result (λ readings.
         Listened L.HeardAll (map R.remaining readers.items) collector.old collector.new readings.items) }
+    ensures each { IfOk result (λ readings. length readings.items ≡ length readers.items) }
     ensures refused { IfErr result (RefusesReaders (map R.remaining readers.items)) }
     ensures readers { IfErr result (BlamesReaders R.steady readers.items) }
 {

@@ -2,6 +2,8 @@
 //! the time span of each file, what each file is, and what each listener missed.
 #![tactic(auto)]
 
+ghost use Rattle.std.specs.Prelude.{◌≡◌, length};
+
 use command_line::lists::Lists;
 use command_line::program::{MDNSWHY, arguments, open_each, open_or_refuse, print_fault, refuse};
 use command_line::{Asked, why_asked};
@@ -92,7 +94,9 @@ fn group_files(rt: &HostRuntime, form: Form, prefixes: &[String], names: &[Strin
 }
 
 // Opens the files, and writes what their listeners heard.
-fn compare_listeners(rt: &HostRuntime, form: Form, groups: &Groups, names: &[String]) -> u8 {
+fn compare_listeners(rt: &HostRuntime, form: Form, groups: &Groups, names: &[String]) -> u8
+    requires { length groups.now.of ≡ length names.now }
+{
     let mut err = Through(rt.stderr());
     match open_or_refuse(rt, MDNSWHY, names, &mut err) {
         Ok(readers) => {

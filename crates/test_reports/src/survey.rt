@@ -84,6 +84,9 @@ fn page_fault(
     let Ok(names) = two_names(alloc) else {
         return None;
     };
+    if names.len() != readers.len() {
+        return None;
+    }
     let page = Page {
         names: names.as_slice(),
         as_of,
@@ -98,6 +101,9 @@ fn listeners_fault(
     out: &mut SlowWriter,
 ) -> Option<SurveyFault> {
     let names = two_names(alloc).ok()?;
+    if names.len() != readers.len() {
+        return None;
+    }
     let groups = Groups::new(alloc, names.as_slice(), &[]).ok()?;
     let question = Listeners {
         groups: &groups,

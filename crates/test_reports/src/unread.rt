@@ -1,5 +1,7 @@
 //! Runs over captures of which a read fails: what they write, and their exit status.
 
+ghost use Rattle.std.specs.Prelude.{◌≡◌};
+
 use crate::asserts::no_row_failed;
 use crate::listeners::listeners_status;
 use crate::slow::{Trial, passes_at_each_call, two_names};
@@ -46,7 +48,9 @@ fn request_of(alloc: Global, run: Run) -> Request {
     }
 }
 
-fn page_of<'a>(alloc: Global, names: &'a [String]) -> Page<'a> {
+fn page_of<'a>(alloc: Global, names: &'a [String]) -> Page<'a>
+    ensures { result.names.now ≡ names.now }
+{
     Page {
         names,
         as_of: AsOf::Newest,

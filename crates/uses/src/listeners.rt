@@ -31,13 +31,14 @@ use mdns_survey::summary::Summary;
 use mdns_survey::survey::SurveyFault;
 use std::alloc::Global;
 
-/// Returns a summary of each capture, and the lines of what the listeners heard. `names` has one name for each capture.
+/// Returns a summary of each capture, and the lines of what the listeners heard.
 pub fn listeners_of<R: Source + Drop>(
     alloc: Global,
     names: &[String],
     prefixes: &[String],
     captures: Vec<R>,
 ) -> Result<(Vec<Summary>, Vec<u8>), SurveyFault>
+    requires { length names.now ≡ length captures.items }
     ensures { IfOk result (λ told. (bytes : List (List ℕ)) → map R.remaining captures.items ≡ map Some bytes
         → AreListeners (grouped (map string_bytes prefixes.now) (map string_bytes names.now)) Form.Lines bytes
         told.0.items told.1.items) }
@@ -63,7 +64,8 @@ pub fn compare<R: Source + Drop, O: Sink, E: Sink>(
     out: &mut O,
     err: &mut E,
 ) -> u8
-    requires { length names.now ≡ length readers.items }
+    requires named { length names.now ≡ length readers.items }
+    requires grouped { length groups.now.of ≡ length readers.items }
     ensures { result ≢ REFUSED → (captures : List (List ℕ)) → map R.remaining readers.items ≡ map Some captures
         → Reports (AreListeners groups.now Form.Pretty) true (codes "mdnswhy") (map string_bytes names.now) captures
         (writing O.Sink out.old out.new) (writing E.Sink err.old err.new) result }

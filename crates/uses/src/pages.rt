@@ -1,6 +1,6 @@
 //! Pages about captures.
 
-ghost use Rattle.std.specs.Prelude.{◌≡◌, [], ℕ, List, map, string_bytes, Some, IfOk};
+ghost use Rattle.std.specs.Prelude.{◌≡◌, [], ℕ, List, length, map, string_bytes, Some, IfOk};
 ghost use Rattle.mdns_page.specs.Page.{SurveysPage};
 
 use mdns_capture::{Source, Through};
@@ -11,13 +11,14 @@ use mdns_survey::summary::Summary;
 use mdns_survey::survey::SurveyFault;
 use std::alloc::Global;
 
-/// Returns a summary of each capture, and the page about all instances of all of them. `names` has one name for each capture.
+/// Returns a summary of each capture, and the page about all instances of all of them.
 pub fn page_of<R: Source + Drop>(
     alloc: Global,
     names: &[String],
     captures: Vec<R>,
     as_of: AsOf,
 ) -> Result<(Vec<Summary>, Vec<u8>), SurveyFault>
+    requires { length names.now ≡ length captures.items }
     ensures { IfOk result (λ told. (bytes : List (List ℕ)) → map R.remaining captures.items ≡ map Some bytes
         → SurveysPage (map string_bytes names.now) [] as_of bytes told.0.items told.1.items) }
 {

@@ -1,8 +1,8 @@
-use Rattle.std.proofs.Common.{◌≡◌, ◌+◌, ◌++◌, ◌∷◌, [], arith, rules, sym, subst, length, map, string_bytes, take, ℕ, List, Option}
+use Rattle.std.proofs.Common.{◌≡◌, ◌+◌, ◌++◌, ◌∙◌, ◌∷◌, [], ap, arith, rules, sym, subst, length, map, string_bytes, take, ℕ, List, Option}
 use Rattle.std.proofs.lemmas.Grind.{common_steps}
 use Rattle.std.proofs.lemmas.List.{length-map}
 use Rattle.mdns_listeners.specs.Groups.{HasBegun}
-use Rattle.mdns_listeners.proofs.GroupLemmas.{all_within, positions_push, take-back}
+use Rattle.mdns_listeners.proofs.GroupLemmas.{all_within, one_each, positions_push, take-back}
 use Rattle.mdns_listeners.proofs.groups.Groups.new.Goals as goal
 
 pub loop-file-preserved : goal.loop-file-preserved
@@ -30,3 +30,9 @@ invariant_of-result c =
     all_within (map string_bytes c.args.prefixes.now) (map string_bytes (take c.loop-file.file-index c.args.files.now))
     (map string_bytes c.loop-file.names.items) (length c.loop-file.names.items) c.loop-file.of.items old.0.named
     (sym (length-map c.loop-file.names.items string_bytes)) old.1
+
+pub returns-clause-each : goal.returns-clause-each
+returns-clause-each c =
+    let whole : take c.loop-file.file-index c.args.files.now ≡ c.args.files.now = grind (arith, common_steps) in
+    ap length c.loop-file.invariant.1 ∙ one_each (map string_bytes c.args.prefixes.now) (take c.loop-file.file-index c.args.files.now)
+    ∙ ap length whole
