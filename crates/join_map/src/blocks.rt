@@ -10,7 +10,7 @@ ghost use Rattle.join_map.specs.Blocks.{JoinsAt, before, after};
 use crate::block::Block;
 use crate::copied::Copied;
 use crate::insert::insert_at;
-use crate::join::{Join, JoinHeld};
+use crate::join::{JoinHeld, Semilattice};
 use crate::order::blocks_of;
 use crate::walk::Walk;
 use memory::Want;
@@ -45,7 +45,7 @@ impl<K, V> Model for Blocks<K, V> {
     ghost invariant = { λ a. ArePlaces a.entries.items a.blocks.items };
 }
 
-impl<K: Copied, V: Join> Blocks<K, V> {
+impl<K: Copied, V: Semilattice + Drop> Blocks<K, V> {
     /// No entries.
     pub(crate) fn new(alloc: Global) -> Blocks<K, V>
         ensures { result ≡ [] }
@@ -136,7 +136,11 @@ impl<K: Copied, V: Join> Blocks<K, V> {
 }
 
 // Joins what `other` stands for into a value.
-fn join_held<V: Join, O: JoinHeld<V>>(alloc: Global, held: &mut V, other: &O) -> Result<(), Want>
+fn join_held<V: Semilattice, O: JoinHeld<V>>(
+    alloc: Global,
+    held: &mut V,
+    other: &O,
+) -> Result<(), Want>
     ensures ok { OnOk result (held.new ≡ V.join held.old (O.value other.now)) }
     ensures err { OnErr result (IsPartOfJoin V.join held.old (O.value other.now) held.new) }
     ensures valid { V.Valid held.new }

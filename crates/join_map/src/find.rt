@@ -8,10 +8,10 @@ ghost use Rattle.join_map.specs.Blocks.{block_at, entries_of, AllAbove, AllBelow
 
 use crate::blocks::{Blocks, Spot};
 use crate::copied::Copied;
-use crate::join::Join;
+use crate::join::Semilattice;
 use std::cmp::Ordering;
 
-impl<K: Copied, V: Join> Blocks<K, V> {
+impl<K: Copied, V: Semilattice + Drop> Blocks<K, V> {
     /// Returns where the entry of `key` is, or else where it belongs.
     pub(crate) fn find(&self, key: &K) -> Result<Spot, Spot>
         requires { IsStrictlySortedBy K.cmp (keys_of (entries_of self.now)) }

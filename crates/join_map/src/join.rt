@@ -6,8 +6,8 @@ ghost use Rattle.join_map.specs.Join.{JoinLaws, IsPartOfJoin};
 use memory::Want;
 use std::alloc::Global;
 
-/// A value that others of its type are joined into.
-pub trait Join: Drop {
+/// A type whose values have a join, which is idempotent, commutative and associative.
+pub trait Semilattice {
     /// What holds of each value of the type.
     ghost Valid: { Self → Type 0 };
 
@@ -18,6 +18,12 @@ pub trait Join: Drop {
     fn valid(&self)
         ensures { Valid self.now };
 
+    /// On valid values the join is idempotent, commutative and associative, and keeps them valid.
+    ghost laws: { JoinLaws Valid join };
+}
+
+/// A value that can be copied, and that others of its type are joined into.
+pub trait Join: Semilattice + Drop {
     /// Copies the value.
     fn copy(&self, alloc: Global) -> Result<Self, Want>
         ensures { IfOk result (λ copied. copied ≡ self.now) };
@@ -25,15 +31,12 @@ pub trait Join: Drop {
     /// Joins `other` into the value. After `Want` the value lies between the old one and the join, so the same call
     /// repeated until it answers Ok gives the join.
     fn join_with(&mut self, alloc: Global, other: &Self) -> Result<(), Want>
-        ensures ok { OnOk result (self.new ≡ join self.old other.now) }
-        ensures err { OnErr result (IsPartOfJoin join self.old other.now self.new) };
-
-    /// On valid values the join is idempotent, commutative and associative, and keeps them valid.
-    ghost laws: { JoinLaws Valid join };
+        ensures ok { OnOk result (self.new ≡ Self.join self.old other.now) }
+        ensures err { OnErr result (IsPartOfJoin Self.join self.old other.now self.new) };
 }
 
 /// A source of a `V`, which it builds where a new one is needed.
-pub trait JoinInto<V: Join> {
+pub trait JoinInto<V: Semilattice> {
     /// The source's value.
     ghost value: { Self → V };
 
@@ -45,7 +48,7 @@ pub trait JoinInto<V: Join> {
 
 /// A source of a `V` that is joined into another without being built first, so that a join that changes nothing can do
 /// without a copy.
-pub trait JoinHeld<V: Join>: JoinInto<V> {
+pub trait JoinHeld<V: Semilattice>: JoinInto<V> {
     /// Joins the value into `held`. After `Want`, `held` lies between its old value and the join.
     fn join_into(&self, alloc: Global, held: &mut V) -> Result<(), Want>
         ensures ok { OnOk result (held.new ≡ V.join held.old (Self.value self.now)) }
@@ -54,7 +57,7 @@ pub trait JoinHeld<V: Join>: JoinInto<V> {
 }
 
 /// A source of a `V` for one key, which recognizes the entry of that key without making the key.
-pub trait JoinOwn<K, V: Join>: JoinInto<V> {
+pub trait JoinOwn<K, V: Semilattice>: JoinInto<V> {
     /// The key.
     ghost own: { Self → K };
 

@@ -13,7 +13,7 @@ ghost use Rattle.join_map.specs.laws.Entries.{joined-laws};
 
 use crate::blocks::{Blocks, Spot};
 use crate::copied::Copied;
-use crate::join::{Join, JoinHeld, JoinInto};
+use crate::join::{Join, JoinHeld, JoinInto, Semilattice};
 use crate::order::{ascend, sorted_places};
 use crate::walk::Walk;
 use memory::Want;
@@ -22,11 +22,11 @@ use std::marker::Model;
 
 /// A finite map in key order, into which entries and other maps are joined key by key.
 #[derive(Drop)]
-pub struct JoinMap<K: Copied, V: Join> {
+pub struct JoinMap<K: Copied, V: Semilattice + Drop> {
     blocks: Blocks<K, V>,
 }
 
-impl<K: Copied, V: Join> Model for JoinMap<K, V> {
+impl<K: Copied, V: Semilattice + Drop> Model for JoinMap<K, V> {
     ghost use Rattle.std.specs.Prelude.{List};
     ghost use Rattle.join_map.specs.Blocks.{entries_of};
     ghost use Rattle.join_map.specs.Entries.{IsJoinMap};
@@ -38,7 +38,7 @@ impl<K: Copied, V: Join> Model for JoinMap<K, V> {
     ghost invariant = { λ a. IsJoinMap K.cmp V.Valid (entries_of a.blocks) };
 }
 
-impl<K: Copied, V: Join> JoinMap<K, V> {
+impl<K: Copied, V: Semilattice + Drop> JoinMap<K, V> {
     /// Makes the empty map, which allocates nothing.
     pub fn new(alloc: Global) -> JoinMap<K, V>
         ensures { result ≡ [] }
@@ -46,21 +46,6 @@ impl<K: Copied, V: Join> JoinMap<K, V> {
         JoinMap {
             blocks: Blocks::new(alloc),
         }
-    }
-
-    /// Makes the map of entries in any order. A key may stand in several; their values are joined then, which takes
-    /// longer. After `Want` the entries are lost.
-    pub fn from_entries(alloc: Global, entries: Vec<(K, V)>) -> Result<JoinMap<K, V>, Want>
-        requires { AllValid V.Valid entries.items }
-        ensures { IfOk result (λ map. map ≡ gathered K.cmp V.join entries.items) }
-    {
-        let places = sorted_places(alloc, entries.as_slice())?;
-        if !ascend(entries.as_slice(), places.as_slice()) {
-            return join_all(alloc, entries);
-        }
-        Ok(JoinMap {
-            blocks: Blocks::from_places(alloc, entries, places.as_slice())?,
-        })
     }
 
     /// Looks up the value at `key`.
@@ -74,18 +59,9 @@ impl<K: Copied, V: Join> JoinMap<K, V> {
         }
     }
 
-    /// Joins `value` into the value at `key`, or inserts a copy of both: the join with the map of that one entry. After
-    /// `Want` the map lies between the old one and the join.
-    pub fn put_join(&mut self, alloc: Global, key: &K, value: &V) -> Result<(), Want>
-        ensures ok { OnOk result (self.new ≡ joined K.cmp V.join self.old (one_entry key.now value.now)) }
-        ensures err { OnErr result (IsPartOfJoin (joined K.cmp V.join) self.old (one_entry key.now value.now) self.new) }
-        ensures valid { IsJoinMap K.cmp V.Valid self.new }
-    {
-        self.join_at(alloc, key, value)
-    }
-
-    /// Joins the value of `other` into the value at `key`, or inserts it, as `put_join` does. The key is looked up
-    /// once, and `to_value` builds the value only where the key is new.
+    /// Joins the value of `other` into the value at `key`, or inserts it under a copy of the key: the join with the map of
+    /// that one entry. The key is looked up once, and `to_value` builds the value only where the key is new. After `Want`
+    /// the map lies between the old one and the join.
     pub fn join_at<O: JoinHeld<V>>(&mut self, alloc: Global, key: &K, other: &O) -> Result<(), Want>
         ensures ok { OnOk result (self.new ≡ joined K.cmp V.join self.old (one_entry key.now (O.value other.now))) }
         ensures err { OnErr result (IsPartOfJoin (joined K.cmp V.join) self.old (one_entry key.now (O.value other.now)) self.new) }
@@ -120,6 +96,32 @@ impl<K: Copied, V: Join> JoinMap<K, V> {
     }
 }
 
+impl<K: Copied, V: Join> JoinMap<K, V> {
+    /// Makes the map of entries in any order. A key may stand in several; their values are joined then, which takes
+    /// longer. After `Want` the entries are lost.
+    pub fn from_entries(alloc: Global, entries: Vec<(K, V)>) -> Result<JoinMap<K, V>, Want>
+        requires { AllValid V.Valid entries.items }
+        ensures { IfOk result (λ map. map ≡ gathered K.cmp V.join entries.items) }
+    {
+        let places = sorted_places(alloc, entries.as_slice())?;
+        if !ascend(entries.as_slice(), places.as_slice()) {
+            return join_all(alloc, entries);
+        }
+        Ok(JoinMap {
+            blocks: Blocks::from_places(alloc, entries, places.as_slice())?,
+        })
+    }
+
+    /// Joins `value` into the value at `key`, or inserts a copy of both, as `join_at` does.
+    pub fn put_join(&mut self, alloc: Global, key: &K, value: &V) -> Result<(), Want>
+        ensures ok { OnOk result (self.new ≡ joined K.cmp V.join self.old (one_entry key.now value.now)) }
+        ensures err { OnErr result (IsPartOfJoin (joined K.cmp V.join) self.old (one_entry key.now value.now) self.new) }
+        ensures valid { IsJoinMap K.cmp V.Valid self.new }
+    {
+        self.join_at(alloc, key, value)
+    }
+}
+
 // Joins entries one after another.
 fn join_all<K: Copied, V: Join>(alloc: Global, entries: Vec<(K, V)>) -> Result<JoinMap<K, V>, Want>
     ensures { IfOk result (λ map. map ≡ gathered K.cmp V.join entries.items) }
@@ -132,7 +134,7 @@ fn join_all<K: Copied, V: Join>(alloc: Global, entries: Vec<(K, V)>) -> Result<J
 }
 
 // Puts what `other` stands for at `spot` under a copy of the key, which is new.
-fn insert_new<K: Copied, V: Join, O: JoinInto<V>>(
+fn insert_new<K: Copied, V: Semilattice + Drop, O: JoinInto<V>>(
     blocks: &mut Blocks<K, V>,
     alloc: Global,
     spot: Spot,
@@ -149,7 +151,7 @@ fn insert_new<K: Copied, V: Join, O: JoinInto<V>>(
     blocks.insert(alloc, spot, key, value)
 }
 
-impl<K: Copied, V: Join> Join for JoinMap<K, V> {
+impl<K: Copied, V: Semilattice + Drop> Semilattice for JoinMap<K, V> {
     ghost Valid = { IsJoinMap K.cmp V.Valid };
 
     ghost join = { joined K.cmp V.join };
@@ -158,6 +160,10 @@ impl<K: Copied, V: Join> Join for JoinMap<K, V> {
         let _blocks = &self.blocks;
     }
 
+    ghost laws = { joined-laws K.total K.exact V.laws };
+}
+
+impl<K: Copied, V: Join> Join for JoinMap<K, V> {
     fn copy(&self, alloc: Global) -> Result<JoinMap<K, V>, Want> {
         self.valid();
         let mut copied = JoinMap::new(alloc);
@@ -172,11 +178,9 @@ impl<K: Copied, V: Join> Join for JoinMap<K, V> {
         }
         Ok(())
     }
-
-    ghost laws = { joined-laws K.total K.exact V.laws };
 }
 
-impl<K: Copied, V: Join + PartialEq> PartialEq for JoinMap<K, V> {
+impl<K: Copied, V: Semilattice + Drop + PartialEq> PartialEq for JoinMap<K, V> {
     ghost eq = { pointwise (λ p q. K.eq p.0 q.0 && V.eq p.1 q.1) };
 
     ghost laws = { lists_per (and_per (on_per (λ p. p.0) K.PartialEq.laws) (on_per (λ p. p.1) V.PartialEq.laws)) };

@@ -5,7 +5,7 @@ ghost use Rattle.join_map.specs.Entries.{AllFit, AllValid, gathered, joined, one
 
 use crate::copied::Copied;
 use crate::index::{Index, REACH, Slot};
-use crate::join::{Join, JoinOwn};
+use crate::join::{Join, JoinOwn, Semilattice};
 use crate::join_map::JoinMap;
 use memory::Want;
 use std::alloc::Global;
@@ -14,12 +14,12 @@ use std::marker::Model;
 /// Entries in the order in which they came, found again by a hash. A key may stand in several entries; its value is
 /// then their join.
 #[derive(Drop)]
-pub struct Unsorted<K: Copied, V: Join> {
+pub struct Unsorted<K: Copied, V: Semilattice + Drop> {
     entries: Vec<(K, V)>,
     index: Index,
 }
 
-impl<K: Copied, V: Join> Model for Unsorted<K, V> {
+impl<K: Copied, V: Semilattice + Drop> Model for Unsorted<K, V> {
     ghost use Rattle.std.specs.Prelude.{List};
     ghost use Rattle.join_map.specs.Entries.{AllValid};
 
@@ -30,7 +30,7 @@ impl<K: Copied, V: Join> Model for Unsorted<K, V> {
     ghost invariant = { λ a. AllValid V.Valid a.entries.items };
 }
 
-impl<K: Copied, V: Join> Unsorted<K, V> {
+impl<K: Copied, V: Semilattice + Drop> Unsorted<K, V> {
     /// No entries. It allocates nothing yet.
     pub fn new(alloc: Global) -> Unsorted<K, V>
         ensures { result ≡ [] }
@@ -96,13 +96,6 @@ impl<K: Copied, V: Join> Unsorted<K, V> {
         Some(&self.entries.get(place)?.1)
     }
 
-    /// Makes the map of the entries. After `Want` they are lost.
-    pub fn finish(self, alloc: Global) -> Result<JoinMap<K, V>, Want>
-        ensures { IfOk result (λ map. map ≡ gathered K.cmp V.join self) }
-    {
-        JoinMap::from_entries(alloc, self.into_entries())
-    }
-
     /// Returns the entries.
     pub fn into_entries(self) -> Vec<(K, V)>
         ensures equal { result.items ≡ self }
@@ -149,5 +142,14 @@ impl<K: Copied, V: Join> Unsorted<K, V> {
         self.index.note(alloc, hash, place)?;
         self.entries.push((key, value))?;
         Ok(place)
+    }
+}
+
+impl<K: Copied, V: Join> Unsorted<K, V> {
+    /// Makes the map of the entries. After `Want` they are lost.
+    pub fn finish(self, alloc: Global) -> Result<JoinMap<K, V>, Want>
+        ensures { IfOk result (λ map. map ≡ gathered K.cmp V.join self) }
+    {
+        JoinMap::from_entries(alloc, self.into_entries())
     }
 }

@@ -16,7 +16,7 @@ ghost use Rattle.mdns_cache.specs.Repeats.{at_each, contents_at_each};
 use crate::cache::{Cache, map_laws, newer};
 use crate::guesses::Guesses;
 use mdns_capture::Moment;
-use mdns_join::{Join, JoinMap, LateMoments, Latest, Moments, Repeated, Unsorted};
+use mdns_join::{JoinMap, LateMoments, Latest, Moments, Repeated, Semilattice, Unsorted};
 use mdns_message::{BorrowedHearing, Key, SetKey, Want};
 use std::alloc::Global;
 use std::marker::Model;

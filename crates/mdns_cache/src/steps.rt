@@ -10,7 +10,7 @@ ghost use Rattle.mdns_join.specs.Latest.{later};
 ghost use Rattle.mdns_cache.specs.Contents.{IsContents, IsUpTo, contents_of};
 
 use crate::cache::{Cache, map_laws};
-use mdns_join::Join;
+use mdns_join::{Join, Semilattice};
 use mdns_message::{BorrowedHearing, Key, SetKey, Want};
 use std::mem::replace;
 

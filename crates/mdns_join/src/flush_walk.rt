@@ -6,7 +6,7 @@ ghost use Rattle.mdns_message.specs.RecordSet.{RecordSet};
 ghost use Rattle.mdns_message.specs.Resource.{set_key_cmp};
 ghost use Rattle.join_map.specs.Entries.{value_at};
 
-use join_map::{Join, JoinMap, Walk};
+use join_map::{JoinMap, Semilattice, Walk};
 use mdns_message::SetKey;
 use std::cmp::Ordering;
 use std::marker::Model;
@@ -14,12 +14,12 @@ use std::marker::Model;
 /// The flush moments of record sets, in key order. As one set after another is asked for, the sets before it are
 /// dropped.
 #[derive(Drop)]
-pub struct FlushWalk<'a, V: Join> {
+pub struct FlushWalk<'a, V: Semilattice + Drop> {
     next: Option<(&'a SetKey, &'a V)>,
     rest: Walk<'a, SetKey, V>,
 }
 
-impl<'a, V: Join> Model for FlushWalk<'a, V> {
+impl<'a, V: Semilattice + Drop> Model for FlushWalk<'a, V> {
     ghost use Rattle.std.specs.Prelude.{List};
     ghost use Rattle.std.specs.List.Sorted.{IsStrictlySortedBy};
     ghost use Rattle.std.specs.Map.{keys_of};
@@ -34,7 +34,7 @@ impl<'a, V: Join> Model for FlushWalk<'a, V> {
     ghost invariant = { λ a. IsStrictlySortedBy set_key_cmp (keys_of (with_next a.next a.rest)) };
 }
 
-impl<'a, V: Join> FlushWalk<'a, V> {
+impl<'a, V: Semilattice + Drop> FlushWalk<'a, V> {
     /// Makes a walk over all record sets of a map.
     pub fn new(flushes: &'a JoinMap<SetKey, V>) -> FlushWalk<'a, V>
         ensures { result ≡ flushes.now }

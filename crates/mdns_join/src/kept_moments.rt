@@ -9,7 +9,7 @@ ghost use Rattle.mdns_join.specs.Nanos.{nanos_of};
 
 use crate::moment_list::MomentList;
 use crate::prune::{add, add_all, last_of};
-use join_map::{Join, JoinHeld, JoinInto};
+use join_map::{Join, JoinHeld, JoinInto, Semilattice};
 use mdns_capture::Moment;
 use mdns_message::BorrowedHearing;
 use memory::Want;
@@ -83,7 +83,7 @@ impl Moments {
     }
 }
 
-impl Join for Moments {
+impl Semilattice for Moments {
     ghost Valid = { IsKeptList };
 
     ghost join = { kept_union };
@@ -92,6 +92,10 @@ impl Join for Moments {
         let _items = &self.items;
     }
 
+    ghost laws = { kept_union-laws };
+}
+
+impl Join for Moments {
     fn copy(&self, alloc: Global) -> Result<Moments, Want> {
         Ok(Moments {
             items: MomentList::from_slice(alloc, self.items.as_slice())?,
@@ -106,8 +110,6 @@ impl Join for Moments {
             others => self.add_all(alloc, others),
         }
     }
-
-    ghost laws = { kept_union-laws };
 }
 
 /// A hearing with the cache-flush bit is joined as the `Moments` of its moment alone.

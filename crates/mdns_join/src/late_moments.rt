@@ -7,7 +7,7 @@ ghost use Rattle.mdns_join.specs.Nanos.{nanos_of};
 ghost use Rattle.mdns_join.specs.laws.Kept.{kept_union-laws};
 
 use crate::kept_moments::Moments;
-use join_map::{Join, JoinInto, JoinOwn};
+use join_map::{Join, JoinInto, JoinOwn, Semilattice};
 use mdns_capture::Moment;
 use mdns_message::{BorrowedHearing, SetKey};
 use memory::Want;
@@ -107,7 +107,7 @@ fn join_late(kept: &mut Moments, late: &mut Vec<Moment>, alloc: Global) -> Resul
     Ok(())
 }
 
-impl Join for LateMoments {
+impl Semilattice for LateMoments {
     ghost Valid = { IsKeptList };
 
     ghost join = { kept_union };
@@ -116,6 +116,10 @@ impl Join for LateMoments {
         let _kept = &self.kept;
     }
 
+    ghost laws = { kept_union-laws };
+}
+
+impl Join for LateMoments {
     fn copy(&self, alloc: Global) -> Result<LateMoments, Want> {
         Ok(LateMoments {
             kept: self.kept.copy(alloc)?,
@@ -129,8 +133,6 @@ impl Join for LateMoments {
         let others = other.copy(alloc)?.into_moments(alloc)?;
         self.add_all(alloc, &others)
     }
-
-    ghost laws = { kept_union-laws };
 }
 
 /// A hearing with the cache-flush bit is joined as the `LateMoments` of its moment alone.

@@ -5,7 +5,7 @@ ghost use Rattle.std.specs.Ordering.{is_lt, nat_cmp, ordering_then};
 ghost use Rattle.mdns_message.specs.Borrowed.{resource_lent};
 ghost use Rattle.mdns_join.specs.Latest.{latest, latest_cmp, later};
 
-use join_map::{Join, JoinHeld, JoinInto, JoinOwn};
+use join_map::{Join, JoinHeld, JoinInto, JoinOwn, Semilattice};
 use mdns_capture::Moment;
 use mdns_message::{BorrowedHearing, BorrowedResource, Key, Resource};
 use memory::Want;
@@ -21,7 +21,7 @@ pub struct Latest {
     pub resource: Resource,
 }
 
-impl Join for Latest {
+impl Semilattice for Latest {
     ghost use Rattle.mdns_join.specs.Latest.{IsLatest, later};
     ghost use Rattle.mdns_join.specs.laws.Latest.{later-laws};
 
@@ -31,6 +31,10 @@ impl Join for Latest {
 
     fn valid(&self) {}
 
+    ghost laws = { later-laws };
+}
+
+impl Join for Latest {
     fn copy(&self, alloc: Global) -> Result<Latest, Want> {
         copy_parts(alloc, self.moment, self.ttl, &self.resource.borrowed())
     }
@@ -44,8 +48,6 @@ impl Join for Latest {
             &other.resource.borrowed(),
         )
     }
-
-    ghost laws = { later-laws };
 }
 
 /// A hearing is joined as the last hearing that it is if its record has no other.

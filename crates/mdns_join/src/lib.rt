@@ -11,7 +11,9 @@ mod moment_list;
 mod prune;
 
 pub use flush_walk::FlushWalk;
-pub use join_map::{Copied, Join, JoinHeld, JoinInto, JoinMap, JoinOwn, Unsorted, Walk};
+pub use join_map::{
+    Copied, Join, JoinHeld, JoinInto, JoinMap, JoinOwn, Semilattice, Unsorted, Walk,
+};
 pub use kept_moments::Moments;
 pub use late_moments::{LateMoments, Repeated};
 pub use latest::Latest;

@@ -5,7 +5,7 @@ ghost use Rattle.mdns_message.specs.Borrowed.{hearing_lent};
 ghost use Rattle.mdns_join.specs.Latest.{latest_of};
 
 use crate::history::History;
-use join_map::Join;
+use join_map::{Join, Semilattice};
 use mdns_join::Latest;
 use mdns_message::BorrowedHearing;
 use memory::Want;
@@ -28,7 +28,7 @@ impl Account {
     }
 }
 
-impl Join for Account {
+impl Semilattice for Account {
     ghost use Rattle.mdns_lives.specs.Account.{IsAccount, join_account};
     ghost use Rattle.mdns_lives.specs.laws.Account.{account-laws};
 
@@ -40,6 +40,10 @@ impl Join for Account {
         self.history.valid();
     }
 
+    ghost laws = { account-laws };
+}
+
+impl Join for Account {
     fn copy(&self, alloc: Global) -> Result<Account, Want> {
         Ok(Account {
             latest: self.latest.copy(alloc)?,
@@ -53,8 +57,6 @@ impl Join for Account {
         self.history.join_with(alloc, &other.history)?;
         self.latest.join_with(alloc, &other.latest)
     }
-
-    ghost laws = { account-laws };
 }
 
 /// Copies a hearing as a last hearing.

@@ -20,7 +20,7 @@ use crate::flushes::Flushes;
 use crate::lives::Lives;
 use crate::repeats::Repeats;
 use crate::waiting::{MomentsAtOnce, Waiting};
-use join_map::{Join, JoinMap, Unsorted};
+use join_map::{JoinMap, Semilattice, Unsorted};
 use mdns_cache::guesses::Guesses;
 use mdns_capture::Moment;
 use mdns_message::{BorrowedHearing, Key, SetKey};

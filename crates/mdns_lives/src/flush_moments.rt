@@ -6,7 +6,7 @@ ghost use Rattle.mdns_join.specs.Kept.{ascending, union, IsAscending};
 ghost use Rattle.mdns_join.specs.Nanos.{nanos_of};
 ghost use Rattle.mdns_lives.specs.laws.Flushes.{union-laws};
 
-use join_map::Join;
+use join_map::{Join, Semilattice};
 use mdns_capture::Moment;
 use memory::Want;
 use std::alloc::Global;
@@ -52,7 +52,7 @@ impl FlushMoments {
     }
 }
 
-impl Join for FlushMoments {
+impl Semilattice for FlushMoments {
     ghost Valid = { IsAscending };
 
     ghost join = { union };
@@ -61,6 +61,10 @@ impl Join for FlushMoments {
         let _items = &self.items;
     }
 
+    ghost laws = { union-laws };
+}
+
+impl Join for FlushMoments {
     fn copy(&self, alloc: Global) -> Result<FlushMoments, Want> {
         Ok(FlushMoments {
             items: Vec::from_slice(alloc, self.items.as_slice())?,
@@ -74,8 +78,6 @@ impl Join for FlushMoments {
         sort(&mut self.items);
         Ok(())
     }
-
-    ghost laws = { union-laws };
 }
 
 /// Sorts moments in place, and drops repeats.

@@ -7,7 +7,7 @@ ghost use Rattle.mdns_lives.specs.laws.Flushes.{union-laws};
 
 use crate::flush_moments::FlushMoments;
 use crate::history::copy_of;
-use join_map::Join;
+use join_map::Semilattice;
 use mdns_capture::Moment;
 use memory::Want;
 use std::alloc::Global;
@@ -57,24 +57,13 @@ impl Flushes {
     }
 }
 
-impl Join for Flushes {
+impl Semilattice for Flushes {
     ghost Valid = { IsAscending };
 
     ghost join = { union };
 
     fn valid(&self) {
         let _items = &self.items;
-    }
-
-    fn copy(&self, alloc: Global) -> Result<Flushes, Want> {
-        Ok(Flushes {
-            items: Vec::from_slice(alloc, self.items.as_slice())?,
-        })
-    }
-
-    fn join_with(&mut self, _alloc: Global, other: &Flushes) -> Result<(), Want> {
-        self.items.extend_from_slice(other.items.as_slice())?;
-        Ok(())
     }
 
     ghost laws = { union-laws };

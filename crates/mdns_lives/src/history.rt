@@ -15,7 +15,7 @@ ghost use Rattle.mdns_lives.specs.laws.Seconds.{seconds-laws};
 use crate::flush_moments::sort_runs;
 use crate::life::Heard;
 use crate::packed::Packed;
-use join_map::{Join, JoinOwn};
+use join_map::{Join, JoinOwn, Semilattice};
 use mdns_capture::Moment;
 use mdns_join::Latest;
 use mdns_message::{BorrowedHearing, Key};
@@ -131,7 +131,7 @@ impl History {
     }
 }
 
-impl Join for History {
+impl Semilattice for History {
     ghost Valid = { IsSeconds };
 
     ghost join = { join_seconds };
@@ -140,6 +140,10 @@ impl Join for History {
         let _items = &self.items;
     }
 
+    ghost laws = { seconds-laws };
+}
+
+impl Join for History {
     fn copy(&self, alloc: Global) -> Result<History, Want> {
         Ok(History {
             items: copy_of(alloc, self.items.as_slice())?,
@@ -150,8 +154,6 @@ impl Join for History {
         self.valid();
         self.add_all(other.items.as_slice())
     }
-
-    ghost laws = { seconds-laws };
 }
 
 // The answer of a refused addition: `Want` if the entry of `key` is the hearing's own.

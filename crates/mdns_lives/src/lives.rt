@@ -25,7 +25,7 @@ use crate::history::History;
 use crate::laws::lives_by_history;
 use crate::life::Life;
 use crate::life_walk::lives_of;
-use join_map::{Join, JoinMap, Walk};
+use join_map::{Join, JoinMap, Semilattice, Walk};
 use mdns_cache::Last;
 use mdns_capture::Moment;
 use mdns_join::{FlushWalk, Latest};

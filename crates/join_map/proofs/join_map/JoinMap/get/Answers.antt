@@ -13,7 +13,7 @@ returns-in-Ok-clause-value g c =
 
 pub returns-in-Ok-clause-valid : goal.returns-in-Ok-clause-valid
 returns-in-Ok-clause-valid g c =
-    IsJoinMap-value g.met.K.Ord.total g.met.K.Copied.exact g.met.V.Join.laws c.args.key.now c.entry.result.now.1
+    IsJoinMap-value g.met.K.Ord.total g.met.K.Copied.exact g.met.V.Semilattice.laws c.args.key.now c.entry.result.now.1
     (entries_of c.self.inside.blocks) c.self.invariant
     (value_at-spot g.met.K.Ord.total g.met.K.Copied.exact c.self.inside.blocks c.args.key.now c.in-Ok.spot
     c.entry.result.now c.self.invariant.sorted c.in-Ok.ensures.found c.entry.ensures)

@@ -6,7 +6,7 @@ use Rattle.join_map.proofs.join_map.JoinMap.join_at.Goals as goal
 
 pub invariant_of-self : goal.invariant_of-self
 invariant_of-self g c =
-    joined_map g.met.K.Ord.total g.met.K.Copied.exact g.met.V.Join.laws c.join_at.result c.self.inside.blocks
+    joined_map g.met.K.Ord.total g.met.K.Copied.exact g.met.V.Semilattice.laws c.join_at.result c.self.inside.blocks
     c.join_at.new.self c.args.key.now c.in-Ok.spot (g.O.JoinInto.value c.args.other.now) c.self.invariant
     c.in-Ok.ensures.found c.join_at.ensures
 
@@ -16,18 +16,18 @@ returns-in-Ok-clause-ok g c = grind (arith, joined_ok)
 pub returns-in-Ok-clause-err : goal.returns-in-Ok-clause-err
 returns-in-Ok-clause-err g c = grind (
   arith,
-  joined_err g.met.K.Ord.total g.met.K.Copied.exact g.met.V.Join.laws c.join_at.result c.self.inside.blocks c.join_at.new.self c.args.key.now c.in-Ok.spot (g.O.JoinInto.value c.args.other.now) c.self.invariant c.in-Ok.ensures.found c.join_at.ensures,
+  joined_err g.met.K.Ord.total g.met.K.Copied.exact g.met.V.Semilattice.laws c.join_at.result c.self.inside.blocks c.join_at.new.self c.args.key.now c.in-Ok.spot (g.O.JoinInto.value c.args.other.now) c.self.invariant c.in-Ok.ensures.found c.join_at.ensures,
 )
 
 pub returns-in-Ok-clause-valid : goal.returns-in-Ok-clause-valid
 returns-in-Ok-clause-valid g c =
-    joined_map g.met.K.Ord.total g.met.K.Copied.exact g.met.V.Join.laws c.join_at.result c.self.inside.blocks
+    joined_map g.met.K.Ord.total g.met.K.Copied.exact g.met.V.Semilattice.laws c.join_at.result c.self.inside.blocks
     c.join_at.new.self c.args.key.now c.in-Ok.spot (g.O.JoinInto.value c.args.other.now) c.self.invariant
     c.in-Ok.ensures.found c.join_at.ensures
 
 pub invariant_of-self-in-Err : goal.invariant_of-self-in-Err
 invariant_of-self-in-Err g c =
-    inserted_map g.met.K.Ord.total g.met.K.Copied.exact g.met.V.Join.laws c.insert_new.result c.self.inside.blocks
+    inserted_map g.met.K.Ord.total g.met.K.Copied.exact g.met.V.Semilattice.laws c.insert_new.result c.self.inside.blocks
     c.args.key.now c.in-Err.spot (g.O.JoinInto.value c.args.other.now) (entries_of c.insert_new.new.blocks)
     c.self.invariant c.insert_new.ensures.valid c.in-Err.ensures.free c.insert_new.ensures.ok c.insert_new.ensures.err
 
@@ -39,6 +39,6 @@ returns-in-Err-clause-err g c = grind (arith, on_err_weaker, kept_part)
 
 pub returns-in-Err-clause-valid : goal.returns-in-Err-clause-valid
 returns-in-Err-clause-valid g c =
-    inserted_map g.met.K.Ord.total g.met.K.Copied.exact g.met.V.Join.laws c.insert_new.result c.self.inside.blocks
+    inserted_map g.met.K.Ord.total g.met.K.Copied.exact g.met.V.Semilattice.laws c.insert_new.result c.self.inside.blocks
     c.args.key.now c.in-Err.spot (g.O.JoinInto.value c.args.other.now) (entries_of c.insert_new.new.blocks)
     c.self.invariant c.insert_new.ensures.valid c.in-Err.ensures.free c.insert_new.ensures.ok c.insert_new.ensures.err

@@ -5,18 +5,18 @@ use Rattle.join_map.proofs.join_map.JoinMapJoin.join_with.Goals as goal
 pub loop-key-init : goal.loop-key-init
 loop-key-init g c = grind (
   arith,
-  leads_first g.met.K.Ord.total g.met.K.Copied.exact g.met.V.Join.laws c.args.self.now c.args.other.now c.valid.ensures c.walk-key-items.ensures.valid,
+  leads_first g.met.K.Ord.total g.met.K.Copied.exact g.met.V.Semilattice.laws c.args.self.now c.args.other.now c.valid.ensures c.walk-key-items.ensures.valid,
 )
 
 pub loop-key-preserved : goal.loop-key-preserved
 loop-key-preserved g c = grind (
   arith,
-  leads_more g.met.K.Ord.total g.met.K.Copied.exact g.met.V.Join.laws c.args.self.now c.args.other.now c.loop-key.self c.put_join.new.self c.next.new.self (c.in-Some.key.now, c.in-Some.value.now) c.loop-key.key-iterator c.valid.ensures c.in_ok-put_join.ensures.valid c.in-Some.ensures.steps c.loop-key.invariant c.in_ok-put_join.ensures.ok,
+  leads_more g.met.K.Ord.total g.met.K.Copied.exact g.met.V.Semilattice.laws c.args.self.now c.args.other.now c.loop-key.self c.put_join.new.self c.next.new.self (c.in-Some.key.now, c.in-Some.value.now) c.loop-key.key-iterator c.valid.ensures c.in_ok-put_join.ensures.valid c.in-Some.ensures.steps c.loop-key.invariant c.in_ok-put_join.ensures.ok,
 )
 
 pub returns-in_err-put_join-clause-err : goal.returns-in_err-put_join-clause-err
 returns-in_err-put_join-clause-err g c = grind (
   arith,
-  on_err c.from_residual.result _ (leads_part g.met.K.Ord.total g.met.K.Copied.exact g.met.V.Join.laws c.args.self.now c.args.other.now c.loop-key.self c.put_join.new.self c.next.new.self (c.in-Some.key.now, c.in-Some.value.now) c.loop-key.key-iterator c.valid.ensures c.walk-key-items.ensures.valid c.in_err-put_join.ensures.valid c.in-Some.ensures.steps c.loop-key.invariant c.in_err-put_join.ensures.err),
-  leads_part g.met.K.Ord.total g.met.K.Copied.exact g.met.V.Join.laws c.args.self.now c.args.other.now c.loop-key.self c.put_join.new.self c.next.new.self (c.in-Some.key.now, c.in-Some.value.now) c.loop-key.key-iterator c.valid.ensures c.walk-key-items.ensures.valid c.in_err-put_join.ensures.valid c.in-Some.ensures.steps c.loop-key.invariant c.in_err-put_join.ensures.err,
+  on_err c.from_residual.result _ (leads_part g.met.K.Ord.total g.met.K.Copied.exact g.met.V.Semilattice.laws c.args.self.now c.args.other.now c.loop-key.self c.put_join.new.self c.next.new.self (c.in-Some.key.now, c.in-Some.value.now) c.loop-key.key-iterator c.valid.ensures c.walk-key-items.ensures.valid c.in_err-put_join.ensures.valid c.in-Some.ensures.steps c.loop-key.invariant c.in_err-put_join.ensures.err),
+  leads_part g.met.K.Ord.total g.met.K.Copied.exact g.met.V.Semilattice.laws c.args.self.now c.args.other.now c.loop-key.self c.put_join.new.self c.next.new.self (c.in-Some.key.now, c.in-Some.value.now) c.loop-key.key-iterator c.valid.ensures c.walk-key-items.ensures.valid c.in_err-put_join.ensures.valid c.in-Some.ensures.steps c.loop-key.invariant c.in_err-put_join.ensures.err,
 )

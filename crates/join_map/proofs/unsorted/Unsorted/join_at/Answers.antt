@@ -19,6 +19,6 @@ returns-clause-ok g c =
     let fits = subst (AllFit g.O.JoinOwn.Fits) (sym c.self.view_is) c.requires in
     let joined = c.join_own-joined in
     rw (← c.self.view_is)
-    (joined_at_place g.met.K.Ord.total g.met.K.Copied.exact g.met.V.Join.laws es c.args.place e joined.new.held
+    (joined_at_place g.met.K.Ord.total g.met.K.Copied.exact g.met.V.Semilattice.laws es c.args.place e joined.new.held
     (g.O.JoinOwn.own c.args.other.now) (g.O.JoinInto.value c.args.other.now) l is c.self.invariant joined.ensures.valid
     joined.result (fits-at g.O.JoinOwn.Fits es c.args.place e l is fits) joined.ensures.own joined.ensures.ok)

@@ -2,7 +2,7 @@ use Rattle.std.proofs.Common.{subst}
 use Rattle.mdns_join.specs.Kept.{IsAscending}
 use Rattle.mdns_join.specs.laws.Kept.{IsAscending-ascending}
 use Rattle.mdns_join.specs.Nanos.{nanos_of}
-use Rattle.mdns_lives.proofs.flushes.FlushesJoin.valid.Goals as goal
+use Rattle.mdns_lives.proofs.flushes.FlushesSemilattice.valid.Goals as goal
 
 pub returns : goal.returns
 returns c = subst IsAscending c.self.view_is (IsAscending-ascending (nanos_of c.self.inside.items.items))

@@ -2,7 +2,7 @@ use Rattle.std.proofs.Common.{subst}
 use Rattle.mdns_join.specs.Kept.{union, IsKeptList}
 use Rattle.mdns_join.specs.laws.Kept.{kept-kept}
 use Rattle.mdns_join.specs.Nanos.{nanos_of}
-use Rattle.mdns_join.proofs.late_moments.LateMomentsJoin.valid.Goals as goal
+use Rattle.mdns_join.proofs.late_moments.LateMomentsSemilattice.valid.Goals as goal
 
 pub returns : goal.returns
 returns c = subst IsKeptList c.self.view_is (kept-kept (union c.self.inside.kept (nanos_of c.self.inside.late.items)))
