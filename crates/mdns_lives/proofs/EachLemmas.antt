@@ -43,9 +43,9 @@ use Rattle.mdns_lives.proofs.RoomLemmas.{length-join}
 use Rattle.mdns_lives.proofs.SecondsLemmas.{ends-alike, at-seconds_of, IsSeconds-of, seconds_of-append}
 
 -- more hearings in the same room
-pub room_appended : (hs gs more : List Heard) (room same : ℕ) → gs ≡ hs ++ more → same ≡ room
-    → IsRoomFor (seconds_of hs) room → IsRoomFor (seconds_of gs) same
-room_appended hs gs more room same is kept bound = grind (arith, length-join, seconds_of-append)
+pub room_appended : (hs gs more : List Heard) (held room same : ℕ) → gs ≡ hs ++ more → same ≡ room
+    → IsRoomFor (seconds_of hs) held room → IsRoomFor (seconds_of gs) held same
+room_appended hs gs more held room same is kept bound = grind (arith, length-join, seconds_of-append)
 
 pub each_account : (h : Hearing) (ts : List Moment) → IsAccount (account_each h ts)
 each_account h ts = IsSeconds-of (heard_each h.ttl ts)

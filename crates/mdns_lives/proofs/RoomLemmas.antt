@@ -169,6 +169,6 @@ pub kept_sparse_first : (xs : List Heard) (kept place : ℕ) (next : Heard) → 
 kept_sparse_first xs kept place next two le l = grind (arith, length-set, length-take-le, slice_set, sparse_short)
 
 -- one more hearing in the same room
-pub room_pushed : (hs gs : List Heard) (h : Heard) (room same : ℕ) → gs ≡ hs ++ h ∷ [] → same ≡ room
-    → IsRoomFor (seconds_of hs) room → IsRoomFor (seconds_of gs) same
-room_pushed hs gs h room same is kept bound = grind (arith, length-join (seconds_of hs) (only h), seconds_of-push hs h)
+pub room_pushed : (hs gs : List Heard) (h : Heard) (held room same : ℕ) → gs ≡ hs ++ h ∷ [] → same ≡ room
+    → IsRoomFor (seconds_of hs) held room → IsRoomFor (seconds_of gs) held same
+room_pushed hs gs h held room same is kept bound = grind (arith, length-join (seconds_of hs) (only h), seconds_of-push hs h)

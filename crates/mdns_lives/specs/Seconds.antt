@@ -107,9 +107,13 @@ seconds_of (h ∷ hs) = put_entry nat_cmp join_ends (seconds_of hs) (second_of h
 abbrev pub JoinsFirst : Seconds → List Heard → Seconds → Type 0
 JoinsFirst old hs new = (n : ℕ) × (new ≡ join_seconds old (seconds_of (take n hs)))
 
--- room for fewer than 128 hearings, or for four in each second that is held
-abbrev pub IsRoomFor : Seconds → ℕ → Type 0
-IsRoomFor seconds room = (room < 128) ⊎ (room ≤ 4 * length seconds)
+-- those that are kept are sparse, or no more than 32 are left
+abbrev pub IsThin : (kept : List Heard) (left : ℕ) → Type 0
+IsThin kept left = (left ≤ 32) ⊎ IsSparse kept
+
+-- room for at most twice what is held as long as that is fewer than 32 hearings; and for fewer than 128, or for four in each second
+abbrev pub IsRoomFor : Seconds → (held room : ℕ) → Type 0
+IsRoomFor seconds held room = ((room ≤ 2 * held) ⊎ (32 ≤ held)) × ((room < 128) ⊎ (room ≤ 4 * length seconds))
 
 -- no more room than before, or for at most twice what is held
 abbrev pub HasRoomAfter : (before room held : ℕ) → Type 0

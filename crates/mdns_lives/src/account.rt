@@ -20,7 +20,8 @@ pub struct Account {
 }
 
 impl Account {
-    /// Sorts the hearings, and keeps two of each second.
+    /// Sorts the hearings, and drops those between the first and the last of their second, as long as more than 32 are
+    /// left.
     pub(crate) fn sort(&mut self)
         ensures { self.new ≡ self.old }
     {

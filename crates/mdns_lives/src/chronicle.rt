@@ -33,9 +33,9 @@ use std::marker::Model;
 /// the law `lives_by_ends` says that those between them change no life.
 ///
 /// It finds records by hashes and keeps them in no order; `finish` sorts them. It takes 12 bytes for each hearing that it
-/// keeps, 8 more for each flush, and up to twice as much, since its lists double when they are full. The list of a
-/// record's hearings has room for fewer than 128, or for at most four in each second in which the record was heard. n
-/// hearings take about n log n steps in all.
+/// keeps, 8 more for each flush, and up to twice as much, since its lists double when they are full. As long as fewer
+/// than 32 hearings of a record are kept, their list has room for at most twice as many. It always has room for fewer than
+/// 128, or for at most four in each second in which the record was heard. n hearings take about n log n steps in all.
 #[derive(Drop)]
 pub struct Chronicle {
     records: Unsorted<Key, Account>,

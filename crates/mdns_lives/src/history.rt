@@ -1,6 +1,6 @@
 //! The moments and TTLs of a record's hearings.
 
-ghost use Rattle.std.specs.Prelude.{◌≡◌, ◌+◌, ◌*◌, ◌<◌, ◌≤◌, ◌++◌, length, take, drop, vec_len, vec_capacity};
+ghost use Rattle.std.specs.Prelude.{◌≡◌, ◌+◌, ◌-◌, ◌*◌, ◌<◌, ◌≤◌, ◌⊎◌, ◌++◌, max, length, take, drop, vec_len, vec_capacity};
 ghost use Rattle.std.specs.Prelude.{IfNone, IfOk, IfSome, IsErr, IsTrue, OnOk, OnErr};
 ghost use Rattle.mdns_message.specs.Borrowed.{hearing_lent};
 ghost use Rattle.mdns_message.specs.Resource.{key_of};
@@ -8,7 +8,7 @@ ghost use Rattle.mdns_join.specs.Latest.{IsKeyed, later, latest_of};
 ghost use Rattle.mdns_lives.specs.declared.life.Heard.{Heard};
 ghost use Rattle.mdns_lives.specs.History.{AreInOrder};
 ghost use Rattle.mdns_lives.specs.Each.{heard_each};
-ghost use Rattle.mdns_lives.specs.Seconds.{HasRoomAfter, IsRoomFor, IsSeconds, IsSparse, IsThinned, JoinsFirst};
+ghost use Rattle.mdns_lives.specs.Seconds.{HasRoomAfter, IsRoomFor, IsSeconds, IsThin, IsThinned, JoinsFirst};
 ghost use Rattle.mdns_lives.specs.Seconds.{join_seconds, only, seconds_of};
 ghost use Rattle.mdns_lives.specs.laws.Seconds.{seconds-laws};
 
@@ -26,26 +26,30 @@ use std::marker::Model;
 // A list of this length is thinned before it grows.
 const LONG: usize = 64;
 
+// A list is thinned to no fewer hearings than these.
+const SHORT: usize = 32;
+
 /// Hearings of a record. Its value is the least and the greatest hearing of each whole second, by moment, then TTL. So
 /// neither order nor repeats matter, nor the hearings between those two.
 ///
-/// It takes 12 bytes for each hearing that it keeps. A full list of 64 or more is thinned to two hearings a second before
-/// it grows, so its room depends on the seconds in which the record was heard, and not on how often it was. n hearings
-/// take about n log n steps in all.
+/// It takes 12 bytes for each hearing that it keeps. As long as it keeps fewer than 32, it has room for at most twice as
+/// many. It always has room for fewer than 128, or for at most four in each second in which the record was heard: a full
+/// list of 64 or more is thinned before it grows. Then hearings between the first and the last of their second are
+/// dropped, as long as more than 32 are left. n hearings take about n log n steps in all.
 #[derive(Drop)]
 pub struct History {
     items: Vec<Packed>,
 }
 
 impl Model for History {
-    ghost use Rattle.std.specs.Prelude.{vec_capacity};
+    ghost use Rattle.std.specs.Prelude.{vec_capacity, vec_len};
     ghost use Rattle.mdns_lives.specs.Seconds.{IsRoomFor, Seconds, seconds_of};
 
     ghost Value = { Seconds };
 
     ghost view = { λ a. seconds_of a.items.items };
 
-    ghost invariant = { λ a. IsRoomFor (seconds_of a.items.items) (vec_capacity a.items) };
+    ghost invariant = { λ a. IsRoomFor (seconds_of a.items.items) (vec_len a.items) (vec_capacity a.items) };
 }
 
 impl History {
@@ -54,7 +58,7 @@ impl History {
         requires { length moments.now ≤ 64 }
         ensures { IfOk result (λ history. history ≡ seconds_of (heard_each ttl moments.now)) }
     {
-        let items = each(alloc, ttl, moments)?;
+        let items = with_each(alloc, &[], ttl, moments)?;
         Ok(History { items })
     }
 
@@ -101,7 +105,8 @@ impl History {
         Ok(())
     }
 
-    /// Sorts the hearings in place, in the order of their moments, then TTLs, and keeps two of each second.
+    /// Sorts the hearings in place, in the order of their moments, then TTLs, and drops those between the first and the
+    /// last of their second, as long as more than 32 are left.
     pub(crate) fn sort(&mut self)
         ensures { self.new ≡ self.old }
     {
@@ -184,14 +189,23 @@ fn join_latest(
     JoinOwn::<Key, Latest>::join_own(hearing, alloc, key, latest)
 }
 
-// Makes a list of a TTL heard at each of some moments. Most records are heard a few times: it takes no room for more.
-fn each(alloc: Global, ttl: u32, moments: &[Moment]) -> Result<Vec<Packed>, Want>
-    ensures items { IfOk result (λ items. items.items ≡ heard_each ttl moments.now) }
-    ensures capacity { IfOk result (λ items. vec_capacity items ≡ length moments.now) }
+// Copies a list with a TTL heard at each of some moments behind it. Most records are heard a few times: the copy takes no
+// room for more.
+fn with_each(
+    alloc: Global,
+    items: &[Packed],
+    ttl: u32,
+    moments: &[Moment],
+) -> Result<Vec<Packed>, Want>
+    ensures items { IfOk result (λ copied. copied.items ≡ items.now ++ heard_each ttl moments.now) }
+    ensures capacity { IfOk result (λ copied. vec_capacity copied ≡ vec_len copied) }
 {
-    let mut items = Vec::with_capacity(alloc, moments.len())?;
-    push_each(&mut items, ttl, moments);
-    Ok(items)
+    let mut copied = Vec::with_capacity(alloc, items.len() + moments.len())?;
+    for item in items {
+        copied.push_reserved(*item);
+    }
+    push_each(&mut copied, ttl, moments);
+    Ok(copied)
 }
 
 // Adds a hearing to a list as `History::add` does.
@@ -199,8 +213,8 @@ fn push_one(items: &mut Vec<Packed>, heard: Heard) -> Result<(), Want>
     ensures ok { OnOk result (seconds_of items.new.items ≡ join_seconds (seconds_of items.old.items) (only heard)) }
     ensures err { OnErr result (seconds_of items.new.items ≡ seconds_of items.old.items) }
     ensures room { OnOk result (HasRoomAfter (vec_capacity items.old) (vec_capacity items.new) (vec_len items.new)) }
-    ensures bound { IsRoomFor (seconds_of items.old.items) (vec_capacity items.old)
-        → IsRoomFor (seconds_of items.new.items) (vec_capacity items.new) }
+    ensures bound { IsRoomFor (seconds_of items.old.items) (vec_len items.old) (vec_capacity items.old)
+        → IsRoomFor (seconds_of items.new.items) (vec_len items.new) (vec_capacity items.new) }
 {
     make_room(items, 1)?;
     items.push_reserved(Packed::of(heard));
@@ -227,9 +241,20 @@ fn push_own(
     ensures fits { IsKeyed key.now latest.old → IsKeyed key.now latest.new }
     ensures room { IfSome result (λ added. OnOk added (
         HasRoomAfter (vec_capacity items.old) (vec_capacity items.new) (vec_len items.new))) }
-    ensures bound { IsRoomFor (seconds_of items.old.items) (vec_capacity items.old)
-        → IsRoomFor (seconds_of items.new.items) (vec_capacity items.new) }
+    ensures bound { IsRoomFor (seconds_of items.old.items) (vec_len items.old) (vec_capacity items.old)
+        → IsRoomFor (seconds_of items.new.items) (vec_len items.new) (vec_capacity items.new) }
 {
+    if moments.len() > items.len().max(items.capacity() - items.len()) {
+        // If none were added, the list would be left with too much room: a copy grows.
+        let Ok(longer) = with_each(alloc, items.as_slice(), hearing.ttl, moments) else {
+            return refused(key, hearing);
+        };
+        let joined = join_latest(alloc, key, hearing, latest);
+        if let Some(Ok(())) = joined {
+            *items = longer;
+        }
+        return joined;
+    }
     let Ok(()) = make_room(items, moments.len()) else {
         return refused(key, hearing);
     };
@@ -260,8 +285,13 @@ fn make_room(items: &mut Vec<Packed>, more: usize) -> Result<(), Want>
     ensures same { seconds_of items.new.items ≡ seconds_of items.old.items }
     ensures room { OnOk result (vec_len items.new + more ≤ vec_capacity items.new) }
     ensures tight { OnOk result (HasRoomAfter (vec_capacity items.old) (vec_capacity items.new) (vec_len items.new + more)) }
-    ensures bound { IsRoomFor (seconds_of items.old.items) (vec_capacity items.old)
-        → IsRoomFor (seconds_of items.new.items) (vec_capacity items.new) }
+    ensures bound { IsRoomFor (seconds_of items.old.items) (vec_len items.old) (vec_capacity items.old)
+        → OnOk result (IsRoomFor (seconds_of items.new.items) (vec_len items.new + more) (vec_capacity items.new)) }
+
+    // Where there is as much room, or at most as many come as are there, it doesn't count whether they come.
+    ensures unused { IsErr result ⊎ (more ≤ max (vec_len items.old) (vec_capacity items.old - vec_len items.old))
+        → IsRoomFor (seconds_of items.old.items) (vec_len items.old) (vec_capacity items.old)
+        → IsRoomFor (seconds_of items.new.items) (vec_len items.new) (vec_capacity items.new) }
 {
     if more <= items.capacity() - items.len() {
         return Ok(());
@@ -287,11 +317,13 @@ fn push_each(items: &mut Vec<Packed>, ttl: u32, moments: &[Moment])
     }
 }
 
-// Sorts hearings in place, and keeps the first and the last of each second.
+// Sorts hearings in place, and drops those between the first and the last of their second, as long as more than `SHORT`
+// are left.
 fn thin(items: &mut Vec<Packed>)
     ensures same { seconds_of items.new.items ≡ seconds_of items.old.items }
     ensures in_order { AreInOrder items.new.items }
-    ensures short { length items.new.items ≤ 2 * length (seconds_of items.new.items) }
+    ensures short { (vec_len items.new ≤ 32) ⊎ (vec_len items.new ≤ 2 * length (seconds_of items.new.items)) }
+    ensures left { (vec_len items.new ≡ vec_len items.old) ⊎ (32 ≤ vec_len items.new) }
     ensures capacity { vec_capacity items.new ≡ vec_capacity items.old }
 {
     sort_runs(items);
@@ -302,21 +334,24 @@ fn thin(items: &mut Vec<Packed>)
     items.truncate(kept);
 }
 
-// Moves the hearing at a place behind the first `kept` ones, or, where the last two of these are of its second, in place
-// of the last one. Returns how many are kept now.
+// Moves the hearing at a place behind the first `kept` ones, or, where the last two of these are of its second and more
+// than `SHORT` are left, in place of the last one. Returns how many are kept now.
 fn keep(items: &mut Vec<Packed>, kept: usize, place: usize) -> usize
     requires kept { kept ≤ place }
     requires place { place < length items.old.items }
     ensures len { length items.new.items ≡ length items.old.items }
     ensures kept { result ≤ place + 1 }
+    ensures left { (result ≡ kept + 1) ⊎ ((result ≡ kept) × (32 < kept + (length items.old.items - place))) }
     ensures thinned { IsThinned (take kept items.old.items ++ drop place items.old.items)
         (take result items.new.items ++ drop (place + 1) items.new.items) }
-    ensures sparse { AreInOrder (take kept items.old.items ++ drop place items.old.items) → IsSparse (take kept items.old.items)
-        → IsSparse (take result items.new.items) }
+    ensures sparse { AreInOrder (take kept items.old.items ++ drop place items.old.items)
+        → IsThin (take kept items.old.items) (kept + (length items.old.items - place))
+        → IsThin (take result items.new.items) (result + (length items.new.items - (place + 1))) }
     ensures capacity { vec_capacity items.new ≡ vec_capacity items.old }
 {
     let next = items[place];
-    if kept >= 2 && items[kept - 2].second() == next.second() {
+    let left = kept + (items.len() - place);
+    if left > SHORT && kept >= 2 && items[kept - 2].second() == next.second() {
         items[kept - 1] = next;
         return kept;
     }

@@ -1,8 +1,11 @@
-use Rattle.std.proofs.Common.{sym, ◌∙◌, arith, rules}
+use Rattle.std.proofs.Common.{sym, ◌∙◌, inl, inr, arith, rules}
+use Rattle.std.proofs.lemmas.List.{length-set}
 use Rattle.mdns_lives.proofs.ThinLemmas.{kept_behind, kept_in_place}
 use Rattle.mdns_lives.proofs.RoomLemmas.{kept_sparse_in_place, kept_sparse_behind, kept_sparse_first}
 use Rattle.mdns_lives.proofs.history.keep.Goals as goal
-use Rattle.mdns_lives.proofs.history.keep.Goals.{else-kept-ge2-via-then-kept-ge2+else-second, else-kept-ge2-via-else-kept-ge2}
+use Rattle.mdns_lives.proofs.history.keep.Goals.{else-left-gt-SHORT-via-then-left-gt-SHORT+then-kept-ge2+else-second}
+use Rattle.mdns_lives.proofs.history.keep.Goals.{else-left-gt-SHORT-via-then-left-gt-SHORT+else-kept-ge2}
+use Rattle.mdns_lives.proofs.history.keep.Goals.{else-left-gt-SHORT-via-else-left-gt-SHORT}
 
 pub returns-then-second-clause-thinned : goal.returns-then-second-clause-thinned
 returns-then-second-clause-thinned c = grind (arith, kept_in_place)
@@ -11,16 +14,29 @@ pub returns-clause-thinned : goal.returns-clause-thinned
 returns-clause-thinned c = grind (arith, kept_behind)
 
 pub returns-then-second-clause-sparse : goal.returns-then-second-clause-sparse
-returns-then-second-clause-sparse c = search (rules, kept_sparse_in_place)
+returns-then-second-clause-sparse c = λ o t.
+    elim t [
+      | inl l ↦ absurd (omega (arith, l, c.if-left-gt-SHORT.true, c.len.ensures))
+      | inr s ↦ inr (search (rules, kept_sparse_in_place))
+    ]
 
 pub returns-clause-sparse : goal.returns-clause-sparse
-returns-clause-sparse c = λ o s.
-    elim c.else-kept-ge2.branch [
-      | else-kept-ge2-via-then-kept-ge2+else-second w ↦
-          kept_sparse_behind c.args.items.now.items c.args.kept c.args.place w.index-then-kept-ge2.result.now c.index.result.now
-          (omega (arith, w.if-kept-ge2.true)) c.requires.kept c.requires.place w.index-then-kept-ge2.ensures c.index.ensures o s
-          (λ e. w.if-second.false (w.second.ensures ∙ e ∙ sym w.second-then-kept-ge2.ensures))
-      | else-kept-ge2-via-else-kept-ge2 w ↦
-          kept_sparse_first c.args.items.now.items c.args.kept c.args.place c.index.result.now (omega (arith, w.if-kept-ge2.false))
-          c.requires.kept c.requires.place
+returns-clause-sparse c = λ o t.
+    let items = c.args.items.now.items in
+    let kept = c.args.kept in
+    let place = c.args.place in
+    let next = c.index.result.now in
+    let same = length-set items kept next in
+    elim t [
+      | inl l ↦ inl (omega (arith, l, same, c.requires.place))
+      | inr s ↦ elim c.else-left-gt-SHORT.branch [
+        | else-left-gt-SHORT-via-then-left-gt-SHORT+then-kept-ge2+else-second w ↦
+            inr (kept_sparse_behind items kept place w.index-then-kept-ge2.result.now next (omega (arith, w.if-kept-ge2.true))
+            c.requires.kept c.requires.place w.index-then-kept-ge2.ensures c.index.ensures o s
+            (λ e. w.if-second.false (w.second.ensures ∙ e ∙ sym w.second-then-kept-ge2.ensures)))
+        | else-left-gt-SHORT-via-then-left-gt-SHORT+else-kept-ge2 w ↦
+            inr (kept_sparse_first items kept place next (omega (arith, w.if-kept-ge2.false)) c.requires.kept c.requires.place)
+        | else-left-gt-SHORT-via-else-left-gt-SHORT w ↦
+            inl (omega (arith, w.if-left-gt-SHORT.false, c.len.ensures, same, c.requires.place))
+      ]
     ]

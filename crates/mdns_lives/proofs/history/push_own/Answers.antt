@@ -1,5 +1,5 @@
 use Rattle.std.proofs.Common.{arith}
-use Rattle.std.proofs.Common.{vec_capacity}
+use Rattle.std.proofs.Common.{vec_capacity, vec_len}
 use Rattle.mdns_lives.specs.Each.{heard_each}
 use Rattle.mdns_lives.proofs.EachLemmas.{room_appended}
 use Rattle.mdns_lives.proofs.SecondsLemmas.{seconds_of-append}
@@ -8,9 +8,12 @@ use Rattle.mdns_lives.proofs.history.push_own.Goals as goal
 pub returns-in-Some-Ok-clause-ok : goal.returns-in-Some-Ok-clause-ok
 returns-in-Some-Ok-clause-ok c = grind (arith, seconds_of-append)
 
-pub returns-in-Some-Ok-clause-bound : goal.returns-in-Some-Ok-clause-bound
-returns-in-Some-Ok-clause-bound c = λ bound.
+pub returns-in-Some-Ok-join_latest-clause-ok : goal.returns-in-Some-Ok-join_latest-clause-ok
+returns-in-Some-Ok-join_latest-clause-ok c = grind (arith, seconds_of-append)
+
+pub returns-in-Some-Ok-join_latest-clause-bound : goal.returns-in-Some-Ok-join_latest-clause-bound
+returns-in-Some-Ok-join_latest-clause-bound c = λ bound.
     room_appended c.make_room.new.items.items c.push_each.new.items.items
-    (heard_each c.args.hearing.now.ttl c.args.moments.now) (vec_capacity c.make_room.new.items)
+    (heard_each c.args.hearing.now.ttl c.args.moments.now) (vec_len c.push_each.new.items) (vec_capacity c.make_room.new.items)
     (vec_capacity c.push_each.new.items) c.push_each.ensures.items c.push_each.ensures.capacity
-    (c.make_room.ensures.bound bound)
+    (grind (arith, c.make_room.ensures.bound bound))

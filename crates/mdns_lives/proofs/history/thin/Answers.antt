@@ -1,4 +1,5 @@
 use Rattle.std.proofs.Common.{arith}
+use Rattle.std.proofs.lemmas.List.Sorted.{length_permutation}
 use Rattle.mdns_lives.proofs.RoomLemmas.{few}
 use Rattle.mdns_lives.proofs.SecondsLemmas.{seconds_of-ends}
 use Rattle.mdns_lives.proofs.SortedLemmas.{AreInOrder-from_sorted}
@@ -16,3 +17,6 @@ returns-clause-same c = grind (arith, seconds_of-ends, all_kept)
 
 pub returns-clause-short : goal.returns-clause-short
 returns-clause-short c = grind (arith, all_kept, few)
+
+pub returns-clause-left : goal.returns-clause-left
+returns-clause-left c = grind (arith, length_permutation)
