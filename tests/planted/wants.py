@@ -19,10 +19,10 @@ OTHERS = {
     ("clap_fault.rt", "ErrorKind::OutOfMemory => AskFault::Words(WordsFault::Memory),"): "`clap` says that memory is wanted",
     ("history.rt", "if key.is_of(&hearing.heard) {"): "it is asked only where `push` failed",
     ("life_text.rt", "let Some(count) = self.count.checked_add(lives.len()) else {"): "as many lives as a `usize` counts lie in memory",
-    ("listening.rt", "let Some(newest) = moments.newest() else {"): "a message that is remembered came at some moment",
-    ("listening.rt", "let Ok(()) = reader.read(newest, message.bytes()) else {"): "the message was read before",
+    ("message_gathering.rt", "let Some(newest) = moments.newest() else {"): "a message that is remembered came at some moment",
+    ("message_gathering.rt", "let Ok(()) = reader.read(newest, message.bytes()) else {"): "the message was read before",
     ("program.rt", "if readers.push(reader).is_err() {"): "only `push` may fail",
-    ("recording.rt", "Err(_) => Err(Want),"): "the message was read before",
+    ("message_chronicle.rt", "Err(_) => Err(Want),"): "the message was read before",
     ("verdicts.rt", "| FilesFault::Memory => SurveyFault::Memory,"): "a file is judged whatever its fault, so `Listen` is `Memory`",
     ("program.rt", "if readers .push(ReadAhead::new(rt.alloc(), Through(file))) .is_err() {"): "only `push` may fail",
 }

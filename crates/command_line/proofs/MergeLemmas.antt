@@ -8,8 +8,8 @@ use Rattle.command_line.specs.declared.lists.Lists.{Lists}
 use Rattle.command_line.specs.declared.mdnsmerge.Asks.{Asks}
 use Rattle.command_line.specs.declared.mdnsmerge.Scope.{Scope}
 use Rattle.command_line.specs.declared.options.Options.{Options}
-use Rattle.command_line.specs.declared.unmade.Unmade.{Unmade}
-use Rattle.command_line.specs.declared.unmade.Unmade.TheVariants as unmade
+use Rattle.command_line.specs.declared.option_fault.OptionFault.{OptionFault}
+use Rattle.command_line.specs.declared.option_fault.OptionFault.TheVariants as option_fault
 use Rattle.command_line.specs.declared.words.WordsFault.{WordsFault}
 use Rattle.command_line.specs.declared.words.WordsFault.TheVariants.{Memory, Help, Refused}
 use Rattle.command_line.specs.declared.words.AskFault.TheVariants.{Words}
@@ -17,7 +17,7 @@ use Rattle.command_line.specs.Line.{AsksWithLists, Flags, HasLists, HasOneForm, 
 use Rattle.command_line.specs.Faults.{IsRefusal, IsUnasked}
 use Rattle.command_line.specs.CommandLine.{AsksTask, AsksWhat, GivesAsOf, GivesBoth, GivesNoMoment, GivesTwo, IsRefusedFor, MakesTask}
 use Rattle.command_line.specs.CommandLine.{MakesWhat, at_flag, before_flag, both_given, form_flags, no_moment, task_of, tasks, what_of, whats}
-use Rattle.command_line.specs.Unmade.{MakesNone, MakesScope, text_of, unmade_text}
+use Rattle.command_line.specs.OptionFault.{MakesNone, MakesScope, option_fault_text, text_of}
 use Rattle.command_line.proofs.TableLemmas.{IsOneOf, Known, all-known, gives-two, one-asked}
 
 abbrev pub AsksTold : Text → List Row → (Option Ask × Options) × Lists → Type 0
@@ -69,39 +69,39 @@ Refuses rows line =
     GivesBoth merge at_flag before_flag rows line ⊎ GivesTwo merge form_flags rows line ⊎ GivesNoMoment merge rows line
 
 -- options that make no task are refused for that reason
-why-refused : (options : Options) (unmade : Unmade) → MakesNone options unmade → (rows : List Row) → Known rows options → (line : Text)
-    → line ≡ unmade_text merge unmade → Refuses rows line
-why-refused options (unmade.Both both) (inl none) rows has line is =
+why-refused : (options : Options) (option_fault : OptionFault) → MakesNone options option_fault → (rows : List Row) → Known rows options → (line : Text)
+    → line ≡ option_fault_text merge option_fault → Refuses rows line
+why-refused options (option_fault.ConflictingFlags both) (inl none) rows has line is =
     inl ((λ absent. none.2 (has.0 ∙ absent)), (λ absent. none.3 (has.1 ∙ absent)), is ∙ ap₂ (both_given merge) none.0 none.1)
-why-refused options (unmade.Both both) (inr same) rows has line is =
+why-refused options (option_fault.ConflictingFlags both) (inr same) rows has line is =
     inr (inl (gives-two merge form_flags rows both (has.2 both same) line is))
-why-refused options (unmade.NoMoment name text) (inl at, never) rows has line is =
+why-refused options (option_fault.NoMoment name text) (inl at, never) rows has line is =
     inr (inr (inl (text.now, (sym has.0 ∙ at.1, sym has.1 ∙ at.2, never, is ∙ ap (λ (n : Text). no_moment merge n text.now) at.0))))
-why-refused options (unmade.NoMoment name text) (inr before, never) rows has line is =
+why-refused options (option_fault.NoMoment name text) (inr before, never) rows has line is =
     inr (inr (inr (
       text.now,
       (sym has.1 ∙ before.2, sym has.0 ∙ before.1, never, is ∙ ap (λ (n : Text). no_moment merge n text.now) before.0),
     )))
-why-refused options (unmade.NoFile name prefix) none rows has line is = absurd none
+why-refused options (option_fault.NoFile name prefix) none rows has line is = absurd none
 
-some-refused : (asked : (Asks × Options) × Lists) (names : List Text) (unmade : Unmade) → MakesNone asked.0.1 unmade
-    → (matched : Option (Text × List Row)) → Matches AsksAsked matched asked names → (line : Text) → line ≡ unmade_text merge unmade
+some-refused : (asked : (Asks × Options) × Lists) (names : List Text) (option_fault : OptionFault) → MakesNone asked.0.1 option_fault
+    → (matched : Option (Text × List Row)) → Matches AsksAsked matched asked names → (line : Text) → line ≡ option_fault_text merge option_fault
     → IsSomeAnd matched (λ (m : Text × List Row). Refuses m.1 line)
-some-refused asked names unmade none None is_asked line is = absurd is_asked
-some-refused asked names unmade none (Some m) is_asked line is =
-    why-refused asked.0.1 unmade none m.1 (all-known tasks refl m.0 m.1 asked.0 is_asked.0.0) line is
+some-refused asked names option_fault none None is_asked line is = absurd is_asked
+some-refused asked names option_fault none (Some m) is_asked line is =
+    why-refused asked.0.1 option_fault none m.1 (all-known tasks refl m.0 m.1 asked.0 is_asked.0.0) line is
 
-pub unmade-refused : (line : App) (words : List Text) (asked : (Asks × Options) × Lists) (names : List Text) (unmade : Unmade)
+pub option_fault-refused : (line : App) (words : List Text) (asked : (Asks × Options) × Lists) (names : List Text) (option_fault : OptionFault)
     (fault : WordsFault) → fault_of line words ≡ [] → Matches AsksAsked (subcommand_of line words) asked names
-    → MakesNone asked.0.1 unmade → IsRefusal (unmade_text merge unmade) fault
+    → MakesNone asked.0.1 option_fault → IsRefusal (option_fault_text merge option_fault) fault
     → IsUnasked (fault_of line words) (Words fault) ⊎ IsRefusedFor (GivesBoth merge at_flag before_flag) line words (Words fault)
     ⊎ IsRefusedFor (GivesTwo merge form_flags) line words (Words fault)
     ⊎ IsRefusedFor (GivesNoMoment merge) line words (Words fault)
-unmade-refused line words asked names unmade Memory none is_asked unmade_is is = inl tt
-unmade-refused line words asked names unmade (Help text) none is_asked unmade_is is = absurd is
-unmade-refused line words asked names unmade (Refused text) none is_asked unmade_is is =
+option_fault-refused line words asked names option_fault Memory none is_asked option_fault_is is = inl tt
+option_fault-refused line words asked names option_fault (Help text) none is_asked option_fault_is is = absurd is
+option_fault-refused line words asked names option_fault (Refused text) none is_asked option_fault_is is =
     let matched = subcommand_of line words in
-    inr (go matched (some-refused asked names unmade unmade_is matched is_asked (string_bytes text) is))
+    inr (go matched (some-refused asked names option_fault option_fault_is matched is_asked (string_bytes text) is))
   where
     Refused_for : (List Row → Text → Type 0) → Option (Text × List Row) → Type 0
     Refused_for Why matched =

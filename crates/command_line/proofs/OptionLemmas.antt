@@ -12,7 +12,7 @@ use Rattle.mdns_browse.specs.declared.report.Form.TheVariants.{Lines}
 use Rattle.command_line.specs.Line.{AsksForm, Flags, GivesForm, HasNoForm, HasOneForm, IsFlag, IsMomentOf}
 use Rattle.command_line.specs.declared.line.Takes.{Takes}
 use Rattle.command_line.specs.declared.line.Takes.TheVariants as takes
-use Rattle.command_line.specs.declared.options.Both.{Both}
+use Rattle.command_line.specs.declared.options.ConflictingFlags.{ConflictingFlags}
 
 -- what a flag is read as
 pub flag-told : (flag : Bool) (text rows : Option Text) → text ≡ rows → (text ≡ None → flag ≡ false)
@@ -87,16 +87,16 @@ no-form-told (flag ∷ flags) rows none some =
 abbrev pub lent : Text → Bor Text
 lent text = record { ref_ptr = (0, 0); now = text }
 
-pub form-told : (flags : Flags) (rows : List Row) → ((form : Result Form Both) → HasOneForm flags rows form → ⊥) → ⊥
+pub form-told : (flags : Flags) (rows : List Row) → ((form : Result Form ConflictingFlags) → HasOneForm flags rows form → ⊥) → ⊥
 form-told [] rows nothing = nothing (Ok Lines) refl
 form-told (flag ∷ flags) rows nothing = form-asked flag.1 (one_of flag.0 rows) (go (form-told flags rows))
   where
-    more : AsksForm flag.1 (one_of flag.0 rows) None → (form : Result Form Both) → HasOneForm flags rows form
+    more : AsksForm flag.1 (one_of flag.0 rows) None → (form : Result Form ConflictingFlags) → HasOneForm flags rows form
         → HasOneForm (flag ∷ flags) rows form
     more asks (Ok form) has = inr (asks, has)
     more asks (Err both) has = inr has
 
-    go : (((form : Result Form Both) → HasOneForm flags rows form → ⊥) → ⊥) → (form : Option Form)
+    go : (((form : Result Form ConflictingFlags) → HasOneForm flags rows form → ⊥) → ⊥) → (form : Option Form)
         → AsksForm flag.1 (one_of flag.0 rows) form → ⊥
     go rest (Some form) asks = no-form-told flags rows (λ none. nothing (Ok form) (inl (asks, none)))
         (λ name gives. nothing (Err (record { one = lent flag.0; other = lent name })) (inl (refl, (form, asks), gives)))
@@ -105,7 +105,7 @@ form-told (flag ∷ flags) rows nothing = form-asked flag.1 (one_of flag.0 rows)
 -- ---- the form of the flags, flag by flag
 
 -- the form of these flags, after the one that is given and asks for a form, if there is one
-abbrev pub HasFormAfter : Option (Bor Text × Form) → Flags → List Row → Result Form Both → Type 0
+abbrev pub HasFormAfter : Option (Bor Text × Form) → Flags → List Row → Result Form ConflictingFlags → Type 0
 HasFormAfter None flags rows form = HasOneForm flags rows form
 HasFormAfter (Some one) flags rows (Ok form) = HasNoForm flags rows × (form ≡ one.1)
 HasFormAfter (Some one) flags rows (Err both) = (both.one.now ≡ one.0.now) × GivesForm flags rows both.other.now

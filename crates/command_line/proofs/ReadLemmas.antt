@@ -30,7 +30,7 @@ use Rattle.mdns_capture.specs.declared.moment.Moment.{Moment}
 use Rattle.command_line.specs.Line.{AsksIn, Flags, HasOptions, HasSeconds, IsMomentOf, Matches, SecondsBy}
 use Rattle.command_line.specs.Line.{app_of_line, are_sound, file_rule, flags_of, is_counted, is_readable}
 use Rattle.command_line.specs.Line.{line_of, rules_of, shape_of, table_of, takes_seconds}
-use Rattle.command_line.specs.declared.line.Line.{Line}
+use Rattle.command_line.specs.declared.line.CommandTable.{CommandTable}
 use Rattle.command_line.specs.declared.line.Subcommand.{Subcommand}
 use Rattle.command_line.specs.declared.line.Takes.{Takes}
 use Rattle.command_line.specs.declared.line.Takes.TheVariants as takes
@@ -229,7 +229,7 @@ module _ {T : Type 0} where
         leaves-good name has_version all table rest (λ own rows asked is. into own rows asked (inr is)) parts.1,
       )
 
-  pub faultless : (line : Line T) → is_readable line ≡ true → (words : List Text) → fault_of (app_of_line line) words ≡ []
+  pub faultless : (line : CommandTable T) → is_readable line ≡ true → (words : List Text) → fault_of (app_of_line line) words ≡ []
       → IsSomeAnd (subcommand_of (app_of_line line) words) (IsGood line.subcommands.now)
   faultless line readable words none =
       let table = table_of line.subcommands.now in

@@ -5,7 +5,7 @@ use Rattle.clap.specs.Words.{Row, Text, one_of}
 use Rattle.mdns_browse.specs.declared.report.Form.{Form}
 use Rattle.command_line.specs.declared.line.Takes.{Takes}
 use Rattle.command_line.specs.declared.line.Takes.TheVariants as takes
-use Rattle.command_line.specs.declared.options.Both.{Both}
+use Rattle.command_line.specs.declared.options.ConflictingFlags.{ConflictingFlags}
 use Rattle.command_line.specs.declared.options.Options.{Options}
 use Rattle.command_line.specs.Line.{AsksForm, AsksOneOf, Flags, GivesForm, GivesForms, HasOneForm, HasOptions, HasText, IsGiven, Matches}
 use Rattle.command_line.specs.Line.{Table}
@@ -40,7 +40,7 @@ form-more [] more rows name gives = absurd gives
 form-more (flag ∷ flags) more rows name (inl gives) = inl gives
 form-more (flag ∷ flags) more rows name (inr gives) = inr (form-more flags more rows name gives)
 
-pub forms-more : (flags more : Flags) (rows : List Row) (both : Both) → GivesForms flags rows both → GivesForms (flags ++ more) rows both
+pub forms-more : (flags more : Flags) (rows : List Row) (both : ConflictingFlags) → GivesForms flags rows both → GivesForms (flags ++ more) rows both
 forms-more [] more rows both gives = absurd gives
 forms-more (flag ∷ flags) more rows both (inl (one, asks, later)) = inl (one, asks, form-more flags more rows both.other.now later)
 forms-more (flag ∷ flags) more rows both (inr gives) = inr (forms-more flags more rows both gives)
@@ -59,7 +59,7 @@ gives-after program one (flag ∷ flags) rows name line given (inl (same, (form,
 gives-after program one (flag ∷ flags) rows name line given (inr gives) is =
     inr (gives-after program one flags rows name line given gives is)
 
-pub gives-two : (program : Text) (flags : Flags) (rows : List Row) (both : Both) → GivesForms flags rows both → (line : Text)
+pub gives-two : (program : Text) (flags : Flags) (rows : List Row) (both : ConflictingFlags) → GivesForms flags rows both → (line : Text)
     → line ≡ both_given program both.one.now both.other.now → GivesTwo program flags rows line
 gives-two program [] rows both gives line is = absurd gives
 gives-two program (flag ∷ flags) rows both (inl (one, (form, asks), later)) line is =
@@ -70,9 +70,9 @@ gives-two program (flag ∷ flags) rows both (inr gives) line is = inr (gives-tw
 -- the texts of the moments, and which flags two forms are of
 abbrev pub Known : List Row → Options → Type 0
 Known rows options = HasText (codes "at") rows options.at × HasText (codes "before") rows options.before
-    × ((both : Both) → options.form ≡ Err both → GivesForms form_flags rows both)
+    × ((both : ConflictingFlags) → options.form ≡ Err both → GivesForms form_flags rows both)
 
-known : (rows : List Row) (flags : Flags) (options : Options) → ((both : Both) → GivesForms flags rows both → GivesForms form_flags rows both)
+known : (rows : List Row) (flags : Flags) (options : Options) → ((both : ConflictingFlags) → GivesForms flags rows both → GivesForms form_flags rows both)
     → HasOptions flags rows options → Known rows options
 known rows flags options within has = (has.1, has.2, λ both is. within both (subst (HasOneForm flags rows) is has.3))
 
@@ -87,7 +87,7 @@ abbrev pub from_forms : Flags → Flags
 from_forms [] = []
 from_forms (flag ∷ flags) = unless_form flag.1 ((flag.0, flag.1) ∷ flags) (from_forms flags)
 
-from-forms : (flags : Flags) (rows : List Row) (both : Both) → GivesForms flags rows both → GivesForms (from_forms flags) rows both
+from-forms : (flags : Flags) (rows : List Row) (both : ConflictingFlags) → GivesForms flags rows both → GivesForms (from_forms flags) rows both
 from-forms [] rows both gives = gives
 from-forms (flag ∷ flags) rows both gives = go flag.1 gives (from-forms flags rows both)
   where
@@ -106,7 +106,7 @@ from-forms (flag ∷ flags) rows both gives = go flag.1 gives (from-forms flags 
 abbrev pub first_forms : Flags → Flags
 first_forms flags = take (length (from_forms flags)) form_flags
 
-within : (rows : List Row) (flags : Flags) → from_forms flags ≡ first_forms flags → (both : Both) → GivesForms flags rows both
+within : (rows : List Row) (flags : Flags) → from_forms flags ≡ first_forms flags → (both : ConflictingFlags) → GivesForms flags rows both
     → GivesForms form_flags rows both
 within rows flags same both gives =
     let count = length (from_forms flags) in

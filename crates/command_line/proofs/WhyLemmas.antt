@@ -8,8 +8,8 @@ use Rattle.mdns_listeners.specs.Groups.{unfit_prefix}
 use Rattle.mdns_trace.specs.declared.inquiry.Inquiry.{Inquiry}
 use Rattle.command_line.specs.declared.lists.Lists.{Lists}
 use Rattle.command_line.specs.declared.options.Options.{Options}
-use Rattle.command_line.specs.declared.unmade.Unmade.{Unmade}
-use Rattle.command_line.specs.declared.unmade.Unmade.TheVariants as unmade
+use Rattle.command_line.specs.declared.option_fault.OptionFault.{OptionFault}
+use Rattle.command_line.specs.declared.option_fault.OptionFault.TheVariants as option_fault
 use Rattle.command_line.specs.declared.words.WordsFault.{WordsFault}
 use Rattle.command_line.specs.declared.words.WordsFault.TheVariants.{Memory, Help, Refused}
 use Rattle.command_line.specs.declared.words.AskFault.TheVariants.{Words}
@@ -17,7 +17,7 @@ use Rattle.command_line.specs.Line.{AsksWithLists, Flags, HasOneForm, HasOptions
 use Rattle.command_line.specs.Faults.{IsRefusal, IsUnasked}
 use Rattle.command_line.specs.CommandLine.{AsksInquiry, GivesNoFile, GivesTwo, HasUnfit, IsRefusedFor, MakesInquiry}
 use Rattle.command_line.specs.CommandLine.{form_flags, in_form, inquiries, no_file}
-use Rattle.command_line.specs.Unmade.{MakesNoInquiry, unmade_text}
+use Rattle.command_line.specs.OptionFault.{MakesNoInquiry, option_fault_text}
 use Rattle.command_line.proofs.TableLemmas.{IsOneOf, all-known, gives-two, one-asked}
 
 abbrev pub AsksWhy : Text → List Row → (Inquiry × Options) × Lists → Type 0
@@ -48,13 +48,13 @@ unfit-line : (prefixes : List Text) (at : Option ℕ) (name prefix line : Text)
 unfit-line prefixes None name prefix line unfit is = absurd unfit
 unfit-line prefixes (Some i) name prefix line unfit is = is ∙ ap₂ (no_file why) unfit.0 unfit.1
 
-why-refused : (what : (Inquiry × Options) × Lists) (names : List Text) (unmade : Unmade) → MakesNoInquiry what.0.1 what.1 names unmade
+why-refused : (what : (Inquiry × Options) × Lists) (names : List Text) (option_fault : OptionFault) → MakesNoInquiry what.0.1 what.1 names option_fault
     → (name : Text) (rows : List Row) → AsksWhy name rows what → all_of (codes "FILE") rows ≡ Some names → (line : Text)
-    → line ≡ unmade_text why unmade → Refuses rows line
-why-refused what names (unmade.Both both) none name rows asks files line is =
+    → line ≡ option_fault_text why option_fault → Refuses rows line
+why-refused what names (option_fault.ConflictingFlags both) none name rows asks files line is =
     inl (gives-two why form_flags rows both ((all-known inquiries refl name rows what.0 asks.0).2 both none) line is)
-why-refused what names (unmade.NoMoment flag text) none name rows asks files line is = absurd none
-why-refused what names (unmade.NoFile flag prefix) none name rows asks files line is =
+why-refused what names (option_fault.NoMoment flag text) none name rows asks files line is = absurd none
+why-refused what names (option_fault.NoFile flag prefix) none name rows asks files line is =
     let given = map string_bytes what.1.listeners.items in
     let unfit = unfit-line given (unfit_prefix given names) flag.now prefix.now line none is in
     let own = words_of (codes "listener") rows in
@@ -62,22 +62,22 @@ why-refused what names (unmade.NoFile flag prefix) none name rows asks files lin
     inr (subst (λ (all : List Text). HasUnfit why own (unfit_prefix own all) line)
     (sym (ap (λ (all : Option (List Text)). unwrap_or all []) files)) of_rows)
 
-some-refused : (what : (Inquiry × Options) × Lists) (names : List Text) (unmade : Unmade) → MakesNoInquiry what.0.1 what.1 names unmade
-    → (matched : Option (Text × List Row)) → Matches AsksWhy matched what names → (line : Text) → line ≡ unmade_text why unmade
+some-refused : (what : (Inquiry × Options) × Lists) (names : List Text) (option_fault : OptionFault) → MakesNoInquiry what.0.1 what.1 names option_fault
+    → (matched : Option (Text × List Row)) → Matches AsksWhy matched what names → (line : Text) → line ≡ option_fault_text why option_fault
     → IsSomeAnd matched (λ (m : Text × List Row). Refuses m.1 line)
-some-refused what names unmade none None asks line is = absurd asks
-some-refused what names unmade none (Some m) asks line is = why-refused what names unmade none m.0 m.1 asks.0 asks.1 line is
+some-refused what names option_fault none None asks line is = absurd asks
+some-refused what names option_fault none (Some m) asks line is = why-refused what names option_fault none m.0 m.1 asks.0 asks.1 line is
 
-pub unmade-refused : (line : App) (words : List Text) (what : (Inquiry × Options) × Lists) (names : List Text) (unmade : Unmade)
+pub option_fault-refused : (line : App) (words : List Text) (what : (Inquiry × Options) × Lists) (names : List Text) (option_fault : OptionFault)
     (fault : WordsFault) → fault_of line words ≡ [] → Matches AsksWhy (subcommand_of line words) what names
-    → MakesNoInquiry what.0.1 what.1 names unmade → IsRefusal (unmade_text why unmade) fault
+    → MakesNoInquiry what.0.1 what.1 names option_fault → IsRefusal (option_fault_text why option_fault) fault
     → IsUnasked (fault_of line words) (Words fault) ⊎ IsRefusedFor (GivesTwo why form_flags) line words (Words fault)
     ⊎ IsRefusedFor (GivesNoFile why) line words (Words fault)
-unmade-refused line words what names unmade Memory none asks unmade_is is = inl tt
-unmade-refused line words what names unmade (Help text) none asks unmade_is is = absurd is
-unmade-refused line words what names unmade (Refused text) none asks unmade_is is =
+option_fault-refused line words what names option_fault Memory none asks option_fault_is is = inl tt
+option_fault-refused line words what names option_fault (Help text) none asks option_fault_is is = absurd is
+option_fault-refused line words what names option_fault (Refused text) none asks option_fault_is is =
     let matched = subcommand_of line words in
-    inr (go matched (some-refused what names unmade unmade_is matched asks (string_bytes text) is))
+    inr (go matched (some-refused what names option_fault option_fault_is matched asks (string_bytes text) is))
   where
     Refused_for : (List Row → Text → Type 0) → Option (Text × List Row) → Type 0
     Refused_for Why matched =

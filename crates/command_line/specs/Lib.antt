@@ -3,5 +3,5 @@ pub mod Faults
 pub mod Line
 pub mod MomentReading
 pub mod Moments
+pub mod OptionFault
 pub mod Program
-pub mod Unmade

@@ -18,9 +18,9 @@ use Rattle.mdns_browse.specs.declared.report.Form.TheVariants.{Lines}
 use Rattle.command_line.specs.declared.line.Takes.{Takes}
 use Rattle.command_line.specs.declared.line.Takes.TheVariants as takes
 use Rattle.command_line.specs.declared.line.Flag.{Flag}
-use Rattle.command_line.specs.declared.line.Line.{Line}
+use Rattle.command_line.specs.declared.line.CommandTable.{CommandTable}
 use Rattle.command_line.specs.declared.line.Subcommand.{Subcommand}
-use Rattle.command_line.specs.declared.options.Both.{Both}
+use Rattle.command_line.specs.declared.options.ConflictingFlags.{ConflictingFlags}
 use Rattle.command_line.specs.declared.options.Options.{Options}
 use Rattle.command_line.specs.declared.lists.Lists.{Lists}
 use Rattle.mdns_browse.specs.declared.about.Subject.{Subject}
@@ -102,7 +102,7 @@ subcommand_shape subcommand = shape_of subcommand.name.now (flags_of subcommand.
 abbrev pub table_of : {T : Type 0} → List (Subcommand T) → List (Text × Flags)
 table_of = map (λ subcommand. (subcommand.name.now, flags_of subcommand.flags.now))
 
-abbrev pub app_of_line : {T : Type 0} → Line T → App
+abbrev pub app_of_line : {T : Type 0} → CommandTable T → App
 app_of_line line = line_of line.name.now line.has_version (table_of line.subcommands.now)
 
 -- a flag of this name takes seconds
@@ -123,7 +123,7 @@ abbrev pub are_sound : Flags → Bool
 are_sound flags = list_all (λ flag. is_sound (is_counted flags) flag.0 flag.1) flags
 
 -- the command line is one of which clap's definitions tell the faults and the matches
-abbrev pub is_readable : {T : Type 0} → Line T → Bool
+abbrev pub is_readable : {T : Type 0} → CommandTable T → Bool
 is_readable line = is_simple_and_free (app_of_line line)
     && list_all (λ subcommand. are_sound subcommand.1) (table_of line.subcommands.now)
 
@@ -185,14 +185,14 @@ GivesForm (flag ∷ flags) rows name =
     ((name ≡ flag.0) × ((form : Form) × AsksForm flag.1 (one_of flag.0 rows) (Some form))) ⊎ GivesForm flags rows name
 
 -- two given flags of these names ask for forms
-abbrev pub GivesForms : Flags → List Row → Both → Type 0
+abbrev pub GivesForms : Flags → List Row → ConflictingFlags → Type 0
 GivesForms [] rows both = ⊥
 GivesForms (flag ∷ flags) rows both =
     ((both.one.now ≡ flag.0) × ((form : Form) × AsksForm flag.1 (one_of flag.0 rows) (Some form)) × GivesForm flags rows both.other.now)
     ⊎ GivesForms flags rows both
 
 -- the form that the flags ask for, or two of them that ask for forms
-abbrev pub HasOneForm : Flags → List Row → Result Form Both → Type 0
+abbrev pub HasOneForm : Flags → List Row → Result Form ConflictingFlags → Type 0
 HasOneForm flags rows (Ok form) = HasForm flags rows form
 HasOneForm flags rows (Err both) = GivesForms flags rows both
 

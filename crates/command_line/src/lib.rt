@@ -10,10 +10,10 @@ pub mod lists;
 mod mdnsmerge;
 mod mdnswhy;
 mod moments;
+mod option_fault;
 mod options;
 pub mod program;
 mod read;
-mod unmade;
 pub mod words;
 
 pub use mdnsmerge::{asked, told};

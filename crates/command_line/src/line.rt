@@ -15,7 +15,7 @@ const VERSION: &str = "0.1.0 (rattle-kit-13)";
 
 /// A command line: the program's name, its page of help, whether it has `--version`, and its subcommands, of which one
 /// is required.
-pub struct Line<T: 'static> {
+pub struct CommandTable<T: 'static> {
     pub name: &'static str,
     pub page: HelpText,
     pub has_version: bool,
@@ -53,7 +53,10 @@ pub enum Takes {
 }
 
 /// Returns the command of the table.
-pub(crate) fn command_of<'a, T>(alloc: Global, line: &Line<T>) -> Result<Command<'a>, AllocError>
+pub(crate) fn command_of<'a, T>(
+    alloc: Global,
+    line: &CommandTable<T>,
+) -> Result<Command<'a>, AllocError>
     ensures { IfOk result (λ command.
         app_of command ≡ line_of line.now.name.now line.now.has_version (table_of line.now.subcommands.now)) }
 {
@@ -65,7 +68,7 @@ pub(crate) fn command_of<'a, T>(alloc: Global, line: &Line<T>) -> Result<Command
 }
 
 // Returns the command without its subcommands.
-fn program_of<'a, T>(alloc: Global, line: &Line<T>) -> Command<'a>
+fn program_of<'a, T>(alloc: Global, line: &CommandTable<T>) -> Command<'a>
     ensures { app_of result ≡ line_of line.now.name.now line.now.has_version [] }
 {
     let command = Command::new(alloc, line.name)

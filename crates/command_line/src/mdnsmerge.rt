@@ -7,16 +7,16 @@ ghost use Rattle.command_line.specs.Faults.{IsUnasked, IsUntold};
 ghost use Rattle.command_line.specs.CommandLine.{AsksTask, AsksWhat, GivesAsOf, GivesBoth, GivesNoMoment, GivesTwo};
 ghost use Rattle.command_line.specs.CommandLine.{IsRefusedFor, at_flag, before_flag, command_line};
 ghost use Rattle.command_line.specs.CommandLine.{command_line_with_past, form_flags, task_of, what_of};
-ghost use Rattle.command_line.specs.Unmade.{MakesNone, MakesScope, text_of};
+ghost use Rattle.command_line.specs.OptionFault.{MakesNone, MakesScope, text_of};
 
 use crate::flags::{AT, AT_SECONDS, BEFORE, PAGE_FLAGS, REPORT_FLAGS};
 use crate::help;
-use crate::line::{Line, Subcommand};
+use crate::line::{CommandTable, Subcommand};
 use crate::lists::Lists;
 use crate::moments::moment_of_text;
-use crate::options::{Both, Options};
+use crate::option_fault::{OptionFault, refusal_of};
+use crate::options::{ConflictingFlags, Options};
 use crate::read::read;
-use crate::unmade::{Unmade, refusal_of};
 use crate::words::{AskFault, Asked, Task, Told, WordsFault};
 use mdns_browse::report::{Ask, Form};
 use mdns_capture::Moment;
@@ -75,7 +75,7 @@ macro_rules! subcommands {
 }
 
 /// The command line of `told`.
-const TOLD: Line<Option<Ask>> = Line {
+const TOLD: CommandTable<Option<Ask>> = CommandTable {
     name: "mdnsmerge",
     page: help::PROGRAM,
     has_version: false,
@@ -83,7 +83,7 @@ const TOLD: Line<Option<Ask>> = Line {
 };
 
 /// The command line of `asked`.
-const ASKED: Line<Asks> = Line {
+const ASKED: CommandTable<Asks> = CommandTable {
     name: "mdnsmerge",
     page: help::PROGRAM,
     has_version: true,
@@ -200,12 +200,12 @@ fn read_asked(alloc: Global, words: &[String]) -> Result<Asked<Task>, AskFault>
             what: task_of(asks, scope),
             names: asked.names,
         }),
-        Err(unmade) => Err(AskFault::Words(refusal_of(alloc, "mdnsmerge", unmade))),
+        Err(option_fault) => Err(AskFault::Words(refusal_of(alloc, "mdnsmerge", option_fault))),
     }
 }
 
 // Returns what the options give, with these words.
-fn scope_of(options: Options<'_>, lists: Lists) -> Result<Scope, Unmade<'_>>
+fn scope_of(options: Options<'_>, lists: Lists) -> Result<Scope, OptionFault<'_>>
     ensures ok { IfOk result (MakesScope options.entry lists) }
     ensures err { IfErr result (MakesNone options.entry) }
 {
@@ -241,7 +241,7 @@ fn task_of(asks: Asks, scope: Scope) -> Task
 }
 
 // Returns as of when the answer is made.
-fn as_of(options: Options<'_>) -> Result<AsOf, Unmade<'_>>
+fn as_of(options: Options<'_>) -> Result<AsOf, OptionFault<'_>>
     ensures ok { IfOk result (GivesAsOf (text_of options.entry.at) (text_of options.entry.before)) }
     ensures err { IfErr result (MakesNone options.entry) }
 {
@@ -249,19 +249,19 @@ fn as_of(options: Options<'_>) -> Result<AsOf, Unmade<'_>>
         (None, None) => Ok(AsOf::Newest),
         (Some(at), None) => match moment_of_text(at) {
             Some(moment) => Ok(AsOf::At(moment)),
-            None => Err(Unmade::NoMoment {
+            None => Err(OptionFault::NoMoment {
                 name: AT.name,
                 text: at,
             }),
         },
         (None, Some(before)) => match moment_of_text(before) {
             Some(moment) => Ok(AsOf::Before(moment)),
-            None => Err(Unmade::NoMoment {
+            None => Err(OptionFault::NoMoment {
                 name: BEFORE.name,
                 text: before,
             }),
         },
-        (Some(_), Some(_)) => Err(Unmade::Both(Both {
+        (Some(_), Some(_)) => Err(OptionFault::ConflictingFlags(ConflictingFlags {
             one: AT.name,
             other: BEFORE.name,
         })),

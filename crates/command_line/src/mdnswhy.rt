@@ -5,16 +5,16 @@ ghost use Rattle.clap.specs.Words.{fault_of};
 ghost use Rattle.command_line.specs.Line.{AsksWithLists, IsAsked};
 ghost use Rattle.command_line.specs.Faults.{IsUnasked};
 ghost use Rattle.command_line.specs.CommandLine.{AsksInquiry, GivesNoFile, GivesTwo, IsRefusedFor, form_flags, in_form, why_line};
-ghost use Rattle.command_line.specs.Unmade.{MakesNoInquiry};
+ghost use Rattle.command_line.specs.OptionFault.{MakesNoInquiry};
 ghost use Rattle.mdns_listeners.specs.Groups.{unfit_prefix};
 
 use crate::flags::{FILES_FLAGS, HEARINGS_FLAGS, LISTENER, LISTENERS_FLAGS, TRACE_FLAGS};
 use crate::help;
-use crate::line::{Line, Subcommand};
+use crate::line::{CommandTable, Subcommand};
 use crate::lists::Lists;
+use crate::option_fault::{OptionFault, refusal_of};
 use crate::options::Options;
 use crate::read::read;
-use crate::unmade::{Unmade, refusal_of};
 use crate::words::{AskFault, Asked};
 use mdns_browse::report::Form;
 use mdns_listeners::groups::unfit_prefix;
@@ -22,7 +22,7 @@ use mdns_trace::{Inquiry, Trace};
 use std::alloc::Global;
 
 /// The command line, with what each subcommand asks for where no flag asks for a form.
-const WHY_ASKED: Line<Inquiry> = Line {
+const WHY_ASKED: CommandTable<Inquiry> = CommandTable {
     name: "mdnswhy",
     page: help::WHY,
     has_version: true,
@@ -99,12 +99,16 @@ fn read_why(alloc: Global, words: &[String]) -> Result<Asked<(Inquiry, Lists)>, 
             what: (in_form(inquiry, form), lists),
             names,
         }),
-        Err(unmade) => Err(AskFault::Words(refusal_of(alloc, "mdnswhy", unmade))),
+        Err(option_fault) => Err(AskFault::Words(refusal_of(alloc, "mdnswhy", option_fault))),
     }
 }
 
 // Returns the form that the options ask for, where each prefix fits one of the files.
-fn form_of<'a>(options: Options<'a>, lists: &'a Lists, names: &[String]) -> Result<Form, Unmade<'a>>
+fn form_of<'a>(
+    options: Options<'a>,
+    lists: &'a Lists,
+    names: &[String],
+) -> Result<Form, OptionFault<'a>>
     ensures ok { IfOk result (λ form. (options.entry.form ≡ Ok form)
         × (unfit_prefix (map string_bytes lists.now.listeners.items) (map string_bytes names.now) ≡ None)) }
     ensures err { IfErr result (MakesNoInquiry options.entry lists.now (map string_bytes names.now)) }
@@ -112,7 +116,7 @@ fn form_of<'a>(options: Options<'a>, lists: &'a Lists, names: &[String]) -> Resu
     let form = options.form?;
     match unfit_prefix(lists.listeners.as_slice(), names) {
         None => Ok(form),
-        Some(at) => Err(Unmade::NoFile {
+        Some(at) => Err(OptionFault::NoFile {
             name: LISTENER.name,
             prefix: lists.listeners[at].as_str(),
         }),

@@ -12,7 +12,7 @@ use mdns_capture::Moment;
 
 /// Two flags that can't be given together.
 #[derive(Clone, Copy)]
-pub struct Both {
+pub struct ConflictingFlags {
     pub one: &'static str,
     pub other: &'static str,
 }
@@ -27,7 +27,7 @@ pub struct Options<'a> {
     /// The text of `--before`.
     pub before: Option<&'a str>,
     /// The form of the report, or two given flags that ask for one each.
-    pub form: Result<Form, Both>,
+    pub form: Result<Form, ConflictingFlags>,
 }
 
 /// Returns the options that are given. `None` where seconds can't be read.
@@ -63,7 +63,7 @@ fn seconds_of(flags: &[Flag], given: &ArgMatches<'_>) -> Option<Option<Moment>>
 }
 
 // Returns the form of the one given flag that asks for one, or else `Lines`. `Err` where two flags ask for one.
-fn form_of(flags: &[Flag], given: &ArgMatches<'_>) -> Result<Form, Both>
+fn form_of(flags: &[Flag], given: &ArgMatches<'_>) -> Result<Form, ConflictingFlags>
     ensures { HasOneForm (flags_of flags.now) (rows_of (found_of given.now)) result }
 {
     let mut found: Option<(&'static str, Form)> = None;
@@ -71,7 +71,7 @@ fn form_of(flags: &[Flag], given: &ArgMatches<'_>) -> Result<Form, Both>
     while let Some((flag, others)) = rest.split_first() {
         if let Some(form) = form_asked(*flag, given) {
             if let Some((one, _)) = found {
-                return Err(Both {
+                return Err(ConflictingFlags {
                     one,
                     other: flag.name,
                 });

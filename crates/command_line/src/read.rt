@@ -8,7 +8,7 @@ ghost use Rattle.command_line.specs.declared.options.Options.{Options};
 
 use crate::clap_fault::fault_of;
 use crate::files::names_of;
-use crate::line::{Line, Subcommand, command_of};
+use crate::line::{CommandTable, Subcommand, command_of};
 use crate::lists::{Lists, lists_of};
 use crate::options::{Options, options_of};
 use crate::words::{AskFault, Asked, WordsFault};
@@ -24,7 +24,7 @@ use std::alloc::Global;
 /// and `Memory` where an allocation failed.
 pub(crate) fn read<'a, T: Copy>(
     alloc: Global,
-    line: &Line<T>,
+    line: &CommandTable<T>,
     words: &'a [String],
 ) -> Result<Asked<((T, Options<'a>), Lists)>, AskFault>
     requires { is_readable line.now ≡ true }

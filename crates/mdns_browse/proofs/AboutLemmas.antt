@@ -14,8 +14,8 @@ use Rattle.mdns_message.specs.declared.parts.Content.TheVariants as content
 use Rattle.mdns_message.specs.declared.parts.Service.{Service}
 use Rattle.mdns_message.specs.declared.resource.Resource.{Resource}
 use Rattle.people_text.specs.Shown.{name_shown, shown}
-use Rattle.mdns_browse.specs.About.{is_first_label, is_in_content, is_in_data, is_name, is_name_about, is_one_of, is_rest, is_said}
-use Rattle.mdns_browse.specs.About.{is_text_about, is_text_in_local, keeps}
+use Rattle.mdns_browse.specs.About.{is_first_label, is_in_content, is_in_data, is_name_about, is_one_of, matches_name, matches_rest, matches_said}
+use Rattle.mdns_browse.specs.About.{is_text_about, keeps, matches_text_in_local}
 use Rattle.mdns_browse.specs.NameSaid.{front}
 use Rattle.mdns_browse.specs.RecordShown.{shown_string, shown_strings}
 use Rattle.mdns_browse.specs.RecordText.{string_words, text_words}
@@ -126,10 +126,10 @@ pub text-written : (test : List ℕ → List ℕ → Bool) (about : List Subject
 text-written test about text written r answer same is answered =
     ap (λ t. list_any (λ subject. test (string_bytes subject.text) t) about) (sym same) ∙ sym is ∙ answered
 
-pub local-parts : (about : List Subject) (text : List ℕ) → list_any (λ subject. is_text_in_local (string_bytes subject.text) text) about
+pub local-parts : (about : List Subject) (text : List ℕ) → list_any (λ subject. matches_text_in_local (string_bytes subject.text) text) about
     ≡ (list_any (λ subject. same_text (string_bytes subject.text) text) about
     || list_any (λ subject. same_text (string_bytes subject.text ++ in_local) text) about)
-unfolding is_text_in_local
+unfolding matches_text_in_local
 local-parts about text =
     any-or (λ subject. same_text (string_bytes subject.text) text) (λ subject. same_text (string_bytes subject.text ++ in_local) text) about
 
@@ -137,17 +137,17 @@ abbrev pub any_label : List Subject → List (List ℕ) → Bool
 any_label about labels = list_any (λ subject. is_first_label (string_bytes subject.text) labels) about
 
 abbrev pub any_said : List Subject → List (List ℕ) → Bool
-any_said about labels = list_any (λ subject. is_said (string_bytes subject.text) labels) about
+any_said about labels = list_any (λ subject. matches_said (string_bytes subject.text) labels) about
 
 pub name-parts : (about : List Subject) (name : List ℕ) → list_any (is_name_about name) about
-    ≡ (list_any (λ subject. is_text_in_local (string_bytes subject.text) (name_text name)) about
-    || (list_any (λ subject. is_text_in_local (string_bytes subject.text) (name_shown name)) about
+    ≡ (list_any (λ subject. matches_text_in_local (string_bytes subject.text) (name_text name)) about
+    || (list_any (λ subject. matches_text_in_local (string_bytes subject.text) (name_shown name)) about
     || (any_said about (labels_of name) || any_label about (labels_of name))))
-unfolding is_name
+unfolding matches_name
 name-parts about name =
-    let written = λ (subject : Subject). is_text_in_local (string_bytes subject.text) (name_text name) in
-    let read = λ (subject : Subject). is_text_in_local (string_bytes subject.text) (name_shown name) in
-    let said = λ (subject : Subject). is_said (string_bytes subject.text) (labels_of name) in
+    let written = λ (subject : Subject). matches_text_in_local (string_bytes subject.text) (name_text name) in
+    let read = λ (subject : Subject). matches_text_in_local (string_bytes subject.text) (name_shown name) in
+    let said = λ (subject : Subject). matches_said (string_bytes subject.text) (labels_of name) in
     let label = λ (subject : Subject). is_first_label (string_bytes subject.text) (labels_of name) in
     any-or written (λ subject. read subject || (said subject || label subject)) about
     ∙ ap (λ b. list_any written about || b)
@@ -156,10 +156,10 @@ name-parts about name =
 -- a name as people write it: what stands before its type, or the whole
 pub said-alternatives : (about : List Subject) (labels : List (List ℕ)) → any_said about labels
     ≡ (list_any (is_text_about (labels_said (front labels))) about
-    || list_any (λ subject. is_text_in_local (string_bytes subject.text) (labels_said labels)) about)
-unfolding is_said
+    || list_any (λ subject. matches_text_in_local (string_bytes subject.text) (labels_said labels)) about)
+unfolding matches_said
 said-alternatives about labels =
-    any-or (is_text_about (labels_said (front labels))) (λ subject. is_text_in_local (string_bytes subject.text) (labels_said labels)) about
+    any-or (is_text_about (labels_said (front labels))) (λ subject. matches_text_in_local (string_bytes subject.text) (labels_said labels)) about
 
 -- a name's wire form, and its first label and the rest
 abbrev pub Begins : List ℕ → List ℕ → List ℕ → Type 0
@@ -185,7 +185,7 @@ pub rest-wire : (label rest wire : List ℕ) → Begins label rest wire → IsWi
 rest-wire label rest wire head is = grind (arith, IsForm-after, length-after)
 
 abbrev pub any_rest : List Subject → List (List ℕ) → Bool
-any_rest about labels = list_any (λ subject. is_rest (string_bytes subject.text) labels) about
+any_rest about labels = list_any (λ subject. matches_rest (string_bytes subject.text) labels) about
 
 pub rest-name : (about : List Subject) (name wire label rest held : List ℕ) → wire ≡ name → Begins label rest wire → IsWire wire
     → held ≡ rest → list_any (is_name_about held) about ≡ any_rest about (labels_of name)

@@ -11,7 +11,7 @@ use Rattle.mdns_message.specs.Resource.{Body}
 use Rattle.mdns_message.specs.Parts.{service_of}
 use Rattle.mdns_message.specs.declared.parts.Service.{Service}
 use Rattle.mdns_join.specs.declared.latest.Latest.{Latest}
-use Rattle.mdns_browse.specs.About.{is_in_data, is_instance_about, is_name_about, is_rest, is_served_about, is_server_about}
+use Rattle.mdns_browse.specs.About.{is_in_data, is_instance_about, is_name_about, is_served_about, is_server_about, matches_rest}
 use Rattle.mdns_browse.specs.Services.{body_of, data_of_set, instance_in, rows_of_set, server_at, servers_in}
 use Rattle.mdns_browse.specs.declared.instance.Server.{Server}
 use Rattle.mdns_browse.specs.declared.about.Subject.{Subject}
@@ -116,7 +116,7 @@ pub instance-parts : (about : List Subject) (rows : List Latest) (name : List �
     → list_any (is_instance_about (instance_in rows name)) about
     ≡ (list_any (is_name_about name) about || (any_rest about (labels_of name) || any_in_servers about rows (data_of_set rows name 33)))
 instance-parts about rows name =
-    let rest = λ (subject : Subject). is_rest (string_bytes subject.text) (labels_of name) in
+    let rest = λ (subject : Subject). matches_rest (string_bytes subject.text) (labels_of name) in
     let served = λ (subject : Subject). list_any (λ server. is_server_about server subject) (servers_in rows name) in
     let named = list_any (is_name_about name) about in
     any-or (is_name_about name) (λ subject. rest subject || served subject) about

@@ -7,7 +7,7 @@ use Rattle.std.specs.List.{flat_map}
 use Rattle.mdns_message.specs.Resource.{type_name, type_of}
 use Rattle.mdns_join.specs.declared.latest.Latest.{Latest}
 use Rattle.people_text.specs.MomentText.{clock_text, date_text, date_written, hours_text, seconds_text}
-use Rattle.mdns_browse.specs.Columns.{heading, left_text, padded, record_heads, record_row, record_table}
+use Rattle.mdns_browse.specs.Columns.{heading, padded, record_heads, record_row, record_table, time_left_text}
 use Rattle.mdns_browse.specs.Columns.{spaces, unless_none, widest}
 use Rattle.mdns_browse.specs.RecordShown.{shown_record}
 use Rattle.mdns_browse.proofs.ListLemmas.{map_more}
@@ -92,20 +92,20 @@ head-width head texts four = omega (arith, four)
 table_wide : ℕ → ℕ → ℕ → ℕ → List (Latest × ℕ) → List ℕ
 table_wide now left heard kind rows = record_heads left heard kind ++ flat_map (record_row left heard kind now) rows
 
-table_widths : (now left kind : ℕ) (rows : List (Latest × ℕ)) → 0 < length rows → left ≡ max (widest (map (left_text now) rows)) 4
+table_widths : (now left kind : ℕ) (rows : List (Latest × ℕ)) → 0 < length rows → left ≡ max (widest (map (time_left_text now) rows)) 4
     → kind ≡ max (widest (map kind_text rows)) 4 → table_wide now left 20 kind rows ≡ record_table now rows
 unfolding record_table table_wide
 table_widths now left kind rows some left_is kind_is =
-    let first = widest (codes "LEFT" ∷ map (left_text now) rows) in
+    let first = widest (codes "LEFT" ∷ map (time_left_text now) rows) in
     let second = widest (codes "HEARD" ∷ map heard_text rows) in
     ap (λ heard. record_heads left heard kind ++ flat_map (record_row left heard kind now) rows) (sym (heard-width rows some))
     ∙ ap (λ left. record_heads left second kind ++ flat_map (record_row left second kind now) rows)
-    (left_is ∙ sym (head-width (codes "LEFT") (map (left_text now) rows) refl))
+    (left_is ∙ sym (head-width (codes "LEFT") (map (time_left_text now) rows) refl))
     ∙ ap (λ kind. record_heads first second kind ++ flat_map (record_row first second kind now) rows)
     (kind_is ∙ sym (head-width (codes "TYPE") (map kind_text rows) refl))
 
 pub table_by_parts : (old mid new : List ℕ) (now left kind : ℕ) (rows : List (Latest × ℕ)) → 0 < length rows
-    → left ≡ max (widest (map (left_text now) rows)) 4 → kind ≡ max (widest (map kind_text rows)) 4
+    → left ≡ max (widest (map (time_left_text now) rows)) 4 → kind ≡ max (widest (map kind_text rows)) 4
     → mid ≡ old ++ record_heads left 20 kind → new ≡ mid ++ flat_map (record_row left 20 kind now) rows
     → new ≡ old ++ record_table now rows
 unfolding table_wide
@@ -134,7 +134,7 @@ heads_by_parts old a b c new left kind one two three four =
 
 -- a row
 pub row_text : (left kind now : ℕ) (row : Latest × ℕ) → record_row left 20 kind now row
-    ≡ padded left (left_text now row) ++ codes "  " ++ heard_text row ++ codes "  " ++ padded kind (kind_text row) ++ codes "  "
+    ≡ padded left (time_left_text now row) ++ codes "  " ++ heard_text row ++ codes "  " ++ padded kind (kind_text row) ++ codes "  "
     ++ shown_record row.0.resource ++ 10 ∷ []
 unfolding record_row
 row_text left kind now row = grind (arith, padded-exact, seconds-len)

@@ -9,7 +9,7 @@ use Rattle.mdns_join.specs.declared.latest.Latest.{Latest}
 use Rattle.mdns_browse.specs.declared.instance.Server.{Server}
 use Rattle.mdns_browse.specs.declared.instance_sheet.InstanceSheet.{InstanceSheet}
 use Rattle.mdns_browse.specs.ColumnPieces.{Writes, piece_columns, row_pieces, rows_pieces, type_pieces}
-use Rattle.mdns_browse.specs.Columns.{heading, instance_rows, instances_pretty, left_text, line_of_some}
+use Rattle.mdns_browse.specs.Columns.{heading, instance_rows, instances_pretty, line_of_some, time_left_text}
 use Rattle.mdns_browse.specs.Columns.{other_row, others_pretty, rows_by_type}
 use Rattle.mdns_browse.specs.Columns.{server_line, spaces, type_begin, widest, words_line}
 use Rattle.mdns_browse.specs.Services.{GivenRow, InstanceRow}
@@ -105,12 +105,12 @@ module _ (width now : ℕ) where
 
 -- how much longer the record lives that gives an instance
 abbrev pub given_left : ℕ → GivenRow → List ℕ
-given_left now given = left_text now (given.last, given.end)
+given_left now given = time_left_text now (given.last, given.end)
 
 -- the columns by what was found: the number of records, and the width of the first column
 pub columns_by_parts : (now width count : ℕ) (given : List GivenRow) (rows : List InstanceRow)
     (others : List (Latest × ℕ)) (old a b new : List ℕ) → given ≡ given_in rows → old ≡ [] → count ≡ length given
-    → width ≡ max (widest (map (given_left now) given)) (widest (map (left_text now) others))
+    → width ≡ max (widest (map (given_left now) given)) (widest (map (time_left_text now) others))
     → a ≡ old ++ heading count (codes "instance") (codes "instances") now
     → b ≡ a ++ flat_map (piece_columns width now) (rows_pieces [] rows) → new ≡ b ++ others_pretty width now others
     → new ≡ instances_pretty now rows others

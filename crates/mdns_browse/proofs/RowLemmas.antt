@@ -13,7 +13,7 @@ use Rattle.mdns_message.specs.declared.key.Key.{Key}
 use Rattle.mdns_message.specs.Resource.{key_cmp}
 use Rattle.mdns_message.specs.laws.Resource.{key_cmp-total}
 use Rattle.mdns_join.specs.declared.latest.Latest.{Latest}
-use Rattle.mdns_cache.specs.Live.{record_of, AreLiveRecords, IsEnd, IsLive, SameHearings}
+use Rattle.mdns_cache.specs.Live.{key_of_last, AreLiveRecords, IsEnd, IsLive, SameHearings}
 use Rattle.mdns_cache.proofs.EndLemmas.{end_among}
 use Rattle.mdns_cache.proofs.StandsPartLemmas.{Contains-cases, Contains-head, Contains-later, Contains-nil, IsLast-among, same-back}
 use Rattle.mdns_browse.specs.Services.{AreAscending, IsOfLive, lasts_in}
@@ -90,9 +90,9 @@ live_among heard others now key l same live = record {
 }
 
 row_among : (heard others : List Hearing) (now : ℕ) (l : Latest) (end : ℕ) → SameHearings heard others
-    → IsLive heard now (record_of l) l × IsEnd heard (record_of l) end → IsLive others now (record_of l) l × IsEnd others (record_of l) end
+    → IsLive heard now (key_of_last l) l × IsEnd heard (key_of_last l) end → IsLive others now (key_of_last l) l × IsEnd others (key_of_last l) end
 row_among heard others now l end same own =
-    (live_among heard others now (record_of l) l same own.0, end_among heard others (record_of l) end same own.1)
+    (live_among heard others now (key_of_last l) l same own.0, end_among heard others (key_of_last l) end same own.1)
 
 shared_records : (heard others : List Hearing) (now : ℕ) (rows : List (Latest × ℕ)) → SameHearings heard others
     → AreLiveRecords heard now rows → AreLiveRecords others now rows
@@ -107,7 +107,7 @@ shared_records heard others now rows same are = record {
 pub one_records : (heard : List Hearing) (now : ℕ) (rows other_rows : List (Latest × ℕ))
     → AreLiveRecords heard now rows → AreLiveRecords heard now other_rows → rows ≡ other_rows
 one_records heard now rows other_rows are others_are =
-    same_rows key_cmp key_cmp-total (λ (row : Latest × ℕ). record_of row.0) rows other_rows are.ascending others_are.ascending
+    same_rows key_cmp key_cmp-total (λ (row : Latest × ℕ). key_of_last row.0) rows other_rows are.ascending others_are.ascending
     (λ row among. (others_are.exactly row.0 row.1).1 ((are.exactly row.0 row.1).0 among))
     (λ row among. (are.exactly row.0 row.1).1 ((others_are.exactly row.0 row.1).0 among))
 
@@ -115,7 +115,7 @@ one_records heard now rows other_rows are others_are =
 pub ascending_lasts : (heard : List Hearing) (now : ℕ) (rows : List (Latest × ℕ)) → AreLiveRecords heard now rows
     → AreAscending (lasts_in rows)
 ascending_lasts heard now rows are =
-    subst (IsStrictlySortedBy key_cmp) (sym (map-map record_of (λ (row : Latest × ℕ). row.0) rows)) are.ascending
+    subst (IsStrictlySortedBy key_cmp) (sym (map-map key_of_last (λ (row : Latest × ℕ). row.0) rows)) are.ascending
 
 -- ---- whatever is a function of the live records
 

@@ -16,7 +16,7 @@ use Rattle.mdns_message.specs.RecordSet.{RecordSet}
 use Rattle.mdns_message.specs.Resource.{set_key_cmp, key_cmp}
 use Rattle.mdns_message.specs.laws.Resource.{set_key_cmp-total}
 use Rattle.mdns_join.specs.declared.latest.Latest.{Latest}
-use Rattle.mdns_cache.specs.Live.{record_of}
+use Rattle.mdns_cache.specs.Live.{key_of_last}
 use Rattle.mdns_browse.specs.Services.{rows_of_set, set_for}
 
 lt_is : (o : Ordering) → is_lt o ≡ true → o ≡ Less
@@ -146,16 +146,16 @@ filter-map f test (x ∷ xs) = grind (arith, filter-map f test xs)
 
 -- what is found in the rows is the record set among their values
 pub set-found : {X : Type 0} (f : X → Latest) (owner : List ℕ) (number : ℕ) (xs found : List X)
-    → filter (λ x. is_eq (against (λ x. record_of (f x)) (set_for owner number) x)) xs ≡ found
+    → filter (λ x. is_eq (against (λ x. key_of_last (f x)) (set_for owner number) x)) xs ≡ found
     → map f found ≡ rows_of_set (map f xs) owner number
 set-found f owner number xs found same =
-    ap (map f) (sym same) ∙ sym (filter-map f (λ row. is_eq (set_key_cmp (record_of row).set (set_for owner number))) xs)
+    ap (map f) (sym same) ∙ sym (filter-map f (λ row. is_eq (set_key_cmp (key_of_last row).set (set_for owner number))) xs)
 
 -- the rest of a list, taken whole
 pub after_whole : {X : Type 0} (xs : List X) (first : ℕ) → take (length xs - first) (drop first xs) ≡ drop first xs
 after_whole xs first = take_all (length xs - first) (drop first xs) (omega (arith, length-drop first xs))
 
 -- the order of the records that rows show, as an order of the rows
-pub ascending_seen : {X : Type 0} (f : X → Latest) (rows : List X) → IsStrictlySortedBy key_cmp (map record_of (map f rows))
-    → IsStrictlySortedBy key_cmp (map (λ x. record_of (f x)) rows)
-ascending_seen f rows sorted = subst (IsStrictlySortedBy key_cmp) (map-map record_of f rows) sorted
+pub ascending_seen : {X : Type 0} (f : X → Latest) (rows : List X) → IsStrictlySortedBy key_cmp (map key_of_last (map f rows))
+    → IsStrictlySortedBy key_cmp (map (λ x. key_of_last (f x)) rows)
+ascending_seen f rows sorted = subst (IsStrictlySortedBy key_cmp) (map-map key_of_last f rows) sorted

@@ -30,8 +30,8 @@ abbrev pub is_one_of : List ℕ → List (List ℕ) → Bool
 is_one_of word texts = list_any (same_text word) texts
 
 -- the word is the text, or the text without `.local` at its end
-unfoldable pub is_text_in_local : List ℕ → List ℕ → Bool
-is_text_in_local word text = same_text word text || same_text (word ++ codes ".local") text
+unfoldable pub matches_text_in_local : List ℕ → List ℕ → Bool
+matches_text_in_local word text = same_text word text || same_text (word ++ codes ".local") text
 
 -- the word is the first of the labels alone, as lines write it or as people read it
 abbrev pub is_first_label : List ℕ → List (List ℕ) → Bool
@@ -39,32 +39,32 @@ is_first_label word [] = false
 is_first_label word (label ∷ labels) = same_text word (label_text label) || same_text word (shown label)
 
 -- the word is the labels as people write them, in whose dots nothing is escaped: all, or those of the instance before its type
-unfoldable pub is_said : List ℕ → List (List ℕ) → Bool
-is_said word labels = same_text word (dotted shown (front labels)) || is_text_in_local word (dotted shown labels)
+unfoldable pub matches_said : List ℕ → List (List ℕ) → Bool
+matches_said word labels = same_text word (dotted shown (front labels)) || matches_text_in_local word (dotted shown labels)
 
 -- the word is the name, as lines write it, as people read it or as they write it: whole, without `local` at its end, or its first
 -- label alone, and of an instance's name what stands before its type
-unfoldable pub is_name : List ℕ → List ℕ → Bool
-is_name word name =
-    is_text_in_local word (name_text name)
-    || (is_text_in_local word (name_shown name) || (is_said word (labels_of name) || is_first_label word (labels_of name)))
+unfoldable pub matches_name : List ℕ → List ℕ → Bool
+matches_name word name =
+    matches_text_in_local word (name_text name)
+    || (matches_text_in_local word (name_shown name) || (matches_said word (labels_of name) || is_first_label word (labels_of name)))
 
 -- the address has these octets; what is no address has none
-unfoldable pub is_address : Option IpAddr → List ℕ → Bool
-is_address None octets = false
-is_address (Some (V4 address)) octets = is_eq (slice_cmp nat_cmp (ipv4_octets address) octets)
-is_address (Some (V6 address)) octets = is_eq (slice_cmp nat_cmp (ipv6_octets address) octets)
+unfoldable pub matches_address : Option IpAddr → List ℕ → Bool
+matches_address None octets = false
+matches_address (Some (V4 address)) octets = is_eq (slice_cmp nat_cmp (ipv4_octets address) octets)
+matches_address (Some (V6 address)) octets = is_eq (slice_cmp nat_cmp (ipv6_octets address) octets)
 
 -- the subject is a word of what data says: an address in any of its forms; a name; a string, as lines write it or as people
 -- read it; of a service the priority, the weight, the port, or `TARGET:PORT`
 unfoldable pub is_in_content : Subject → Content (List ℕ) (List ℕ) → Bool
-is_in_content subject (content.Address (address.V4 octets)) = is_address subject.address octets
-is_in_content subject (content.Address (address.V6 octets)) = is_address subject.address octets
-is_in_content subject (content.Name name) = is_name (string_bytes subject.text) name
+is_in_content subject (content.Address (address.V4 octets)) = matches_address subject.address octets
+is_in_content subject (content.Address (address.V6 octets)) = matches_address subject.address octets
+is_in_content subject (content.Name name) = matches_name (string_bytes subject.text) name
 is_in_content subject (content.Strings bytes) =
     is_one_of (string_bytes subject.text) (text_words bytes) || is_one_of (string_bytes subject.text) (shown_strings bytes)
 is_in_content subject (content.Service service) =
-    is_name (string_bytes subject.text) service.target
+    matches_name (string_bytes subject.text) service.target
     || is_one_of (string_bytes subject.text)
     (decimal service.priority ∷ decimal service.weight ∷ decimal service.port
     ∷ (name_shown service.target ++ 58 ∷ decimal service.port) ∷ [])
@@ -79,12 +79,12 @@ is_text_about text subject = same_text (string_bytes subject.text) text
 
 -- the subject is the name
 abbrev pub is_name_about : List ℕ → Subject → Bool
-is_name_about name subject = is_name (string_bytes subject.text) name
+is_name_about name subject = matches_name (string_bytes subject.text) name
 
 -- the word is the name after the first of the labels: of an instance's name, its type (RFC 6763, section 4.1)
-abbrev pub is_rest : List ℕ → List (List ℕ) → Bool
-is_rest word [] = false
-is_rest word (label ∷ labels) = is_name word (wire_of labels)
+abbrev pub matches_rest : List ℕ → List (List ℕ) → Bool
+matches_rest word [] = false
+matches_rest word (label ∷ labels) = matches_name word (wire_of labels)
 
 -- the server is about the subject: it is the target, or one of its addresses
 abbrev pub is_server_about : Server → Subject → Bool
@@ -93,7 +93,7 @@ is_server_about server subject = is_name_about server.target subject || list_any
 -- the instance is about the subject: it is its name, its type, a server or an address of one
 abbrev pub is_instance_about : Instance → Subject → Bool
 is_instance_about instance subject =
-    is_name_about instance.name subject || (is_rest (string_bytes subject.text) (labels_of instance.name)
+    is_name_about instance.name subject || (matches_rest (string_bytes subject.text) (labels_of instance.name)
     || list_any (λ server. is_server_about server subject) instance.servers)
 
 -- SRV data gives a server among rows that is about the subject

@@ -35,8 +35,8 @@ widest (text ∷ texts) = max (length text) (widest texts)
 
 -- how much longer a live record lives, by its last hearing and its end: `goodbye` where it has said so (RFC 6762, section
 -- 10.1), and `flushed` where a flush ends it before its life has run out (section 10.2)
-unfoldable pub left_text : ℕ → Latest × ℕ → List ℕ
-left_text now (last, end) =
+unfoldable pub time_left_text : ℕ → Latest × ℕ → List ℕ
+time_left_text now (last, end) =
     if last.ttl == 0 then codes "goodbye"
     else (if nat_lt end (last.moment.nanos + life_of last.ttl) then codes "flushed" else duration_text (end - now))
 
@@ -62,7 +62,7 @@ table_line left heard kind first second third last =
 -- the line of a live record: how much longer it lives, when it was last heard, its type, and the record
 unfoldable pub record_row : (left heard kind now : ℕ) → Latest × ℕ → List ℕ
 record_row left heard kind now row =
-    table_line left heard kind (left_text now row) (seconds_text row.0.moment.nanos) (type_name (type_of row.0.resource.body))
+    table_line left heard kind (time_left_text now row) (seconds_text row.0.moment.nanos) (type_name (type_of row.0.resource.body))
     (shown_record row.0.resource)
 
 -- the heads of the columns
@@ -72,7 +72,7 @@ record_heads left heard kind = table_line left heard kind (codes "LEFT") (codes 
 -- each column but the last is as wide as its widest text, that of the head included
 unfoldable pub record_table : ℕ → List (Latest × ℕ) → List ℕ
 record_table now rows =
-    let left = widest (codes "LEFT" ∷ map (left_text now) rows) in
+    let left = widest (codes "LEFT" ∷ map (time_left_text now) rows) in
     let heard = widest (codes "HEARD" ∷ map (λ (row : Latest × ℕ). seconds_text row.0.moment.nanos) rows) in
     let kind = widest (codes "TYPE" ∷ map (λ (row : Latest × ℕ). type_name (type_of row.0.resource.body)) rows) in
     record_heads left heard kind ++ flat_map (record_row left heard kind now) rows
@@ -117,7 +117,7 @@ type_begin before owner = if is_eq (slice_cmp nat_cmp (folded before) (folded ow
 -- the line of an instance: how much longer the record lives that gives it, and its name
 unfoldable pub instance_row : (width now : ℕ) → GivenRow → List ℕ → List ℕ
 instance_row width now given name =
-    codes "  " ++ padded width (left_text now (given.last, given.end)) ++ codes "  " ++ shown_instance name ++ 10 ∷ []
+    codes "  " ++ padded width (time_left_text now (given.last, given.end)) ++ codes "  " ++ shown_instance name ++ 10 ∷ []
 
 -- the lines of an instance: its own, its servers, or one line that says that it has none, and its texts
 unfoldable pub instance_rows : (width now : ℕ) → InstanceRow → List ℕ
@@ -137,7 +137,7 @@ rows_by_type width now before (row ∷ rows) =
 -- the line of a live record that points from a service to no instance's name: what is left, and that name
 unfoldable pub other_row : (width now : ℕ) → Latest × ℕ → List ℕ
 other_row width now row =
-    codes "  " ++ padded width (left_text now row) ++ spaced_wide (shown_words row.0.resource.body) ++ 10 ∷ []
+    codes "  " ++ padded width (time_left_text now row) ++ spaced_wide (shown_words row.0.resource.body) ++ 10 ∷ []
 
 -- the lines of these records, below what they are
 abbrev pub others_pretty : (width now : ℕ) → List (Latest × ℕ) → List ℕ
@@ -147,7 +147,7 @@ others_pretty width now others =
 -- the first column is as wide as its widest text in any of these lines
 abbrev pub instances_pretty : ℕ → List InstanceRow → List (Latest × ℕ) → List ℕ
 instances_pretty now rows others =
-    let width = max (widest (map (λ (row : InstanceRow). left_text now (row.given.last, row.given.end)) rows))
-    (widest (map (left_text now) others)) in
+    let width = max (widest (map (λ (row : InstanceRow). time_left_text now (row.given.last, row.given.end)) rows))
+    (widest (map (time_left_text now) others)) in
     heading (length rows) (codes "instance") (codes "instances") now
     ++ rows_by_type width now [] rows ++ others_pretty width now others

@@ -6,7 +6,7 @@ use Rattle.mdns_join.specs.declared.latest.Latest.{Latest}
 use Rattle.mdns_cache.specs.LentRecords.{last_lent}
 use Rattle.mdns_browse.specs.About.{keeps_instance}
 use Rattle.mdns_browse.specs.declared.about.Subject.{Subject}
-use Rattle.mdns_browse.specs.declared.sheet.Given.{Given}
+use Rattle.mdns_browse.specs.declared.sheet.InstancePointer.{InstancePointer}
 use Rattle.mdns_browse.specs.Services.{GivenRow, InstanceRow, instance_row_in}
 
 -- a moment in nanoseconds, where there is one
@@ -14,7 +14,7 @@ abbrev pub nanos_in : Option Moment → Option ℕ
 nanos_in since = option_map (λ (moment : Moment). moment.nanos) since
 
 -- the value of a lent record that gives an instance
-abbrev pub given_lent : Given → GivenRow
+abbrev pub given_lent : InstancePointer → GivenRow
 given_lent given = record { last = last_lent given.row.last; end = given.row.end; since = nanos_in given.since }
 
 -- of records that point to instances those whose instance is about one of the subjects

@@ -9,7 +9,7 @@ use Rattle.mdns_message.specs.declared.resource.Resource.{Resource}
 use Rattle.mdns_join.specs.declared.latest.Latest.{Latest}
 use Rattle.mdns_lives.specs.declared.life.Life.{Life}
 use Rattle.mdns_lives.specs.declared.life.EndReason.{EndReason}
-use Rattle.mdns_lives.specs.declared.life.EndReason.TheVariants.{RanOut, Goodbye, Flushed}
+use Rattle.mdns_lives.specs.declared.life.EndReason.TheVariants.{Expired, Goodbye, Flushed}
 use Rattle.mdns_lives.specs.declared.life.Which.{Which}
 use Rattle.mdns_lives.specs.declared.life.Which.TheVariants.{All, Changes}
 use Rattle.mdns_browse.specs.declared.report.Form.{Form}
@@ -23,7 +23,7 @@ use Rattle.mdns_browse.specs.Json.{json_string, json_member, json_object, json_w
 
 -- why a life ended, as a word
 abbrev pub reason_text : EndReason → List ℕ
-reason_text RanOut = codes "expired"
+reason_text Expired = codes "expired"
 reason_text Goodbye = codes "goodbye"
 reason_text Flushed = codes "flushed"
 
@@ -33,7 +33,7 @@ end_text end life = if nat_lt end life.until then codes "live" else reason_text 
 
 -- what is said for people of a life that goes on, and will end for this reason unless the record is heard again
 abbrev pub open_text : EndReason → List ℕ
-open_text RanOut = codes "live"
+open_text Expired = codes "live"
 open_text Goodbye = codes "live, said goodbye"
 open_text Flushed = codes "live, flushed"
 

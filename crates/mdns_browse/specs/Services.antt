@@ -14,7 +14,7 @@ use Rattle.mdns_message.specs.declared.parts.Service.{Service}
 use Rattle.mdns_message.specs.declared.record_type.RecordType.TheVariants as kind
 use Rattle.dns_name.specs.Name.{IsLabel, folded, longest_label, wire_of}
 use Rattle.mdns_join.specs.declared.latest.Latest.{Latest}
-use Rattle.mdns_cache.specs.Live.{AreLiveRecords, record_of}
+use Rattle.mdns_cache.specs.Live.{AreLiveRecords, key_of_last}
 use Rattle.mdns_browse.specs.declared.instance.Instance.{Instance}
 use Rattle.mdns_browse.specs.declared.instance.Server.{Server}
 
@@ -103,7 +103,7 @@ other_given row =
 
 -- each record once, in key order
 abbrev pub AreAscending : List Latest → Type 0
-AreAscending rows = IsStrictlySortedBy key_cmp (map record_of rows)
+AreAscending rows = IsStrictlySortedBy key_cmp (map key_of_last rows)
 
 -- the record set of an owner and a type number
 abbrev pub set_for : List ℕ → ℕ → RecordSet
@@ -111,7 +111,7 @@ set_for owner number = record { owner = folded owner; number = number }
 
 -- of rows those of the name's records with that type number, in their order
 abbrev pub rows_of_set : List Latest → List ℕ → ℕ → List Latest
-rows_of_set rows name number = filter (λ row. is_eq (set_key_cmp (record_of row).set (set_for name number))) rows
+rows_of_set rows name number = filter (λ row. is_eq (set_key_cmp (key_of_last row).set (set_for name number))) rows
 
 -- the data of these
 abbrev pub data_of_set : List Latest → List ℕ → ℕ → List Body

@@ -19,7 +19,7 @@ pub struct Subject {
 }
 
 impl Subject {
-    ghost use Rattle.mdns_browse.specs.About.{is_address};
+    ghost use Rattle.mdns_browse.specs.About.{matches_address};
     ghost use Rattle.mdns_browse.specs.Services.{same_text};
 
     /// Makes the subject of a word, which is an address where it reads as one.
@@ -38,15 +38,15 @@ impl Subject {
     }
 
     /// Checks that the subject is the text, whatever the case of ASCII letters.
-    pub(crate) fn is_text(&self, text: &[u8]) -> bool
+    pub(crate) fn matches_text(&self, text: &[u8]) -> bool
         ensures { result ≡ same_text (string_bytes self.now.text) text.now }
     {
         folded_eq(self.text.as_bytes(), text)
     }
 
     /// Checks that the subject is an address of these octets.
-    pub(crate) fn is_address(&self, octets: &[u8]) -> bool
-        ensures { result ≡ is_address self.now.address octets.now }
+    pub(crate) fn matches_address(&self, octets: &[u8]) -> bool
+        ensures { result ≡ matches_address self.now.address octets.now }
     {
         match &self.address {
             Some(IpAddr::V4(address)) => address.octets().as_slice() == octets,

@@ -6,12 +6,12 @@ ghost use Rattle.std.specs.List.{list_any};
 ghost use Rattle.mdns_message.specs.Borrowed.{body_lent};
 ghost use Rattle.mdns_message.specs.Parts.{content_lent, service_lent};
 ghost use Rattle.people_text.specs.Shown.{name_shown};
-ghost use Rattle.mdns_browse.specs.About.{is_address, is_in_content, is_in_data, is_one_of, is_text_about};
+ghost use Rattle.mdns_browse.specs.About.{is_in_content, is_in_data, is_one_of, is_text_about, matches_address};
 ghost use Rattle.mdns_browse.specs.RecordShown.{shown_string};
 ghost use Rattle.mdns_browse.specs.RecordText.{string_words};
 
 use crate::about::Subject;
-use crate::about_names::{is_bytes, is_name, is_number, is_text};
+use crate::about_names::{matches_bytes, matches_name, matches_number, matches_text};
 use mdns_message::text_data::{first_string, is_word};
 use mdns_message::{Address, BorrowedBody, BorrowedName, Content, Service, Want};
 use people_text::shown_names::push_shown_name;
@@ -36,8 +36,8 @@ fn is_in_content(
     ensures { IfOk result (λ is. is ≡ list_any (λ subject. is_in_content subject (content_lent content.entry)) about.now) }
 {
     match content {
-        Content::Address(address) => Ok(is_host_address(about, address)),
-        Content::Name(name) => is_name(about, name, scratch),
+        Content::Address(address) => Ok(matches_host_address(about, address)),
+        Content::Name(name) => matches_name(about, name, scratch),
         Content::Strings(bytes) => is_in_text(about, bytes, scratch),
         Content::Service(service) => is_in_service(about, service, scratch),
     }
@@ -52,37 +52,37 @@ fn is_in_service(
     ensures { IfOk result (λ is. is
         ≡ list_any (λ subject. is_in_content subject (Content.Service (service_lent service.entry))) about.now) }
 {
-    if is_name(about, service.target, scratch)? {
+    if matches_name(about, service.target, scratch)? {
         return Ok(true);
     }
-    if is_number(about, service.priority, scratch)? {
+    if matches_number(about, service.priority, scratch)? {
         return Ok(true);
     }
-    if is_number(about, service.weight, scratch)? {
+    if matches_number(about, service.weight, scratch)? {
         return Ok(true);
     }
-    if is_number(about, service.port, scratch)? {
+    if matches_number(about, service.port, scratch)? {
         return Ok(true);
     }
-    is_place(about, service.target, service.port, scratch)
+    matches_place(about, service.target, service.port, scratch)
 }
 
 // Checks that one of the subjects is the address of a host.
 #[tactic(auto, unfolding(crate::specs::About::is_in_content))]
-fn is_host_address(about: &[Subject], address: Address) -> bool
+fn matches_host_address(about: &[Subject], address: Address) -> bool
     ensures { result ≡ list_any (λ subject. is_in_content subject (Content.Address address)) about.now }
 {
     match address {
-        Address::V4(octets) => is_address(about, octets.as_slice()),
-        Address::V6(octets) => is_address(about, octets.as_slice()),
+        Address::V4(octets) => matches_address(about, octets.as_slice()),
+        Address::V6(octets) => matches_address(about, octets.as_slice()),
     }
 }
 
 // Checks that one of the subjects is an address of these octets.
-fn is_address(about: &[Subject], octets: &[u8]) -> bool
-    ensures { result ≡ list_any (λ subject. is_address subject.address octets.now) about.now }
+fn matches_address(about: &[Subject], octets: &[u8]) -> bool
+    ensures { result ≡ list_any (λ subject. matches_address subject.address octets.now) about.now }
 {
-    about.iter().any(|subject| subject.is_address(octets))
+    about.iter().any(|subject| subject.matches_address(octets))
 }
 
 // Checks that one of the subjects is a string of TXT data.
@@ -91,7 +91,7 @@ fn is_in_text(about: &[Subject], bytes: &[u8], scratch: &mut String) -> Result<b
 {
     let mut rest = bytes;
     while let Some((string, after)) = first_string(rest) {
-        if is_string(about, string, scratch)? {
+        if matches_string(about, string, scratch)? {
             return Ok(true);
         }
         rest = after;
@@ -100,7 +100,7 @@ fn is_in_text(about: &[Subject], bytes: &[u8], scratch: &mut String) -> Result<b
 }
 
 // Checks that one of the subjects is the string of TXT data, where it is a word.
-fn is_string(about: &[Subject], string: &[u8], scratch: &mut String) -> Result<bool, Want>
+fn matches_string(about: &[Subject], string: &[u8], scratch: &mut String) -> Result<bool, Want>
     ensures { IfOk result (λ is. is
         ≡ list_any (λ subject. is_one_of (string_bytes subject.text) (string_words string.now)
         || is_one_of (string_bytes subject.text) (shown_string string.now)) about.now) }
@@ -108,11 +108,11 @@ fn is_string(about: &[Subject], string: &[u8], scratch: &mut String) -> Result<b
     if !is_word(string) {
         return Ok(false);
     }
-    is_bytes(about, string, false, scratch)
+    matches_bytes(about, string, false, scratch)
 }
 
 // Checks that one of the subjects is the target of a server, a colon and its port.
-fn is_place(
+fn matches_place(
     about: &[Subject],
     target: &BorrowedName<'_>,
     port: u16,
@@ -124,5 +124,5 @@ fn is_place(
     scratch.clear();
     push_shown_name(scratch, target)?;
     write!(scratch, ":{port}")?;
-    Ok(is_text(about, scratch.as_bytes()))
+    Ok(matches_text(about, scratch.as_bytes()))
 }

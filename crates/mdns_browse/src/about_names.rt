@@ -5,7 +5,7 @@ ghost use Rattle.std.specs.Fmt.{decimal};
 ghost use Rattle.std.specs.List.{list_any};
 ghost use Rattle.dns_name.specs.Name.{bytes_text, labels_of};
 ghost use Rattle.people_text.specs.Shown.{shown};
-ghost use Rattle.mdns_browse.specs.About.{is_rest, is_said, is_text_about, is_text_in_local, is_name_about};
+ghost use Rattle.mdns_browse.specs.About.{matches_rest, matches_said, is_text_about, matches_text_in_local, is_name_about};
 ghost use Rattle.mdns_browse.specs.Services.{same_text};
 
 use crate::about::Subject;
@@ -21,24 +21,28 @@ use people_text::shown_names::push_shown_name;
 const LOCAL: &[u8] = b".local";
 
 /// Checks that one of the subjects is the text.
-pub(crate) fn is_text(about: &[Subject], text: &[u8]) -> bool
+pub(crate) fn matches_text(about: &[Subject], text: &[u8]) -> bool
     ensures { result ≡ list_any (is_text_about text.now) about.now }
 {
-    about.iter().any(|subject| subject.is_text(text))
+    about.iter().any(|subject| subject.matches_text(text))
 }
 
 /// Checks that one of the subjects is the number.
-pub(crate) fn is_number(about: &[Subject], number: u16, scratch: &mut String) -> Result<bool, Want>
+pub(crate) fn matches_number(
+    about: &[Subject],
+    number: u16,
+    scratch: &mut String,
+) -> Result<bool, Want>
     ensures { IfOk result (λ is. is ≡ list_any (is_text_about (decimal number)) about.now) }
 {
     scratch.clear();
     write!(scratch, "{number}")?;
-    Ok(is_text(about, scratch.as_bytes()))
+    Ok(matches_text(about, scratch.as_bytes()))
 }
 
 /// Checks that one of the subjects is the bytes, as lines write them or as people read them. `dots` is whether lines
 /// escape dots.
-pub(crate) fn is_bytes(
+pub(crate) fn matches_bytes(
     about: &[Subject],
     bytes: &[u8],
     dots: bool,
@@ -50,16 +54,16 @@ pub(crate) fn is_bytes(
 {
     scratch.clear();
     push_escaped(bytes, dots, scratch)?;
-    if is_text(about, scratch.as_bytes()) {
+    if matches_text(about, scratch.as_bytes()) {
         return Ok(true);
     }
     scratch.clear();
     push_shown(scratch, bytes)?;
-    Ok(is_text(about, scratch.as_bytes()))
+    Ok(matches_text(about, scratch.as_bytes()))
 }
 
 /// Checks that one of the subjects is the name.
-pub(crate) fn is_name(
+pub(crate) fn matches_name(
     about: &[Subject],
     name: &BorrowedName<'_>,
     scratch: &mut String,
@@ -68,61 +72,65 @@ pub(crate) fn is_name(
 {
     scratch.clear();
     name.push_text(scratch)?;
-    if is_text_in_local(about, scratch.as_bytes()) {
+    if matches_text_in_local(about, scratch.as_bytes()) {
         return Ok(true);
     }
     scratch.clear();
     push_shown_name(scratch, name)?;
-    if is_text_in_local(about, scratch.as_bytes()) {
+    if matches_text_in_local(about, scratch.as_bytes()) {
         return Ok(true);
     }
-    if is_said(about, name, scratch)? {
+    if matches_said(about, name, scratch)? {
         return Ok(true);
     }
     match split_label(name.wire()) {
-        Some((label, _)) => is_bytes(about, label, true, scratch),
+        Some((label, _)) => matches_bytes(about, label, true, scratch),
         None => Ok(false),
     }
 }
 
 // Checks that one of the subjects is the name as people write it, or what of it stands before a type.
-#[tactic(auto, unfolding(crate::specs::About::is_said))]
-fn is_said(about: &[Subject], name: &BorrowedName<'_>, scratch: &mut String) -> Result<bool, Want>
-    ensures { IfOk result (λ is. is ≡ list_any (λ subject. is_said (string_bytes subject.text) (labels_of name.now)) about.now) }
+#[tactic(auto, unfolding(crate::specs::About::matches_said))]
+fn matches_said(
+    about: &[Subject],
+    name: &BorrowedName<'_>,
+    scratch: &mut String,
+) -> Result<bool, Want>
+    ensures { IfOk result (λ is. is ≡ list_any (λ subject. matches_said (string_bytes subject.text) (labels_of name.now)) about.now) }
 {
     scratch.clear();
     let rest = push_front(scratch, name.wire())?;
-    if is_text(about, scratch.as_bytes()) {
+    if matches_text(about, scratch.as_bytes()) {
         return Ok(true);
     }
     push_further(scratch, rest)?;
-    Ok(is_text_in_local(about, scratch.as_bytes()))
+    Ok(matches_text_in_local(about, scratch.as_bytes()))
 }
 
 /// Checks that one of the subjects is the name after the first label.
-pub(crate) fn is_rest(
+pub(crate) fn matches_rest(
     about: &[Subject],
     name: &BorrowedName<'_>,
     scratch: &mut String,
 ) -> Result<bool, Want>
     ensures { IfOk result (λ is. is
-        ≡ list_any (λ subject. is_rest (string_bytes subject.text) (labels_of name.now)) about.now) }
+        ≡ list_any (λ subject. matches_rest (string_bytes subject.text) (labels_of name.now)) about.now) }
 {
     match split_label(name.wire()) {
-        Some((_, rest)) => is_name(about, &BorrowedName::from_valid_wire(rest), scratch),
+        Some((_, rest)) => matches_name(about, &BorrowedName::from_valid_wire(rest), scratch),
         None => Ok(false),
     }
 }
 
 // Checks that one of the subjects is the text, or the text without `.local` at its end.
-fn is_text_in_local(about: &[Subject], text: &[u8]) -> bool
-    ensures { result ≡ list_any (λ subject. is_text_in_local (string_bytes subject.text) text.now) about.now }
+fn matches_text_in_local(about: &[Subject], text: &[u8]) -> bool
+    ensures { result ≡ list_any (λ subject. matches_text_in_local (string_bytes subject.text) text.now) about.now }
 {
-    if is_text(about, text) {
+    if matches_text(about, text) {
         return true;
     }
     match before_local(text) {
-        Some(front) => is_text(about, front),
+        Some(front) => matches_text(about, front),
         None => false,
     }
 }

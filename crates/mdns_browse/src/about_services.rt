@@ -9,7 +9,7 @@ ghost use Rattle.mdns_browse.specs.Services.{AreAscending, body_of, data_of_set,
 
 use crate::about::Subject;
 use crate::about_data::is_in_data;
-use crate::about_names::{is_name, is_rest};
+use crate::about_names::{matches_name, matches_rest};
 use crate::lookup::of_set;
 use mdns_cache::Last;
 use mdns_message::{Name, RecordType, Want};
@@ -26,10 +26,10 @@ pub(crate) fn is_in_instance(
         → is ≡ list_any (is_instance_about (instance_in (map last_lent rows.now) name.now)) about.now) }
 {
     let whole = name.borrowed();
-    if is_name(about, &whole, scratch)? {
+    if matches_name(about, &whole, scratch)? {
         return Ok(true);
     }
-    if is_rest(about, &whole, scratch)? {
+    if matches_rest(about, &whole, scratch)? {
         return Ok(true);
     }
     is_in_servers(about, rows, name, scratch)
@@ -69,7 +69,7 @@ fn is_in_server(
     };
     let fours = of_set(rows, service.target, RecordType::A);
     let sixes = of_set(rows, service.target, RecordType::Aaaa);
-    if is_name(about, &service.target.borrowed(), scratch)? {
+    if matches_name(about, &service.target.borrowed(), scratch)? {
         return Ok(true);
     }
     if is_in_rows(about, fours, scratch)? {

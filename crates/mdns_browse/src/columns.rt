@@ -3,10 +3,10 @@
 ghost use Rattle.std.specs.Prelude.{◌≡◌, ◌==◌, ◌++◌, ◌∷◌, [], if◌then◌else◌, length, map, max, IfOk, OnOk};
 ghost use Rattle.std.specs.String.{string_bytes};
 ghost use Rattle.mdns_cache.specs.LentRecords.{live_record_lent};
-ghost use Rattle.mdns_browse.specs.Columns.{heading, left_text, padded, spaces, widest};
+ghost use Rattle.mdns_browse.specs.Columns.{heading, padded, spaces, time_left_text, widest};
 
 use mdns_cache::LiveRecord;
-use mdns_cache::lifetime::life;
+use mdns_cache::lifetime::lifetime_nanos;
 use mdns_capture::Moment;
 use mdns_message::Want;
 use people_text::durations::push_duration;
@@ -15,14 +15,14 @@ use std::alloc::Global;
 
 /// Appends how much longer a live record lives: `goodbye` where it has said so (RFC 6762, section 10.1), and `flushed`
 /// where a flush ends it before its life has run out (section 10.2).
-#[tactic(auto, unfolding(crate::specs::Columns::left_text))]
-pub(crate) fn push_left(to: &mut String, now: Moment, row: &LiveRecord<'_>) -> Result<(), Want>
-    ensures { OnOk result (string_bytes to.new ≡ string_bytes to.old ++ left_text now.nanos (live_record_lent row.now)) }
+#[tactic(auto, unfolding(crate::specs::Columns::time_left_text))]
+pub(crate) fn push_time_left(to: &mut String, now: Moment, row: &LiveRecord<'_>) -> Result<(), Want>
+    ensures { OnOk result (string_bytes to.new ≡ string_bytes to.old ++ time_left_text now.nanos (live_record_lent row.now)) }
 {
     if row.last.ttl == 0 {
         return push_word(to, "goodbye");
     }
-    if row.end < row.last.moment.nanos() + life(row.last.ttl) {
+    if row.end < row.last.moment.nanos() + lifetime_nanos(row.last.ttl) {
         return push_word(to, "flushed");
     }
     push_duration(to, row.end.saturating_sub(now.nanos()))
@@ -55,29 +55,33 @@ pub fn push_padded(to: &mut String, width: usize, text: &str) -> Result<(), Want
 }
 
 /// Appends how much longer a live record lives, and spaces up to a width.
-pub(crate) fn push_padded_left(
+pub(crate) fn push_padded_time_left(
     to: &mut String,
     width: usize,
     now: Moment,
     row: &LiveRecord<'_>,
 ) -> Result<(), Want>
     ensures { OnOk result (string_bytes to.new
-        ≡ string_bytes to.old ++ padded width (left_text now.nanos (live_record_lent row.now))) }
+        ≡ string_bytes to.old ++ padded width (time_left_text now.nanos (live_record_lent row.now))) }
 {
     let begin = to.len();
-    push_left(to, now, row)?;
+    push_time_left(to, now, row)?;
     let len = to.len().saturating_sub(begin);
     push_spaces(to, width.saturating_sub(len))
 }
 
-/// Returns the greatest length of what `push_left` appends of the rows.
-pub(crate) fn left_width(alloc: Global, now: Moment, rows: &[LiveRecord<'_>]) -> Result<usize, Want>
-    ensures { IfOk result (λ width. width ≡ widest (map (left_text now.nanos) (map live_record_lent rows.now))) }
+/// Returns the greatest length of what `push_time_left` appends of the rows.
+pub(crate) fn time_left_width(
+    alloc: Global,
+    now: Moment,
+    rows: &[LiveRecord<'_>],
+) -> Result<usize, Want>
+    ensures { IfOk result (λ width. width ≡ widest (map (time_left_text now.nanos) (map live_record_lent rows.now))) }
 {
     let mut text = String::new(alloc);
     let mut width = 0;
     for row in rows {
-        let len = left_len(&mut text, now, row)?;
+        let len = time_left_len(&mut text, now, row)?;
         width = wider(width, len);
     }
     Ok(width)
@@ -90,12 +94,16 @@ pub(crate) fn wider(width: usize, other: usize) -> usize
     if width < other { other } else { width }
 }
 
-/// Returns the length of what `push_left` appends of a row, by way of `text`.
-pub(crate) fn left_len(text: &mut String, now: Moment, row: &LiveRecord<'_>) -> Result<usize, Want>
-    ensures { IfOk result (λ len. len ≡ length (left_text now.nanos (live_record_lent row.now))) }
+/// Returns the length of what `push_time_left` appends of a row, by way of `text`.
+pub(crate) fn time_left_len(
+    text: &mut String,
+    now: Moment,
+    row: &LiveRecord<'_>,
+) -> Result<usize, Want>
+    ensures { IfOk result (λ len. len ≡ length (time_left_text now.nanos (live_record_lent row.now))) }
 {
     text.clear();
-    push_left(text, now, row)?;
+    push_time_left(text, now, row)?;
     Ok(text.len())
 }
 

@@ -12,7 +12,7 @@ ghost use Rattle.mdns_browse.specs.Services.{lasts_in};
 use crate::about::Subject;
 use crate::keeps::keeps_heard_instance;
 use crate::services::instance_of;
-use crate::sheet::Given;
+use crate::sheet::InstancePointer;
 use mdns_cache::{Last, LiveWalk};
 use mdns_message::Want;
 use std::alloc::Global;
@@ -23,7 +23,7 @@ pub struct Gathered<'a> {
     /// The last hearing of each live record.
     pub rows: Vec<Last<'a>>,
     /// The live records that give an instance.
-    pub given: Vec<Given<'a>>,
+    pub given: Vec<InstancePointer<'a>>,
 }
 
 /// Collects the live records, and of these those that give an instance about one of the subjects, or where there are no
@@ -52,13 +52,13 @@ pub(crate) fn gather<'a>(alloc: Global, walk: LiveWalk<'a>) -> Result<Gathered<'
     let mut given = Vec::new(alloc);
     for row in walk {
         rows.push(row.last)?;
-        push_given(&mut given, Given { row, since: None })?;
+        push_given(&mut given, InstancePointer { row, since: None })?;
     }
     Ok(Gathered { rows, given })
 }
 
 // Appends a live record that gives an instance; leaves out any other.
-fn push_given<'a>(to: &mut Vec<Given<'a>>, given: Given<'a>) -> Result<(), Want>
+fn push_given<'a>(to: &mut Vec<InstancePointer<'a>>, given: InstancePointer<'a>) -> Result<(), Want>
     ensures { OnOk result (map given_lent to.new.items
         ≡ map given_lent to.old.items ++ filter gives_instance (given_lent given.entry ∷ [])) }
 {
@@ -74,8 +74,8 @@ fn kept_of<'a>(
     alloc: Global,
     about: &[Subject],
     rows: &[Last<'_>],
-    given: Vec<Given<'a>>,
-) -> Result<Vec<Given<'a>>, Want>
+    given: Vec<InstancePointer<'a>>,
+) -> Result<Vec<InstancePointer<'a>>, Want>
     ensures { IfOk result (λ kept. AreAscending (map last_lent rows.now)
         → (all : List GivenRow) → map given_lent given.entry.items ≡ filter gives_instance all
         → map given_lent kept.items ≡ map (λ row. row.given)
@@ -94,10 +94,10 @@ fn kept_of<'a>(
 }
 
 fn push_kept<'a>(
-    to: &mut Vec<Given<'a>>,
+    to: &mut Vec<InstancePointer<'a>>,
     about: &[Subject],
     rows: &[Last<'_>],
-    given: Given<'a>,
+    given: InstancePointer<'a>,
     scratch: &mut String,
 ) -> Result<(), Want>
     ensures { OnOk result (AreAscending (map last_lent rows.now)

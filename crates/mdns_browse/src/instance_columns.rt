@@ -9,19 +9,19 @@ ghost use Rattle.mdns_cache.specs.Live.{NoneLater};
 ghost use Rattle.mdns_cache.specs.LentRecords.{last_lent, live_record_lent};
 ghost use Rattle.mdns_browse.specs.Given.{given_lent};
 ghost use Rattle.mdns_browse.specs.ColumnPieces.{Writes, row_pieces, rows_pieces, type_pieces};
-ghost use Rattle.mdns_browse.specs.Columns.{left_text, widest};
+ghost use Rattle.mdns_browse.specs.Columns.{time_left_text, widest};
 ghost use Rattle.mdns_browse.specs.Report.{IsReportIn};
 ghost use Rattle.mdns_browse.specs.Services.{AreAscending, GivenRow, instance_in, instance_row_in};
 ghost use Rattle.mdns_browse.specs.declared.report.Ask.TheVariants.{Instances};
 ghost use Rattle.mdns_browse.specs.declared.report.Form.TheVariants.{Pretty};
 
 use crate::about::Subject;
-use crate::columns::{left_len, left_width, push_heading, wider};
+use crate::columns::{push_heading, time_left_len, time_left_width, wider};
 use crate::given_rows::given_in;
 use crate::instance_sheet::InstanceSheet;
 use crate::other_names::{kept_others, push_others};
 use crate::report_walk::walk_instance;
-use crate::sheet::{Given, Sheet};
+use crate::sheet::{InstancePointer, Sheet};
 use dns_name::fold::folded_cmp;
 use mdns_cache::{Cache, Last, LiveRecord};
 use mdns_capture::Moment;
@@ -55,26 +55,26 @@ pub(crate) fn instances_columns(
 fn names_width(
     alloc: Global,
     now: Moment,
-    given: &[Given<'_>],
+    given: &[InstancePointer<'_>],
     others: &[LiveRecord<'_>],
 ) -> Result<usize, Want>
     ensures { IfOk result (λ width. width
-        ≡ max (widest (map (λ (row : GivenRow). left_text now.nanos (row.last, row.end)) (map given_lent given.now)))
-        (widest (map (left_text now.nanos) (map live_record_lent others.now)))) }
+        ≡ max (widest (map (λ (row : GivenRow). time_left_text now.nanos (row.last, row.end)) (map given_lent given.now)))
+        (widest (map (time_left_text now.nanos) (map live_record_lent others.now)))) }
 {
     let width = given_width(alloc, now, given)?;
-    Ok(wider(width, left_width(alloc, now, others)?))
+    Ok(wider(width, time_left_width(alloc, now, others)?))
 }
 
 // Returns the greatest length of the texts of how much longer the records live.
-fn given_width(alloc: Global, now: Moment, given: &[Given<'_>]) -> Result<usize, Want>
+fn given_width(alloc: Global, now: Moment, given: &[InstancePointer<'_>]) -> Result<usize, Want>
     ensures { IfOk result (λ width. width
-        ≡ widest (map (λ (row : GivenRow). left_text now.nanos (row.last, row.end)) (map given_lent given.now))) }
+        ≡ widest (map (λ (row : GivenRow). time_left_text now.nanos (row.last, row.end)) (map given_lent given.now))) }
 {
     let mut text = String::new(alloc);
     let mut width = 0;
     for row in given {
-        let len = left_len(&mut text, now, &row.row)?;
+        let len = time_left_len(&mut text, now, &row.row)?;
         width = wider(width, len);
     }
     Ok(width)
@@ -84,7 +84,7 @@ fn given_width(alloc: Global, now: Moment, given: &[Given<'_>]) -> Result<usize,
 fn push_instances(
     sheet: &mut InstanceSheet,
     rows: &[Last<'_>],
-    given: &[Given<'_>],
+    given: &[InstancePointer<'_>],
 ) -> Result<(), Want>
     ensures { OnOk result (AreAscending (map last_lent rows.now) → Writes sheet.old
         (rows_pieces [] (filter_map (instance_row_in (map last_lent rows.now)) (map given_lent given.now))) sheet.new) }
@@ -105,7 +105,7 @@ fn push_instances(
 fn push_instance(
     sheet: &mut InstanceSheet,
     rows: &[Last<'_>],
-    given: &Given<'_>,
+    given: &InstancePointer<'_>,
     name: &Name,
     before: &[u8],
 ) -> Result<(), Want>

@@ -4,12 +4,12 @@ ghost use Rattle.std.specs.Prelude.{◌≡◌, ◌++◌, ◌∷◌, [], codes, O
 ghost use Rattle.std.specs.String.{string_bytes};
 ghost use Rattle.mdns_browse.specs.Columns.{spaces};
 
-use crate::columns::{push_padded_left, push_spaces};
+use crate::columns::{push_padded_time_left, push_spaces};
 use crate::record_columns::push_type_row;
 use crate::record_shown::{
     push_shown_instance, push_shown_order, push_shown_strings, push_shown_target, push_shown_words,
 };
-use crate::sheet::{Given, Sheet};
+use crate::sheet::{InstancePointer, Sheet};
 use mdns_cache::LiveRecord;
 use mdns_capture::Moment;
 use mdns_message::{BorrowedBody, Bytes, Name, Want};
@@ -76,9 +76,9 @@ impl Sheet for InstanceSheet {
     }
 
     #[tactic(auto, unfolding(crate::specs::Columns::instance_row))]
-    fn instance_begin(&mut self, given: &Given<'_>, name: &Name) -> Result<(), Want> {
+    fn instance_begin(&mut self, given: &InstancePointer<'_>, name: &Name) -> Result<(), Want> {
         self.text.push_str("  ")?;
-        push_padded_left(&mut self.text, self.width, self.now, &given.row)?;
+        push_padded_time_left(&mut self.text, self.width, self.now, &given.row)?;
         self.text.push_str("  ")?;
         push_shown_instance(&mut self.text, &name.borrowed())?;
         Ok(self.text.push('\n')?)

@@ -8,7 +8,7 @@ ghost use Rattle.mdns_browse.specs.Services.{AreAscending};
 
 use crate::about::Subject;
 use crate::about_data::is_in_data;
-use crate::about_names::is_name;
+use crate::about_names::matches_name;
 use crate::about_services::is_in_instance;
 use mdns_cache::Last;
 use mdns_message::{BorrowedResource, Name, Want};
@@ -25,7 +25,10 @@ pub fn keeps_record(
     if about.is_empty() {
         return Ok(true);
     }
-    Ok(is_name(about, &resource.owner, scratch)? || is_in_data(about, &resource.body, scratch)?)
+    Ok(
+        matches_name(about, &resource.owner, scratch)?
+            || is_in_data(about, &resource.body, scratch)?,
+    )
 }
 
 /// Returns whether a service type is one of the subjects, or `true` where there are no subjects.
@@ -35,7 +38,7 @@ pub(crate) fn keeps_type(about: &[Subject], name: &Name, scratch: &mut String) -
     if about.is_empty() {
         return Ok(true);
     }
-    is_name(about, &name.borrowed(), scratch)
+    matches_name(about, &name.borrowed(), scratch)
 }
 
 /// Returns whether an instance is about one of the subjects by what was heard: whether its name is one, its type, the target

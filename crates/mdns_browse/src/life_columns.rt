@@ -18,12 +18,12 @@ use mdns_message::{Resource, Want};
 use people_text::moment_text::push_millis;
 
 /// Returns the greatest length of the words for how the lives end.
-pub(crate) fn end_width(end: Moment, lives: &[Life]) -> usize
-    ensures { result ≡ widest (map (end_shown end.nanos) lives.now) }
+pub(crate) fn end_width(end_of_captures: Moment, lives: &[Life]) -> usize
+    ensures { result ≡ widest (map (end_shown end_of_captures.nanos) lives.now) }
 {
     let mut width = 0;
     for life in lives {
-        width = wider(width, end_shown(end, life).len());
+        width = wider(width, end_shown(end_of_captures, life).len());
     }
     width
 }
@@ -36,16 +36,16 @@ pub(crate) fn push_heading(
     which: Which,
     layout: Layout,
     begin: Moment,
-    end: Moment,
+    end_of_captures: Moment,
 ) -> Result<(), Want>
     ensures { OnOk result (string_bytes text.new
-        ≡ string_bytes text.old ++ lives_heading which layout.count layout.width begin.nanos end.nanos) }
+        ≡ string_bytes text.old ++ lives_heading which layout.count layout.width begin.nanos end_of_captures.nanos) }
 {
     let called = called(which, layout.count);
     write!(text, "{}{called}", layout.count)?;
     push_millis(text, begin.nanos())?;
     text.push_str(" and ")?;
-    push_millis(text, end.nanos())?;
+    push_millis(text, end_of_captures.nanos())?;
     text.push('\n')?;
     if layout.count == 0 {
         return Ok(());
@@ -83,17 +83,17 @@ fn push_heads(text: &mut String, width: usize) -> Result<(), Want>
 pub(crate) fn push_rows(
     text: &mut String,
     width: usize,
-    end: Moment,
+    end_of_captures: Moment,
     resource: &Resource,
     lives: &[Life],
 ) -> Result<(), Want>
     ensures { OnOk result (string_bytes text.new
-        ≡ string_bytes text.old ++ flat_map (life_row width end.nanos resource.now) lives.now) }
+        ≡ string_bytes text.old ++ flat_map (life_row width end_of_captures.nanos resource.now) lives.now) }
 {
     let mut tail = String::new(*text.allocator());
     push_tail(&mut tail, resource)?;
     for life in lives {
-        push_row(text, width, end, tail.as_str(), life)?;
+        push_row(text, width, end_of_captures, tail.as_str(), life)?;
     }
     Ok(())
 }
@@ -114,28 +114,28 @@ fn push_tail(text: &mut String, resource: &Resource) -> Result<(), Want>
 fn push_row(
     text: &mut String,
     width: usize,
-    end: Moment,
+    end_of_captures: Moment,
     tail: &str,
     life: &Life,
 ) -> Result<(), Want>
     ensures { OnOk result (string_bytes text.new ≡ string_bytes text.old
         ++ (millis_text life.now.from.nanos ++ codes "  " ++ millis_text life.now.until ++ codes "  "
-        ++ padded width (end_shown end.nanos life.now) ++ tail.now)) }
+        ++ padded width (end_shown end_of_captures.nanos life.now) ++ tail.now)) }
 {
     push_millis(text, life.from.nanos())?;
     text.push_str("  ")?;
     push_millis(text, life.until)?;
     text.push_str("  ")?;
-    push_padded(text, width, end_shown(end, life))?;
+    push_padded(text, width, end_shown(end_of_captures, life))?;
     text.push_str(tail)?;
     Ok(())
 }
 
 // Returns how a life ends, for people.
-fn end_shown(end: Moment, life: &Life) -> &'static str
-    ensures { result.now ≡ end_shown end.nanos life.now }
+fn end_shown(end_of_captures: Moment, life: &Life) -> &'static str
+    ensures { result.now ≡ end_shown end_of_captures.nanos life.now }
 {
-    if end.nanos() < life.until {
+    if end_of_captures.nanos() < life.until {
         return open_word(life.reason);
     }
     reason_word(life.reason)
@@ -146,7 +146,7 @@ fn open_word(reason: EndReason) -> &'static str
     ensures { result.now ≡ open_text reason }
 {
     match reason {
-        EndReason::RanOut => "live",
+        EndReason::Expired => "live",
         EndReason::Goodbye => "live, said goodbye",
         EndReason::Flushed => "live, flushed",
     }

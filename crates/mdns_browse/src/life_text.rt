@@ -30,21 +30,21 @@ pub struct Layout {
 impl Layout {
     /// Makes the layout of no lives.
     pub fn new() -> Layout
-        ensures { (end : ℕ) → IsLayout end [] result }
+        ensures { (end_of_captures : ℕ) → IsLayout end_of_captures [] result }
     {
         Layout { count: 0, width: 3 }
     }
 
-    /// Adds the lives of a record. `end` is the end of the captures. `Want` where a `usize` can't count the lives, which
-    /// can't happen to lives in memory.
-    pub fn with(self, end: Moment, lives: &[Life]) -> Result<Layout, Want>
+    /// Adds the lives of a record. `end_of_captures` is the end of the captures. `Want` where a `usize` can't count the
+    /// lives, which can't happen to lives in memory.
+    pub fn with(self, end_of_captures: Moment, lives: &[Life]) -> Result<Layout, Want>
         ensures { IfOk result (λ layout. (rows : List (Latest × List Life)) (last : Latest)
-            → IsLayout end.nanos rows self → IsLayout end.nanos (rows ++ (last, lives.now) ∷ []) layout) }
+            → IsLayout end_of_captures.nanos rows self → IsLayout end_of_captures.nanos (rows ++ (last, lives.now) ∷ []) layout) }
     {
         let Some(count) = self.count.checked_add(lives.len()) else {
             return Err(Want);
         };
-        let width = wider(self.width, end_width(end, lives));
+        let width = wider(self.width, end_width(end_of_captures, lives));
         Ok(Layout { count, width })
     }
 }
@@ -58,83 +58,89 @@ pub fn push_lives_head(
     form: Form,
     layout: Layout,
     begin: Moment,
-    end: Moment,
+    end_of_captures: Moment,
 ) -> Result<(), Want>
     ensures { OnOk result (string_bytes text.new
-        ≡ string_bytes text.old ++ lives_head which form layout.count layout.width begin.nanos end.nanos) }
+        ≡ string_bytes text.old ++ lives_head which form layout.count layout.width begin.nanos end_of_captures.nanos) }
 {
     match form {
-        Form::Pretty => push_heading(text, which, layout, begin, end),
+        Form::Pretty => push_heading(text, which, layout, begin, end_of_captures),
         _ => Ok(()),
     }
 }
 
-/// Appends a line for each life of a record, in the form `form`. `end` is the end of the captures: a life that goes on
-/// after it is told to be live, any other with the reason for its end. In `Form::Pretty` the lines are rows below the
-/// heads that `push_lives_head` appends, and `width` is that of the `Layout` of all lives; the other forms don't need it.
+/// Appends a line for each life of a record, in the form `form`. `end_of_captures` is the end of the captures: a life that
+/// goes on after it is told to be live, any other with the reason for its end. In `Form::Pretty` the lines are rows below
+/// the heads that `push_lives_head` appends, and `width` is that of the `Layout` of all lives; the other forms don't need
+/// it.
 pub fn push_lives(
     text: &mut String,
     form: Form,
     width: usize,
-    end: Moment,
+    end_of_captures: Moment,
     resource: &Resource,
     lives: &[Life],
 ) -> Result<(), Want>
     ensures { OnOk result (string_bytes text.new
-        ≡ string_bytes text.old ++ flat_map (life_text form width end.nanos resource.now) lives.now) }
+        ≡ string_bytes text.old ++ flat_map (life_text form width end_of_captures.nanos resource.now) lives.now) }
 {
     // Most records have no changes, and a record's text costs more than finding that.
     if lives.is_empty() {
         return Ok(());
     }
     match form {
-        Form::Lines => push_lines(text, end, resource, lives),
-        Form::Json => push_objects(text, end, resource, lives),
-        Form::Pretty => push_rows(text, width, end, resource, lives),
+        Form::Lines => push_lines(text, end_of_captures, resource, lives),
+        Form::Json => push_objects(text, end_of_captures, resource, lives),
+        Form::Pretty => push_rows(text, width, end_of_captures, resource, lives),
     }
 }
 
 // Appends a line of words for each life. The record is written once, and copied for each.
 fn push_lines(
     text: &mut String,
-    end: Moment,
+    end_of_captures: Moment,
     resource: &Resource,
     lives: &[Life],
 ) -> Result<(), Want>
     ensures { OnOk result (string_bytes text.new
-        ≡ string_bytes text.old ++ flat_map (λ life. resource_text resource.now ++ life_words end.nanos life) lives.now) }
+        ≡ string_bytes text.old ++ flat_map (λ life. resource_text resource.now ++ life_words end_of_captures.nanos life) lives.now) }
 {
     let mut head = String::new(*text.allocator());
     push_resource(&mut head, &resource.borrowed())?;
     for life in lives {
-        push_line(text, head.as_str(), end, life)?;
+        push_line(text, head.as_str(), end_of_captures, life)?;
     }
     Ok(())
 }
 
-fn push_line(text: &mut String, head: &str, end: Moment, life: &Life) -> Result<(), Want>
+fn push_line(
+    text: &mut String,
+    head: &str,
+    end_of_captures: Moment,
+    life: &Life,
+) -> Result<(), Want>
     ensures { OnOk result (string_bytes text.new
-        ≡ string_bytes text.old ++ (head.now ++ life_words end.nanos life.now)) }
+        ≡ string_bytes text.old ++ (head.now ++ life_words end_of_captures.nanos life.now)) }
 {
     text.push_str(head)?;
-    push_life(text, end, life)
+    push_life(text, end_of_captures, life)
 }
 
 // Appends an object for each life. The record is written once, and copied for each.
 fn push_objects(
     text: &mut String,
-    end: Moment,
+    end_of_captures: Moment,
     resource: &Resource,
     lives: &[Life],
 ) -> Result<(), Want>
     ensures { OnOk result (string_bytes text.new
-        ≡ string_bytes text.old ++ flat_map (life_json end.nanos resource.now) lives.now) }
+        ≡ string_bytes text.old ++ flat_map (life_json end_of_captures.nanos resource.now) lives.now) }
 {
     let mut head = Objects::new(*text.allocator());
     head.resource(resource)?;
     let mut rest = Objects::new(*text.allocator());
     for life in lives {
-        push_object(text, head.text.as_str(), &mut rest, end, life)?;
+        push_object(text, head.text.as_str(), &mut rest, end_of_captures, life)?;
     }
     Ok(())
 }
@@ -143,25 +149,25 @@ fn push_object(
     text: &mut String,
     head: &str,
     rest: &mut Objects,
-    end: Moment,
+    end_of_captures: Moment,
     life: &Life,
 ) -> Result<(), Want>
     ensures { OnOk result (string_bytes text.new
-        ≡ string_bytes text.old ++ (head.now ++ life_rest end.nanos life.now)) }
+        ≡ string_bytes text.old ++ (head.now ++ life_rest end_of_captures.nanos life.now)) }
 {
     rest.text.clear();
-    rest.life(end, life)?;
+    rest.life(end_of_captures, life)?;
     text.push_str(head)?;
     text.push_str(rest.text.as_str())?;
     Ok(())
 }
 
-/// Returns how a life ends, as a word of at most seven letters; `end` is the end of the captures.
-pub(crate) fn end_word(end: Moment, life: &Life) -> &'static str
-    ensures word { result.now ≡ end_text end.nanos life.now }
+/// Returns how a life ends, as a word of at most seven letters; `end_of_captures` is the end of the captures.
+pub(crate) fn end_word(end_of_captures: Moment, life: &Life) -> &'static str
+    ensures word { result.now ≡ end_text end_of_captures.nanos life.now }
     ensures short { length result.now ≤ 7 }
 {
-    if end.nanos() < life.until {
+    if end_of_captures.nanos() < life.until {
         return "live";
     }
     reason_word(life.reason)
@@ -173,7 +179,7 @@ pub(crate) fn reason_word(reason: EndReason) -> &'static str
     ensures short { length result.now ≤ 7 }
 {
     match reason {
-        EndReason::RanOut => "expired",
+        EndReason::Expired => "expired",
         EndReason::Goodbye => "goodbye",
         EndReason::Flushed => "flushed",
     }

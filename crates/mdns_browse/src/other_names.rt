@@ -9,7 +9,7 @@ ghost use Rattle.mdns_browse.specs.Report.{records_about};
 ghost use Rattle.mdns_browse.specs.Services.{others_in};
 
 use crate::about::Subject;
-use crate::columns::push_padded_left;
+use crate::columns::push_padded_time_left;
 use crate::record_columns::push_kept_record;
 use crate::record_shown::push_shown_words;
 use crate::services::other_of;
@@ -75,7 +75,7 @@ fn push_row(to: &mut String, width: usize, now: Moment, row: &LiveRecord<'_>) ->
         ≡ string_bytes to.old ++ other_row width now.nanos (live_record_lent row.now)) }
 {
     to.push_str("  ")?;
-    push_padded_left(to, width, now, row)?;
+    push_padded_time_left(to, width, now, row)?;
     push_shown_words(to, &row.last.resource.body.borrowed())?;
     to.push('\n')?;
     Ok(())

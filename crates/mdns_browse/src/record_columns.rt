@@ -17,7 +17,7 @@ ghost use Rattle.mdns_browse.specs.declared.report.Ask.TheVariants.{Records, Typ
 ghost use Rattle.mdns_browse.specs.declared.report.Form.TheVariants.{Pretty};
 
 use crate::about::{Subject, keeps_record, keeps_type};
-use crate::columns::{left_width, push_heading, push_padded, push_padded_left, wider};
+use crate::columns::{push_heading, push_padded, push_padded_time_left, time_left_width, wider};
 use crate::record_shown::push_shown_record;
 use crate::report::Ask;
 use crate::services::type_of;
@@ -103,7 +103,7 @@ fn push_table(
     requires { 0 < length rows.now }
     ensures { OnOk result (string_bytes to.new ≡ string_bytes to.old ++ record_table now.nanos (map live_record_lent rows.now)) }
 {
-    let left = wider(left_width(alloc, now, rows)?, 4);
+    let left = wider(time_left_width(alloc, now, rows)?, 4);
     let kind = wider(kind_width(rows), 4);
     push_heads(to, left, kind)?;
     push_rows(to, left, kind, now, rows)
@@ -157,7 +157,7 @@ fn push_row(
     ensures { OnOk result (string_bytes to.new
         ≡ string_bytes to.old ++ record_row left 20 kind now.nanos (live_record_lent row.now)) }
 {
-    push_padded_left(to, left, now, row)?;
+    push_padded_time_left(to, left, now, row)?;
     to.push_str("  ")?;
     push_seconds(to, row.last.moment.nanos())?;
     to.push_str("  ")?;

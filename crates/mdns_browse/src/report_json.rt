@@ -16,7 +16,7 @@ use crate::data_words::{Word, WordSink, push_text_words, push_words};
 use crate::json::{json_bool, push_json_name, push_json_string, push_text_member};
 use crate::life_text::end_word;
 use crate::record_shown::{push_shown_instance, push_shown_record};
-use crate::sheet::{Given, Sheet};
+use crate::sheet::{InstancePointer, Sheet};
 use mdns_cache::LiveRecord;
 use mdns_capture::Moment;
 use mdns_lives::Life;
@@ -163,14 +163,14 @@ impl Objects {
     }
 
     /// Appends when a life began, its last hearing, and when and how it ends, and ends the line.
-    pub(crate) fn life(&mut self, end: Moment, life: &Life) -> Result<(), Want>
-        ensures { OnOk result (string_bytes self.new.text ≡ string_bytes self.old.text ++ life_rest end.nanos life.now) }
+    pub(crate) fn life(&mut self, end_of_captures: Moment, life: &Life) -> Result<(), Want>
+        ensures { OnOk result (string_bytes self.new.text ≡ string_bytes self.old.text ++ life_rest end_of_captures.nanos life.now) }
     {
         self.text.push_str(",\"from\":")?;
         self.quote(Word::Moment(life.from.nanos()))?;
         self.hearing(life.last.ttl, life.last.moment, life.until)?;
         self.text.push_str(",\"end\":")?;
-        push_json_string(&mut self.text, end_word(end, life))?;
+        push_json_string(&mut self.text, end_word(end_of_captures, life))?;
         Ok(self.text.push_str("}\n")?)
     }
 }
@@ -210,7 +210,7 @@ impl Sheet for Objects {
         Ok(self.text.push_str("}\n")?)
     }
 
-    fn instance_begin(&mut self, given: &Given<'_>, name: &Name) -> Result<(), Want> {
+    fn instance_begin(&mut self, given: &InstancePointer<'_>, name: &Name) -> Result<(), Want> {
         self.text.push_str("{\"instance\":")?;
         self.quote_name(name)?;
         self.shown_instance(name)?;

@@ -9,7 +9,7 @@ ghost use Rattle.mdns_browse.specs.LifeText.{life_words};
 use crate::data_words::{Word, WordSink, push_text_words, push_words};
 use crate::format::push_resource;
 use crate::life_text::end_word;
-use crate::sheet::{Given, Sheet};
+use crate::sheet::{InstancePointer, Sheet};
 use crate::short_text::ShortText;
 use mdns_cache::LiveRecord;
 use mdns_capture::Moment;
@@ -58,12 +58,12 @@ fn push_live(to: &mut String, row: &LiveRecord<'_>) -> Result<(), Want>
 }
 
 /// Appends when a life began, its last hearing, and when and how it ends, and ends the line.
-pub(crate) fn push_life(to: &mut String, end: Moment, life: &Life) -> Result<(), Want>
-    ensures { OnOk result (string_bytes to.new ≡ string_bytes to.old ++ life_words end.nanos life.now) }
+pub(crate) fn push_life(to: &mut String, end_of_captures: Moment, life: &Life) -> Result<(), Want>
+    ensures { OnOk result (string_bytes to.new ≡ string_bytes to.old ++ life_words end_of_captures.nanos life.now) }
 {
     let mut text = ShortText::new();
     text.prepend("\n");
-    text.prepend(end_word(end, life));
+    text.prepend(end_word(end_of_captures, life));
     text.prepend(" ");
     prepend_hearing(&mut text, life.last.ttl, life.last.moment, life.until);
     text.prepend_moment(life.from.nanos());
@@ -89,7 +89,7 @@ impl Sheet for String {
         Ok(self.push('\n')?)
     }
 
-    fn instance_begin(&mut self, _given: &Given<'_>, name: &Name) -> Result<(), Want> {
+    fn instance_begin(&mut self, _given: &InstancePointer<'_>, name: &Name) -> Result<(), Want> {
         name.push_text(self)?;
         Ok(self.push('\n')?)
     }

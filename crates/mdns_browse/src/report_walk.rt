@@ -20,7 +20,7 @@ use crate::given_rows::given_in;
 use crate::lookup::of_set;
 use crate::report::Ask;
 use crate::services::type_of;
-use crate::sheet::{Given, Sheet};
+use crate::sheet::{InstancePointer, Sheet};
 use mdns_cache::{Cache, Last, LiveRecord, LiveWalk};
 use mdns_capture::Moment;
 use mdns_message::{Name, RecordType, Want};
@@ -130,7 +130,7 @@ fn walk_instances<S: Sheet>(
 pub fn walk_given<S: Sheet>(
     sheet: &mut S,
     rows: &[Last<'_>],
-    given: &[Given<'_>],
+    given: &[InstancePointer<'_>],
 ) -> Result<(), Want>
     ensures { OnOk result (AreAscending (map last_lent rows.now) → S.takes sheet.old
         (flat_map instance_pieces (filter_map (instance_row_in (map last_lent rows.now)) (map given_lent given.now))) sheet.new) }
@@ -149,7 +149,7 @@ pub fn walk_given<S: Sheet>(
 pub(crate) fn walk_instance<S: Sheet>(
     sheet: &mut S,
     rows: &[Last<'_>],
-    given: &Given<'_>,
+    given: &InstancePointer<'_>,
     name: &Name,
 ) -> Result<(), Want>
     ensures { OnOk result (AreAscending (map last_lent rows.now) → S.takes sheet.old (instance_pieces (record {

@@ -16,7 +16,7 @@ ghost use Rattle.mdns_browse.specs.Services.{types_owner};
 use crate::given_rows::gather;
 use crate::instance::{Addresses, InOrder, Instance, Server, Servers, Texts};
 use crate::lookup::of_set;
-use crate::sheet::Given;
+use crate::sheet::InstancePointer;
 use dns_name::fold::folded_eq;
 use dns_name::name::split_label;
 use mdns_cache::{Cache, Last, LiveWalk};
@@ -213,7 +213,7 @@ pub fn instances(alloc: Global, cache: &Cache, now: Moment) -> Result<Vec<Instan
 fn instances_of(
     alloc: Global,
     rows: &[Last<'_>],
-    given: &[Given<'_>],
+    given: &[InstancePointer<'_>],
 ) -> Result<Vec<Instance>, Want>
     ensures { IfOk result (λ instances. AreAscending (map last_lent rows.now) → instances.items
         ≡ map (λ row. row.instance) (filter_map (instance_row_in (map last_lent rows.now)) (map given_lent given.now))) }

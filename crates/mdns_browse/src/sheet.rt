@@ -14,7 +14,7 @@ use mdns_message::{BorrowedBody, Bytes, Name, Want};
 
 /// The live PTR record that gives an instance (RFC 6763, section 4.1).
 #[derive(Clone, Copy)]
-pub struct Given<'a> {
+pub struct InstancePointer<'a> {
     /// Its last hearing and its end.
     pub row: LiveRecord<'a>,
     /// Since when it has been live, where that is known.
@@ -35,7 +35,7 @@ pub trait Sheet {
         ensures { OnOk result (takes self.old (service_type name.now ∷ []) self.new) };
 
     /// Takes the record that gives an instance, and the instance's name; its servers and texts follow.
-    fn instance_begin(&mut self, given: &Given<'_>, name: &Name) -> Result<(), Want>
+    fn instance_begin(&mut self, given: &InstancePointer<'_>, name: &Name) -> Result<(), Want>
         ensures { OnOk result (takes self.old (instance_begin (given_lent given.now) name.now ∷ []) self.new) };
 
     /// Takes a server; its addresses follow.

@@ -20,7 +20,7 @@ use Rattle.mdns_message.specs.RecordSet.{RecordSet}
 use Rattle.mdns_message.specs.Resource.{key_cmp}
 use Rattle.mdns_message.specs.laws.Resource.{key_cmp-total}
 use Rattle.mdns_join.specs.declared.latest.Latest.{Latest}
-use Rattle.mdns_cache.specs.Live.{IsUnheard, IsLast, IsLive, record_of, AreLiveRows, IsEnd, AreLiveRecords}
+use Rattle.mdns_cache.specs.Live.{IsUnheard, IsLast, IsLive, key_of_last, AreLiveRows, IsEnd, AreLiveRecords}
 use Rattle.mdns_cache.specs.LentRecords.{end_held, live_of}
 use Rattle.mdns_cache.specs.Contents.{Contents, last_at, StandsFor}
 use Rattle.mdns_cache.proofs.StandsPartLemmas.{Contains-nil, Contains-head, Contains-later, Contains-cases, same-itself, IsLast-same}
@@ -72,11 +72,11 @@ module _ (flushes : List (RecordSet × List ℕ)) (now : ℕ) where
 
   -- each entry is under the key of its record
   abbrev AreOwn : List (Key × Latest) → Type 0
-  AreOwn es = (k : Key) (x : Latest) → Contains es (k, x) → record_of x ≡ k
+  AreOwn es = (k : Key) (x : Latest) → Contains es (k, x) → key_of_last x ≡ k
 
   -- the records of the rows
   abbrev records : List (Latest × ℕ) → List Key
-  records rows = map (λ (r : Latest × ℕ). record_of r.0) rows
+  records rows = map (λ (r : Latest × ℕ). key_of_last r.0) rows
 
   rows_above : (key : Key) (es : List (Key × Latest)) → AreOwn es
       → AllByRecursion (λ k. key_cmp key k ≡ Less) (keys_of es)
@@ -112,8 +112,8 @@ module _ (c : Contents) (heard : List Hearing) (now : ℕ) (a : IsAsked c now) (
       IsLast-held c heard k l (lookup-from_Contains (eq_by_cmp_equiv key_cmp-total) k l c.lasts
       (IsDistinct-from_sorted key_cmp (keys_of c.lasts) s.contents.lasts.sorted) m) s
 
-  record_of-last : (k : Key) (l : Latest) → IsLast heard k l → record_of l ≡ k
-  record_of-last k l last = sym (ap record_of last.gives) ∙ last.of_record
+  key_of_last-last : (k : Key) (l : Latest) → IsLast heard k l → key_of_last l ≡ k
+  key_of_last-last k l last = sym (ap key_of_last last.gives) ∙ last.of_record
 
   entry_of_last : (k : Key) (l : Latest) → IsLast heard k l → Contains c.lasts (k, l)
   entry_of_last k l last = Contains-from_lookup key_eq-exact k l c.lasts (by (last_at k c) (s.lasts k))
@@ -123,7 +123,7 @@ module _ (c : Contents) (heard : List Hearing) (now : ℕ) (a : IsAsked c now) (
       by (Some x) u = ap Some (IsLast-same heard heard (same-itself heard) k x l u last)
 
   row_is_live : (r : Latest × ℕ) → Contains (live_of c.flushes now c.lasts) r
-      → IsLive heard now (record_of r.0) r.0 × IsEnd heard (record_of r.0) r.1
+      → IsLive heard now (key_of_last r.0) r.0 × IsEnd heard (key_of_last r.0) r.1
   row_is_live r m =
       let w = entry_of_row c.flushes now c.lasts r m in
       let k = w.0.0 in
@@ -131,22 +131,22 @@ module _ (c : Contents) (heard : List Hearing) (now : ℕ) (a : IsAsked c now) (
       let last = last_of_entry k l w.1 in
       let live = (living-held c heard now k l a s last).0 (ltb-true now (end_held c.flushes w.0) w.2) in
       let end = end-held c heard now k l a s live in
-      subst (λ (x : Latest × ℕ). IsLive heard now (record_of x.0) x.0 × IsEnd heard (record_of x.0) x.1) w.3
-      (subst (λ (q : Key). IsLive heard now q l × IsEnd heard q (end_held c.flushes w.0)) (sym (record_of-last k l last)) (live, end))
+      subst (λ (x : Latest × ℕ). IsLive heard now (key_of_last x.0) x.0 × IsEnd heard (key_of_last x.0) x.1) w.3
+      (subst (λ (q : Key). IsLive heard now q l × IsEnd heard q (end_held c.flushes w.0)) (sym (key_of_last-last k l last)) (live, end))
 
-  live_is_row : (l : Latest) (end : ℕ) → IsLive heard now (record_of l) l → IsEnd heard (record_of l) end
+  live_is_row : (l : Latest) (end : ℕ) → IsLive heard now (key_of_last l) l → IsEnd heard (key_of_last l) end
       → Contains (live_of c.flushes now c.lasts) (l, end)
   live_is_row l end v e =
-      let entry : Key × Latest = (record_of l, l) in
-      let later = lt-ltb now (end_held c.flushes entry) ((living-held c heard now (record_of l) l a s v.last).1 v) in
-      let same = same_end heard heard (record_of l) (end_held c.flushes entry) end (same-itself heard)
-      (end-held c heard now (record_of l) l a s v) e in
+      let entry : Key × Latest = (key_of_last l, l) in
+      let later = lt-ltb now (end_held c.flushes entry) ((living-held c heard now (key_of_last l) l a s v.last).1 v) in
+      let same = same_end heard heard (key_of_last l) (end_held c.flushes entry) end (same-itself heard)
+      (end-held c heard now (key_of_last l) l a s v) e in
       subst (λ n. Contains (live_of c.flushes now c.lasts) (l, n)) same
-      (row_of_entry c.flushes now c.lasts entry (entry_of_last (record_of l) l v.last) later)
+      (row_of_entry c.flushes now c.lasts entry (entry_of_last (key_of_last l) l v.last) later)
 
   pub AreLiveRecords-held : AreLiveRecords heard now (live_of c.flushes now c.lasts)
   AreLiveRecords-held = record {
-    ascending = rows_ascend c.flushes now c.lasts (λ k x m. record_of-last k x (last_of_entry k x m)) s.contents.lasts.sorted;
+    ascending = rows_ascend c.flushes now c.lasts (λ k x m. key_of_last-last k x (last_of_entry k x m)) s.contents.lasts.sorted;
     exactly = λ l end. (row_is_live (l, end), λ w. live_is_row l end w.0 w.1);
   }
 
@@ -172,10 +172,10 @@ last_of_row r (q ∷ rows) m = grind (arith, common_steps, Contains-cases, Conta
 pub AreLiveRows-from_records : (heard : List Hearing) (now : ℕ) (rows : List (Latest × ℕ))
     → AreLiveRecords heard now rows → AreLiveRows heard now (map last_of rows)
 AreLiveRows-from_records heard now rows are = record {
-  ascending = subst (IsStrictlySortedBy key_cmp) (sym (map-map record_of last_of rows)) are.ascending;
+  ascending = subst (IsStrictlySortedBy key_cmp) (sym (map-map key_of_last last_of rows)) are.ascending;
   exactly = λ l. (
     λ m. (let w = row_of_last l rows m in ((are.exactly l w.0).0 w.1).0),
-    λ v. (let e = some_end heard (record_of l) l v.last in last_of_row (l, e.0) rows ((are.exactly l e.0).1 (v, e.1))),
+    λ v. (let e = some_end heard (key_of_last l) l v.last in last_of_row (l, e.0) rows ((are.exactly l e.0).1 (v, e.1))),
   );
 }
 

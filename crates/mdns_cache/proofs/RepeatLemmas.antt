@@ -35,15 +35,15 @@ module _ (t : Moment) (message : List ℕ) (hs : List Hearing) (reads : MessageR
   pub reads-at : (u : Moment) → MessageReads u message (map (hearing_of u) reads.told)
   reads-at u = record { header = reads.header; told = reads.told; next = reads.next; sections = reads.sections; heard = refl }
 
-  record_of : (h : Hearing) → Contains hs h → (r : HeardRecord) × (hearing_of t r ≡ h) × Contains reads.told r
-  record_of h m = from_map (hearing_of t) reads.told h (subst (λ (xs : List Hearing). Contains xs h) reads.heard m)
+  key_of_last : (h : Hearing) → Contains hs h → (r : HeardRecord) × (hearing_of t r ≡ h) × Contains reads.told r
+  key_of_last h m = from_map (hearing_of t) reads.told h (subst (λ (xs : List Hearing). Contains xs h) reads.heard m)
 
   -- the hearings of a message are at its moment
   pub moment_in : (h : Hearing) → Contains hs h → t ≡ h.moment
-  moment_in h m = ap (λ (x : Hearing). x.moment) (record_of h m).1
+  moment_in h m = ap (λ (x : Hearing). x.moment) (key_of_last h m).1
 
   pub IsReadOf-heard : (h : Hearing) → Contains hs h → IsReadOf message (record_heard h)
-  IsReadOf-heard h m u = let f = record_of h m in (
+  IsReadOf-heard h m u = let f = key_of_last h m in (
     map (hearing_of u) reads.told,
     reads-at u,
     subst (λ (x : Hearing). Contains (map (hearing_of u) reads.told) (hearing_of u (record_heard x))) f.1

@@ -88,18 +88,18 @@ pub record IsEnd (heard : List Hearing) (key : Key) (end : ℕ) : Type 0 where
       ⊎ ((flush : Hearing) × Strikes heard key last.moment.nanos flush × (flush.moment.nanos + second ≡ end))
 
 -- the record that a last hearing is of
-abbrev pub record_of : Latest → Key
-record_of l = key_of l.resource
+abbrev pub key_of_last : Latest → Key
+key_of_last l = key_of l.resource
 
 -- the rows are the last hearings of the live records, each record once, in key order
 pub record AreLiveRows (heard : List Hearing) (now : ℕ) (rows : List Latest) : Type 0 where
-  pub ascending : IsStrictlySortedBy key_cmp (map record_of rows)
-  pub exactly : (l : Latest) → Contains rows l ↔ IsLive heard now (record_of l) l
+  pub ascending : IsStrictlySortedBy key_cmp (map key_of_last rows)
+  pub exactly : (l : Latest) → Contains rows l ↔ IsLive heard now (key_of_last l) l
 
 -- the rows are the last hearings of the live records with their ends, each record once, in key order
 pub record AreLiveRecords (heard : List Hearing) (now : ℕ) (rows : List (Latest × ℕ)) : Type 0 where
-  pub ascending : IsStrictlySortedBy key_cmp (map (λ (row : Latest × ℕ). record_of row.0) rows)
-  pub exactly : (l : Latest) (end : ℕ) → Contains rows (l, end) ↔ (IsLive heard now (record_of l) l × IsEnd heard (record_of l) end)
+  pub ascending : IsStrictlySortedBy key_cmp (map (λ (row : Latest × ℕ). key_of_last row.0) rows)
+  pub exactly : (l : Latest) (end : ℕ) → Contains rows (l, end) ↔ (IsLive heard now (key_of_last l) l × IsEnd heard (key_of_last l) end)
 
 -- some hearing is a flush of the set at that moment
 pub record IsFlushedAt (heard : List Hearing) (set : RecordSet) (moment : ℕ) : Type 0 where

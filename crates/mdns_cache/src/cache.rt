@@ -166,7 +166,7 @@ impl Cache {
             → MatchOption result (IsUnheard heard key.now) (λ last. IsLast heard key.now (last_lent last)) }
     {
         match self.lasts.get(key) {
-            Some(latest) => Some(shown(latest)),
+            Some(latest) => Some(borrowed_last(latest)),
             None => None,
         }
     }
@@ -236,7 +236,7 @@ pub(crate) fn all_of(held: Option<&Moments>) -> &[Moment]
     }
 }
 
-pub(crate) fn shown(latest: &Latest) -> Last<'_>
+pub(crate) fn borrowed_last(latest: &Latest) -> Last<'_>
     ensures { last_lent result ≡ latest.now }
 {
     Last {

@@ -12,7 +12,7 @@ use mdns_capture::Moment;
 use mdns_capture::moment::SECOND;
 
 /// Returns the life that a TTL gives, in nanoseconds: a goodbye's is one second. At most 4,294,967,295 seconds.
-pub fn life(ttl: u32) -> u64
+pub fn lifetime_nanos(ttl: u32) -> u64
     ensures value { result ≡ life_of ttl }
     ensures bound { result ≤ 4294967295000000000 }
 {
@@ -30,7 +30,7 @@ pub fn end_of(flushes: &[Moment], heard: Moment, ttl: u32) -> u64
     // The greatest moment, 4294967295.999999999, and the longest life, 4,294,967,295 seconds.
     ensures bound { result ≤ 8589934590999999999 }
 {
-    let by_life = heard.nanos() + life(ttl);
+    let by_life = heard.nanos() + lifetime_nanos(ttl);
     match flushes.get(count_early(flushes, heard)) {
         Some(flush) => by_life.min(flush.nanos() + SECOND),
         None => by_life,

@@ -12,7 +12,7 @@ ghost use Rattle.mdns_cache.specs.Live.{NoneLater, IsLive, AreLiveRows, IsEnd, A
 ghost use Rattle.mdns_cache.specs.LentRecords.{last_lent, live_record_lent, live_of};
 ghost use Rattle.mdns_cache.specs.Contents.{StandsFor};
 
-use crate::cache::{Cache, Last, all_of, shown};
+use crate::cache::{Cache, Last, all_of, borrowed_last};
 use crate::lifetime::end_of;
 use mdns_capture::Moment;
 use mdns_join::{FlushWalk, Latest, Moments, Walk};
@@ -147,7 +147,7 @@ fn next_live<'a>(
         let held = all_of(flushes.moments(key.set()));
         let end = end_of(held, latest.moment, latest.ttl);
         if now.nanos() < end {
-            let last = shown(latest);
+            let last = borrowed_last(latest);
             return Some(LiveRecord { last, end });
         }
     }

@@ -32,13 +32,13 @@ const TRUST: u32 = 64;
 
 /// A message that is remembered.
 #[derive(Drop)]
-pub(crate) struct Message {
+pub(crate) struct RememberedMessage {
     bytes: Vec<u8>,
     hearings: usize,
     moments: LateMoments,
 }
 
-impl Model for Message {
+impl Model for RememberedMessage {
     ghost use Rattle.mdns_capture.specs.declared.moment.Moment.{Moment as moment};
     ghost use Rattle.mdns_cache.specs.Repeats.{ReadsAs, Remembered, remembered};
 
@@ -49,13 +49,18 @@ impl Model for Message {
     ghost invariant = { λ a. (t : moment) → ReadsAs t a.bytes.items a.hearings };
 }
 
-impl Message {
+impl RememberedMessage {
     // Makes a message of one moment, with so many hearings.
-    fn new(alloc: Global, message: &[u8], moment: Moment, hearings: usize) -> Result<Message, Want>
+    fn new(
+        alloc: Global,
+        message: &[u8],
+        moment: Moment,
+        hearings: usize,
+    ) -> Result<RememberedMessage, Want>
         requires { (heard : List Hearing) × MessageReads moment message.now heard × (length heard ≡ hearings) }
         ensures { IfOk result (λ new. new ≡ remembered message.now (moment.nanos ∷ [])) }
     {
-        Ok(Message {
+        Ok(RememberedMessage {
             bytes: Vec::from_slice(alloc, message)?,
             hearings,
             moments: LateMoments::of(alloc, moment)?,
@@ -90,8 +95,8 @@ impl Message {
 /// the 64 messages before it was found, if there is room: all together take at most 8 MiB, and each has some moments at
 /// which it came.
 #[derive(Drop)]
-pub struct Messages {
-    messages: Vec<Message>,
+pub struct RememberedMessages {
+    messages: Vec<RememberedMessage>,
 
     // The indices of the messages.
     places: Index,
@@ -109,7 +114,7 @@ pub struct Messages {
     size: usize,
 }
 
-impl Model for Messages {
+impl Model for RememberedMessages {
     ghost use Rattle.std.specs.Prelude.{List};
     ghost use Rattle.mdns_cache.specs.Repeats.{HasSize, Remembered};
 
@@ -120,12 +125,12 @@ impl Model for Messages {
     ghost invariant = { λ a. HasSize a.messages.items a.size };
 }
 
-impl Messages {
+impl RememberedMessages {
     /// Makes a memory of no messages. It allocates nothing yet.
-    pub fn new(alloc: Global) -> Messages
+    pub fn new(alloc: Global) -> RememberedMessages
         ensures { result ≡ [] }
     {
-        Messages {
+        RememberedMessages {
             messages: Vec::new(alloc),
             places: Index::new(alloc),
             once: Once::new(alloc),
@@ -136,10 +141,10 @@ impl Messages {
     }
 
     /// Returns the messages that are remembered.
-    pub(crate) fn into_all(self) -> Vec<Message>
+    pub(crate) fn into_all(self) -> Vec<RememberedMessage>
         ensures { result.items ≡ self }
     {
-        let Messages { messages, .. } = self;
+        let RememberedMessages { messages, .. } = self;
         messages
     }
 
@@ -227,7 +232,7 @@ impl Messages {
         if size > MOST || self.missed > TRUST && !self.once.comes_again(alloc, hash) {
             return false;
         }
-        let Ok(new) = Message::new(alloc, message, moment, read.len()) else {
+        let Ok(new) = RememberedMessage::new(alloc, message, moment, read.len()) else {
             return false;
         };
         let place = self.messages.len();

@@ -26,7 +26,7 @@ use Rattle.dns_name.specs.Name.{folded}
 use Rattle.mdns_message.specs.declared.hearing.Hearing.{Hearing}
 use Rattle.mdns_message.specs.laws.Resource.{bytes_cmp-exact, both_tie}
 use Rattle.mdns_cache.proofs.StandsPartLemmas.{Contains-nil, Contains-head, Contains-later, Contains-cases}
-use Rattle.mdns_listeners.specs.declared.names.Named.{Named}
+use Rattle.mdns_listeners.specs.declared.names.SenderAddressName.{SenderAddressName}
 use Rattle.mdns_listeners.specs.Names.{AddsNames, Covers, HoldsNames, IsAtMost, SufficeFor, named, named_in, told_in, respelled, address_in}
 use Rattle.mdns_listeners.specs.Names.{address_bytes, address_cmp, by_name, by_spelling}
 
@@ -36,11 +36,11 @@ pub address_cmp-total : IsTotalOrder address_cmp
 address_cmp-total = on_total address_bytes nat_list_cmp_total
 
 pub by_name-total : IsTotalOrder by_name
-by_name-total = then_total (on_total (λ (one : Named). one.source) address_cmp-total)
-    (on_total (λ (one : Named). one.folded) nat_list_cmp_total)
+by_name-total = then_total (on_total (λ (one : SenderAddressName). one.source) address_cmp-total)
+    (on_total (λ (one : SenderAddressName). one.folded) nat_list_cmp_total)
 
 pub by_spelling-total : IsTotalOrder by_spelling
-by_spelling-total = then_total by_name-total (on_total (λ (one : Named). one.name) nat_list_cmp_total)
+by_spelling-total = then_total by_name-total (on_total (λ (one : SenderAddressName). one.name) nat_list_cmp_total)
 
 pub address-same : (a b : SourceAddress) → address_bytes a ≡ address_bytes b → a ≡ b
 address-same (V4 a) (V4 b) e = ap V4 (let same : a ≡ b = cc in same)
@@ -65,14 +65,14 @@ not_less a b n e = absurd (false≢true (sym n ∙ ap is_lt (nat_list_cmp_total.
 pub bytes_upto : (a b c : List ℕ) → slice_cmp nat_cmp a b ≢ Greater → slice_cmp nat_cmp b c ≢ Greater → slice_cmp nat_cmp a c ≢ Greater
 bytes_upto a b c p q = from_not_greater _ (upto nat_list_cmp_total a b c (not_greater _ p) (not_greater _ q))
 
-pub IsAtMost-itself : (one : Named) → IsAtMost one one
+pub IsAtMost-itself : (one : SenderAddressName) → IsAtMost one one
 IsAtMost-itself one = record {
   source = refl;
   folded = refl;
   name = from_not_greater _ (ap is_gt (tied_itself nat_list_cmp_total one.name));
 }
 
-pub IsAtMost-onward : (a b c : Named) → IsAtMost a b → IsAtMost b c → IsAtMost a c
+pub IsAtMost-onward : (a b c : SenderAddressName) → IsAtMost a b → IsAtMost b c → IsAtMost a c
 IsAtMost-onward a b c p q = record {
   source = p.source ∙ q.source;
   folded = p.folded ∙ q.folded;
@@ -81,7 +81,7 @@ IsAtMost-onward a b c p q = record {
 
 -- ---- one more name
 
-pub Covers-push : (held told : List Named) (one : Named) → Covers held told → Covers (held ++ one ∷ []) (told ++ one ∷ [])
+pub Covers-push : (held told : List SenderAddressName) (one : SenderAddressName) → Covers held told → Covers (held ++ one ∷ []) (told ++ one ∷ [])
 Covers-push held told one covers = record {
   among = λ x m. ⊎_elim (λ h. Contains-append_left told (one ∷ []) x (covers.among x h))
       (λ e. subst (Contains (told ++ one ∷ [])) e (Contains-push told one)) (Contains-push_cases held one x m);
@@ -89,7 +89,7 @@ Covers-push held told one covers = record {
       (λ e. (one, Contains-push held one, subst (IsAtMost one) e (IsAtMost-itself one))) (Contains-push_cases told one x m);
 }
 
-pub Covers-onward : (a b c : List Named) → Covers a b → Covers b c → Covers a c
+pub Covers-onward : (a b c : List SenderAddressName) → Covers a b → Covers b c → Covers a c
 Covers-onward a b c p q = record {
   among = λ x m. q.among x (p.among x m);
   each = λ x m. (let w = q.each x m in let v = p.each w.0 w.1 in (v.0, v.1, IsAtMost-onward v.0 w.0 x v.2 w.2));
@@ -97,23 +97,23 @@ Covers-onward a b c p q = record {
 
 -- ---- a lesser spelling
 
-from_set : (xs : List Named) (i : ℕ) (v x : Named) → i < length xs → Contains (set xs i v) x → (v ≡ x) ⊎ Contains xs x
+from_set : (xs : List SenderAddressName) (i : ℕ) (v x : SenderAddressName) → i < length xs → Contains (set xs i v) x → (v ≡ x) ⊎ Contains xs x
 from_set xs i v x within m = ⊎_elim
     (λ same. inl (sym (get_or-set_same xs i v x within) ∙ ap (λ k. get_or (set xs i v) k x) (sym same) ∙ m.2))
     (λ apart. inr (m.0, omega (arith, m.1, length-set xs i v), sym (get_or-set_other xs i m.0 v x apart) ∙ m.2))
     (cases_eq m.0 i)
 
-in_set : (xs : List Named) (i : ℕ) (v x d : Named) → i < length xs → Contains xs x → (get_or xs i d ≡ x) ⊎ Contains (set xs i v) x
+in_set : (xs : List SenderAddressName) (i : ℕ) (v x d : SenderAddressName) → i < length xs → Contains xs x → (get_or xs i d ≡ x) ⊎ Contains (set xs i v) x
 in_set xs i v x d within m = ⊎_elim
     (λ same. inl (ap (λ k. get_or xs k d) (sym same) ∙ get_or_default xs m.0 d x m.1 ∙ m.2))
     (λ apart. inr (m.0, omega (arith, m.1, length-set xs i v), get_or-set_other xs i m.0 v x apart ∙ m.2))
     (cases_eq m.0 i)
 
-at_set : (xs : List Named) (i : ℕ) (v : Named) → i < length xs → Contains (set xs i v) v
+at_set : (xs : List SenderAddressName) (i : ℕ) (v : SenderAddressName) → i < length xs → Contains (set xs i v) v
 at_set xs i v within = (i, omega (arith, length-set xs i v), get_or-set_same xs i v v within)
 
 -- the name at a place in its spelling, which is no greater than that of `one`
-kept_spelling : (held told : List Named) (place : ℕ) (d one : Named) → place < length held → IsAtMost (get_or held place d) one
+kept_spelling : (held told : List SenderAddressName) (place : ℕ) (d one : SenderAddressName) → place < length held → IsAtMost (get_or held place d) one
     → Covers held told → Covers held (told ++ one ∷ [])
 kept_spelling held told place d one within le covers = record {
   among = λ x m. Contains-append_left told (one ∷ []) x (covers.among x m);
@@ -123,7 +123,7 @@ kept_spelling held told place d one within le covers = record {
 }
 
 -- the name at a place replaced by `one`, which is at most it
-less_spelling : (held told : List Named) (place : ℕ) (d one : Named) → place < length held → IsAtMost one (get_or held place d)
+less_spelling : (held told : List SenderAddressName) (place : ℕ) (d one : SenderAddressName) → place < length held → IsAtMost one (get_or held place d)
     → Covers held told → Covers (set held place one) (told ++ one ∷ [])
 less_spelling held told place d one within le covers = record {
   among = λ x m. ⊎_elim (λ e. subst (Contains (told ++ one ∷ [])) e (Contains-push told one))
@@ -132,12 +132,12 @@ less_spelling held told place d one within le covers = record {
       (λ e. (one, at_set held place one within, subst (IsAtMost one) e (IsAtMost-itself one))) (Contains-push_cases told one x m);
 }
   where
-    before : (x : Named) → (f : Named) × Contains held f × IsAtMost f x → (f : Named) × Contains (set held place one) f × IsAtMost f x
+    before : (x : SenderAddressName) → (f : SenderAddressName) × Contains held f × IsAtMost f x → (f : SenderAddressName) × Contains (set held place one) f × IsAtMost f x
     before x w = ⊎_elim
         (λ same. (one, at_set held place one within, IsAtMost-onward one w.0 x (subst (IsAtMost one) same le) w.2))
         (λ there. (w.0, there, w.2)) (in_set held place one w.0 d within w.1)
 
-pub Covers-respelled : (held told : List Named) (place : ℕ) (d : Named) (source : SourceAddress) (owner : List ℕ) → place < length held
+pub Covers-respelled : (held told : List SenderAddressName) (place : ℕ) (d : SenderAddressName) (source : SourceAddress) (owner : List ℕ) → place < length held
     → (get_or held place d).source ≡ source → (get_or held place d).folded ≡ folded owner → Covers held told
     → Covers (set held place (respelled (get_or held place d) owner)) (told ++ named source owner ∷ [])
 Covers-respelled held told place d source owner within same_source same_folded covers =
@@ -167,14 +167,14 @@ Covers-respelled held told place d source owner within same_source same_folded c
 
 -- ---- sorted names, of which the first of each is kept
 
-abbrev same_name : Named → Named → Bool
+abbrev same_name : SenderAddressName → SenderAddressName → Bool
 same_name x y = is_eq (by_name x y)
 
-abbrev Ascend : List Named → Type 0
+abbrev Ascend : List SenderAddressName → Type 0
 Ascend [] = Unit {0}
 Ascend (x ∷ xs) = All (λ y. is_lt (by_spelling y x) ≡ false) xs × Ascend xs
 
-Ascend-from_sorted : (xs : List Named) → ((i j : ℕ) (d : Named) → i ≤ j → j < length xs
+Ascend-from_sorted : (xs : List SenderAddressName) → ((i j : ℕ) (d : SenderAddressName) → i ≤ j → j < length xs
     → is_lt (by_spelling (get_or xs j d) (get_or xs i d)) ≡ false) → Ascend xs
 Ascend-from_sorted [] far = tt
 Ascend-from_sorted (x ∷ xs) far = (
@@ -188,7 +188,7 @@ is_Equal Equal e = refl
 is_Equal Greater e = absurd (false≢true e)
 
 -- a name that isn't below another one of the same address and folded name
-later_spelling : (x k : Named) → same_name x k ≡ true → is_lt (by_spelling x k) ≡ false → IsAtMost k x
+later_spelling : (x k : SenderAddressName) → same_name x k ≡ true → is_lt (by_spelling x k) ≡ false → IsAtMost k x
 later_spelling x k same not =
     let equal = is_Equal (by_name x k) same in
     let parts = both_tie _ _ equal in
@@ -198,17 +198,17 @@ later_spelling x k same not =
       name = not_less x.name k.name (subst (λ o. is_lt (ordering_then o (slice_cmp nat_cmp x.name k.name)) ≡ false) equal not);
     }
 
-kept_first : (xs : List Named) (k : Named) → Ascend (k ∷ xs) → (e : Named) → Contains (k ∷ xs) e
-    → (f : Named) × Contains (dedup_from same_name k xs) f × IsAtMost f e
+kept_first : (xs : List SenderAddressName) (k : SenderAddressName) → Ascend (k ∷ xs) → (e : SenderAddressName) → Contains (k ∷ xs) e
+    → (f : SenderAddressName) × Contains (dedup_from same_name k xs) f × IsAtMost f e
 kept_first [] k up e m = ⊎_elim (λ same. (k, Contains-head k [], subst (IsAtMost k) same (IsAtMost-itself k)))
     (λ none. absurd (Contains-nil e none)) (Contains-cases k [] e m)
 kept_first (x ∷ xs) k up e m =
     elim (same_name x k) as (λ b. same_name x k ≡ b
-    → (f : Named) × Contains (cond b (dedup_from same_name k xs) (k ∷ dedup_from same_name x xs)) f × IsAtMost f e) [
+    → (f : SenderAddressName) × Contains (cond b (dedup_from same_name k xs) (k ∷ dedup_from same_name x xs)) f × IsAtMost f e) [
       | true ↦ λ same. (
           let rest : Ascend (k ∷ xs) = (All-tail (λ y. is_lt (by_spelling y k) ≡ false) x xs up.0, up.1.1) in
-          let onward = λ (w : (f : Named) × Contains (dedup_from same_name k xs) f × IsAtMost f k).
-          let r : (f : Named) × Contains (dedup_from same_name k xs) f × IsAtMost f x = (
+          let onward = λ (w : (f : SenderAddressName) × Contains (dedup_from same_name k xs) f × IsAtMost f k).
+          let r : (f : SenderAddressName) × Contains (dedup_from same_name k xs) f × IsAtMost f x = (
             w.0,
             w.1,
             IsAtMost-onward w.0 k x w.2
@@ -216,7 +216,7 @@ kept_first (x ∷ xs) k up e m =
           ) in r in
           ⊎_elim (λ here. kept_first xs k rest e (subst (Contains (k ∷ xs)) here (Contains-head k xs)))
           (λ later. ⊎_elim
-          (λ next. subst (λ (y : Named). (f : Named) × Contains (dedup_from same_name k xs) f × IsAtMost f y) next
+          (λ next. subst (λ (y : SenderAddressName). (f : SenderAddressName) × Contains (dedup_from same_name k xs) f × IsAtMost f y) next
           (onward (kept_first xs k rest k (Contains-head k xs))))
           (λ there. kept_first xs k rest e (Contains-later k xs e there)) (Contains-cases x xs e later))
           (Contains-cases k (x ∷ xs) e m))
@@ -226,17 +226,17 @@ kept_first (x ∷ xs) k up e m =
           (Contains-cases k (x ∷ xs) e m)
     ] refl
 
-kept_each : (xs : List Named) → Ascend xs → (e : Named) → Contains xs e → (f : Named) × Contains (dedup same_name xs) f × IsAtMost f e
+kept_each : (xs : List SenderAddressName) → Ascend xs → (e : SenderAddressName) → Contains xs e → (f : SenderAddressName) × Contains (dedup same_name xs) f × IsAtMost f e
 kept_each [] up e m = absurd (Contains-nil e m)
 kept_each (x ∷ xs) up e m = kept_first xs x up e m
 
-module _ (names sorted kept : List Named) (moved : IsPermutation names sorted) (up : IsSorted by_spelling sorted)
+module _ (names sorted kept : List SenderAddressName) (moved : IsPermutation names sorted) (up : IsSorted by_spelling sorted)
     (are : kept ≡ dedup same_name sorted) where
   pub kept_covers : Covers kept names
   kept_covers = record {
     among = λ x m. Contains-permutation sorted names x (IsPermutation-sym names sorted moved)
-        (Contains-from_dedup same_name sorted x (subst (λ (xs : List Named). Contains xs x) are m));
-    each = λ x m. subst (λ (xs : List Named). (f : Named) × Contains xs f × IsAtMost f x) (sym are)
+        (Contains-from_dedup same_name sorted x (subst (λ (xs : List SenderAddressName). Contains xs x) are m));
+    each = λ x m. subst (λ (xs : List SenderAddressName). (f : SenderAddressName) × Contains xs f × IsAtMost f x) (sym are)
         (kept_each sorted (Ascend-from_sorted sorted
         (sorted_far (λ x y. is_lt (by_spelling x y)) (ranks_by by_spelling-total (λ x. x)) sorted up))
         x (Contains-permutation names sorted x moved m));
@@ -253,27 +253,27 @@ module _ (names sorted kept : List Named) (moved : IsPermutation names sorted) (
 
 -- ---- hearings
 
-Covers-itself : (names : List Named) → Covers names names
+Covers-itself : (names : List SenderAddressName) → Covers names names
 Covers-itself names = record { among = λ x m. m; each = λ x m. (x, m, IsAtMost-itself x) }
 
-adds-none : (held : List Named) → AddsNames held held []
+adds-none : (held : List SenderAddressName) → AddsNames held held []
 adds-none held told covers = subst (Covers held) (sym (append-nil told)) covers
 
 -- the name that a hearing tells, if any
-pub adds-told : (old new : List Named) (h : Hearing) (source : SourceAddress) → address_in h.heard.body ≡ Some source
+pub adds-told : (old new : List SenderAddressName) (h : Hearing) (source : SourceAddress) → address_in h.heard.body ≡ Some source
     → AddsNames old new (named source h.heard.owner ∷ []) → AddsNames old new (told_in (h ∷ []))
 adds-told old new h source is =
     subst (AddsNames old new) (ap (λ o. cons_option (option_map (λ s. named s h.heard.owner) o) []) (sym is))
 
-pub adds-untold : (held : List Named) (h : Hearing) → address_in h.heard.body ≡ None → AddsNames held held (told_in (h ∷ []))
+pub adds-untold : (held : List SenderAddressName) (h : Hearing) → address_in h.heard.body ≡ None → AddsNames held held (told_in (h ∷ []))
 adds-untold held h none =
     subst (AddsNames held held) (ap (λ o. cons_option (option_map (λ s. named s h.heard.owner) o) []) (sym none)) (adds-none held)
 
 -- the names of some hearings, and then of one more
-pub adds_first : (held : List Named) → AddsNames held held (told_in [])
+pub adds_first : (held : List SenderAddressName) → AddsNames held held (told_in [])
 adds_first held = adds-none held
 
-pub adds_next : (a b c : List Named) (heard : List Hearing) (h : Hearing) → AddsNames a b (told_in heard)
+pub adds_next : (a b c : List SenderAddressName) (heard : List Hearing) (h : Hearing) → AddsNames a b (told_in heard)
     → AddsNames b c (told_in (h ∷ [])) → AddsNames a c (told_in (heard ++ h ∷ []))
 adds_next a b c heard h p q told covers =
     subst (Covers c)
@@ -282,26 +282,26 @@ adds_next a b c heard h p q told covers =
     (q (told ++ told_in heard) (p told covers))
 
 -- names suffice for those that were held before, and for those that were added
-pub adds_keeps : (old new more : List Named) → AddsNames old new more → SufficeFor new old
+pub adds_keeps : (old new more : List SenderAddressName) → AddsNames old new more → SufficeFor new old
 adds_keeps old new more adds x m = (adds old (Covers-itself old)).each x (Contains-append_left old more x m)
 
-pub adds-suffice : (old new more : List Named) → AddsNames old new more → SufficeFor new more
+pub adds-suffice : (old new more : List SenderAddressName) → AddsNames old new more → SufficeFor new more
 adds-suffice old new more adds x m = (adds old (Covers-itself old)).each x (Contains-append_right old more x m)
 
-pub suffice-onward : (a b c : List Named) → SufficeFor a b → SufficeFor b c → SufficeFor a c
+pub suffice-onward : (a b c : List SenderAddressName) → SufficeFor a b → SufficeFor b c → SufficeFor a c
 suffice-onward a b c p q x m = let w = q x m in let v = p w.0 w.1 in (v.0, v.1, IsAtMost-onward v.0 w.0 x v.2 w.2)
 
-pub suffice-adds : (held more : List Named) → SufficeFor held more → AddsNames held held more
+pub suffice-adds : (held more : List SenderAddressName) → SufficeFor held more → AddsNames held held more
 suffice-adds held more suffice told covers = record {
   among = λ x m. Contains-append_left told more x (covers.among x m);
   each = λ x m. ⊎_elim (covers.each x) (suffice x) (Contains-append_cases told more x m);
 }
 
-pub HoldsNames-more : (old new : List Named) (heard more : List Hearing) → AddsNames old new (told_in more) → HoldsNames old heard
+pub HoldsNames-more : (old new : List SenderAddressName) (heard more : List Hearing) → AddsNames old new (told_in more) → HoldsNames old heard
     → HoldsNames new (heard ++ more)
 HoldsNames-more old new heard more adds holds = record {
   covers = subst (Covers new) (sym (filter_map-append named_in heard more)) (adds (told_in heard) holds.covers);
 }
 
-pub HoldsNames-kept : (kept held : List Named) (heard : List Hearing) → Covers kept held → HoldsNames held heard → HoldsNames kept heard
+pub HoldsNames-kept : (kept held : List SenderAddressName) (heard : List Hearing) → Covers kept held → HoldsNames held heard → HoldsNames kept heard
 HoldsNames-kept kept held heard covers holds = record { covers = Covers-onward kept held (told_in heard) covers holds.covers }

@@ -17,7 +17,7 @@ use Rattle.mdns_cache.specs.Repeats.{ReadsAs}
 use Rattle.mdns_cache.proofs.MemoryLemmas.{reads_as}
 use Rattle.mdns_cache.proofs.RepeatLemmas.{reads-at}
 use Rattle.mdns_listeners.specs.declared.kept.Noted.{Noted}
-use Rattle.mdns_listeners.specs.declared.names.Named.{Named}
+use Rattle.mdns_listeners.specs.declared.names.SenderAddressName.{SenderAddressName}
 use Rattle.mdns_listeners.specs.Heard.{HasWholeAddress}
 use Rattle.mdns_listeners.specs.Kept.{AreKept, ArePlaced, IsRead, KeptMessage, kept_messages, next_kept, payload_in, told_by}
 use Rattle.mdns_listeners.specs.Names.{SufficeFor, named_in, told_in}
@@ -64,7 +64,7 @@ told-alike t u message hs gs reads read =
     ap told_in (one_hearing_list t message hs (map (hearing_of t) read.told) reads (reads-at u message gs read t))
     ∙ any-moment t u read.told ∙ ap told_in (sym read.heard)
 
-is-read : (names : List Named) (one : KeptMessage) (payload : List ℕ) (t : Moment) (hs : List Hearing)
+is-read : (names : List SenderAddressName) (one : KeptMessage) (payload : List ℕ) (t : Moment) (hs : List Hearing)
     → ((i : ℕ) → get_or payload i 0 < 256) → payload_in one.message ≡ payload → MessageReads t payload hs → (hs ≡ [] → ⊥)
     → length hs ≡ one.hearings → SufficeFor names (told_in hs) → IsRead names one
 is-read names one payload t [] fits is reads some counted suffice = absurd (some refl)
@@ -75,7 +75,7 @@ is-read names one payload t (h ∷ hs) fits is reads some counted suffice = reco
       (told-alike t u payload (h ∷ hs) gs reads (subst (λ m. MessageReads u m gs) is read)) suffice;
 }
 
-module _ (names : List Named) (one : KeptMessage) (payload : List ℕ) (read : IsRead names one) (is : payload_in one.message ≡ payload)
+module _ (names : List SenderAddressName) (one : KeptMessage) (payload : List ℕ) (read : IsRead names one) (is : payload_in one.message ≡ payload)
     (t : Moment) where
   pub known-reads : ReadsAs t payload one.hearings
   known-reads = subst (λ m. ReadsAs t m one.hearings) is (read.reads t)
@@ -94,7 +94,7 @@ module _ (names : List Named) (one : KeptMessage) (payload : List ℕ) (read : I
 
 -- ---- what is kept and told after a message more
 
-pub kept-names : (kept : List KeptMessage) (times : List Noted) (old new : List Named) → AreKept kept times old → SufficeFor new old
+pub kept-names : (kept : List KeptMessage) (times : List Noted) (old new : List SenderAddressName) → AreKept kept times old → SufficeFor new old
     → AreKept kept times new
 kept-names kept times old new are keeps = record {
   placed = are.placed;
@@ -117,7 +117,7 @@ placed-push kept one is placed k d l = elim (cases_lt k (length kept)) [
       ap (λ o. o.place) (get_or_push kept one d k end) ∙ is ∙ end
 ]
 
-kept-push : (kept : List KeptMessage) (times : List Noted) (names : List Named) (one : KeptMessage) → AreKept kept times names
+kept-push : (kept : List KeptMessage) (times : List Noted) (names : List SenderAddressName) (one : KeptMessage) → AreKept kept times names
     → one.place ≡ length kept → HasWholeAddress one.message → IsRead names one → AreKept (kept ++ one ∷ []) times names
 kept-push kept times names one are last whole read = record {
   placed = placed-push kept one last are.placed;
@@ -127,7 +127,7 @@ kept-push kept times names one are last whole read = record {
 }
 
 -- a message that was read is kept, and names suffice for its hearings
-pub kept-more : (kept new : List KeptMessage) (times : List Noted) (old names : List Named) (payload message bytes : List ℕ) (t : Moment)
+pub kept-more : (kept new : List KeptMessage) (times : List Noted) (old names : List SenderAddressName) (payload message bytes : List ℕ) (t : Moment)
     (hs : List Hearing) (count : ℕ) → AreKept kept times old → SufficeFor names old → SufficeFor names (told_in hs)
     → ((i : ℕ) → get_or payload i 0 < 256) → message ≡ bytes → HasWholeAddress bytes → payload_in bytes ≡ payload
     → MessageReads t payload hs → (hs ≡ [] → ⊥) → count ≡ length hs → new ≡ kept ++ next_kept kept message count ∷ []
@@ -138,7 +138,7 @@ kept-more kept new times old names payload message bytes t hs count are keeps su
     (kept-push kept times names one (kept-names kept times old names are keeps) refl (subst HasWholeAddress (sym is) whole)
     (is-read names one payload t hs fits (ap payload_in is ∙ carried) reads some (sym counted) suffice))
 
-pub kept-noted : (kept : List KeptMessage) (times : List Noted) (names : List Named) (noted : Noted) → AreKept kept times names
+pub kept-noted : (kept : List KeptMessage) (times : List Noted) (names : List SenderAddressName) (noted : Noted) → AreKept kept times names
     → noted.place < length kept → AreKept kept (times ++ noted ∷ []) names
 kept-noted kept times names noted are within = record {
   placed = are.placed;
@@ -148,7 +148,7 @@ kept-noted kept times names noted are within = record {
 }
 
 -- what was told before stays so
-pub told-push : (kept : List KeptMessage) (times : List Noted) (names : List Named) (one : KeptMessage) → AreKept kept times names
+pub told-push : (kept : List KeptMessage) (times : List Noted) (names : List SenderAddressName) (one : KeptMessage) → AreKept kept times names
     → told_by (kept_messages (kept ++ one ∷ [])) times ≡ told_by (kept_messages kept) times
 told-push kept times names one are =
     map-agree _ _ times (λ i d l. λ j. record {
@@ -173,7 +173,7 @@ message-push kept one =
     ∙ get_or_push (kept_messages kept) one.message [] (length kept) (length-map kept (λ o. o.message))
 
 -- what was told has whole addresses
-pub told-whole : (kept : List KeptMessage) (times : List Noted) (names : List Named) → AreKept kept times names
+pub told-whole : (kept : List KeptMessage) (times : List Noted) (names : List SenderAddressName) → AreKept kept times names
     → All (λ told. HasWholeAddress told.message) (told_by (kept_messages kept) times)
 told-whole kept times names is =
     All-map (λ told. HasWholeAddress told.message) _ times (λ i d l.
@@ -184,7 +184,7 @@ told-whole kept times names is =
 
 -- ---- messages in another order
 
-pub placed-permuted : (kept others : List KeptMessage) (times : List Noted) (names : List Named) → AreKept kept times names
+pub placed-permuted : (kept others : List KeptMessage) (times : List Noted) (names : List SenderAddressName) → AreKept kept times names
     → IsPermutation kept others → ArePlaced (kept_messages kept) others
 placed-permuted kept others times names is moved =
     let long : length (kept_messages kept) ≡ length kept = length-map kept (λ o. o.message) in
@@ -204,6 +204,6 @@ placed-permuted kept others times names is moved =
           );
     }
 
-pub within-permuted : (kept others : List KeptMessage) (times : List Noted) (names : List Named) → AreKept kept times names
+pub within-permuted : (kept others : List KeptMessage) (times : List Noted) (names : List SenderAddressName) → AreKept kept times names
     → IsPermutation kept others → All (λ noted. noted.place < length others) times
 within-permuted kept others times names is moved = λ k d l. omega (arith, is.within k d l, length_permutation kept others moved)

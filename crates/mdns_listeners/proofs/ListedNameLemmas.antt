@@ -21,14 +21,14 @@ use Rattle.dns_name.specs.Name.{folded}
 use Rattle.mdns_message.specs.declared.hearing.Hearing.{Hearing}
 use Rattle.mdns_message.specs.laws.Resource.{bytes_cmp-exact}
 use Rattle.mdns_cache.proofs.StandsPartLemmas.{Contains-nil, Contains-head, Contains-later, Contains-cases, Contains-map, from_map}
-use Rattle.mdns_listeners.specs.declared.names.Named.{Named}
+use Rattle.mdns_listeners.specs.declared.names.SenderAddressName.{SenderAddressName}
 use Rattle.mdns_listeners.specs.Names.{IsNameOf, IsLeastName, AreNames, HoldsNames, address_in, by_folded}
 use Rattle.mdns_listeners.specs.Names.{named, named_in, told_in, address_cmp, by_name}
 use Rattle.mdns_listeners.proofs.HeldNameLemmas.{address_cmp-total, address_cmp-exact, by_name-total, is_Equal}
 
 -- ---- what hearings tell
 
-told_from : (heard : List Hearing) (e : Named) → Contains (told_in heard) e
+told_from : (heard : List Hearing) (e : SenderAddressName) → Contains (told_in heard) e
     → (h : Hearing) × Contains heard h × (named_in h ≡ Some e)
 told_from [] e m = absurd (Contains-nil e m)
 told_from (h ∷ heard) e m =
@@ -44,7 +44,7 @@ told_from (h ∷ heard) e m =
     later : (g : Hearing) × Contains heard g × (named_in g ≡ Some e) → (g : Hearing) × Contains (h ∷ heard) g × (named_in g ≡ Some e)
     later w = (w.0, Contains-later h heard w.0 w.1, w.2)
 
-told_of : (heard : List Hearing) (h : Hearing) (e : Named) → Contains heard h → named_in h ≡ Some e → Contains (told_in heard) e
+told_of : (heard : List Hearing) (h : Hearing) (e : SenderAddressName) → Contains heard h → named_in h ≡ Some e → Contains (told_in heard) e
 told_of [] h e m some = absurd (Contains-nil h m)
 told_of (g ∷ heard) h e m some =
     elim (Contains-cases g heard h m) [
@@ -57,11 +57,11 @@ told_of (g ∷ heard) h e m some =
         [ None ↦ c | Some d ↦ Contains-later d (told_in heard) e c ]
 
 -- what a hearing tells is the name of its address, beside the folded name
-pub record Tells (heard : List Hearing) (e : Named) : Type 0 where
+pub record Tells (heard : List Hearing) (e : SenderAddressName) : Type 0 where
   pub is_name : IsNameOf e.source heard e.name
   pub folded_is : e.folded ≡ folded e.name
 
-told-tells : (heard : List Hearing) (e : Named) (h : Hearing) → Contains heard h → named_in h ≡ Some e → Tells heard e
+told-tells : (heard : List Hearing) (e : SenderAddressName) (h : Hearing) → Contains heard h → named_in h ≡ Some e → Tells heard e
 told-tells heard e h m =
     elim (address_in h.heard.body) as (λ o. address_in h.heard.body ≡ o
     → option_map (λ source. named source h.heard.owner) o ≡ Some e → Tells heard e) [
@@ -74,7 +74,7 @@ told-tells heard e h m =
           }))
     ] refl
 
-pub Tells-from_told : (heard : List Hearing) (e : Named) → Contains (told_in heard) e → Tells heard e
+pub Tells-from_told : (heard : List Hearing) (e : SenderAddressName) → Contains (told_in heard) e → Tells heard e
 Tells-from_told heard e m = let w = told_from heard e m in told-tells heard e w.0 w.1 w.2
 
 pub told-name : (sender : SourceAddress) (heard : List Hearing) (name : List ℕ) → IsNameOf sender heard name
@@ -94,7 +94,7 @@ all_contains P (y ∷ xs) x all m = elim (Contains-cases y xs x m) [
   | inr rest ↦ all_contains P xs x all.1 rest
 ]
 
-pub one_of_tied : (xs : List Named) (a b : Named) → IsStrictlySortedBy by_name xs → Contains xs a → Contains xs b
+pub one_of_tied : (xs : List SenderAddressName) (a b : SenderAddressName) → IsStrictlySortedBy by_name xs → Contains xs a → Contains xs b
     → by_name a b ≡ Equal → a ≡ b
 unfolding IsStrictlySortedBy
 one_of_tied [] a b sorted m n tied = absurd (Contains-nil a m)
@@ -161,20 +161,20 @@ module _ {X : Type 0} (test : X → Bool) where
 -- ---- the names of one sender
 
 module _ (sender : SourceAddress) where
-  abbrev pub is_of : Named → Bool
+  abbrev pub is_of : SenderAddressName → Bool
   is_of one = is_eq (address_cmp one.source sender)
 
-  is_of-same : (one : Named) → is_of one ≡ true → one.source ≡ sender
+  is_of-same : (one : SenderAddressName) → is_of one ≡ true → one.source ≡ sender
   is_of-same one passes = address_cmp-exact one.source sender (is_Equal _ passes)
 
-  same-is_of : (one : Named) → one.source ≡ sender → is_of one ≡ true
+  same-is_of : (one : SenderAddressName) → one.source ≡ sender → is_of one ≡ true
   same-is_of one same = ap (λ source. is_eq (address_cmp source sender)) same ∙ ap is_eq (tied_itself address_cmp-total sender)
 
   -- names of the sender, each beside itself folded
-  abbrev AreOf : Named → Type 0
+  abbrev AreOf : SenderAddressName → Type 0
   AreOf one = (one.source ≡ sender) × (one.folded ≡ folded one.name)
 
-  folded_order : (x y : Named) → AreOf x → AreOf y → by_name x y ≡ Less → by_folded x.name y.name ≡ Less
+  folded_order : (x y : SenderAddressName) → AreOf x → AreOf y → by_name x y ≡ Less → by_folded x.name y.name ≡ Less
   folded_order x y p q less =
       let same : address_cmp x.source y.source ≡ Equal = ap (address_cmp x.source) (q.0 ∙ sym p.0)
       ∙ tied_itself address_cmp-total x.source in
@@ -182,7 +182,7 @@ module _ (sender : SourceAddress) where
       subst (λ o. ordering_then o (slice_cmp nat_cmp x.folded y.folded) ≡ Less) same less in
       ap (λ f. slice_cmp nat_cmp f (folded y.name)) (sym p.1) ∙ ap (slice_cmp nat_cmp x.folded) (sym q.1) ∙ after
 
-  below_all : (x : Named) (xs : List Named) → AreOf x → ((y : Named) → Contains xs y → AreOf y)
+  below_all : (x : SenderAddressName) (xs : List SenderAddressName) → AreOf x → ((y : SenderAddressName) → Contains xs y → AreOf y)
       → AllByRecursion (λ y. by_name x y ≡ Less) xs
       → AllByRecursion (λ name. by_folded x.name name ≡ Less) (map (λ one. one.name) xs)
   below_all x [] of each all = tt
@@ -191,7 +191,7 @@ module _ (sender : SourceAddress) where
     below_all x xs of (λ z m. each z (Contains-later y xs z m)) all.1,
   )
 
-  names_ascend : (xs : List Named) → ((y : Named) → Contains xs y → AreOf y) → IsStrictlySortedBy by_name xs
+  names_ascend : (xs : List SenderAddressName) → ((y : SenderAddressName) → Contains xs y → AreOf y) → IsStrictlySortedBy by_name xs
       → IsStrictlySortedBy by_folded (map (λ one. one.name) xs)
   unfolding IsStrictlySortedBy
   names_ascend [] each sorted = tt
@@ -200,20 +200,20 @@ module _ (sender : SourceAddress) where
     names_ascend xs (λ y m. each y (Contains-later x xs y m)) sorted.1,
   )
 
-  module _ (heard : List Hearing) (held : List Named) (up : IsStrictlySortedBy by_name held) (holds : HoldsNames held heard) where
-    abbrev own : List Named
+  module _ (heard : List Hearing) (held : List SenderAddressName) (up : IsStrictlySortedBy by_name held) (holds : HoldsNames held heard) where
+    abbrev own : List SenderAddressName
     own = filter is_of held
 
-    of_own : (one : Named) → Contains own one → AreOf one
+    of_own : (one : SenderAddressName) → Contains own one → AreOf one
     of_own one m =
         let w = from_filter is_of held one m in
         (is_of-same one w.1, (Tells-from_told heard one (holds.covers.among one w.0)).folded_is)
 
-    name_own : (one : Named) → Contains held one → one.source ≡ sender → IsNameOf sender heard one.name
+    name_own : (one : SenderAddressName) → Contains held one → one.source ≡ sender → IsNameOf sender heard one.name
     name_own one m same = subst (λ source. IsNameOf source heard one.name) same
         (Tells-from_told heard one (holds.covers.among one m)).is_name
 
-    least_own : (one : Named) → Contains own one → IsLeastName sender heard one.name
+    least_own : (one : SenderAddressName) → Contains own one → IsLeastName sender heard one.name
     least_own one m =
         let w = from_filter is_of held one m in
         let of = of_own one m in
@@ -225,7 +225,7 @@ module _ (sender : SourceAddress) where
               ap (λ o. ordering_then o (slice_cmp nat_cmp v.0.folded one.folded))
               (ap (address_cmp v.0.source) (of.0 ∙ sym v.2.source) ∙ tied_itself address_cmp-total v.0.source)
               ∙ ap (slice_cmp nat_cmp v.0.folded) (of.1 ∙ sym same ∙ sym v.2.folded) ∙ tied_itself nat_list_cmp_total v.0.folded in
-              subst (λ (x : Named). slice_cmp nat_cmp x.name other ≢ Greater) (one_of_tied held v.0 one up v.1 w.0 tied) v.2.name);
+              subst (λ (x : SenderAddressName). slice_cmp nat_cmp x.name other ≢ Greater) (one_of_tied held v.0 one up v.1 w.0 tied) v.2.name);
         }
 
     both_least : (a b : List ℕ) → slice_cmp nat_cmp a b ≢ Greater → slice_cmp nat_cmp b a ≢ Greater → a ≡ b
@@ -235,19 +235,19 @@ module _ (sender : SourceAddress) where
       | Greater ↦ λ e. absurd (p e)
     ] refl
 
-    own_least : (name : List ℕ) → IsLeastName sender heard name → Contains (map (λ (one : Named). one.name) own) name
+    own_least : (name : List ℕ) → IsLeastName sender heard name → Contains (map (λ (one : SenderAddressName). one.name) own) name
     own_least name least =
         let v = holds.covers.each (named sender name) (told-name sender heard name least.is_name) in
         let tells = Tells-from_told heard v.0 (holds.covers.among v.0 v.1) in
         let back = least.least v.0.name (name_own v.0 v.1 v.2.source) (sym tells.folded_is ∙ v.2.folded) in
-        subst (Contains (map (λ (one : Named). one.name) own)) (both_least v.0.name name v.2.name back)
-        (Contains-map (λ (one : Named). one.name) own v.0 (in_filter is_of held v.0 v.1 (same-is_of v.0 v.2.source)))
+        subst (Contains (map (λ (one : SenderAddressName). one.name) own)) (both_least v.0.name name v.2.name back)
+        (Contains-map (λ (one : SenderAddressName). one.name) own v.0 (in_filter is_of held v.0 v.1 (same-is_of v.0 v.2.source)))
 
-    pub own_names : AreNames sender heard (map (λ (one : Named). one.name) own)
+    pub own_names : AreNames sender heard (map (λ (one : SenderAddressName). one.name) own)
     own_names = record {
       ascending = names_ascend own of_own (IsStrictlySortedBy-filter by_name is_of held up);
       exactly = λ name. (
-        λ m. (let w = from_map (λ (one : Named). one.name) own name m in subst (IsLeastName sender heard) w.1 (least_own w.0 w.2)),
+        λ m. (let w = from_map (λ (one : SenderAddressName). one.name) own name m in subst (IsLeastName sender heard) w.1 (least_own w.0 w.2)),
         own_least name,
       );
     }
@@ -284,16 +284,16 @@ first_part Less p e = inl refl
 first_part Equal p e = inr refl
 first_part Greater p e = absurd (let no : Greater ≡ Less = e in cc)
 
-module _ (sender : SourceAddress) (sources : List SourceAddress) (held : List Named) (are : sources ≡ map (λ one. one.source) held)
+module _ (sender : SourceAddress) (sources : List SourceAddress) (held : List SenderAddressName) (are : sources ≡ map (λ one. one.source) held)
     (up : IsStrictlySortedBy by_name held) where
-  abbrev blank : SourceAddress → Named
+  abbrev blank : SourceAddress → SenderAddressName
   blank source = record { source = source; folded = []; name = [] }
 
-  source_at : (k : ℕ) (d : Named) → get_or sources k d.source ≡ (get_or held k d).source
-  source_at k d = ap (λ xs. get_or xs k d.source) are ∙ get_or-map (λ (one : Named). one.source) held k d
+  source_at : (k : ℕ) (d : SenderAddressName) → get_or sources k d.source ≡ (get_or held k d).source
+  source_at k d = ap (λ xs. get_or xs k d.source) are ∙ get_or-map (λ (one : SenderAddressName). one.source) held k d
 
   count_same : length sources ≡ length held
-  count_same = ap length are ∙ length-map held (λ (one : Named). one.source)
+  count_same = ap length are ∙ length-map held (λ (one : SenderAddressName). one.source)
 
   rising : (i j : ℕ) (d : SourceAddress) → i ≤ j → j < length sources
       → (address_cmp (get_or sources i d) (get_or sources j d) ≡ Less) ⊎ (address_cmp (get_or sources i d) (get_or sources j d) ≡ Equal)
@@ -351,28 +351,28 @@ module _ (sender : SourceAddress) (sources : List SourceAddress) (held : List Na
       length_after : length after ≡ length held - first
       length_after = ap length rest ∙ length-drop first sources ∙ ap (λ n. n - first) count_same
 
-      after_at : (k : ℕ) (d : Named) → get_or after k d.source ≡ (get_or (drop first held) k d).source
+      after_at : (k : ℕ) (d : SenderAddressName) → get_or after k d.source ≡ (get_or (drop first held) k d).source
       after_at k d = ap (λ xs. get_or xs k d.source) rest ∙ get_or-drop first sources k d.source ∙ source_at (first + k) d
-          ∙ ap (λ (one : Named). one.source) (sym (get_or-drop first held k d))
+          ∙ ap (λ (one : SenderAddressName). one.source) (sym (get_or-drop first held k d))
 
-      at_after : (k : ℕ) (d : Named) (P : Ordering → Type 0) → P (address_cmp (get_or after k d.source) sender)
+      at_after : (k : ℕ) (d : SenderAddressName) (P : Ordering → Type 0) → P (address_cmp (get_or after k d.source) sender)
           → P (address_cmp (get_or (drop first held) k d).source sender)
       at_after k d P p = subst (λ s. P (address_cmp s sender)) (after_at k d) p
 
-      not_below : (k : ℕ) (d : Named) → k < length after → is_lt (address_cmp (get_or (drop first held) k d).source sender) ≡ false
+      not_below : (k : ℕ) (d : SenderAddressName) → k < length after → is_lt (address_cmp (get_or (drop first held) k d).source sender) ≡ false
       not_below k d lt = at_after k d (λ o. is_lt o ≡ false)
           (subst (λ xs. is_lt (address_cmp (get_or xs k d.source) sender) ≡ false) (sym rest)
           (subst (λ s. is_lt (address_cmp s sender) ≡ false) (sym (get_or-drop first sources k d.source))
           (below.1 (first + k) d.source (omega arith) (omega (arith, lt, length_after, count_same)))))
 
 -- what is found is the names of the sender
-pub names_found : (sender : SourceAddress) (heard : List Hearing) (held : List Named) (names : List (List ℕ)) (first count : ℕ)
+pub names_found : (sender : SourceAddress) (heard : List Hearing) (held : List SenderAddressName) (names : List (List ℕ)) (first count : ℕ)
     → IsStrictlySortedBy by_name held → HoldsNames held heard → names ≡ map (λ one. one.name) held
     → filter (is_of sender) held ≡ take count (drop first held) → AreNames sender heard (take count (drop first names))
 names_found sender heard held names first count up holds are own =
     subst (AreNames sender heard)
-    (ap (map (λ (one : Named). one.name)) own ∙ sym (take-map (λ (one : Named). one.name) count (drop first held))
-    ∙ ap (take count) (sym (drop-map (λ (one : Named). one.name) first held)) ∙ ap (λ xs. take count (drop first xs)) (sym are))
+    (ap (map (λ (one : SenderAddressName). one.name)) own ∙ sym (take-map (λ (one : SenderAddressName). one.name) count (drop first held))
+    ∙ ap (take count) (sym (drop-map (λ (one : SenderAddressName). one.name) first held)) ∙ ap (λ xs. take count (drop first xs)) (sym are))
     (own_names sender heard held up holds)
 
 pub after_whole : (xs : List SourceAddress) (first : ℕ) → take (length xs - first) (drop first xs) ≡ drop first xs

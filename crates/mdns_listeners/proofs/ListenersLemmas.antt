@@ -14,7 +14,7 @@ use Rattle.mdns_browse.specs.declared.report.Form.{Form}
 use Rattle.mdns_survey.proofs.ListenedLemmas.{all_hearings-more}
 use Rattle.mdns_survey.specs.Outcomes.{Outcome, heard, hearings_in, hearings_of_outcome}
 use Rattle.mdns_survey.specs.Surveys.{all_hearings}
-use Rattle.mdns_listeners.specs.declared.listeners.Gatherer.{Gatherer}
+use Rattle.mdns_listeners.specs.declared.listeners.MessageCollector.{MessageCollector}
 use Rattle.mdns_listeners.specs.declared.senders.SenderRow.{SenderRow}
 use Rattle.mdns_survey.specs.declared.reading.Span.{Span}
 use Rattle.mdns_listeners.specs.declared.heard.HeardAt.{HeardAt}
@@ -94,7 +94,7 @@ abbrev told_by : SourceAddress → List ℕ → HeardAt → List Told
 told_by source payload at = record { message = message_bytes source payload; at = at } ∷ []
 
 -- a packet that told its hearings was taken
-pub gathers-told : (begun old new : Gatherer) (packets : List PacketAt) (outcomes : List Outcome) (packet : PacketAt)
+pub gathers-told : (begun old new : MessageCollector) (packets : List PacketAt) (outcomes : List Outcome) (packet : PacketAt)
     (source : SourceAddress) (payload : List ℕ) (hearings : List Hearing) → Gathers begun old packets outcomes
     → new.of.items ≡ old.of.items → new.place ≡ old.place
     → HearsMessage source payload (heard_at old packet.moment) hearings old.messages new.messages
@@ -122,7 +122,7 @@ gathers-told begun old new packets outcomes packet source payload (hearing ∷ h
     }
 
 -- a packet that told nothing was taken
-pub gathers-nothing : (begun now : Gatherer) (packets : List PacketAt) (outcomes : List Outcome) (packet : PacketAt)
+pub gathers-nothing : (begun now : MessageCollector) (packets : List PacketAt) (outcomes : List Outcome) (packet : PacketAt)
     (outcome : Outcome) → Gathers begun now packets outcomes → Tells (listener_at begun.of.items begun.place) packet outcome []
     → hearings_of_outcome outcome ≡ [] → Gathers begun now (packets ++ packet ∷ []) (outcomes ++ outcome ∷ [])
 gathers-nothing begun now packets outcomes packet outcome took tells none =
@@ -139,7 +139,7 @@ gathers-nothing begun now packets outcomes packet outcome took tells none =
       names = λ earlier held. subst (λ hs. HoldsNames now.messages.names (earlier ++ hs)) (sym same) (took.names earlier held);
     }
 
-pub gathers-untold : (begun now : Gatherer) (packets : List PacketAt) (outcomes : List Outcome) (packet : PacketAt)
+pub gathers-untold : (begun now : MessageCollector) (packets : List PacketAt) (outcomes : List Outcome) (packet : PacketAt)
     (outcome none : Outcome) → Gathers begun now packets outcomes → outcome ≡ none
     → ((listener : ℕ) → Tells listener packet none []) → hearings_of_outcome none ≡ []
     → Gathers begun now (packets ++ packet ∷ []) (outcomes ++ outcome ∷ [])
@@ -147,8 +147,8 @@ gathers-untold begun now packets outcomes packet outcome none took is tells unto
     subst (λ o. Gathers begun now (packets ++ packet ∷ []) (outcomes ++ o ∷ [])) (sym is)
     (gathers-nothing begun now packets outcomes packet none took (tells (listener_at begun.of.items begun.place)) untold)
 
--- a gatherer that took nothing
-pub gathers-none : (now : Gatherer) → Gathers now now [] []
+-- a collector that took nothing
+pub gathers-none : (now : MessageCollector) → Gathers now now [] []
 gathers-none now = record {
   of = refl;
   place = refl;
@@ -159,7 +159,7 @@ gathers-none now = record {
 }
 
 -- one capture more was read
-pub gathered-more : (of : List ℕ) (old now new : Gatherer) (packets : List (List PacketAt)) (outcomes : List (List Outcome))
+pub gathered-more : (of : List ℕ) (old now new : MessageCollector) (packets : List (List PacketAt)) (outcomes : List (List Outcome))
     (next : List PacketAt) (come : List Outcome) → Gathered of old packets outcomes → Gathers old now next come
     → new.of.items ≡ now.of.items → new.place ≡ min (suc now.place) (length now.of.items) → new.messages ≡ now.messages
     → Gathered of new (packets ++ next ∷ []) (outcomes ++ come ∷ [])

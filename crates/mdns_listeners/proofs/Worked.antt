@@ -54,7 +54,7 @@ abbrev words : ℕ → ℕ → Option Quartiles → List ℕ
 words common by quartiles = clock_words (codes "b.pcap") (row common by quartiles)
 
 abbrev three : ℤ → ℤ → ℤ → Option Quartiles
-three ahead low high = Some (record { ahead = ahead; low = low; high = high })
+three ahead low high = Some (record { middle = ahead; low = low; high = high })
 
 no_message : words 0 0 None ≡ codes "nothing in common: another link, or another filter?"
 unfolding clock_words

@@ -85,7 +85,7 @@ files = refl
 -- ---- quartiles
 
 abbrev parts : ℤ → ℤ → ℤ → Option Quartiles
-parts ahead low high = Some (record { ahead = ahead; low = low; high = high })
+parts ahead low high = Some (record { middle = ahead; low = low; high = high })
 
 quartiles-none : quartiles_of [] ≡ None
 quartiles-none = refl

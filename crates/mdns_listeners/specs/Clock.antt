@@ -16,11 +16,11 @@ is_near nanos = nat_le (unsigned_abs nanos) clock_limit
 
 -- the clocks agree: the median and the quartiles are near 0
 abbrev pub is_one_clock : Quartiles → Bool
-is_one_clock quartiles = is_near quartiles.ahead && is_near quartiles.low && is_near quartiles.high
+is_one_clock quartiles = is_near quartiles.middle && is_near quartiles.low && is_near quartiles.high
 
 -- the clocks stay equally far apart: the quartiles are near the median
 abbrev pub is_steady : Quartiles → Bool
-is_steady quartiles = is_near (quartiles.low -ℤ quartiles.ahead) && is_near (quartiles.high -ℤ quartiles.ahead)
+is_steady quartiles = is_near (quartiles.low -ℤ quartiles.middle) && is_near (quartiles.high -ℤ quartiles.middle)
 
 abbrev pub messages_word : ℕ → List ℕ
 messages_word count = if count == 1 then codes "message" else codes "messages"
@@ -49,8 +49,8 @@ unsteady_words by low high = codes "unsteady: " ++ signed_text low ++ codes " to
 
 abbrev pub quartile_words : List ℕ → ℕ → Quartiles → List ℕ
 quartile_words file by quartiles =
-    if is_one_clock quartiles then one_clock_words by quartiles.ahead
-    else (if is_steady quartiles then ahead_words file by quartiles.ahead else unsteady_words by quartiles.low quartiles.high)
+    if is_one_clock quartiles then one_clock_words by quartiles.middle
+    else (if is_steady quartiles then ahead_words file by quartiles.middle else unsteady_words by quartiles.low quartiles.high)
 
 abbrev pub known_words : List ℕ → ℕ → Option Quartiles → List ℕ
 known_words file by None = codes "can't tell: no message came once in both"

@@ -15,7 +15,7 @@ use Rattle.mdns_listeners.specs.declared.numbers.ListenerRow.{ListenerRow}
 use Rattle.mdns_listeners.specs.declared.pairs.PairRow.{PairRow}
 use Rattle.mdns_listeners.specs.declared.senders.SenderRow.{SenderRow}
 use Rattle.mdns_listeners.specs.Clock.{clock_words}
-use Rattle.mdns_listeners.specs.Named.{NamedSender, file_at}
+use Rattle.mdns_listeners.specs.Named.{NamedSender, listener_name_at}
 use Rattle.mdns_listeners.specs.Table.{table_text}
 
 -- ---- cells
@@ -60,7 +60,7 @@ listener_cells file row =
     file ∷ decimal row.heard ∷ decimal row.alone ∷ decimal row.missed
     ∷ moment_shown (first_of row.span) ∷ moment_shown (last_of row.span) ∷ []
 
--- the cells of two listeners whose files are written so
+-- the cells of two listeners whose names are written so
 abbrev pub pair_cells : List ℕ → List ℕ → PairRow → List (List ℕ)
 pair_cells file other row = file ∷ other ∷ decimal row.common ∷ clock_words other row ∷ []
 
@@ -83,22 +83,22 @@ abbrev pub sender_heads : List (List ℕ)
 sender_heads =
     codes "SENDER" ∷ codes "LISTENER" ∷ codes "HEARD" ∷ codes "MISSED" ∷ codes "FROM" ∷ codes "UNTIL" ∷ codes "NAMES" ∷ []
 
--- ---- tables, among files that are written so; a listener's row with its position
+-- ---- tables, among listeners whose names are written so; a listener's row with its position
 
 abbrev pub cells_of_listener : List (List ℕ) → ℕ × ListenerRow → List (List ℕ)
-cells_of_listener files (listener, row) = listener_cells (file_at files listener) row
+cells_of_listener listener_names (listener, row) = listener_cells (listener_name_at listener_names listener) row
 
 abbrev pub cells_of_pair : List (List ℕ) → PairRow → List (List ℕ)
-cells_of_pair files row = pair_cells (file_at files row.one) (file_at files row.other) row
+cells_of_pair listener_names row = pair_cells (listener_name_at listener_names row.one) (listener_name_at listener_names row.other) row
 
 abbrev pub cells_of_sender : List (List ℕ) → NamedSender → List (List ℕ)
-cells_of_sender files sender = sender_cells (file_at files sender.row.listener) sender.row sender.names
+cells_of_sender listener_names sender = sender_cells (listener_name_at listener_names sender.row.listener) sender.row sender.names
 
 abbrev pub listener_table : List (List ℕ) → List ListenerRow → List ℕ
-listener_table files rows = table_text (listener_heads ∷ map (cells_of_listener files) (enumerate_from 0 rows))
+listener_table listener_names rows = table_text (listener_heads ∷ map (cells_of_listener listener_names) (enumerate_from 0 rows))
 
 abbrev pub pair_table : List (List ℕ) → List PairRow → List ℕ
-pair_table files rows = table_text (pair_heads ∷ map (cells_of_pair files) rows)
+pair_table listener_names rows = table_text (pair_heads ∷ map (cells_of_pair listener_names) rows)
 
 abbrev pub sender_table : List (List ℕ) → List NamedSender → List ℕ
-sender_table files senders = table_text (sender_heads ∷ map (cells_of_sender files) senders)
+sender_table listener_names senders = table_text (sender_heads ∷ map (cells_of_sender listener_names) senders)

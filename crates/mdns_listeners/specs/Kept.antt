@@ -13,7 +13,7 @@ use Rattle.mdns_message.specs.Message.{MessageReads}
 use Rattle.mdns_cache.specs.Repeats.{ReadsAs}
 use Rattle.mdns_listeners.specs.declared.heard.HeardAt.{HeardAt}
 use Rattle.mdns_listeners.specs.declared.kept.Noted.{Noted}
-use Rattle.mdns_listeners.specs.declared.names.Named.{Named}
+use Rattle.mdns_listeners.specs.declared.names.SenderAddressName.{SenderAddressName}
 use Rattle.mdns_listeners.specs.Heard.{Told, HasWholeAddress, HeardRow, message_bytes, messages_of, times_of}
 use Rattle.mdns_listeners.specs.Names.{HoldsNames, SufficeFor, told_in}
 
@@ -26,7 +26,7 @@ pub record KeptMessage : Type 0 where
 -- what was told, and the names of senders that are held
 pub record HeardSoFar : Type 0 where
   pub told : List Told
-  pub names : List Named
+  pub names : List SenderAddressName
 
 -- a message was heard, with these hearings
 pub record HearsMessage (source : SourceAddress) (payload : List ℕ) (at : HeardAt) (hearings : List Hearing) (old new : HeardSoFar)
@@ -48,14 +48,14 @@ abbrev pub told_by : List (List ℕ) → List Noted → List Told
 told_by messages times = map (λ noted. record { message = slice_index_or messages noted.place []; at = noted.at }) times
 
 -- At any moment a message's payload reads to so many hearings, at least one, and the names that are held suffice for theirs.
-pub record IsRead (names : List Named) (one : KeptMessage) : Type 0 where
+pub record IsRead (names : List SenderAddressName) (one : KeptMessage) : Type 0 where
   pub some : 0 < one.hearings
   pub reads : (moment : Moment) → ReadsAs moment (payload_in one.message) one.hearings
   pub named : (moment : Moment) (hearings : List Hearing) → MessageReads moment (payload_in one.message) hearings
       → SufficeFor names (told_in hearings)
 
 -- Each message knows its place, has its sender's address and was read, and each time has the place of a message.
-pub record AreKept (kept : List KeptMessage) (times : List Noted) (names : List Named) : Type 0 where
+pub record AreKept (kept : List KeptMessage) (times : List Noted) (names : List SenderAddressName) : Type 0 where
   pub placed : (k : ℕ) (d : KeptMessage) → k < length kept → (slice_index_or kept k d).place ≡ k
   pub addressed : All (λ one. HasWholeAddress one.message) kept
   pub read : All (IsRead names) kept

@@ -38,7 +38,7 @@ span_words (Some span) = codes " from " ++ moment_text span.first.nanos ++ codes
 unfoldable pub median_words : Option Quartiles → List ℕ
 median_words None = codes " ahead - from - to -"
 median_words (Some quartiles) =
-    (codes " ahead " ++ signed_text quartiles.ahead) ++ (codes " from " ++ signed_text quartiles.low)
+    (codes " ahead " ++ signed_text quartiles.middle) ++ (codes " from " ++ signed_text quartiles.low)
     ++ (codes " to " ++ signed_text quartiles.high)
 
 -- the line of a listener whose file is written so
@@ -47,7 +47,7 @@ listener_line file row =
     file ++ codes " heard " ++ decimal row.heard ++ codes " alone " ++ decimal row.alone ++ codes " missed " ++ decimal row.missed
     ++ span_words row.span ++ 10 ∷ []
 
--- the line of two listeners whose files are written so
+-- the line of two listeners whose names are written so
 unfoldable pub pair_line : List ℕ → List ℕ → PairRow → List ℕ
 pair_line file other row =
     file ++ 32 ∷ other ++ codes " common " ++ decimal row.common ++ median_words row.quartiles

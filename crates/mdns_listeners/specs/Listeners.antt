@@ -24,7 +24,7 @@ use Rattle.mdns_listeners.specs.Numbers.{FileSpans, listener_rows, spans_of_list
 use Rattle.mdns_listeners.specs.Pairs.{pair_rows}
 use Rattle.mdns_listeners.specs.Senders.{sender_rows}
 use Rattle.mdns_listeners.specs.declared.heard.HeardAt.{HeardAt}
-use Rattle.mdns_listeners.specs.declared.listeners.Gatherer.{Gatherer}
+use Rattle.mdns_listeners.specs.declared.listeners.MessageCollector.{MessageCollector}
 use Rattle.mdns_listeners.specs.declared.senders.SenderRow.{SenderRow}
 
 -- ---- which messages were told
@@ -78,7 +78,7 @@ pub record SaysFacts (names : List (List ℕ)) (form : Form) (rows : List HeardR
   pub senders : List NamedSender
   pub are_named : AreNamed hearings (sender_rows rows spans) senders
   pub lines : text ≡ listeners_text form (record {
-    files = names;
+    listener_names = names;
     listeners = listener_rows rows spans;
     pairs = pair_rows rows spans;
     senders = senders;
@@ -108,12 +108,12 @@ asked_listeners groups form = asked_at_once (λ captures. AreListeners groups fo
 
 -- ---- while captures are read
 
--- when the listener whose capture a gatherer reads hears a packet of that moment
-abbrev pub heard_at : Gatherer → Moment → HeardAt
-heard_at gatherer moment = record { listener = listener_at gatherer.of.items gatherer.place; moment = moment }
+-- when the listener whose capture a collector reads hears a packet of that moment
+abbrev pub heard_at : MessageCollector → Moment → HeardAt
+heard_at collector moment = record { listener = listener_at collector.of.items collector.place; moment = moment }
 
--- A gatherer took these packets, with their outcomes, of the capture that it reads.
-pub record Gathers (begun now : Gatherer) (packets : List PacketAt) (outcomes : List Outcome) : Type 0 where
+-- A collector took these packets, with their outcomes, of the capture that it reads.
+pub record Gathers (begun now : MessageCollector) (packets : List PacketAt) (outcomes : List Outcome) : Type 0 where
   pub of : now.of.items ≡ begun.of.items
   pub place : now.place ≡ begun.place
   pub told : List Told
@@ -122,13 +122,13 @@ pub record Gathers (begun now : Gatherer) (packets : List PacketAt) (outcomes : 
   pub names : (earlier : List Hearing) → HoldsNames begun.messages.names earlier
       → HoldsNames now.messages.names (earlier ++ hearings_in outcomes)
 
--- A gatherer that had read nothing took these captures, whose listeners these are.
-pub record Gathered (of : List ℕ) (now : Gatherer) (packets : List (List PacketAt)) (outcomes : List (List Outcome)) : Type 0 where
+-- A collector that had read nothing took these captures, whose listeners these are.
+pub record Gathered (of : List ℕ) (now : MessageCollector) (packets : List (List PacketAt)) (outcomes : List (List Outcome)) : Type 0 where
   pub listeners : now.of.items ≡ of
   pub place : now.place ≡ min (length packets) (length of)
   pub tell : CapturesTell of 0 packets outcomes now.messages.told
   pub names : HoldsNames now.messages.names (all_hearings outcomes)
 
 -- the same from a first state to a second
-abbrev pub GathersAll : Gatherer → Gatherer → List (List PacketAt) → List (List Outcome) → Type 0
+abbrev pub GathersAll : MessageCollector → MessageCollector → List (List PacketAt) → List (List Outcome) → Type 0
 GathersAll begun now packets outcomes = Gathered begun.of.items now packets outcomes

@@ -1,4 +1,4 @@
--- Rows of senders with the names that they go by, and the files that rows name by their positions.
+-- Rows of senders with the names that they go by, and the names of the listeners that rows give by their positions.
 use Rattle.std.specs.Prelude.{ℕ, List, [], slice_index_or}
 use Rattle.mdns_listeners.specs.declared.named.NamedSender.{NamedSender as LentSender}
 use Rattle.mdns_listeners.specs.declared.senders.SenderRow.{SenderRow}
@@ -13,5 +13,5 @@ abbrev pub sender_lent : LentSender → NamedSender
 sender_lent sender = record { row = sender.row; names = sender.names.now }
 
 -- the file of the listener at a position; empty if there is no such listener
-abbrev pub file_at : List (List ℕ) → ℕ → List ℕ
-file_at files listener = slice_index_or files listener []
+abbrev pub listener_name_at : List (List ℕ) → ℕ → List ℕ
+listener_name_at listener_names listener = slice_index_or listener_names listener []

@@ -14,7 +14,7 @@ use Rattle.dns_name.specs.Name.{folded}
 use Rattle.mdns_message.specs.declared.body.RecordData.TheVariants.{A, Aaaa}
 use Rattle.mdns_message.specs.declared.hearing.Hearing.{Hearing}
 use Rattle.mdns_message.specs.Resource.{Body}
-use Rattle.mdns_listeners.specs.declared.names.Named.{Named}
+use Rattle.mdns_listeners.specs.declared.names.SenderAddressName.{SenderAddressName}
 
 -- the address that is the data of an A or AAAA record
 abbrev pub address_in : Body → Option SourceAddress
@@ -55,56 +55,56 @@ abbrev pub address_cmp : SourceAddress → SourceAddress → Ordering
 address_cmp = on address_bytes (slice_cmp nat_cmp)
 
 -- an address with a name of its
-abbrev pub named : SourceAddress → List ℕ → Named
+abbrev pub named : SourceAddress → List ℕ → SenderAddressName
 named source name = record { source = source; folded = folded name; name = name }
 
 -- the address and the name that a hearing tells
-abbrev pub named_in : Hearing → Option Named
+abbrev pub named_in : Hearing → Option SenderAddressName
 named_in hearing = option_map (λ source. named source hearing.heard.owner) (address_in hearing.heard.body)
 
 -- those that the hearings tell, in their order
-abbrev pub told_in : List Hearing → List Named
+abbrev pub told_in : List Hearing → List SenderAddressName
 told_in heard = filter_map named_in heard
 
 -- one address and, once folded, one name, of which the first spelling isn't greater
-pub record IsAtMost (one other : Named) : Type 0 where
+pub record IsAtMost (one other : SenderAddressName) : Type 0 where
   pub source : one.source ≡ other.source
   pub folded : one.folded ≡ other.folded
   pub name : slice_cmp nat_cmp one.name other.name ≢ Greater
 
 -- the name in the spelling, if that is less
-abbrev pub respelled : Named → List ℕ → Named
+abbrev pub respelled : SenderAddressName → List ℕ → SenderAddressName
 respelled one spelling =
     if is_lt (slice_cmp nat_cmp spelling one.name) then record { source = one.source; folded = one.folded; name = spelling } else one
 
 -- some of those told, among which each one told has one that is at most it
-pub record Covers (held told : List Named) : Type 0 where
-  pub among : (one : Named) → Contains held one → Contains told one
-  pub each : (other : Named) → Contains told other → (one : Named) × Contains held one × IsAtMost one other
+pub record Covers (held told : List SenderAddressName) : Type 0 where
+  pub among : (one : SenderAddressName) → Contains held one → Contains told one
+  pub each : (other : SenderAddressName) → Contains told other → (one : SenderAddressName) × Contains held one × IsAtMost one other
 
 -- names are held that suffice for those of all senders
-pub record HoldsNames (held : List Named) (heard : List Hearing) : Type 0 where
+pub record HoldsNames (held : List SenderAddressName) (heard : List Hearing) : Type 0 where
   pub covers : Covers held (told_in heard)
 
 -- the names that are held suffice for those told: each of these has one that is at most it
-abbrev pub SufficeFor : List Named → List Named → Type 0
-SufficeFor held told = (other : Named) → Contains told other → (one : Named) × Contains held one × IsAtMost one other
+abbrev pub SufficeFor : List SenderAddressName → List SenderAddressName → Type 0
+SufficeFor held told = (other : SenderAddressName) → Contains told other → (one : SenderAddressName) × Contains held one × IsAtMost one other
 
 -- the new names cover what the old ones covered, and more that was told
-abbrev pub AddsNames : List Named → List Named → List Named → Type 0
-AddsNames old new more = (told : List Named) → Covers old told → Covers new (told ++ more)
+abbrev pub AddsNames : List SenderAddressName → List SenderAddressName → List SenderAddressName → Type 0
+AddsNames old new more = (told : List SenderAddressName) → Covers old told → Covers new (told ++ more)
 
 -- by address, then by folded name
-abbrev pub by_name : Named → Named → Ordering
+abbrev pub by_name : SenderAddressName → SenderAddressName → Ordering
 by_name = then_cmp (on (λ one. one.source) address_cmp) (on (λ one. one.folded) (slice_cmp nat_cmp))
 
 -- by address, folded name and spelling
-abbrev pub by_spelling : Named → Named → Ordering
+abbrev pub by_spelling : SenderAddressName → SenderAddressName → Ordering
 by_spelling = then_cmp by_name (on (λ one. one.name) (slice_cmp nat_cmp))
 
 -- the addresses, and the name beside each, of names that suffice, each address and folded name once and in order
 pub record ListsNames (lists : List SourceAddress × List (List ℕ)) (heard : List Hearing) : Type 0 where
-  pub held : List Named
+  pub held : List SenderAddressName
   pub ascending : IsStrictlySortedBy by_name held
   pub suffices : HoldsNames held heard
   pub sources : lists.0 ≡ map (λ one. one.source) held

@@ -30,7 +30,7 @@ span_members (Some span) =
 unfoldable pub ahead_members : Option Quartiles → List (List ℕ)
 ahead_members None = null_member (codes "ahead") ∷ null_member (codes "low") ∷ null_member (codes "high") ∷ []
 ahead_members (Some quartiles) =
-    text_member (codes "ahead") (signed_text quartiles.ahead) ∷ text_member (codes "low") (signed_text quartiles.low)
+    text_member (codes "ahead") (signed_text quartiles.middle) ∷ text_member (codes "low") (signed_text quartiles.low)
     ∷ text_member (codes "high") (signed_text quartiles.high) ∷ []
 
 -- the line of a listener whose file is written so
@@ -40,7 +40,7 @@ listener_json file row =
     (text_member (codes "file") file ∷ number_member (codes "heard") row.heard ∷ number_member (codes "alone") row.alone
     ∷ number_member (codes "missed") row.missed ∷ span_members row.span) ++ 10 ∷ []
 
--- the line of two listeners whose files are written so
+-- the line of two listeners whose names are written so
 unfoldable pub pair_json : List ℕ → List ℕ → PairRow → List ℕ
 pair_json file other row =
     json_object

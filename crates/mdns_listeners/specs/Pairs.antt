@@ -58,7 +58,7 @@ pub record AreAhead (one other : ℕ) (rows : List HeardRow) (ahead : List ℤ) 
 -- the items of an ascending list at the half, at the first quarter and at the last quarter, where this is its last index
 abbrev pub quartiles_to : List ℤ → ℕ → Quartiles
 quartiles_to ahead last = record {
-  ahead = slice_index_or ahead (last / 2) (pos 0);
+  middle = slice_index_or ahead (last / 2) (pos 0);
   low = slice_index_or ahead (last / 4) (pos 0);
   high = slice_index_or ahead (last - last / 4) (pos 0);
 }

@@ -43,10 +43,10 @@ fn push_quartile_words(
     ensures { OnOk result (string_bytes to.new ≡ string_bytes to.old ++ quartile_words file.now by quartiles) }
 {
     if is_one_clock(quartiles) {
-        return push_one_clock(to, by, quartiles.ahead);
+        return push_one_clock(to, by, quartiles.middle);
     }
     if is_steady(quartiles) {
-        return push_ahead(to, file, by, quartiles.ahead);
+        return push_ahead(to, file, by, quartiles.middle);
     }
     push_unsteady(to, by, quartiles.low, quartiles.high)
 }
@@ -123,15 +123,15 @@ fn push_shifted_file(to: &mut String, file: &str) -> Result<(), Want>
 pub fn is_one_clock(quartiles: Quartiles) -> bool
     ensures { result ≡ is_one_clock quartiles }
 {
-    is_near(quartiles.ahead) && is_near(quartiles.low) && is_near(quartiles.high)
+    is_near(quartiles.middle) && is_near(quartiles.low) && is_near(quartiles.high)
 }
 
 /// Checks that the clocks of two listeners stay equally far apart: that the quartiles are within `CLOCK_LIMIT` of the median.
 pub fn is_steady(quartiles: Quartiles) -> bool
     ensures { result ≡ is_steady quartiles }
 {
-    quartiles.low.abs_diff(quartiles.ahead) <= CLOCK_LIMIT
-        && quartiles.high.abs_diff(quartiles.ahead) <= CLOCK_LIMIT
+    quartiles.low.abs_diff(quartiles.middle) <= CLOCK_LIMIT
+        && quartiles.high.abs_diff(quartiles.middle) <= CLOCK_LIMIT
 }
 
 fn is_near(nanos: i64) -> bool

@@ -1,5 +1,5 @@
-//! The rows of listeners, of pairs and of senders as tables for people. `files` are the texts of the listeners' files, in the
-//! order of the listeners. After `Want` the contents of `to` are not specified.
+//! The rows of listeners, of pairs and of senders as tables for people. `listener_names` are the names of the listeners as
+//! they are written, in the order of the listeners. After `Want` the contents of `to` are not specified.
 
 ghost use Rattle.std.specs.Prelude.{◌≡◌, ◌≤◌, ◌++◌, map, take, OnOk, string_bytes};
 ghost use Rattle.std.specs.List.{enumerate_from, flat_map, fold};
@@ -11,8 +11,8 @@ ghost use Rattle.mdns_listeners.specs.Named.{sender_lent};
 ghost use Rattle.mdns_listeners.specs.TablePieces.{row_line, widened};
 
 use crate::cell::Cell;
-use crate::layout::Layout;
-use crate::named::{NamedSender, file_at};
+use crate::layout::TableLayout;
+use crate::named::{NamedSender, listener_name_at};
 use crate::numbers::ListenerRow;
 use crate::pairs::PairRow;
 use crate::senders::SenderRow;
@@ -25,18 +25,18 @@ use std::alloc::Global;
 pub(crate) fn push_listener_table(
     alloc: Global,
     to: &mut String,
-    files: &[String],
+    listener_names: &[String],
     rows: &[ListenerRow],
 ) -> Result<(), Want>
     ensures { OnOk result (string_bytes to.new
-        ≡ string_bytes to.old ++ listener_table (map string_bytes files.now) rows.now) }
+        ≡ string_bytes to.old ++ listener_table (map string_bytes listener_names.now) rows.now) }
 {
     let heads = listener_heads();
-    let mut layout = Layout::new(alloc);
+    let mut layout = TableLayout::new(alloc);
     layout.widen(&heads)?;
-    widen_to_listeners(&mut layout, files, rows)?;
+    widen_to_listeners(&mut layout, listener_names, rows)?;
     layout.push_row(to, &heads)?;
-    push_listeners(to, &mut layout, files, rows)?;
+    push_listeners(to, &mut layout, listener_names, rows)?;
     Ok(())
 }
 
@@ -67,30 +67,33 @@ fn listener_cells<'a>(file: &'a str, row: &ListenerRow) -> [Cell<'a>; 6]
 }
 
 fn widen_to_listeners(
-    layout: &mut Layout,
-    files: &[String],
+    layout: &mut TableLayout,
+    listener_names: &[String],
     rows: &[ListenerRow],
 ) -> Result<(), Want>
     ensures { OnOk result (layout.new.widths.items ≡ fold widened layout.old.widths.items
-        (map (cells_of_listener (map string_bytes files.now)) (enumerate_from 0 rows.now))) }
+        (map (cells_of_listener (map string_bytes listener_names.now)) (enumerate_from 0 rows.now))) }
 {
     for (index, row) in rows.iter().enumerate() {
-        layout.widen(&listener_cells(file_at(files, index), row))?;
+        layout.widen(&listener_cells(listener_name_at(listener_names, index), row))?;
     }
     Ok(())
 }
 
 fn push_listeners(
     to: &mut String,
-    layout: &mut Layout,
-    files: &[String],
+    layout: &mut TableLayout,
+    listener_names: &[String],
     rows: &[ListenerRow],
 ) -> Result<(), Want>
     ensures { OnOk result (string_bytes to.new ≡ string_bytes to.old ++ flat_map (row_line layout.old.widths.items)
-        (map (cells_of_listener (map string_bytes files.now)) (enumerate_from 0 rows.now))) }
+        (map (cells_of_listener (map string_bytes listener_names.now)) (enumerate_from 0 rows.now))) }
 {
     for (index, row) in rows.iter().enumerate() {
-        layout.push_row(to, &listener_cells(file_at(files, index), row))?;
+        layout.push_row(
+            to,
+            &listener_cells(listener_name_at(listener_names, index), row),
+        )?;
     }
     Ok(())
 }
@@ -99,18 +102,18 @@ fn push_listeners(
 pub(crate) fn push_pair_table(
     alloc: Global,
     to: &mut String,
-    files: &[String],
+    listener_names: &[String],
     rows: &[PairRow],
 ) -> Result<(), Want>
     ensures { OnOk result (string_bytes to.new
-        ≡ string_bytes to.old ++ pair_table (map string_bytes files.now) rows.now) }
+        ≡ string_bytes to.old ++ pair_table (map string_bytes listener_names.now) rows.now) }
 {
     let heads = pair_heads();
-    let mut layout = Layout::new(alloc);
+    let mut layout = TableLayout::new(alloc);
     layout.widen(&heads)?;
-    widen_to_pairs(&mut layout, files, rows)?;
+    widen_to_pairs(&mut layout, listener_names, rows)?;
     layout.push_row(to, &heads)?;
-    push_pairs(to, &mut layout, files, rows)?;
+    push_pairs(to, &mut layout, listener_names, rows)?;
     Ok(())
 }
 
@@ -136,27 +139,39 @@ fn pair_cells<'a>(file: &'a str, other: &'a str, row: &'a PairRow) -> [Cell<'a>;
     ]
 }
 
-fn widen_to_pairs(layout: &mut Layout, files: &[String], rows: &[PairRow]) -> Result<(), Want>
+fn widen_to_pairs(
+    layout: &mut TableLayout,
+    listener_names: &[String],
+    rows: &[PairRow],
+) -> Result<(), Want>
     ensures { OnOk result (layout.new.widths.items ≡ fold widened layout.old.widths.items
-        (map (cells_of_pair (map string_bytes files.now)) rows.now)) }
+        (map (cells_of_pair (map string_bytes listener_names.now)) rows.now)) }
 {
     for row in rows {
-        layout.widen(&pair_cells(file_at(files, row.one), file_at(files, row.other), row))?;
+        layout.widen(&pair_cells(
+            listener_name_at(listener_names, row.one),
+            listener_name_at(listener_names, row.other),
+            row,
+        ))?;
     }
     Ok(())
 }
 
 fn push_pairs(
     to: &mut String,
-    layout: &mut Layout,
-    files: &[String],
+    layout: &mut TableLayout,
+    listener_names: &[String],
     rows: &[PairRow],
 ) -> Result<(), Want>
     ensures { OnOk result (string_bytes to.new ≡ string_bytes to.old
-        ++ flat_map (row_line layout.old.widths.items) (map (cells_of_pair (map string_bytes files.now)) rows.now)) }
+        ++ flat_map (row_line layout.old.widths.items) (map (cells_of_pair (map string_bytes listener_names.now)) rows.now)) }
 {
     for row in rows {
-        let cells = pair_cells(file_at(files, row.one), file_at(files, row.other), row);
+        let cells = pair_cells(
+            listener_name_at(listener_names, row.one),
+            listener_name_at(listener_names, row.other),
+            row,
+        );
         layout.push_row(to, &cells)?;
     }
     Ok(())
@@ -166,18 +181,18 @@ fn push_pairs(
 pub(crate) fn push_sender_table(
     alloc: Global,
     to: &mut String,
-    files: &[String],
+    listener_names: &[String],
     senders: &[NamedSender<'_>],
 ) -> Result<(), Want>
     ensures { OnOk result (string_bytes to.new
-        ≡ string_bytes to.old ++ sender_table (map string_bytes files.now) (map sender_lent senders.now)) }
+        ≡ string_bytes to.old ++ sender_table (map string_bytes listener_names.now) (map sender_lent senders.now)) }
 {
     let heads = sender_heads();
-    let mut layout = Layout::new(alloc);
+    let mut layout = TableLayout::new(alloc);
     layout.widen(&heads)?;
-    widen_to_senders(&mut layout, files, senders)?;
+    widen_to_senders(&mut layout, listener_names, senders)?;
     layout.push_row(to, &heads)?;
-    push_senders(to, &mut layout, files, senders)?;
+    push_senders(to, &mut layout, listener_names, senders)?;
     Ok(())
 }
 
@@ -219,28 +234,28 @@ fn sender_count(names: &[Name]) -> usize
 }
 
 fn widen_to_senders(
-    layout: &mut Layout,
-    files: &[String],
+    layout: &mut TableLayout,
+    listener_names: &[String],
     senders: &[NamedSender<'_>],
 ) -> Result<(), Want>
     ensures { OnOk result (layout.new.widths.items ≡ fold widened layout.old.widths.items
-        (map (cells_of_sender (map string_bytes files.now)) (map sender_lent senders.now))) }
+        (map (cells_of_sender (map string_bytes listener_names.now)) (map sender_lent senders.now))) }
 {
     for sender in senders {
-        widen_to_sender(layout, files, sender)?;
+        widen_to_sender(layout, listener_names, sender)?;
     }
     Ok(())
 }
 
 fn widen_to_sender(
-    layout: &mut Layout,
-    files: &[String],
+    layout: &mut TableLayout,
+    listener_names: &[String],
     sender: &NamedSender<'_>,
 ) -> Result<(), Want>
     ensures { OnOk result (layout.new.widths.items ≡ widened layout.old.widths.items
-        (cells_of_sender (map string_bytes files.now) (sender_lent sender.now))) }
+        (cells_of_sender (map string_bytes listener_names.now) (sender_lent sender.now))) }
 {
-    let file = file_at(files, sender.row.listener);
+    let file = listener_name_at(listener_names, sender.row.listener);
     let cells = sender_cells(file, &sender.row, sender.names);
     let (shown, _) = cells.split_at(sender_count(sender.names));
     layout.widen(shown)?;
@@ -249,30 +264,30 @@ fn widen_to_sender(
 
 fn push_senders(
     to: &mut String,
-    layout: &mut Layout,
-    files: &[String],
+    layout: &mut TableLayout,
+    listener_names: &[String],
     senders: &[NamedSender<'_>],
 ) -> Result<(), Want>
     ensures { OnOk result (string_bytes to.new ≡ string_bytes to.old ++ flat_map (row_line layout.old.widths.items)
-        (map (cells_of_sender (map string_bytes files.now)) (map sender_lent senders.now))) }
+        (map (cells_of_sender (map string_bytes listener_names.now)) (map sender_lent senders.now))) }
 {
     for sender in senders {
-        push_sender(to, layout, files, sender)?;
+        push_sender(to, layout, listener_names, sender)?;
     }
     Ok(())
 }
 
 fn push_sender(
     to: &mut String,
-    layout: &mut Layout,
-    files: &[String],
+    layout: &mut TableLayout,
+    listener_names: &[String],
     sender: &NamedSender<'_>,
 ) -> Result<(), Want>
     ensures text { OnOk result (string_bytes to.new ≡ string_bytes to.old ++ row_line layout.old.widths.items
-        (cells_of_sender (map string_bytes files.now) (sender_lent sender.now))) }
+        (cells_of_sender (map string_bytes listener_names.now) (sender_lent sender.now))) }
     ensures widths { layout.new.widths.items ≡ layout.old.widths.items }
 {
-    let file = file_at(files, sender.row.listener);
+    let file = listener_name_at(listener_names, sender.row.listener);
     let cells = sender_cells(file, &sender.row, sender.names);
     let (shown, _) = cells.split_at(sender_count(sender.names));
     layout.push_row(to, shown)?;

@@ -13,18 +13,18 @@ use std::alloc::Global;
 /// The widths of the columns of a table. All rows are laid out before the first is written, so each row's cells are written
 /// twice, and no cell is kept.
 #[derive(Drop)]
-pub(crate) struct Layout {
+pub(crate) struct TableLayout {
     pub(crate) widths: Vec<usize>,
     // Room for the text of a cell.
     scratch: String,
 }
 
-impl Layout {
+impl TableLayout {
     /// Makes a layout without columns.
-    pub(crate) fn new(alloc: Global) -> Layout
+    pub(crate) fn new(alloc: Global) -> TableLayout
         ensures { result.widths.items ≡ [] }
     {
-        Layout {
+        TableLayout {
             widths: Vec::new(alloc),
             scratch: String::new(alloc),
         }

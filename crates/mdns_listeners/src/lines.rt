@@ -115,7 +115,7 @@ fn push_median(to: &mut String, quartiles: Option<Quartiles>) -> Result<(), Want
         to.push_str(" ahead - from - to -")?;
         return Ok(());
     };
-    push_after(to, " ahead ", quartiles.ahead)?;
+    push_after(to, " ahead ", quartiles.middle)?;
     push_after(to, " from ", quartiles.low)?;
     push_after(to, " to ", quartiles.high)?;
     Ok(())

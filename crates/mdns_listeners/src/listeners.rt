@@ -15,9 +15,9 @@ ghost use Rattle.mdns_listeners.specs.Named.{sender_lent};
 ghost use Rattle.mdns_listeners.specs.Names.{ListsNames};
 
 use crate::facts::{Facts, listeners_text};
-use crate::gatherer::HeardMessages;
 use crate::groups::Groups;
 use crate::heard::{HeardAt, HeardMessage};
+use crate::heard_messages::HeardMessages;
 use crate::named::NamedSender;
 use crate::names::Names;
 use crate::numbers::{ListenerSpans, listener_rows, spans_of};
@@ -27,21 +27,21 @@ use mdns_browse::report::{Form, ReportFault};
 use mdns_capture::{Moment, Packet, Source, payload_and_source};
 use mdns_message::Want;
 use mdns_survey::listen::{Collector, ListenFault, listen_with};
-use mdns_survey::outcome::Found;
+use mdns_survey::outcome::PacketOutcome;
 use mdns_survey::question::{Question, TextAnswer};
 use mdns_survey::reading::{Consumer, Reading, Span};
 use std::alloc::Global;
 
 /// Which of the listeners heard how many messages, how their clocks agree, and what each heard of each sender, in a form.
 #[derive(Drop)]
-pub struct Listeners<'a> {
+pub struct ListenersRequest<'a> {
     pub groups: &'a Groups,
     pub form: Form,
 }
 
 /// Gathers the messages of captures, and the names of their senders.
 #[derive(Drop)]
-pub struct Gatherer {
+pub struct MessageCollector {
     // The listener of each capture.
     of: Vec<usize>,
     // How many captures were read, or how many there are, if that is less.
@@ -49,12 +49,12 @@ pub struct Gatherer {
     messages: HeardMessages,
 }
 
-impl Gatherer {
-    // Makes a gatherer of captures with these listeners, which has read none.
-    fn new(alloc: Global, of: &[usize]) -> Result<Gatherer, Want>
-        ensures { IfOk result (λ gatherer. Gathered of.now gatherer [] []) }
+impl MessageCollector {
+    // Makes a collector of captures with these listeners, which has read none.
+    fn new(alloc: Global, of: &[usize]) -> Result<MessageCollector, Want>
+        ensures { IfOk result (λ collector. Gathered of.now collector [] []) }
     {
-        Ok(Gatherer {
+        Ok(MessageCollector {
             of: Vec::from_slice(alloc, of)?,
             place: 0,
             messages: HeardMessages::new(alloc),
@@ -88,7 +88,7 @@ impl Gatherer {
 }
 
 /// Packets that told a hearing are gathered.
-impl Consumer for Gatherer {
+impl Consumer for MessageCollector {
     ghost use Rattle.mdns_listeners.specs.Listeners.{Gathers};
 
     type Fault = Want;
@@ -97,16 +97,21 @@ impl Consumer for Gatherer {
 
     ghost Broke = { λ _ _ _ _ _. Unit {0} };
 
-    fn take(&mut self, packet: &Packet<'_>, payload: &[u8], found: &Found) -> Result<(), Want> {
+    fn take(
+        &mut self,
+        packet: &Packet<'_>,
+        payload: &[u8],
+        found: &PacketOutcome,
+    ) -> Result<(), Want> {
         match found {
-            Found::Heard { source, message } => {
+            PacketOutcome::Heard { source, message } => {
                 if message.is_empty() {
                     return Ok(());
                 }
                 let at = self.heard_at(packet.moment);
                 self.messages.hear(source, payload, at, message)
             }
-            Found::Skipped(_) | Found::Refused(_) => Ok(()),
+            PacketOutcome::Skipped(_) | PacketOutcome::Refused(_) => Ok(()),
         }
     }
 
@@ -117,7 +122,7 @@ impl Consumer for Gatherer {
     }
 }
 
-impl Collector for Gatherer {
+impl Collector for MessageCollector {
     ghost use Rattle.mdns_listeners.specs.Listeners.{GathersAll};
 
     ghost HeardAll = { GathersAll };
@@ -137,10 +142,10 @@ impl Collector for Gatherer {
     }
 }
 
-impl<'a> Question for Listeners<'a> {
+impl<'a> Question for ListenersRequest<'a> {
     ghost use Rattle.mdns_listeners.specs.Listeners.{Gathered, asked_listeners};
 
-    type Collector = Gatherer;
+    type Collector = MessageCollector;
 
     ghost asked = { λ listeners. asked_listeners listeners.groups.now listeners.form };
 
@@ -149,16 +154,16 @@ impl<'a> Question for Listeners<'a> {
 
     ghost Heard = { λ listeners. Gathered listeners.groups.now.of };
 
-    fn collector(&self, alloc: Global) -> Result<Gatherer, Want> {
-        Gatherer::new(alloc, self.groups.of())
+    fn collector(&self, alloc: Global) -> Result<MessageCollector, Want> {
+        MessageCollector::new(alloc, self.groups.of())
     }
 }
 
-impl<'a> TextAnswer for Listeners<'a> {
+impl<'a> TextAnswer for ListenersRequest<'a> {
     fn text(
         self,
         alloc: Global,
-        collector: Gatherer,
+        collector: MessageCollector,
         readings: &[Reading],
     ) -> Result<String, ReportFault> {
         match text_of(alloc, self.groups, self.form, collector, readings) {
@@ -173,14 +178,14 @@ fn text_of(
     alloc: Global,
     groups: &Groups,
     form: Form,
-    gatherer: Gatherer,
+    collector: MessageCollector,
     readings: &[Reading],
 ) -> Result<String, Want>
     ensures { IfOk result (λ text. (packets : List (List PacketAt)) (outcomes : List (List Outcome))
-        → Gathered groups.now.of gatherer packets outcomes → HaveSpans packets readings.now
+        → Gathered groups.now.of collector packets outcomes → HaveSpans packets readings.now
         → IsTextOf groups.now form packets outcomes (string_bytes text)) }
 {
-    let Gatherer { messages, .. } = gatherer;
+    let MessageCollector { messages, .. } = collector;
     let (rows, names) = messages.finish()?;
     let files = spans_in(alloc, readings)?;
     let count = groups.names().len();
@@ -214,7 +219,7 @@ fn facts_text(
     let senders = sender_rows(alloc, rows, spans)?;
     let senders = with_names(alloc, senders.as_slice(), names)?;
     let facts = Facts {
-        files: groups.names(),
+        listener_names: groups.names(),
         listeners: listeners.as_slice(),
         pairs: pairs.as_slice(),
         senders: senders.as_slice(),

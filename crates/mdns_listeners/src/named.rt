@@ -1,7 +1,7 @@
-//! Rows of senders with the names that they go by, and the files that rows name by their positions.
+//! Rows of senders with the names that they go by, and the names of the listeners that rows give by their positions.
 
 ghost use Rattle.std.specs.Prelude.{◌≡◌, map, string_bytes};
-ghost use Rattle.mdns_listeners.specs.Named.{file_at};
+ghost use Rattle.mdns_listeners.specs.Named.{listener_name_at};
 
 use crate::senders::SenderRow;
 use mdns_message::Name;
@@ -13,11 +13,11 @@ pub struct NamedSender<'a> {
     pub names: &'a [Name],
 }
 
-/// Returns the file of the listener at a position; an empty text if there is no such listener.
-pub(crate) fn file_at(files: &[String], listener: usize) -> &str
-    ensures { result.now ≡ file_at (map string_bytes files.now) listener }
+/// Returns the name of the listener at a position; an empty text if there is no such listener.
+pub(crate) fn listener_name_at(listener_names: &[String], listener: usize) -> &str
+    ensures { result.now ≡ listener_name_at (map string_bytes listener_names.now) listener }
 {
-    match files.get(listener) {
+    match listener_names.get(listener) {
         Some(file) => file.as_str(),
         None => "",
     }

@@ -21,7 +21,7 @@ use std::marker::Model;
 
 /// An address, and a name that a record gives it.
 #[derive(Drop)]
-pub(crate) struct Named {
+pub(crate) struct SenderAddressName {
     source: SourceAddress,
 
     /// The name folded: most comparisons are of these bytes.
@@ -34,7 +34,7 @@ pub(crate) struct Named {
 #[derive(Drop)]
 pub struct SenderNames {
     alloc: Global,
-    held: Vec<Named>,
+    held: Vec<SenderAddressName>,
 
     // Where each of them is, by the hash of its record.
     places: Index,
@@ -42,9 +42,9 @@ pub struct SenderNames {
 
 impl Model for SenderNames {
     ghost use Rattle.std.specs.Prelude.{List};
-    ghost use Rattle.mdns_listeners.specs.declared.names.Named.{Named};
+    ghost use Rattle.mdns_listeners.specs.declared.names.SenderAddressName.{SenderAddressName};
 
-    ghost Value = { List Named };
+    ghost Value = { List SenderAddressName };
 
     ghost view = { λ a. a.held.items };
 }
@@ -157,7 +157,7 @@ impl SenderNames {
     // Spells a name that is held as `owner`, if that is less.
     fn respell(&mut self, place: usize, owner: &BorrowedName<'_>) -> Result<(), Want>
         requires { place < length self.old }
-        ensures ok { OnOk result ((d : Named) →
+        ensures ok { OnOk result ((d : SenderAddressName) →
             self.new ≡ slice_set self.old place (respelled (slice_index_or self.old place d) owner.now)) }
         ensures err { OnErr result (self.new ≡ self.old) }
     {
@@ -175,7 +175,7 @@ impl SenderNames {
         ensures ok { OnOk result (self.new ≡ self.old ++ named source owner.now ∷ []) }
         ensures err { OnErr result (self.new ≡ self.old) }
     {
-        let new = Named::new(self.alloc, source, owner)?;
+        let new = SenderAddressName::new(self.alloc, source, owner)?;
         let place = self.held.len();
         self.places.note(self.alloc, hash, place)?;
         self.held.push(new)?;
@@ -183,15 +183,19 @@ impl SenderNames {
     }
 }
 
-impl Named {
+impl SenderAddressName {
     // Copies a name of an address.
-    fn new(alloc: Global, source: SourceAddress, owner: &BorrowedName<'_>) -> Result<Named, Want>
+    fn new(
+        alloc: Global,
+        source: SourceAddress,
+        owner: &BorrowedName<'_>,
+    ) -> Result<SenderAddressName, Want>
         ensures { IfOk result (λ one. one ≡ named source owner.now) }
     {
         let mut folded = ByteList::from_slice(alloc, owner.wire())?;
         folded.make_ascii_lowercase_from(0);
         let name = owner.to_name(alloc)?;
-        Ok(Named {
+        Ok(SenderAddressName {
             source,
             folded,
             name,
@@ -217,7 +221,7 @@ impl Named {
     }
 
     // Compares by address and folded name.
-    fn name_order(&self, other: &Named) -> Ordering
+    fn name_order(&self, other: &SenderAddressName) -> Ordering
         ensures { result ≡ by_name self.now other.now }
     {
         let by_address = address_order(&self.source, &other.source);
@@ -228,7 +232,7 @@ impl Named {
     }
 
     // Compares by address, folded name and spelling.
-    fn spelling_order(&self, other: &Named) -> Ordering
+    fn spelling_order(&self, other: &SenderAddressName) -> Ordering
         ensures { result ≡ by_spelling self.now other.now }
     {
         let by_name = self.name_order(other);
@@ -263,7 +267,7 @@ fn address_order(one: &SourceAddress, other: &SourceAddress) -> Ordering
 }
 
 // Sorts names by address, folded name and spelling.
-fn sort(names: &mut Vec<Named>)
+fn sort(names: &mut Vec<SenderAddressName>)
     ensures permutation { IsPermutation names.old.items names.new.items }
     ensures sorted { IsSorted by_spelling names.new.items }
 {
@@ -271,7 +275,7 @@ fn sort(names: &mut Vec<Named>)
 }
 
 // Sorts names, and keeps the least spelling of each.
-fn distinct(names: Vec<Named>) -> Vec<Named>
+fn distinct(names: Vec<SenderAddressName>) -> Vec<SenderAddressName>
     ensures ascending { IsStrictlySortedBy by_name result.items }
     ensures covers { Covers result.items names.items }
 {
@@ -282,7 +286,7 @@ fn distinct(names: Vec<Named>) -> Vec<Named>
 }
 
 // Lists the addresses and the names.
-fn split(alloc: Global, held: Vec<Named>) -> Result<Names, Want>
+fn split(alloc: Global, held: Vec<SenderAddressName>) -> Result<Names, Want>
     ensures { IfOk result (λ names. (names.0 ≡ map (λ one. one.source) held.items) × (names.1 ≡ map (λ one. one.name) held.items)) }
 {
     let mut sources = Vec::with_capacity(alloc, held.len())?;

@@ -168,7 +168,7 @@ fn push_ahead_members(
         push_null_member(to, "low")?;
         return push_null_member(to, "high");
     };
-    push_signed_member(alloc, to, "ahead", quartiles.ahead)?;
+    push_signed_member(alloc, to, "ahead", quartiles.middle)?;
     push_signed_member(alloc, to, "low", quartiles.low)?;
     push_signed_member(alloc, to, "high", quartiles.high)
 }

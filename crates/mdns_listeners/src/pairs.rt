@@ -22,7 +22,7 @@ use std::alloc::Global;
 /// first and the last quartile. The median of an even number is the lesser of the two in the middle.
 #[derive(Clone, Copy)]
 pub struct Quartiles {
-    pub ahead: i64,
+    pub middle: i64,
     pub low: i64,
     pub high: i64,
 }
@@ -190,7 +190,7 @@ fn quartiles_of(ahead: &[i64]) -> Option<Quartiles>
     }
     let last = ahead.len() - 1;
     Some(Quartiles {
-        ahead: ahead[last / 2],
+        middle: ahead[last / 2],
         low: ahead[last / 4],
         high: ahead[last - last / 4],
     })

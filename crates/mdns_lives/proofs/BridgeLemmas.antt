@@ -13,10 +13,10 @@ use Rattle.mdns_join.specs.Latest.{latest_cmp, latest_of}
 use Rattle.mdns_join.specs.Kept.{IsStruckBy}
 use Rattle.mdns_cache.specs.Live.{IsHeard, IsLast}
 use Rattle.mdns_cache.specs.Live.{life_of, IsStruck}
-use Rattle.mdns_lives.specs.declared.life.Heard.{Heard}
+use Rattle.mdns_lives.specs.declared.life.RecordHearing.{RecordHearing}
 use Rattle.mdns_lives.specs.declared.life.Life.{Life}
 use Rattle.mdns_lives.specs.declared.life.EndReason.{EndReason}
-use Rattle.mdns_lives.specs.declared.life.EndReason.TheVariants.{RanOut, Goodbye, Flushed}
+use Rattle.mdns_lives.specs.declared.life.EndReason.TheVariants.{Expired, Goodbye, Flushed}
 use Rattle.mdns_lives.specs.Lives.{heard_until, IsLiveThen, IsStruckAt, IsEndFor, EndsThen, AreLives}
 use Rattle.mdns_lives.specs.History.{heard_of, IsHistory, AreFlushes, IsUpTo, IsLastAt, IsLiveAt, IsFlushEnd, IsEndBy}
 use Rattle.mdns_lives.specs.History.{EndsBy, AreLivesBy}
@@ -38,7 +38,7 @@ until-from now heard h m l = to-filter (λ (x : Hearing). nat_le x.moment.nanos 
 
 -- ---- last hearings without their spelling
 
-abbrev pub heard_as : Latest → Heard
+abbrev pub heard_as : Latest → RecordHearing
 heard_as l = record { moment = l.moment; ttl = l.ttl }
 
 pub IsUpTo-from_cmp : (a b : Latest) → latest_cmp a b ≢ Greater → IsUpTo (heard_as a) (heard_as b)
@@ -48,7 +48,7 @@ IsUpTo-from_cmp a b n = search (rules, cases_lt)
 abbrev pub SomeLast : Type 0
 SomeLast = (heard : List Hearing) (key : Key) → IsHeard heard key → (l : Latest) × IsLast heard key l
 
-module _ (some_last : SomeLast) (heard : List Hearing) (key : Key) (history : List Heard) (flushes : List ℕ)
+module _ (some_last : SomeLast) (heard : List Hearing) (key : Key) (history : List RecordHearing) (flushes : List ℕ)
     (is_history : IsHistory heard key history) (are_flushes : AreFlushes heard key.set flushes) where
   IsLastAt-from_last : (now : ℕ) (l : Latest) → IsLast (heard_until now heard) key l → IsLastAt history now (heard_as l)
   IsLastAt-from_last now l p =
@@ -57,25 +57,25 @@ module _ (some_last : SomeLast) (heard : List Hearing) (key : Key) (history : Li
       record {
         among = (is_history (heard_as l)).1
             (record { hearing = p.hearing; among = here.0; of_record = p.of_record; gives = gives });
-        by_then = subst (λ (x : Heard). x.moment.nanos ≤ now) gives here.1;
+        by_then = subst (λ (x : RecordHearing). x.moment.nanos ≤ now) gives here.1;
         greatest = λ other m e.
             let w = (is_history other).0 m in
-            let early = subst (λ (x : Heard). x.moment.nanos ≤ now) (sym w.gives) e in
+            let early = subst (λ (x : RecordHearing). x.moment.nanos ≤ now) (sym w.gives) e in
             let no_greater = p.greatest w.hearing (until-from now heard w.hearing w.among early) w.of_record in
-            subst (λ (x : Heard). IsUpTo x (heard_as l)) w.gives (IsUpTo-from_cmp (latest_of w.hearing) l no_greater);
+            subst (λ (x : RecordHearing). IsUpTo x (heard_as l)) w.gives (IsUpTo-from_cmp (latest_of w.hearing) l no_greater);
       }
 
   -- the last hearing with that moment and TTL
-  record IsLastAs (now : ℕ) (h : Heard) : Type 0 where
+  record IsLastAs (now : ℕ) (h : RecordHearing) : Type 0 where
     pub last : Latest
     pub is_last : IsLast (heard_until now heard) key last
     pub moment : last.moment.nanos ≡ h.moment.nanos
     pub ttl : last.ttl ≡ h.ttl
 
-  IsLastAs-from : (now : ℕ) (h : Heard) → IsLastAt history now h → IsLastAs now h
+  IsLastAs-from : (now : ℕ) (h : RecordHearing) → IsLastAt history now h → IsLastAs now h
   IsLastAs-from now h p =
       let w = (is_history h).0 p.among in
-      let early = subst (λ (x : Heard). x.moment.nanos ≤ now) (sym w.gives) p.by_then in
+      let early = subst (λ (x : RecordHearing). x.moment.nanos ≤ now) (sym w.gives) p.by_then in
       let some = some_last (heard_until now heard) key
       (record { hearing = w.hearing; among = until-from now heard w.hearing w.among early; of_record = w.of_record }) in
       let at = IsLastAt-from_last now some.0 some.1 in
@@ -141,7 +141,7 @@ module _ (some_last : SomeLast) (heard : List Hearing) (key : Key) (history : Li
     unstruck = λ s. w.1.unstruck (struck-from now w.0.moment.nanos s);
   }
 
-  out-same : (l : Latest) (h : Heard) → l.moment.nanos ≡ h.moment.nanos → l.ttl ≡ h.ttl
+  out-same : (l : Latest) (h : RecordHearing) → l.moment.nanos ≡ h.moment.nanos → l.ttl ≡ h.ttl
       → l.moment.nanos + life_of l.ttl ≡ h.moment.nanos + life_of h.ttl
   out-same l h e f = ap (λ n. n + life_of l.ttl) e ∙ ap (λ n. h.moment.nanos + life_of n) f
 
@@ -161,13 +161,13 @@ module _ (some_last : SomeLast) (heard : List Hearing) (key : Key) (history : Li
 
   end_for-into : (l : Latest) (end : ℕ) (reason : EndReason) → IsEndFor heard key l end reason
       → IsEndBy flushes (heard_as l) end reason
-  end_for-into l end RanOut e = e
+  end_for-into l end Expired e = e
   end_for-into l end Goodbye e = e
   end_for-into l end Flushed e = (e.0, flush_end-into l.moment.nanos end e.1)
 
-  end_for-from : (l : Latest) (h : Heard) (end : ℕ) (reason : EndReason) → l.moment.nanos ≡ h.moment.nanos → l.ttl ≡ h.ttl
+  end_for-from : (l : Latest) (h : RecordHearing) (end : ℕ) (reason : EndReason) → l.moment.nanos ≡ h.moment.nanos → l.ttl ≡ h.ttl
       → IsEndBy flushes h end reason → IsEndFor heard key l end reason
-  end_for-from l h end RanOut e f p = let out = out-same l h e f in (omega (arith, f, p.0), p.1 ∙ sym out)
+  end_for-from l h end Expired e f p = let out = out-same l h e f in (omega (arith, f, p.0), p.1 ∙ sym out)
   end_for-from l h end Goodbye e f p = let out = out-same l h e f in (omega (arith, f, p.0), p.1 ∙ sym out)
   end_for-from l h end Flushed e f p =
       let out = out-same l h e f in (
@@ -180,8 +180,8 @@ module _ (some_last : SomeLast) (heard : List Hearing) (key : Key) (history : Li
       let same : heard_as w.last ≡ life.last =
       heard-same (heard_as w.last) life.last (ap (λ (m : Moment). m.nanos) w.moment) w.ttl in
       record {
-        is_last = subst (λ (h : Heard). IsLastAt history life.until h) same (IsLastAt-from_last life.until w.last w.is_last);
-        ends = subst (λ (h : Heard). IsEndBy flushes h life.until life.reason) same
+        is_last = subst (λ (h : RecordHearing). IsLastAt history life.until h) same (IsLastAt-from_last life.until w.last w.is_last);
+        ends = subst (λ (h : RecordHearing). IsEndBy flushes h life.until life.reason) same
             (end_for-into w.last life.until life.reason w.ends);
       }
 

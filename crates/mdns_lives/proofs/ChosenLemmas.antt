@@ -25,7 +25,7 @@ use Rattle.mdns_lives.specs.declared.life.Which.{Which}
 use Rattle.mdns_lives.specs.declared.life.Which.TheVariants.{All, Changes}
 use Rattle.mdns_lives.specs.declared.lives.RecordLives.{RecordLives}
 use Rattle.mdns_lives.specs.Changes.{AreOf, AreOfOne, begins_in, begins_of, by_sets, changes_in, chosen, comes_back, goes_on, has_change}
-use Rattle.mdns_lives.specs.Changes.{has_changed, is_between, is_of_set, is_shared, kept_if, left_of, strays}
+use Rattle.mdns_lives.specs.Changes.{has_changed, is_between, is_of_set, is_pointer_record, kept_if, left_of, strays}
 use Rattle.mdns_lives.specs.Lives.{AreApart}
 use Rattle.mdns_lives.specs.LentLives.{row_lent}
 use Rattle.mdns_lives.proofs.ChangesLemmas.{begins-sorted, own-stay, BeganAt, changes-stray}
@@ -158,11 +158,11 @@ all-more set [] row own same = (same, tt)
 all-more set (x ∷ rows) row own same = (own.0, all-more set rows row own.1 same)
 
 on-same : (x row : Row) → goes_on (x ∷ []) row.0 ≡ true → set_in row ≡ set_in x
-on-same x row on = sym (same-set (set_in x) (set_in row) (and_parts (not (is_shared x.0)) (is_in (set_in x) row) on).1)
+on-same x row on = sym (same-set (set_in x) (set_in row) (and_parts (not (is_pointer_record x.0)) (is_in (set_in x) row) on).1)
 
 one-step : (x row : Row) (xs rows : List Row) (b : Bool) → goes_on (x ∷ xs) row.0 ≡ b → AllOf (set_in x) (x ∷ xs)
     → (goes_on (x ∷ xs) row.0 ≡ true → by_sets (x ∷ xs ++ row ∷ []) rows ≡ changes_in ((x ∷ xs ++ row ∷ []) ++ rows))
-    → (goes_on (x ∷ xs) row.0 ≡ false → is_shared x.0 ≡ false → NoneOf (set_in x) (row ∷ rows))
+    → (goes_on (x ∷ xs) row.0 ≡ false → is_pointer_record x.0 ≡ false → NoneOf (set_in x) (row ∷ rows))
     → by_sets (row ∷ []) rows ≡ changes_in (row ∷ rows)
     → (if b then by_sets (x ∷ xs ++ row ∷ []) rows else changes_in (x ∷ xs) ++ by_sets (row ∷ []) rows) ≡ changes_in (x ∷ xs ++ row ∷ rows)
 one-step x row xs rows true e own on others next = on e ∙ ap changes_in (append_assoc (x ∷ xs) (row ∷ []) rows)
@@ -216,11 +216,11 @@ is-held true set key false test = refl
 is-held true set key true test = absurd (true≢false (test.0 refl).0)
 
 pub set-goes-on : (set : List RecordLives) (first : RecordLives) (last : Latest) (is : Bool) → Some first ≡ slice_get set 0
-    → (IsTrue is ↔ ((is_shared (last_lent first.last) ≡ false) × (set_key_of (last_lent first.last).resource ≡ set_key_of last.resource)))
+    → (IsTrue is ↔ ((is_pointer_record (last_lent first.last) ≡ false) × (set_key_of (last_lent first.last).resource ≡ set_key_of last.resource)))
     → is ≡ goes_on (map row_lent set) last
 set-goes-on [] first last is at test = absurd (cc)
 set-goes-on (x ∷ set) first last is at test =
-    is-held (is_shared (last_lent first.last)) (set_key_of (last_lent first.last).resource) (set_key_of last.resource) is test
+    is-held (is_pointer_record (last_lent first.last)) (set_key_of (last_lent first.last).resource) (set_key_of last.resource) is test
     ∙ ap (λ (o : Option RecordLives). goes_on (row_lent (unwrap_or o first) ∷ []) last) at
 
 of-more : (set : RecordSet) (rows : List Row) (row : Row) → AreOf set rows → set_in row ≡ set → AreApart row.1
@@ -293,15 +293,15 @@ changed-stray set rows own =
 
 pub kept-set : (set : List RecordLives) (first : RecordLives) (begun : List ℕ) (changed : Bool) → Some first ≡ slice_get set 0
     → AreOfOne (map row_lent set) → begun ≡ ascending (begins_in (map row_lent set))
-    → changed ≡ (not (is_shared (last_lent first.last)) && list_any (λ (row : RecordLives). strays row.lives.items begun) set)
+    → changed ≡ (not (is_pointer_record (last_lent first.last)) && list_any (λ (row : RecordLives). strays row.lives.items begun) set)
     → changes_in (map row_lent set) ≡ map (kept_if changed) (map row_lent set)
 kept-set [] first begun changed at one sorted is = refl
 kept-set (x ∷ set) first begun changed at one sorted is =
     let rows = map row_lent (x ∷ set) in
     kept-of rows (set_in (row_lent x)) rows changed one
     (changed-stray (set_in (row_lent x)) rows one
-    ∙ (λ i. not (is_shared (last_lent (unwrap_or (sym at i) first).last)) && list_any (λ (row : Row). strays row.1 (sym sorted i)) rows)
-    ∙ ap (λ b. not (is_shared (last_lent first.last)) && b) (any-lent (x ∷ set)) ∙ sym is)
+    ∙ (λ i. not (is_pointer_record (last_lent (unwrap_or (sym at i) first).last)) && list_any (λ (row : Row). strays row.1 (sym sorted i)) rows)
+    ∙ ap (λ b. not (is_pointer_record (last_lent first.last)) && b) (any-lent (x ∷ set)) ∙ sym is)
   where
     any-lent : (some : List RecordLives) → list_any (λ (row : Row). strays row.1 begun) (map row_lent some)
         ≡ list_any (λ (row : RecordLives). strays row.lives.items begun) some

@@ -22,7 +22,7 @@ use Rattle.mdns_cache.specs.Live.{IsUnheard, IsLast, IsFlushedAt}
 use Rattle.mdns_cache.proofs.StandsPartLemmas.{Contains-nil, lasts-append}
 use Rattle.mdns_cache.proofs.StandsForLemmas.{newest-append}
 use Rattle.mdns_lives.specs.declared.account.Account.{Account}
-use Rattle.mdns_lives.specs.declared.life.Heard.{Heard}
+use Rattle.mdns_lives.specs.declared.life.RecordHearing.{RecordHearing}
 use Rattle.mdns_lives.specs.Account.{join_account, IsAccount}
 use Rattle.mdns_lives.specs.History.{IsHeardAs}
 use Rattle.mdns_lives.specs.Seconds.{Ends, AreEndsIn, Seconds, join_ends, IsSeconds, join_seconds, ends_at}
@@ -35,15 +35,15 @@ use Rattle.mdns_lives.proofs.SecondsLemmas.{ends-joined, at-join}
 
 -- ---- hearings of lists
 
-IsHeardAs-left : (gs hs : List Hearing) (key : Key) (h : Heard) → IsHeardAs gs key h → IsHeardAs (gs ++ hs) key h
+IsHeardAs-left : (gs hs : List Hearing) (key : Key) (h : RecordHearing) → IsHeardAs gs key h → IsHeardAs (gs ++ hs) key h
 IsHeardAs-left gs hs key h w =
     record { hearing = w.hearing; among = Contains-append_left gs hs w.hearing w.among; of_record = w.of_record; gives = w.gives }
 
-IsHeardAs-right : (gs hs : List Hearing) (key : Key) (h : Heard) → IsHeardAs hs key h → IsHeardAs (gs ++ hs) key h
+IsHeardAs-right : (gs hs : List Hearing) (key : Key) (h : RecordHearing) → IsHeardAs hs key h → IsHeardAs (gs ++ hs) key h
 IsHeardAs-right gs hs key h w =
     record { hearing = w.hearing; among = Contains-append_right gs hs w.hearing w.among; of_record = w.of_record; gives = w.gives }
 
-IsHeardAs-cases : (gs hs : List Hearing) (key : Key) (h : Heard) → IsHeardAs (gs ++ hs) key h → IsHeardAs gs key h ⊎ IsHeardAs hs key h
+IsHeardAs-cases : (gs hs : List Hearing) (key : Key) (h : RecordHearing) → IsHeardAs (gs ++ hs) key h → IsHeardAs gs key h ⊎ IsHeardAs hs key h
 IsHeardAs-cases gs hs key h w = elim (Contains-append_cases gs hs w.hearing w.among) [
   | inl a ↦ inl (record { hearing = w.hearing; among = a; of_record = w.of_record; gives = w.gives })
   | inr b ↦ inr (record { hearing = w.hearing; among = b; of_record = w.of_record; gives = w.gives })

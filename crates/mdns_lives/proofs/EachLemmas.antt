@@ -28,7 +28,7 @@ use Rattle.mdns_cache.proofs.MeaningLemmas.{flushed}
 use Rattle.mdns_cache.proofs.RepeatLemmas.{no_greater}
 use Rattle.mdns_cache.proofs.GatheringLemmas.{valid_after}
 use Rattle.mdns_lives.specs.declared.account.Account.{Account}
-use Rattle.mdns_lives.specs.declared.life.Heard.{Heard}
+use Rattle.mdns_lives.specs.declared.life.RecordHearing.{RecordHearing}
 use Rattle.mdns_lives.specs.Account.{join_account, IsAccount, IsOwnAccount}
 use Rattle.mdns_lives.specs.History.{heard_of, IsHeardAs}
 use Rattle.mdns_lives.specs.Seconds.{AreEndsIn, IsRoomFor, seconds_of, ends_at}
@@ -43,7 +43,7 @@ use Rattle.mdns_lives.proofs.RoomLemmas.{length-join}
 use Rattle.mdns_lives.proofs.SecondsLemmas.{ends-alike, at-seconds_of, IsSeconds-of, seconds_of-append}
 
 -- more hearings in the same room
-pub room_appended : (hs gs more : List Heard) (held room same : ℕ) → gs ≡ hs ++ more → same ≡ room
+pub room_appended : (hs gs more : List RecordHearing) (held room same : ℕ) → gs ≡ hs ++ more → same ≡ room
     → IsRoomFor (seconds_of hs) held room → IsRoomFor (seconds_of gs) held same
 room_appended hs gs more held room same is kept bound = grind (arith, length-join, seconds_of-append)
 

@@ -5,49 +5,49 @@ use Rattle.std.proofs.lemmas.Bool.Decides.{nat_tests}
 use Rattle.mdns_capture.specs.Limits.{second}
 use Rattle.mdns_cache.specs.Live.{life_of}
 use Rattle.mdns_cache.proofs.StandsPartLemmas.{Contains-nil, Contains-head, Contains-later, Contains-cases}
-use Rattle.mdns_lives.specs.declared.life.Heard.{Heard}
+use Rattle.mdns_lives.specs.declared.life.RecordHearing.{RecordHearing}
 use Rattle.mdns_lives.specs.declared.life.Life.{Life}
 use Rattle.mdns_lives.specs.declared.life.EndReason.{EndReason}
-use Rattle.mdns_lives.specs.declared.life.EndReason.TheVariants.{RanOut, Goodbye, Flushed}
+use Rattle.mdns_lives.specs.declared.life.EndReason.TheVariants.{Expired, Goodbye, Flushed}
 use Rattle.mdns_lives.specs.History.{IsUpTo, IsLastAt, IsLiveAt, IsEndBy, EndsBy, AreLivesBy}
 use Rattle.mdns_lives.specs.Seconds.{second_of, AreEndsOf}
 use Rattle.mdns_lives.proofs.OrderLemmas.{IsUpTo-itself, IsUpTo-onward, either_order, no_later, same_heard}
 
 -- hearings of one second are less than a second apart
-within_second : (a b : Heard) → second_of a ≡ second_of b → b.moment.nanos < a.moment.nanos + second
+within_second : (a b : RecordHearing) → second_of a ≡ second_of b → b.moment.nanos < a.moment.nanos + second
 within_second a b e = omega (arith, e)
 
 -- ---- the last hearing by a moment
 
-abbrev HasLast : List Heard → ℕ → Type 0
-HasLast hs now = (last : Heard) × IsLastAt hs now last
+abbrev HasLast : List RecordHearing → ℕ → Type 0
+HasLast hs now = (last : RecordHearing) × IsLastAt hs now last
 
 -- no hearing is as early as that
-abbrev NoneYet : List Heard → ℕ → Type 0
-NoneYet hs now = (h : Heard) → Contains hs h → now < h.moment.nanos
+abbrev NoneYet : List RecordHearing → ℕ → Type 0
+NoneYet hs now = (h : RecordHearing) → Contains hs h → now < h.moment.nanos
 
-last_or_none : (hs : List Heard) (now : ℕ) → HasLast hs now ⊎ NoneYet hs now
+last_or_none : (hs : List RecordHearing) (now : ℕ) → HasLast hs now ⊎ NoneYet hs now
 last_or_none [] now = inr (λ h m. absurd (Contains-nil h m))
 last_or_none (h ∷ hs) now = by (last_or_none hs now) (cases_lt now h.moment.nanos)
   where
     -- the last one of the others stays the last
-    other : (last : Heard) → IsLastAt hs now last → (h.moment.nanos ≤ now → IsUpTo h last) → IsLastAt (h ∷ hs) now last
+    other : (last : RecordHearing) → IsLastAt hs now last → (h.moment.nanos ≤ now → IsUpTo h last) → IsLastAt (h ∷ hs) now last
     other last w up = record {
       among = Contains-later h hs last w.among;
       by_then = w.by_then;
       greatest = λ x m e. elim (Contains-cases h hs x m) [
-        | inl same ↦ subst (λ (y : Heard). IsUpTo y last) same (up (subst (λ (y : Heard). y.moment.nanos ≤ now) (sym same) e))
+        | inl same ↦ subst (λ (y : RecordHearing). IsUpTo y last) same (up (subst (λ (y : RecordHearing). y.moment.nanos ≤ now) (sym same) e))
         | inr rest ↦ w.greatest x rest e
       ];
     }
 
     -- h is the last one
-    first : h.moment.nanos ≤ now → ((x : Heard) → Contains hs x → x.moment.nanos ≤ now → IsUpTo x h) → IsLastAt (h ∷ hs) now h
+    first : h.moment.nanos ≤ now → ((x : RecordHearing) → Contains hs x → x.moment.nanos ≤ now → IsUpTo x h) → IsLastAt (h ∷ hs) now h
     first l all = record {
       among = Contains-head h hs;
       by_then = l;
       greatest = λ x m e. elim (Contains-cases h hs x m) [
-        | inl same ↦ subst (λ (y : Heard). IsUpTo y h) same (IsUpTo-itself h)
+        | inl same ↦ subst (λ (y : RecordHearing). IsUpTo y h) same (IsUpTo-itself h)
         | inr rest ↦ all x rest e
       ];
     }
@@ -60,16 +60,16 @@ last_or_none (h ∷ hs) now = by (last_or_none hs now) (cases_lt now h.moment.na
           | inr down ↦ inl (h, first l (λ x m e. IsUpTo-onward x w.0 h (w.1.greatest x m e) down))
         ]
     by (inr none) (inl later) = inr (λ x m. elim (Contains-cases h hs x m) [
-      | inl same ↦ subst (λ (y : Heard). now < y.moment.nanos) same later
+      | inl same ↦ subst (λ (y : RecordHearing). now < y.moment.nanos) same later
       | inr rest ↦ none x rest
     ])
     by (inr none) (inr l) = inl (h, first l (λ x m e. let later = none x m in absurd (omega (arith, later, e))))
 
-some_last : (hs : List Heard) (now : ℕ) (x : Heard) → Contains hs x → x.moment.nanos ≤ now → HasLast hs now
+some_last : (hs : List RecordHearing) (now : ℕ) (x : RecordHearing) → Contains hs x → x.moment.nanos ≤ now → HasLast hs now
 some_last hs now x m l =
     elim (last_or_none hs now) [ inl w ↦ w | inr none ↦ (let later = none x m in absurd (omega (arith, later, l))) ]
 
-one_last : (hs : List Heard) (now : ℕ) (a b : Heard) → IsLastAt hs now a → IsLastAt hs now b → a ≡ b
+one_last : (hs : List RecordHearing) (now : ℕ) (a b : RecordHearing) → IsLastAt hs now a → IsLastAt hs now b → a ≡ b
 one_last hs now a b p q = same_heard a b (q.greatest a p.among p.by_then) (p.greatest b q.among q.by_then)
 
 -- ---- a life takes a second at least
@@ -79,7 +79,7 @@ life-second zero = omega arith
 life-second (suc n) = grind (arith, nat_tests)
 
 module _ (flushes : List ℕ) where
-  young-live : (hs : List Heard) (now : ℕ) (last : Heard) → IsLastAt hs now last → now < last.moment.nanos + second
+  young-live : (hs : List RecordHearing) (now : ℕ) (last : RecordHearing) → IsLastAt hs now last → now < last.moment.nanos + second
       → IsLiveAt hs flushes now
   young-live hs now last w l =
       let long = life-second last.ttl in
@@ -93,21 +93,21 @@ module _ (flushes : List ℕ) where
             absurd (omega (arith, later, old, l));
       }
 
-  ends-late : (last : Heard) (end : ℕ) (reason : EndReason) → IsEndBy flushes last end reason → last.moment.nanos + second ≤ end
-  ends-late last end RanOut e = let long = life-second last.ttl in omega (arith, long, e.1)
+  ends-late : (last : RecordHearing) (end : ℕ) (reason : EndReason) → IsEndBy flushes last end reason → last.moment.nanos + second ≤ end
+  ends-late last end Expired e = let long = life-second last.ttl in omega (arith, long, e.1)
   ends-late last end Goodbye e = let long = life-second last.ttl in omega (arith, long, e.1)
   ends-late last end Flushed e = grind arith
 
-module _ (flushes : List ℕ) (hs es : List Heard) (are : AreEndsOf hs es) where
+module _ (flushes : List ℕ) (hs es : List RecordHearing) (are : AreEndsOf hs es) where
   -- one of the ends, less than a second before the moment, counts no more than h
-  record IsYoung (now : ℕ) (h : Heard) : Type 0 where
-    pub end : Heard
+  record IsYoung (now : ℕ) (h : RecordHearing) : Type 0 where
+    pub end : RecordHearing
     pub among : Contains es end
     pub by_then : end.moment.nanos ≤ now
     pub up_to : IsUpTo end h
     pub young : now < end.moment.nanos + second
 
-  last_or_young : (now : ℕ) (h : Heard) → IsLastAt hs now h → IsLastAt es now h ⊎ IsYoung now h
+  last_or_young : (now : ℕ) (h : RecordHearing) → IsLastAt hs now h → IsLastAt es now h ⊎ IsYoung now h
   last_or_young now h w =
       let b = are.between h w.among in
       elim (cases_lt now b.greatest.moment.nanos) [
@@ -125,13 +125,13 @@ module _ (flushes : List ℕ) (hs es : List Heard) (are : AreEndsOf hs es) where
             let down = w.greatest b.greatest (are.among b.greatest b.greatest_there) by_then in
             let same = same_heard b.greatest h down b.to_greatest in
             inl (record {
-              among = subst (λ (x : Heard). Contains es x) same b.greatest_there;
+              among = subst (λ (x : RecordHearing). Contains es x) same b.greatest_there;
               by_then = w.by_then;
               greatest = λ x m e. w.greatest x (are.among x m) e;
             }))
       ]
 
-  last_of_all : (now : ℕ) (h : Heard) → IsLastAt es now h → HasLast hs now
+  last_of_all : (now : ℕ) (h : RecordHearing) → IsLastAt es now h → HasLast hs now
   last_of_all now h w = some_last hs now h (are.among h w.among) w.by_then
 
   live-into : (now : ℕ) → IsLiveAt hs flushes now → IsLiveAt es flushes now
@@ -150,7 +150,7 @@ module _ (flushes : List ℕ) (hs es : List Heard) (are : AreEndsOf hs es) where
         | inl at ↦ (let same = one_last es now l.0 w.last at w.is_last in
             record {
               last = w.last;
-              is_last = subst (λ (x : Heard). IsLastAt hs now x) same l.1;
+              is_last = subst (λ (x : RecordHearing). IsLastAt hs now x) same l.1;
               running = w.running;
               unstruck = w.unstruck;
             })
@@ -166,7 +166,7 @@ module _ (flushes : List ℕ) (hs es : List Heard) (are : AreEndsOf hs es) where
       let l = last_of_all life.until life.last w.is_last in
       elim (last_or_young life.until l.0 l.1) [
         | inl at ↦ (let same = one_last es life.until l.0 life.last at w.is_last in
-            record { is_last = subst (λ (x : Heard). IsLastAt hs life.until x) same l.1; ends = w.ends })
+            record { is_last = subst (λ (x : RecordHearing). IsLastAt hs life.until x) same l.1; ends = w.ends })
         | inr y ↦ (let late = ends-late flushes life.last life.until life.reason w.ends in
             let up = no_later y.end life.last (w.is_last.greatest y.end y.among y.by_then) in
             absurd (omega (arith, late, up, y.young)))

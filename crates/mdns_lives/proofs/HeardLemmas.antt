@@ -14,7 +14,7 @@ use Rattle.mdns_message.specs.declared.key.Key.{Key}
 use Rattle.mdns_message.specs.Resource.{key_cmp}
 use Rattle.mdns_cache.proofs.StandsPartLemmas.{Contains-nil, Contains-head, Contains-later, Contains-cases}
 use Rattle.mdns_lives.specs.declared.account.Account.{Account}
-use Rattle.mdns_lives.specs.declared.life.Heard.{Heard}
+use Rattle.mdns_lives.specs.declared.life.RecordHearing.{RecordHearing}
 use Rattle.mdns_lives.specs.declared.seconds_heard.SecondHeard.{SecondHeard}
 use Rattle.mdns_lives.specs.Chronicle.{Accounts, Chronicles, history_in}
 use Rattle.mdns_lives.specs.Heard.{number_of, AreSecondsOf, AreSecondsHeard, AreSecondsHeld, heard_once, heard_again}
@@ -26,7 +26,7 @@ use Rattle.mdns_lives.proofs.SecondsLemmas.{between-itself, same_ends_in, at-sec
 
 -- ---- seconds of hearings between others
 
-module _ {P Q : Heard → Type 0} (among : (h : Heard) → P h → Q h) (between : (h : Heard) → Q h → IsBetween P h) where
+module _ {P Q : RecordHearing → Type 0} (among : (h : RecordHearing) → P h → Q h) (between : (h : RecordHearing) → Q h → IsBetween P h) where
   ends-between : (n : ℕ) (e : Ends) → AreEnds P n e → AreEnds Q n e
   ends-between n e a = record {
     least_there = among e.least a.least_there;
@@ -52,15 +52,15 @@ module _ {P Q : Heard → Type 0} (among : (h : Heard) → P h → Q h) (between
 
 -- ---- one second before others
 
-second-up_to : (g h : Heard) → IsUpTo g h → second_of g ≤ second_of h
+second-up_to : (g h : RecordHearing) → IsUpTo g h → second_of g ≤ second_of h
 second-up_to g h u = let l = no_later g h u in omega (arith, l)
 
 -- the hearings of a second that has begun, and those left
-abbrev all_from : SecondHeard → List Heard → List Heard
+abbrev all_from : SecondHeard → List RecordHearing → List RecordHearing
 all_from current hs = current.first ∷ current.last ∷ hs
 
 -- it is of hearings in order, both in one second
-record IsBegun (current : SecondHeard) (hs : List Heard) : Type 0 where
+record IsBegun (current : SecondHeard) (hs : List RecordHearing) : Type 0 where
   pub in_order : AreInOrder (all_from current hs)
   pub same : second_of current.last ≡ number_of current
 
@@ -73,8 +73,8 @@ numbers-after n (s ∷ seconds) after = (
 )
 
 -- the hearing is the first or the last one of the second that has begun, or among those left
-from-cases : (P : Heard → Type 0) (current : SecondHeard) (hs : List Heard) → P current.first → P current.last
-    → ((x : Heard) → Contains hs x → P x) → (x : Heard) → Contains (all_from current hs) x → P x
+from-cases : (P : RecordHearing → Type 0) (current : SecondHeard) (hs : List RecordHearing) → P current.first → P current.last
+    → ((x : RecordHearing) → Contains hs x → P x) → (x : RecordHearing) → Contains (all_from current hs) x → P x
 from-cases P current hs first last rest x m =
     elim (Contains-cases current.first (current.last ∷ hs) x m) [
       | inl same ↦ subst P same first
@@ -84,11 +84,11 @@ from-cases P current hs first last rest x m =
       ]
     ]
 
-last-among : (current : SecondHeard) (hs : List Heard) → Contains (all_from current hs) current.last
+last-among : (current : SecondHeard) (hs : List RecordHearing) → Contains (all_from current hs) current.last
 last-among current hs =
     Contains-later current.first (current.last ∷ hs) current.last (Contains-head current.last hs)
 
-left-among : (current : SecondHeard) (hs : List Heard) (x : Heard) → Contains hs x → Contains (all_from current hs) x
+left-among : (current : SecondHeard) (hs : List RecordHearing) (x : RecordHearing) → Contains hs x → Contains (all_from current hs) x
 left-among current hs x m =
     Contains-later current.first (current.last ∷ hs) x (Contains-later current.last hs x m)
 
@@ -97,7 +97,7 @@ begun-alone : (current : SecondHeard) → IsBegun current [] → AreSecondsOf (C
 unfolding IsStrictlySortedBy
 begun-alone current b =
     let up = b.in_order.0 in
-    let whole : (x : Heard) → Contains (all_from current []) x → IsUpTo current.first x × IsUpTo x current.last =
+    let whole : (x : RecordHearing) → Contains (all_from current []) x → IsUpTo current.first x × IsUpTo x current.last =
     from-cases (λ x. IsUpTo current.first x × IsUpTo x current.last) current [] (IsUpTo-itself current.first, up)
     (up, IsUpTo-itself current.last) (λ x m. absurd (Contains-nil x m)) in
     let here : AreEnds (Contains (all_from current [])) (number_of current) (ends current.first current.last) = record {
@@ -107,7 +107,7 @@ begun-alone current b =
       greatest_in = b.same;
       between = λ h m _. whole h m;
     } in
-    let named : (x : Heard) → Contains (all_from current []) x → number_of current ≡ second_of x =
+    let named : (x : RecordHearing) → Contains (all_from current []) x → number_of current ≡ second_of x =
     from-cases (λ x. number_of current ≡ second_of x) current [] refl (sym b.same) (λ x m. absurd (Contains-nil x m)) in
     record {
       ascending = (tt, tt);
@@ -119,24 +119,24 @@ begun-alone current b =
     }
 
 -- the second that has begun is over, and these are the seconds of the later hearings
-module _ (current : SecondHeard) (h : Heard) (hs : List Heard) (b : IsBegun current (h ∷ hs)) (past : number_of current < second_of h)
+module _ (current : SecondHeard) (h : RecordHearing) (hs : List RecordHearing) (b : IsBegun current (h ∷ hs)) (past : number_of current < second_of h)
     (seconds : List SecondHeard) (rest : AreSecondsOf (Contains (all_from (heard_once h) hs)) seconds) where
-  abbrev There : Heard → Type 0
+  abbrev There : RecordHearing → Type 0
   There = Contains (all_from current (h ∷ hs))
 
-  after : (x : Heard) → Contains (h ∷ hs) x → number_of current < second_of x
+  after : (x : RecordHearing) → Contains (h ∷ hs) x → number_of current < second_of x
   after x m = let l = second-up_to h x (first_least h hs b.in_order.1.1 x m) in omega (arith, past, l)
 
-  once-left : (x : Heard) → Contains (all_from (heard_once h) hs) x → Contains (h ∷ hs) x
+  once-left : (x : RecordHearing) → Contains (all_from (heard_once h) hs) x → Contains (h ∷ hs) x
   once-left = from-cases (Contains (h ∷ hs)) (heard_once h) hs (Contains-head h hs) (Contains-head h hs)
       (λ x m. Contains-later h hs x m)
 
   -- a hearing of this second is between its ends
-  abbrev IsHere : Heard → Type 0
+  abbrev IsHere : RecordHearing → Type 0
   IsHere x = (number_of current ≡ second_of x) × IsUpTo current.first x × IsUpTo x current.last
 
   -- a hearing that is there is of this second, or it is left
-  where_is : (x : Heard) → There x → IsHere x ⊎ Contains (h ∷ hs) x
+  where_is : (x : RecordHearing) → There x → IsHere x ⊎ Contains (h ∷ hs) x
   where_is = grind (arith, from-cases, IsUpTo-itself)
 
   number-after : (s : SecondHeard) → Contains seconds s → number_of current < number_of s
@@ -188,20 +188,20 @@ pub seconds_from-over : (current : SecondHeard) → seconds_from current [] ≡ 
 unfolding seconds_from
 seconds_from-over current = refl
 
-pub seconds_from-on : (current : SecondHeard) (h : Heard) (hs : List Heard) → second_of h ≡ number_of current
+pub seconds_from-on : (current : SecondHeard) (h : RecordHearing) (hs : List RecordHearing) → second_of h ≡ number_of current
     → seconds_from current (h ∷ hs) ≡ seconds_from (heard_again current h) hs
 unfolding seconds_from
 seconds_from-on current h hs same = grind (arith, eq-eqb, same)
 
-pub seconds_from-anew : (current : SecondHeard) (h : Heard) (hs : List Heard) → (second_of h == number_of current) ≡ false
+pub seconds_from-anew : (current : SecondHeard) (h : RecordHearing) (hs : List RecordHearing) → (second_of h == number_of current) ≡ false
     → seconds_from current (h ∷ hs) ≡ current ∷ seconds_from (heard_once h) hs
 unfolding seconds_from
 seconds_from-anew current h hs other =
     ap (λ (b : Bool). if b then seconds_from (heard_again current h) hs else current ∷ seconds_from (heard_once h) hs) other
 
 -- the last hearing so far is between the first one and the next
-again-between : (current : SecondHeard) (h : Heard) (hs : List Heard) → IsBegun current (h ∷ hs) → second_of h ≡ number_of current
-    → (x : Heard) → Contains (all_from current (h ∷ hs)) x → IsBetween (Contains (all_from (heard_again current h) hs)) x
+again-between : (current : SecondHeard) (h : RecordHearing) (hs : List RecordHearing) → IsBegun current (h ∷ hs) → second_of h ≡ number_of current
+    → (x : RecordHearing) → Contains (all_from current (h ∷ hs)) x → IsBetween (Contains (all_from (heard_again current h) hs)) x
 again-between current h hs b same =
     let There = Contains (all_from (heard_again current h) hs) in
     let first : There current.first = Contains-head current.first (h ∷ hs) in
@@ -217,11 +217,11 @@ again-between current h hs b same =
       to_greatest = b.in_order.1.0;
     }) (λ x m. between-itself {P = There} x (Contains-later current.first (h ∷ hs) x m))
 
-again-among : (current : SecondHeard) (h : Heard) (hs : List Heard) (x : Heard)
+again-among : (current : SecondHeard) (h : RecordHearing) (hs : List RecordHearing) (x : RecordHearing)
     → Contains (all_from (heard_again current h) hs) x → Contains (all_from current (h ∷ hs)) x
 again-among current h hs = search (rules, from-cases, Contains-head, left-among, Contains-later)
 
-AreSecondsOf-from : (hs : List Heard) (current : SecondHeard) → IsBegun current hs
+AreSecondsOf-from : (hs : List RecordHearing) (current : SecondHeard) → IsBegun current hs
     → AreSecondsOf (Contains (all_from current hs)) (seconds_from current hs)
 AreSecondsOf-from [] current b =
     subst (AreSecondsOf (Contains (all_from current []))) (sym (seconds_from-over current)) (begun-alone current b)
@@ -248,7 +248,7 @@ AreSecondsOf-from (h ∷ hs) current b = by (second_of h == number_of current) r
         subst (AreSecondsOf (Contains (all_from current (h ∷ hs)))) (sym (seconds_from-anew current h hs e))
         (begun-over current h hs b past (seconds_from (heard_once h) hs) (rest (heard_once h) next))
 
-pub AreSecondsOf-walked : (hs : List Heard) → AreInOrder hs → AreSecondsOf (Contains hs) (seconds_walked hs)
+pub AreSecondsOf-walked : (hs : List RecordHearing) → AreInOrder hs → AreSecondsOf (Contains hs) (seconds_walked hs)
 unfolding IsStrictlySortedBy
 AreSecondsOf-walked [] o = grind (arith, Contains-nil)
 AreSecondsOf-walked (h ∷ hs) o =
@@ -261,7 +261,7 @@ AreSecondsOf-walked (h ∷ hs) o =
 
 -- ---- what is held
 
-held-from : (hs : List Heard) (seconds : List SecondHeard) → AreSecondsOf (Contains hs) seconds → AreSecondsHeld (seconds_of hs) seconds
+held-from : (hs : List RecordHearing) (seconds : List SecondHeard) → AreSecondsOf (Contains hs) seconds → AreSecondsHeld (seconds_of hs) seconds
 held-from hs seconds w = record {
   ascending = w.ascending;
   each = λ s m. same_ends_in {P = Contains hs} {Q = Contains hs} (λ h c. c) (λ h c. between-itself {P = Contains hs} h c) (number_of s)
@@ -273,13 +273,13 @@ held-from hs seconds w = record {
 }
 
 -- the walk over hearings in order gives the seconds that they hold
-pub AreSecondsHeld-walked : (hs : List Heard) (value : Seconds) (seconds : List SecondHeard) → AreInOrder hs → seconds_of hs ≡ value
+pub AreSecondsHeld-walked : (hs : List RecordHearing) (value : Seconds) (seconds : List SecondHeard) → AreInOrder hs → seconds_of hs ≡ value
     → seconds ≡ seconds_walked hs → AreSecondsHeld value seconds
 AreSecondsHeld-walked hs value seconds o view are =
     grind (arith, held-from hs (seconds_walked hs) (AreSecondsOf-walked hs o), AreSecondsOf-walked hs o)
 
 -- the seconds that are held of hearings are theirs
-pub AreSecondsOf-held : (P : Heard → Type 0) (held : Seconds) (seconds : List SecondHeard)
+pub AreSecondsOf-held : (P : RecordHearing → Type 0) (held : Seconds) (seconds : List SecondHeard)
     → ((s : ℕ) → AreEndsIn P s (value_at nat_cmp s held)) → AreSecondsHeld held seconds → AreSecondsOf P seconds
 AreSecondsOf-held P held seconds at w = record {
   ascending = w.ascending;
@@ -287,13 +287,13 @@ AreSecondsOf-held P held seconds at w = record {
   all = λ x p. by x p (value_at nat_cmp (second_of x) held) refl (at (second_of x));
 }
   where
-    by : (x : Heard) → P x → (o : Option Ends) → value_at nat_cmp (second_of x) held ≡ o → AreEndsIn P (second_of x) o
+    by : (x : RecordHearing) → P x → (o : Option Ends) → value_at nat_cmp (second_of x) held ≡ o → AreEndsIn P (second_of x) o
         → (s : SecondHeard) × Contains seconds s × (number_of s ≡ second_of x)
     by x p None e none = absurd (none x p refl)
     by x p (Some y) e _ = w.all (second_of x) y e
 
 -- where nothing is held, nothing was heard
-pub AreSecondsOf-none : (P : Heard → Type 0) → ((s : ℕ) → AreEndsIn P s None) → AreSecondsOf P []
+pub AreSecondsOf-none : (P : RecordHearing → Type 0) → ((s : ℕ) → AreEndsIn P s None) → AreSecondsOf P []
 unfolding IsStrictlySortedBy
 AreSecondsOf-none P at = grind (arith, Contains-nil)
 

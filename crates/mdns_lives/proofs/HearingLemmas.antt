@@ -15,7 +15,7 @@ use Rattle.mdns_cache.proofs.StandsPartLemmas.{Contains-flat_map, from_flat_map,
 use Rattle.mdns_lives.specs.History.{IsHeardAs}
 use Rattle.mdns_lives.specs.Chronicle.{Accounts, Chronicles, ends_held, last_held}
 use Rattle.mdns_lives.proofs.SecondsLemmas.{ends-alike}
-use Rattle.mdns_lives.specs.Recording.{IsHearingAt, ChroniclesAt}
+use Rattle.mdns_lives.specs.MessageChronicle.{IsHearingAt, ChroniclesAt}
 
 -- ---- the same hearings
 

@@ -11,7 +11,7 @@ use Rattle.mdns_join.specs.laws.Kept.{IsAscending-from_above}
 use Rattle.mdns_join.specs.Nanos.{nanos_of}
 use Rattle.mdns_cache.specs.LentRecords.{AreEarlyUpTo, end_of}
 use Rattle.mdns_cache.proofs.FirstLaterLemmas.{first_later}
-use Rattle.mdns_lives.specs.declared.life.Heard.{Heard}
+use Rattle.mdns_lives.specs.declared.life.RecordHearing.{RecordHearing}
 use Rattle.mdns_lives.specs.declared.life.Life.{Life}
 use Rattle.mdns_lives.specs.History.{AreInOrder}
 use Rattle.mdns_lives.specs.LifeWalk.{GiveSameEnds, out_of, life_after, carried_on, lives_from, walked}
@@ -57,10 +57,10 @@ early_dropped low ms count up point =
 -- ---- the same ends give the same lives
 
 module _ (fs gs : List ℕ) where
-  same_life : (h : Heard) → GiveSameEnds h.moment.nanos fs gs → life_after fs h ≡ life_after gs h
+  same_life : (h : RecordHearing) → GiveSameEnds h.moment.nanos fs gs → life_after fs h ≡ life_after gs h
   same_life h same = grind (arith, same h.moment.nanos (out_of h))
 
-  same_after : (p : Heard) (hs : List Heard) (life : Life) → AreInOrder (p ∷ hs) → GiveSameEnds p.moment.nanos fs gs
+  same_after : (p : RecordHearing) (hs : List RecordHearing) (life : Life) → AreInOrder (p ∷ hs) → GiveSameEnds p.moment.nanos fs gs
       → lives_from fs life hs ≡ lives_from gs life hs
   unfolding lives_from
   same_after p [] life o same = refl
@@ -77,11 +77,11 @@ module _ (fs gs : List ℕ) where
             (same_after h hs (life_after fs h) o.1 later ∙ ap (λ (a : Life). lives_from gs a hs) begun)
       ]
 
-  pub same_lives : (h : Heard) (hs : List Heard) (life : Life) → AreInOrder (h ∷ hs) → GiveSameEnds h.moment.nanos fs gs
+  pub same_lives : (h : RecordHearing) (hs : List RecordHearing) (life : Life) → AreInOrder (h ∷ hs) → GiveSameEnds h.moment.nanos fs gs
       → lives_from fs life (h ∷ hs) ≡ lives_from gs life (h ∷ hs)
   same_lives h hs life o same = same_after h (h ∷ hs) life (IsUpTo-itself h, o) same
 
-  pub same_walk : (h : Heard) (hs : List Heard) → AreInOrder (h ∷ hs) → GiveSameEnds h.moment.nanos fs gs
+  pub same_walk : (h : RecordHearing) (hs : List RecordHearing) → AreInOrder (h ∷ hs) → GiveSameEnds h.moment.nanos fs gs
       → walked fs (h ∷ hs) ≡ lives_from gs (life_after gs h) hs
   same_walk h hs o same =
       same_after h hs (life_after fs h) o same ∙ ap (λ (a : Life). lives_from gs a hs) (same_life h same)

@@ -14,7 +14,7 @@ use Rattle.mdns_cache.specs.Live.{IsEnd}
 use Rattle.mdns_cache.proofs.StandsPartLemmas.{IsLast-same, IsLast-among}
 use Rattle.mdns_lives.specs.declared.life.Life.{Life}
 use Rattle.mdns_lives.specs.declared.life.EndReason.{EndReason}
-use Rattle.mdns_lives.specs.declared.life.EndReason.TheVariants.{RanOut, Goodbye, Flushed}
+use Rattle.mdns_lives.specs.declared.life.EndReason.TheVariants.{Expired, Goodbye, Flushed}
 use Rattle.mdns_lives.specs.Lives.{heard_until, heard_before, IsLiveThen, IsDuring, IsInOne, AreApart, AreApartAfter, IsEndFor}
 use Rattle.mdns_lives.specs.Lives.{EndsThen, AreLives}
 use Rattle.mdns_cache.proofs.StandsPartLemmas.{Contains-cases, Contains-nil}
@@ -66,13 +66,13 @@ one_ending heard others key same x y e p q =
   where
     by : (r s : EndReason) → IsEndFor heard key p.last y.until r → IsEndFor others key q.last y.until s
         → p.last.moment.nanos + life_of p.last.ttl ≡ q.last.moment.nanos + life_of q.last.ttl → p.last.ttl ≡ q.last.ttl → r ≡ s
-    by RanOut RanOut p q out ttl = refl
-    by RanOut Goodbye p q out ttl = absurd (omega (arith, p.0, q.0, ttl))
-    by RanOut Flushed p q out ttl = absurd (omega (arith, p.1, q.0, out))
-    by Goodbye RanOut p q out ttl = absurd (omega (arith, p.0, q.0, ttl))
+    by Expired Expired p q out ttl = refl
+    by Expired Goodbye p q out ttl = absurd (omega (arith, p.0, q.0, ttl))
+    by Expired Flushed p q out ttl = absurd (omega (arith, p.1, q.0, out))
+    by Goodbye Expired p q out ttl = absurd (omega (arith, p.0, q.0, ttl))
     by Goodbye Goodbye p q out ttl = refl
     by Goodbye Flushed p q out ttl = absurd (omega (arith, p.1, q.0, out))
-    by Flushed RanOut p q out ttl = absurd (omega (arith, p.0, q.1, out))
+    by Flushed Expired p q out ttl = absurd (omega (arith, p.0, q.1, out))
     by Flushed Goodbye p q out ttl = absurd (omega (arith, p.0, q.1, out))
     by Flushed Flushed p q out ttl = refl
 
@@ -86,7 +86,7 @@ one_list_among heard others key xs ys same p q =
 
 ends-among : (heard others : List Hearing) (key : Key) → SameHearings heard others → (l : Latest) (end : ℕ) (r : EndReason)
     → IsEndFor heard key l end r → IsEndFor others key l end r
-ends-among heard others key same l end RanOut e = e
+ends-among heard others key same l end Expired e = e
 ends-among heard others key same l end Goodbye e = e
 ends-among heard others key same l end Flushed e =
     let s = e.1.1 in

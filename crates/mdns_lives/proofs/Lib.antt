@@ -17,7 +17,7 @@ pub mod OneAllLemmas
 pub mod OneListLemmas
 pub mod OrderLemmas
 pub mod PartLemmas
-pub mod RecordingLemmas
+pub mod MessageChronicleLemmas
 pub mod RoomLemmas
 pub mod RowLemmas
 pub mod SecondsLemmas

@@ -13,7 +13,7 @@ use Rattle.std.proofs.lemmas.Map.Views.{Contains-from_lookup, lookup-from_Contai
 use Rattle.join_map.specs.Entries.{value_at}
 use Rattle.join_map.specs.laws.Entries.{is_Equal}
 use Rattle.mdns_cache.proofs.StandsPartLemmas.{Contains-nil, Contains-head, Contains-later, Contains-cases}
-use Rattle.mdns_lives.specs.declared.life.Heard.{Heard}
+use Rattle.mdns_lives.specs.declared.life.RecordHearing.{RecordHearing}
 use Rattle.mdns_lives.specs.History.{IsUpTo, AreInOrder}
 use Rattle.mdns_lives.specs.Seconds.{second_of, IsBetween, AreEndsOf, Ends, AreEnds, AreEndsIn, Seconds, IsSeconds, seconds_of}
 use Rattle.mdns_lives.specs.Seconds.{listed_ends}
@@ -30,7 +30,7 @@ listed-entry : (entries : Seconds) (s : ℕ) (e : Ends) → Contains entries (s,
     → Contains (listed_ends entries) e.least × Contains (listed_ends entries) e.greatest
 listed-entry [] s e m = absurd (Contains-nil (s, e) m)
 listed-entry (f ∷ fs) s e m =
-    let later : (h : Heard) → Contains (listed_ends fs) h → Contains (listed_ends (f ∷ fs)) h =
+    let later : (h : RecordHearing) → Contains (listed_ends fs) h → Contains (listed_ends (f ∷ fs)) h =
     λ h w. Contains-later f.1.least (f.1.greatest ∷ listed_ends fs) h (Contains-later f.1.greatest (listed_ends fs) h w) in
     elim (Contains-cases f fs (s, e) m) [
       | inl same ↦ subst (λ (g : ℕ × Ends). Contains (listed_ends (f ∷ fs)) g.1.least × Contains (listed_ends (f ∷ fs)) g.1.greatest)
@@ -41,7 +41,7 @@ listed-entry (f ∷ fs) s e m =
       | inr rest ↦ (let w = listed-entry fs s e rest in (later e.least w.0, later e.greatest w.1))
     ]
 
-module _ (P : Heard → Type 0) where
+module _ (P : RecordHearing → Type 0) where
   -- each entry has the ends of its second
   abbrev AllEnds : Seconds → Type 0
   AllEnds entries = AllByRecursion (λ (e : ℕ × Ends). AreEnds P e.0 e.1) entries
@@ -58,7 +58,7 @@ module _ (P : Heard → Type 0) where
   in_order (e ∷ []) s a = (up e a.0, tt)
   in_order (e ∷ f ∷ fs) s a = (up e a.0, (onward e f s.0.0 a.0 a.1.0, in_order (f ∷ fs) s.1 a.1))
 
-  listed-there : (entries : Seconds) → AllEnds entries → (h : Heard) → Contains (listed_ends entries) h → P h
+  listed-there : (entries : Seconds) → AllEnds entries → (h : RecordHearing) → Contains (listed_ends entries) h → P h
   listed-there [] a h m = absurd (Contains-nil h m)
   listed-there (e ∷ es) a h m =
       elim (Contains-cases e.1.least (e.1.greatest ∷ listed_ends es) h m) [
@@ -81,10 +81,10 @@ module _ (P : Heard → Type 0) where
     pub listed-in_order : AreInOrder (listed_ends all)
     listed-in_order = in_order all are.sorted (all_ends all (λ e m. m))
 
-    pub listed-among : (h : Heard) → Contains (listed_ends all) h → P h
+    pub listed-among : (h : RecordHearing) → Contains (listed_ends all) h → P h
     listed-among = listed-there all (all_ends all (λ e m. m))
 
-    pub listed-between : (h : Heard) → P h → IsBetween (Contains (listed_ends all)) h
+    pub listed-between : (h : RecordHearing) → P h → IsBetween (Contains (listed_ends all)) h
     listed-between h p = by (value_at nat_cmp (second_of h) all) refl (at (second_of h))
       where
         by : (o : Option Ends) → value_at nat_cmp (second_of h) all ≡ o → AreEndsIn P (second_of h) o
@@ -105,7 +105,7 @@ module _ (P : Heard → Type 0) where
             }
 
 -- the lives that a walk over all hearings gives are those that a walk over the listed ones gives
-pub walked-listed : (flushes : List ℕ) (hs : List Heard) (value : Seconds) → AreInOrder hs → seconds_of hs ≡ value
+pub walked-listed : (flushes : List ℕ) (hs : List RecordHearing) (value : Seconds) → AreInOrder hs → seconds_of hs ≡ value
     → walked flushes hs ≡ walked flushes (listed_ends value)
 walked-listed flushes hs value o view = subst (λ (v : Seconds). walked flushes hs ≡ walked flushes (listed_ends v)) view same
   where

@@ -10,7 +10,7 @@ use Rattle.mdns_message.specs.declared.hearing.Hearing.{Hearing}
 use Rattle.mdns_message.specs.declared.key.Key.{Key}
 use Rattle.mdns_message.specs.Resource.{key_cmp}
 use Rattle.mdns_join.specs.declared.latest.Latest.{Latest}
-use Rattle.mdns_cache.specs.Live.{AreLiveRecords, IsEnd, IsLast, IsLive, SameHearings, record_of}
+use Rattle.mdns_cache.specs.Live.{AreLiveRecords, IsEnd, IsLast, IsLive, SameHearings, key_of_last}
 use Rattle.mdns_cache.proofs.StandsPartLemmas.{Contains-nil, Contains-head, Contains-later, Contains-cases, IsLast-among}
 use Rattle.mdns_cache.proofs.StandsPartLemmas.{IsLast-same, same-itself, Contains-map, Contains-flat_map, from_map, from_flat_map}
 use Rattle.mdns_lives.specs.declared.life.Life.{Life}
@@ -67,7 +67,7 @@ abbrev pub Row : Type 0
 Row = Latest × List Life
 
 abbrev pub row_record : Row → Key
-row_record row = record_of row.0
+row_record row = key_of_last row.0
 
 abbrev pub goes_past : ℕ → Life → Bool
 goes_past now life = nat_lt now life.until
@@ -76,7 +76,7 @@ abbrev shown : ℕ → Row → List (Latest × ℕ)
 shown now row = map (λ (life : Life). (row.0, life.until)) (filter (goes_past now) row.1)
 
 abbrev shown_record : Latest × ℕ → Key
-shown_record row = record_of row.0
+shown_record row = key_of_last row.0
 
 -- the row and the life of an entry, which shows them by f
 pub record IsShown {X : Type 0} (f : Latest → Life → X) (now : ℕ) (rows : List Row) (x : X) : Type 0 where
@@ -142,7 +142,7 @@ ascending_rows now (row ∷ rows) short s =
           (map (λ (life : Life). (row.0, life.until)) ls ++ live_rows now rows))) (sym none) rest
       | inr one ↦ subst (λ (ls : List Life). IsStrictlySortedBy key_cmp (map shown_record
           (map (λ (life : Life). (row.0, life.until)) ls ++ live_rows now rows))) (sym one.1)
-          (after_shown now (record_of row.0) rows later s.0, rest)
+          (after_shown now (key_of_last row.0) rows later s.0, rest)
     ]
 
 -- a record has one end (`one_end` of mdns_cache)
@@ -212,43 +212,43 @@ module _ (some_end : SomeEnd) (until_end : UntilEnd) (same_end : OneEnd) (heard 
   -- ---- all records
 
   module _ (rows : List Row) (all : AreAllLives heard rows) where
-    row_parts : (row : Row) → Contains rows row → IsLast heard (record_of row.0) row.0 × AreLives heard (record_of row.0) row.1
+    row_parts : (row : Row) → Contains rows row → IsLast heard (key_of_last row.0) row.0 × AreLives heard (key_of_last row.0) row.1
     row_parts row m = all.each row.0 row.1 m
 
     -- the record of a life that goes on is live, and ends with it
     pub live_life : (l : Latest) (lives : List Life) (life : Life) → Contains rows (l, lives) → Contains lives life
-        → now < life.until → IsLive heard now (record_of l) l × IsEnd heard (record_of l) life.until
+        → now < life.until → IsLive heard now (key_of_last l) l × IsEnd heard (key_of_last l) life.until
     live_life l lives life r m later =
         let parts = all.each l lives r in
-        let live = live_now (record_of l) lives parts.1 life m later in
-        let same = IsLast-same heard heard (same-itself heard) (record_of l) live.0 l live.1.last parts.0 in (
-          subst (λ (x : Latest). IsLive heard now (record_of l) x) same live.1,
-          ends_as_reported some_end until_end heard (record_of l) lives life now none parts.1 m
-              (goes_on (record_of l) lives parts.1 life m later),
+        let live = live_now (key_of_last l) lives parts.1 life m later in
+        let same = IsLast-same heard heard (same-itself heard) (key_of_last l) live.0 l live.1.last parts.0 in (
+          subst (λ (x : Latest). IsLive heard now (key_of_last l) x) same live.1,
+          ends_as_reported some_end until_end heard (key_of_last l) lives life now none parts.1 m
+              (goes_on (key_of_last l) lives parts.1 life m later),
         )
 
     into_live : (l : Latest) (end : ℕ) → Contains (live_rows now rows) (l, end)
-        → IsLive heard now (record_of l) l × IsEnd heard (record_of l) end
+        → IsLive heard now (key_of_last l) l × IsEnd heard (key_of_last l) end
     into_live l end m =
         let w = from_rows (λ last life. (last, life.until)) now rows (l, end) m in
-        subst (λ (x : Latest × ℕ). IsLive heard now (record_of x.0) x.0 × IsEnd heard (record_of x.0) x.1) w.is
+        subst (λ (x : Latest × ℕ). IsLive heard now (key_of_last x.0) x.0 × IsEnd heard (key_of_last x.0) x.1) w.is
         (live_life w.last w.lives w.life w.row w.among w.later)
 
-    from_live : (l : Latest) (end : ℕ) → IsLive heard now (record_of l) l → IsEnd heard (record_of l) end
+    from_live : (l : Latest) (end : ℕ) → IsLive heard now (key_of_last l) l → IsEnd heard (key_of_last l) end
         → Contains (live_rows now rows) (l, end)
     from_live l end live is_end =
-        let row = all.all (record_of l) l live.last in
+        let row = all.all (key_of_last l) l live.last in
         let parts = all.each l row.0 row.1 in
-        let in_one = (parts.1.exactly now).0 ((live-whole heard (record_of l) now none).1 (l, live)) in
+        let in_one = (parts.1.exactly now).0 ((live-whole heard (key_of_last l) now none).1 (l, live)) in
         let life = one_of row.0 now in_one in
         let later : now < life.0.until = life.2.1 in
         let ends = (live_life l row.0 life.0 row.1 life.1 later).1 in
-        let same : life.0.until ≡ end = same_end heard heard (record_of l) life.0.until end (same-itself heard) ends is_end in
+        let same : life.0.until ≡ end = same_end heard heard (key_of_last l) life.0.until end (same-itself heard) ends is_end in
         subst (λ n. Contains (live_rows now rows) (l, n)) same (to_rows now rows l row.0 life.0 row.1 life.1 later)
 
     pub AreLiveRecords-lives : AreLiveRecords heard now (live_rows now rows)
     AreLiveRecords-lives = record {
-      ascending = ascending_rows now rows (λ row m. short (record_of row.0) row.1 (row_parts row m).1 row.1 (row_parts row m).1.apart
+      ascending = ascending_rows now rows (λ row m. short (key_of_last row.0) row.1 (row_parts row m).1 row.1 (row_parts row m).1.apart
           (λ x c. c)) all.ascending;
       exactly = λ l end. (λ m. into_live l end m, λ w. from_live l end w.0 w.1);
     }
@@ -260,6 +260,6 @@ module _ (some_end : SomeEnd) (until_end : UntilEnd) (same_end : OneEnd) (heard 
         let parts = all.each l lives r in
         let ends = parts.1.ends life m in
         let whole = IsLast-among (heard_until life.until heard) heard
-        (until-all life.until heard (none-after heard now life.until none (omega (arith, later)))) (record_of l) ends.last ends.is_last in
-        let same = IsLast-same heard heard (same-itself heard) (record_of l) ends.last l whole parts.0 in
+        (until-all life.until heard (none-after heard now life.until none (omega (arith, later)))) (key_of_last l) ends.last ends.is_last in
+        let same = IsLast-same heard heard (same-itself heard) (key_of_last l) ends.last l whole parts.0 in
         (sym ends.moment ∙ ap (λ (x : Latest). x.moment) same, sym ends.ttl ∙ ap (λ (x : Latest). x.ttl) same)

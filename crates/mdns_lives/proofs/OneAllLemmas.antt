@@ -9,7 +9,7 @@ use Rattle.mdns_message.specs.declared.hearing.Hearing.{Hearing}
 use Rattle.mdns_message.specs.declared.key.Key.{Key}
 use Rattle.mdns_message.specs.Resource.{key_cmp}
 use Rattle.mdns_message.specs.laws.Resource.{key_cmp-total}
-use Rattle.mdns_cache.specs.Live.{SameHearings, record_of}
+use Rattle.mdns_cache.specs.Live.{SameHearings, key_of_last}
 use Rattle.mdns_cache.proofs.StandsPartLemmas.{Contains-nil, Contains-head, Contains-later, Contains-cases, IsLast-among}
 use Rattle.mdns_lives.specs.declared.life.Life.{Life}
 use Rattle.mdns_lives.specs.Chronicle.{AreAllLives}
@@ -63,8 +63,8 @@ rows_within : (heard others : List Hearing) (xs ys : List Row) → SameHearings 
     → AreAllLives others ys → (row : Row) → Contains xs row → Contains ys row
 rows_within heard others xs ys same p q row m =
     let parts = p.each row.0 row.1 m in
-    let found = q.all (record_of row.0) row.0 (IsLast-among heard others same (record_of row.0) row.0 parts.0) in
-    let lives = one_list_among heard others (record_of row.0) row.1 found.0 same parts.1 (q.each row.0 found.0 found.1).1 in
+    let found = q.all (key_of_last row.0) row.0 (IsLast-among heard others same (key_of_last row.0) row.0 parts.0) in
+    let lives = one_list_among heard others (key_of_last row.0) row.1 found.0 same parts.1 (q.each row.0 found.0 found.1).1 in
     subst (λ (ls : List Life). Contains ys (row.0, ls)) (sym lives) found.1
 
 pub one_all_rows : (heard others : List Hearing) (xs ys : List Row) → SameHearings heard others → AreAllLives heard xs
@@ -78,8 +78,8 @@ shared_rows heard others rows same p =
     record {
       ascending = p.ascending;
       each = λ l lives m. (let parts = p.each l lives m in (
-        IsLast-among heard others same (record_of l) l parts.0,
-        lives-among heard others (record_of l) lives same parts.1,
+        IsLast-among heard others same (key_of_last l) l parts.0,
+        lives-among heard others (key_of_last l) lives same parts.1,
       ));
       all = λ key l last. p.all key l (IsLast-among others heard back key l last);
     }

@@ -3,7 +3,7 @@ use Rattle.std.proofs.Common.{◌≡◌, ℕ, ◌<◌, ◌≤◌, List, [], ◌�
 use Rattle.std.proofs.Common.{subst, inl, inr, arith}
 use Rattle.std.proofs.lemmas.Bool.{cases_lt}
 use Rattle.mdns_join.specs.laws.Latest.{moment-same}
-use Rattle.mdns_lives.specs.declared.life.Heard.{Heard}
+use Rattle.mdns_lives.specs.declared.life.RecordHearing.{RecordHearing}
 use Rattle.mdns_lives.specs.declared.life.Life.{Life}
 use Rattle.mdns_lives.specs.declared.life.EndReason.{EndReason}
 use Rattle.mdns_lives.specs.History.{IsEndBy, EndsBy, AreLivesBy}
@@ -53,7 +53,7 @@ rest-within x y xs ys a e into now w = grind (arith, after_low)
 
 -- ---- the reason of an end
 
-same_reason : (flushes : List ℕ) (a b : Heard) (end : ℕ) (r s : EndReason) → a.moment.nanos ≡ b.moment.nanos → a.ttl ≡ b.ttl
+same_reason : (flushes : List ℕ) (a b : RecordHearing) (end : ℕ) (r s : EndReason) → a.moment.nanos ≡ b.moment.nanos → a.ttl ≡ b.ttl
     → IsEndBy flushes a end r → IsEndBy flushes b end s → r ≡ s
 same_reason flushes a b end r s e f p q = grind arith
 
@@ -61,7 +61,7 @@ same_reason flushes a b end r s e f p q = grind arith
 abbrev pub IsEndAlike : Life → Life → Type 0
 IsEndAlike x y = (x.last ≡ y.last) × (x.reason ≡ y.reason)
 
-one_ending : (heard : List Heard) (flushes : List ℕ) (x y : Life) → x.until ≡ y.until → EndsBy heard flushes x
+one_ending : (heard : List RecordHearing) (flushes : List ℕ) (x y : Life) → x.until ≡ y.until → EndsBy heard flushes x
     → EndsBy heard flushes y → IsEndAlike x y
 one_ending heard flushes x y e p q =
     let up = q.is_last.greatest x.last p.is_last.among (subst (λ n. x.last.moment.nanos ≤ n) e p.is_last.by_then) in
@@ -95,7 +95,7 @@ module _ (Ends Others : Life → Type 0) (one : (x y : Life) → x.until ≡ y.u
       (λ life m. p life (Contains-later x xs life m)) (λ life m. q life (Contains-later y ys life m)) in
       cc
 
-pub one_list : (heard : List Heard) (flushes : List ℕ) (xs ys : List Life) → AreLivesBy heard flushes xs
+pub one_list : (heard : List RecordHearing) (flushes : List ℕ) (xs ys : List Life) → AreLivesBy heard flushes xs
     → AreLivesBy heard flushes ys → xs ≡ ys
 one_list heard flushes xs ys p q =
     same_lives (EndsBy heard flushes) (EndsBy heard flushes) (one_ending heard flushes) xs ys p.apart q.apart

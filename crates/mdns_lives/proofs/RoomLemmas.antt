@@ -12,7 +12,7 @@ use Rattle.std.proofs.lemmas.Bool.{cases_lt}
 use Rattle.std.proofs.lemmas.List.{take_more, take_more_set, length-take-le, length-set}
 use Rattle.join_map.specs.Entries.{put_entry}
 use Rattle.mdns_cache.proofs.StandsPartLemmas.{Contains-nil, Contains-head, Contains-later}
-use Rattle.mdns_lives.specs.declared.life.Heard.{Heard}
+use Rattle.mdns_lives.specs.declared.life.RecordHearing.{RecordHearing}
 use Rattle.mdns_lives.specs.History.{AreInOrder}
 use Rattle.mdns_lives.specs.Seconds.{second_of, IsSparse, Ends, ends, Seconds, join_ends, join_seconds, only, seconds_of}
 use Rattle.mdns_lives.specs.Seconds.{IsRoomFor}
@@ -38,7 +38,7 @@ after-put : (j k : ℕ) (v : Ends) (es : Seconds) → nat_cmp j k ≡ Less → A
 after-put j k v [] l a = (l, tt)
 after-put j k v (e ∷ es) l a = after_by (nat_cmp k e.0) j k v e es l a (after-put j k v es l a.1)
 
-after-seconds_of : (s : ℕ) (hs : List Heard) → ((h : Heard) → Contains hs h → s < second_of h) → AllAfter s (seconds_of hs)
+after-seconds_of : (s : ℕ) (hs : List RecordHearing) → ((h : RecordHearing) → Contains hs h → s < second_of h) → AllAfter s (seconds_of hs)
 unfolding seconds_of
 after-seconds_of s [] all = tt
 after-seconds_of s (h ∷ hs) all =
@@ -68,31 +68,31 @@ length-join xs [] = omega arith
 length-join xs (e ∷ es) = grind (arith, length-put, length-join (put_entry nat_cmp join_ends xs e.0 e.1) es)
 
 -- a hearing of an earlier second than all others
-one_more : (h : Heard) (hs : List Heard) → ((x : Heard) → Contains hs x → second_of h < second_of x)
+one_more : (h : RecordHearing) (hs : List RecordHearing) → ((x : RecordHearing) → Contains hs x → second_of h < second_of x)
     → length (seconds_of (h ∷ hs)) ≡ length (seconds_of hs) + 1
 unfolding seconds_of
 one_more h hs all =
     let is = ap length (put_first (second_of h) (ends h h) (seconds_of hs) (after-seconds_of (second_of h) hs all)) in
     omega (arith, is)
 
-no_fewer : (h : Heard) (hs : List Heard) → length (seconds_of hs) ≤ length (seconds_of (h ∷ hs))
+no_fewer : (h : RecordHearing) (hs : List RecordHearing) → length (seconds_of hs) ≤ length (seconds_of (h ∷ hs))
 unfolding seconds_of
 no_fewer h hs = length-put (second_of h) (ends h h) (seconds_of hs)
 
 -- ---- sparse lists
 
-sparse-rest : (h : Heard) (hs : List Heard) → IsSparse (h ∷ hs) → IsSparse hs
+sparse-rest : (h : RecordHearing) (hs : List RecordHearing) → IsSparse (h ∷ hs) → IsSparse hs
 sparse-rest h [] s = tt
 sparse-rest h (a ∷ []) s = tt
 sparse-rest h (a ∷ b ∷ hs) s = s.1
 
 -- the hearings after two of one second are of later ones
-later_seconds : (a b : Heard) (hs : List Heard) → AreInOrder (b ∷ hs) → IsSparse (a ∷ b ∷ hs) → second_of b ≤ second_of a
-    → (x : Heard) → Contains hs x → second_of b < second_of x
+later_seconds : (a b : RecordHearing) (hs : List RecordHearing) → AreInOrder (b ∷ hs) → IsSparse (a ∷ b ∷ hs) → second_of b ≤ second_of a
+    → (x : RecordHearing) → Contains hs x → second_of b < second_of x
 later_seconds a b [] o s l x m = absurd (Contains-nil x m)
 later_seconds a b (c ∷ hs) o s l x m = grind (arith, no_later c x (first_least c hs o.1 x m), first_least c hs o.1 x m)
 
-pub few : (hs : List Heard) → AreInOrder hs → IsSparse hs → length hs ≤ 2 * length (seconds_of hs)
+pub few : (hs : List RecordHearing) → AreInOrder hs → IsSparse hs → length hs ≤ 2 * length (seconds_of hs)
 few [] o s = omega arith
 few (a ∷ []) o s = let more = one_more a [] (λ x m. absurd (Contains-nil x m)) in omega (arith, more)
 few (a ∷ b ∷ hs) o s =
@@ -108,21 +108,21 @@ few (a ∷ b ∷ hs) o s =
           omega (arith, more, both, rest))
     ]
 
-sparse_behind : (front : List Heard) (a b n : Heard) → IsSparse (front ++ a ∷ b ∷ []) → second_of a < second_of n
+sparse_behind : (front : List RecordHearing) (a b n : RecordHearing) → IsSparse (front ++ a ∷ b ∷ []) → second_of a < second_of n
     → IsSparse (front ++ a ∷ b ∷ n ∷ [])
 sparse_behind [] a b n s l = (l, tt)
 sparse_behind (x ∷ []) a b n s l = (s.0, (l, tt))
 sparse_behind (x ∷ y ∷ []) a b n s l = (s.0, (s.1.0, (l, tt)))
 sparse_behind (x ∷ y ∷ z ∷ front) a b n s l = (s.0, sparse_behind (y ∷ z ∷ front) a b n s.1 l)
 
-sparse_in_place : (front : List Heard) (a b n : Heard) → IsSparse (front ++ a ∷ b ∷ []) → second_of b ≤ second_of n
+sparse_in_place : (front : List RecordHearing) (a b n : RecordHearing) → IsSparse (front ++ a ∷ b ∷ []) → second_of b ≤ second_of n
     → IsSparse (front ++ a ∷ n ∷ [])
 sparse_in_place [] a b n s l = tt
 sparse_in_place (x ∷ []) a b n s l = (omega (arith, s.0, l), tt)
 sparse_in_place (x ∷ y ∷ []) a b n s l = (s.0, (omega (arith, s.1.0, l), tt))
 sparse_in_place (x ∷ y ∷ z ∷ front) a b n s l = (s.0, sparse_in_place (y ∷ z ∷ front) a b n s.1 l)
 
-sparse_short : (hs : List Heard) → length hs ≤ 2 → IsSparse hs
+sparse_short : (hs : List RecordHearing) → length hs ≤ 2 → IsSparse hs
 sparse_short [] l = tt
 sparse_short (a ∷ []) l = tt
 sparse_short (a ∷ b ∷ []) l = tt
@@ -130,13 +130,13 @@ sparse_short (a ∷ b ∷ c ∷ hs) l = absurd (omega (arith, l))
 
 -- ---- by index
 
-module _ (xs : List Heard) (kept place : ℕ) (a next : Heard) (two : 2 ≤ kept) (le : kept ≤ place) (l : place < length xs)
+module _ (xs : List RecordHearing) (kept place : ℕ) (a next : RecordHearing) (two : 2 ≤ kept) (le : kept ≤ place) (l : place < length xs)
     (first : a ≡ get_or xs (kept - 2) a) (now : next ≡ get_or xs place next)
     (o : AreInOrder (take kept xs ++ drop place xs)) (s : IsSparse (take kept xs)) where
-  abbrev front : List Heard
+  abbrev front : List RecordHearing
   front = take (kept - 2) xs
 
-  abbrev last : Heard
+  abbrev last : RecordHearing
   last = get_or xs (kept - 2 + 1) a
 
   taken : take kept xs ≡ front ++ a ∷ last ∷ []
@@ -156,7 +156,7 @@ module _ (xs : List Heard) (kept place : ℕ) (a next : Heard) (two : 2 ≤ kept
       let up = no_later last next (between_ends a last next (drop (place + 1) xs) front in_whole).1 in
       let whole : take kept (slice_set xs (kept - 1) next) ≡ front ++ a ∷ next ∷ [] =
       (λ i. take (is i) (slice_set xs (at i) next)) ∙ take_more_set xs (kept - 2 + 1) next (omega (arith, two, le, l))
-      ∙ ap (λ (zs : List Heard). zs ++ next ∷ []) (take_next xs (kept - 2) a (omega (arith, two, le, l)) first)
+      ∙ ap (λ (zs : List RecordHearing). zs ++ next ∷ []) (take_next xs (kept - 2) a (omega (arith, two, le, l)) first)
       ∙ append_assoc front (a ∷ []) (next ∷ []) in
       subst IsSparse (sym whole) (sparse_in_place front a last next sparse_taken (omega (arith, up)))
 
@@ -164,11 +164,11 @@ module _ (xs : List Heard) (kept place : ℕ) (a next : Heard) (two : 2 ≤ kept
   kept_sparse_behind unlike =
       grind (arith, between_ends, in_whole, no_later, cases_lt, slice_set, take_more_set, taken, append_assoc, sparse_behind, sparse_taken)
 
-pub kept_sparse_first : (xs : List Heard) (kept place : ℕ) (next : Heard) → kept < 2 → kept ≤ place → place < length xs
+pub kept_sparse_first : (xs : List RecordHearing) (kept place : ℕ) (next : RecordHearing) → kept < 2 → kept ≤ place → place < length xs
     → IsSparse (take (kept + 1) (slice_set xs kept next))
 kept_sparse_first xs kept place next two le l = grind (arith, length-set, length-take-le, slice_set, sparse_short)
 
 -- one more hearing in the same room
-pub room_pushed : (hs gs : List Heard) (h : Heard) (held room same : ℕ) → gs ≡ hs ++ h ∷ [] → same ≡ room
+pub room_pushed : (hs gs : List RecordHearing) (h : RecordHearing) (held room same : ℕ) → gs ≡ hs ++ h ∷ [] → same ≡ room
     → IsRoomFor (seconds_of hs) held room → IsRoomFor (seconds_of gs) held same
 room_pushed hs gs h held room same is kept bound = grind (arith, length-join (seconds_of hs) (only h), seconds_of-push hs h)

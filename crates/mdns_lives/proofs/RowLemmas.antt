@@ -19,13 +19,13 @@ use Rattle.mdns_join.specs.declared.latest.Latest.{Latest}
 use Rattle.mdns_join.specs.Kept.{has}
 use Rattle.join_map.specs.Entries.{value_at}
 use Rattle.join_map.specs.laws.Entries.{ValidAt, valid_at, sorted_above, sorted_rest}
-use Rattle.mdns_cache.specs.Live.{IsUnheard, IsLast, record_of}
+use Rattle.mdns_cache.specs.Live.{IsUnheard, IsLast, key_of_last}
 use Rattle.mdns_cache.proofs.StandsPartLemmas.{same-itself, IsLast-same, Contains-head, Contains-later, Contains-map, from_map}
 use Rattle.mdns_cache.proofs.MeaningLemmas.{key_eq-exact}
 use Rattle.mdns_join.proofs.FlushWalkLemmas.{HasLater}
 use Rattle.mdns_cache.proofs.LiveWalkLemmas.{key_after}
 use Rattle.mdns_lives.specs.declared.account.Account.{Account}
-use Rattle.mdns_lives.specs.declared.life.Heard.{Heard}
+use Rattle.mdns_lives.specs.declared.life.RecordHearing.{RecordHearing}
 use Rattle.mdns_lives.specs.declared.life.Life.{Life}
 use Rattle.mdns_lives.specs.Account.{IsAccount}
 use Rattle.mdns_lives.specs.Lives.{AreLives}
@@ -45,12 +45,12 @@ abbrev pub Row : Type 0
 Row = Latest × List Life
 
 abbrev pub record_in : Row → Key
-record_in row = record_of row.0
+record_in row = key_of_last row.0
 
 -- ---- rows of entries
 
 module _ (flushes : List (RecordSet × List ℕ)) where
-  records_own : (es : List (Key × Account)) → ((k : Key) (a : Account) → Contains es (k, a) → record_of a.latest ≡ k)
+  records_own : (es : List (Key × Account)) → ((k : Key) (a : Account) → Contains es (k, a) → key_of_last a.latest ≡ k)
       → map record_in (rows_by flushes es) ≡ keys_of es
   records_own [] own = refl
   records_own (e ∷ es) own =
@@ -64,7 +64,7 @@ flush_in-held (Some ms) m = (λ h. h, λ h. h)
 
 -- the lives of a record are those by its history (`lives_by_history`)
 abbrev pub ByHistory : Type 0
-ByHistory = (heard : List Hearing) (key : Key) (history : List Heard) (flushes : List ℕ) (lives : List Life)
+ByHistory = (heard : List Hearing) (key : Key) (history : List RecordHearing) (flushes : List ℕ) (lives : List Life)
     → IsHistory heard key history → AreFlushes heard key.set flushes → (AreLivesBy history flushes lives ↔ AreLives heard key lives)
 
 module _ (by_history : ByHistory) (c : Accounts) (heard : List Hearing) (s : Chronicles c heard) where
@@ -77,8 +77,8 @@ module _ (by_history : ByHistory) (c : Accounts) (heard : List Hearing) (s : Chr
     last_of_entry =
         subst (λ (o : Option Account). MatchOption (latest_in o) (IsUnheard heard k) (IsLast heard k)) at (s.lasts k)
 
-    own : record_of a.latest ≡ k
-    own = sym (ap record_of last_of_entry.gives) ∙ last_of_entry.of_record
+    own : key_of_last a.latest ≡ k
+    own = sym (ap key_of_last last_of_entry.gives) ∙ last_of_entry.of_record
 
     is_account : IsAccount a
     is_account = subst (ValidAt IsAccount) at (valid_at key_cmp-total key_cmp-exact account-laws k c.records s.accounts.records.valid)
@@ -120,7 +120,7 @@ module _ (by_history : ByHistory) (c : Accounts) (heard : List Hearing) (s : Chr
     each = λ l lives m.
         let w = from_map (row_held c.flushes) c.records (l, lives) m in
         let e = w.0 in
-        subst (λ (row : Row). IsLast heard (record_of row.0) row.0 × AreLives heard (record_of row.0) row.1) w.1
+        subst (λ (row : Row). IsLast heard (key_of_last row.0) row.0 × AreLives heard (key_of_last row.0) row.1) w.1
         (subst (λ (k : Key). IsLast heard k e.1.latest
         × AreLives heard k (walked (flushes_held c.flushes e.0.set) (listed_ends e.1.history))) (sym (own e.0 e.1 w.2))
         (last_of_entry e.0 e.1 w.2, lives_of_entry e.0 e.1 w.2));

@@ -17,7 +17,7 @@ use Rattle.join_map.specs.laws.Join.{IsAtMost-left}
 use Rattle.join_map.specs.laws.Entries.{is_Equal, same_entries, value_at-put, value_at-join, IsJoinMap-none, IsJoinMap-one}
 use Rattle.join_map.specs.laws.Entries.{IsJoinMap-put, IsJoinMap-join}
 use Rattle.mdns_cache.proofs.StandsPartLemmas.{Contains-nil, Contains-head, Contains-later, Contains-cases}
-use Rattle.mdns_lives.specs.declared.life.Heard.{Heard}
+use Rattle.mdns_lives.specs.declared.life.RecordHearing.{RecordHearing}
 use Rattle.mdns_lives.specs.History.{IsUpTo}
 use Rattle.mdns_lives.specs.Seconds.{heard_cmp, second_of, IsBetween, AreEndsOf, Ends, ends, AreEnds, IsUnheardIn, AreEndsIn}
 use Rattle.mdns_lives.specs.Seconds.{Seconds, join_ends, IsSeconds, join_seconds, only, seconds_of, JoinsFirst}
@@ -26,15 +26,15 @@ use Rattle.mdns_lives.proofs.OrderLemmas.{IsUpTo-itself, IsUpTo-onward, IsUpTo-f
 
 -- ---- the lesser and the greater of two hearings
 
-not_lt : (a b : Heard) → heard_cmp a b ≡ Less → is_lt (heard_cmp b a) ≡ false
+not_lt : (a b : RecordHearing) → heard_cmp a b ≡ Less → is_lt (heard_cmp b a) ≡ false
 not_lt a b e = ap is_lt (heard_cmp-total.antisymm b a ∙ ap ordering_reverse e)
 
-record IsLesser (a b least : Heard) : Type 0 where
+record IsLesser (a b least : RecordHearing) : Type 0 where
   pub one : (least ≡ a) ⊎ (least ≡ b)
   pub up_to_first : IsUpTo least a
   pub up_to_second : IsUpTo least b
 
-lesser-is : (a b : Heard) → IsLesser a b (greater_of (flip_args heard_cmp) a b)
+lesser-is : (a b : RecordHearing) → IsLesser a b (greater_of (flip_args heard_cmp) a b)
 lesser-is a b =
     elim (heard_cmp b a) as (λ o. heard_cmp b a ≡ o → IsLesser a b (match_ordering o b a a)) [
       | Less ↦ λ e. record { one = inr refl; up_to_first = IsUpTo-from_lt b a (not_lt b a e); up_to_second = IsUpTo-itself b }
@@ -42,12 +42,12 @@ lesser-is a b =
       | Greater ↦ λ e. record { one = inl refl; up_to_first = IsUpTo-itself a; up_to_second = IsUpTo-from_lt a b (ap is_lt e) }
     ] refl
 
-record IsGreater (a b greatest : Heard) : Type 0 where
+record IsGreater (a b greatest : RecordHearing) : Type 0 where
   pub one : (greatest ≡ a) ⊎ (greatest ≡ b)
   pub from_first : IsUpTo a greatest
   pub from_second : IsUpTo b greatest
 
-greater-is : (a b : Heard) → IsGreater a b (greater_of heard_cmp a b)
+greater-is : (a b : RecordHearing) → IsGreater a b (greater_of heard_cmp a b)
 greater-is a b =
     elim (heard_cmp a b) as (λ o. heard_cmp a b ≡ o → IsGreater a b (match_ordering o b a a)) [
       | Less ↦ λ e. record { one = inr refl; from_first = IsUpTo-from_lt a b (not_lt a b e); from_second = IsUpTo-itself b }
@@ -57,8 +57,8 @@ greater-is a b =
 
 -- ---- the ends of one second
 
-module _ {P Q R : Heard → Type 0} (left : (h : Heard) → P h → R h) (right : (h : Heard) → Q h → R h)
-    (cases : (h : Heard) → R h → P h ⊎ Q h) (s : ℕ) where
+module _ {P Q R : RecordHearing → Type 0} (left : (h : RecordHearing) → P h → R h) (right : (h : RecordHearing) → Q h → R h)
+    (cases : (h : RecordHearing) → R h → P h ⊎ Q h) (s : ℕ) where
   ends-left : (a : Ends) → AreEnds P s a → IsUnheardIn Q s → AreEnds R s a
   ends-left a p none = grind arith
 
@@ -98,17 +98,17 @@ module _ {P Q R : Heard → Type 0} (left : (h : Heard) → P h → R h) (right 
   ends-joined (Some a) (Some b) u v = ends-both a b u v
 
 -- of hearings that are there for others
-pub ends-alike : {P Q : Heard → Type 0} → ((h : Heard) → P h → Q h) → ((h : Heard) → Q h → P h) → (s : ℕ) (o : Option Ends)
+pub ends-alike : {P Q : RecordHearing → Type 0} → ((h : RecordHearing) → P h → Q h) → ((h : RecordHearing) → Q h → P h) → (s : ℕ) (o : Option Ends)
     → AreEndsIn P s o → AreEndsIn Q s o
 ends-alike into back s None u = λ h m e. u h (back h m) e
 ends-alike into back s (Some a) u = grind arith
 
 -- hearings that are there lie between themselves
-pub between-itself : {P : Heard → Type 0} (h : Heard) → P h → IsBetween P h
+pub between-itself : {P : RecordHearing → Type 0} (h : RecordHearing) → P h → IsBetween P h
 between-itself h p = search (rules, IsUpTo-itself)
 
 -- hearings between others have their ends
-module _ {P Q : Heard → Type 0} (among : (h : Heard) → Q h → P h) (between : (h : Heard) → P h → IsBetween Q h) (s : ℕ) where
+module _ {P Q : RecordHearing → Type 0} (among : (h : RecordHearing) → Q h → P h) (between : (h : RecordHearing) → P h → IsBetween Q h) (s : ℕ) where
   same_ends : (a b : Ends) → AreEnds P s a → AreEnds Q s b → a ≡ b
   same_ends a b p q =
       let l = between a.least p.least_there in
@@ -130,36 +130,36 @@ module _ {P Q : Heard → Type 0} (among : (h : Heard) → Q h → P h) (between
 
 -- ---- one hearing
 
-only_by : (h : Heard) (s : ℕ) (b : Bool) → is_eq (nat_cmp s (second_of h)) ≡ b
+only_by : (h : RecordHearing) (s : ℕ) (b : Bool) → is_eq (nat_cmp s (second_of h)) ≡ b
     → AreEndsIn (λ x. h ≡ x) s (cond b (Some (ends h h)) None)
 only_by h s true e = grind (arith, exact_unsigned, is_Equal, IsUpTo-itself)
 only_by h s false e = grind arith
 
-pub at-only : (h : Heard) (s : ℕ) → AreEndsIn (λ x. h ≡ x) s (value_at nat_cmp s (only h))
+pub at-only : (h : RecordHearing) (s : ℕ) → AreEndsIn (λ x. h ≡ x) s (value_at nat_cmp s (only h))
 at-only h s = only_by h s (is_eq (nat_cmp s (second_of h))) refl
 
-pub IsSeconds-only : (h : Heard) → IsSeconds (only h)
+pub IsSeconds-only : (h : RecordHearing) → IsSeconds (only h)
 IsSeconds-only h = IsJoinMap-one nat_cmp_total exact_unsigned ends-laws (second_of h) (ends h h) tt
 
 -- ---- the seconds of a list
 
-pub IsSeconds-of : (hs : List Heard) → IsSeconds (seconds_of hs)
+pub IsSeconds-of : (hs : List RecordHearing) → IsSeconds (seconds_of hs)
 unfolding seconds_of
 IsSeconds-of [] = IsJoinMap-none nat_cmp_total exact_unsigned ends-laws
 IsSeconds-of (h ∷ hs) =
     IsJoinMap-put nat_cmp_total exact_unsigned ends-laws (second_of h) (ends h h) (seconds_of hs) tt (IsSeconds-of hs)
 
-pub IsSeconds-value : (hs : List Heard) (value : Seconds) → seconds_of hs ≡ value → IsSeconds value
+pub IsSeconds-value : (hs : List RecordHearing) (value : Seconds) → seconds_of hs ≡ value → IsSeconds value
 IsSeconds-value hs value view = subst IsSeconds view (IsSeconds-of hs)
 
-pub at-seconds_of : (hs : List Heard) (s : ℕ) → AreEndsIn (Contains hs) s (value_at nat_cmp s (seconds_of hs))
+pub at-seconds_of : (hs : List RecordHearing) (s : ℕ) → AreEndsIn (Contains hs) s (value_at nat_cmp s (seconds_of hs))
 unfolding seconds_of
 at-seconds_of [] s = λ h m _. Contains-nil h m
 at-seconds_of (h ∷ hs) s =
     subst (λ (o : Option Ends). AreEndsIn (Contains (h ∷ hs)) s o)
     (sym (value_at-put nat_cmp_total exact_unsigned join_ends s (second_of h) (ends h h) (seconds_of hs) (IsSeconds-of hs).sorted))
     (ends-joined {P = Contains hs} {Q = λ x. h ≡ x} (λ x m. Contains-later h hs x m)
-    (λ x e. subst (λ (y : Heard). Contains (h ∷ hs) y) e (Contains-head h hs))
+    (λ x e. subst (λ (y : RecordHearing). Contains (h ∷ hs) y) e (Contains-head h hs))
     (λ x m. elim (Contains-cases h hs x m) [ inl same ↦ inr same | inr rest ↦ inl rest ]) s
     (value_at nat_cmp s (seconds_of hs)) (value_at nat_cmp s (only h)) (at-seconds_of hs s) (at-only h s))
 
@@ -169,12 +169,12 @@ pub same_seconds : (xs ys : Seconds) → IsSeconds xs → IsSeconds ys
 same_seconds xs ys u v same = same_entries nat_cmp_total exact_unsigned xs ys u.sorted v.sorted same
 
 -- the ends of a list's hearings have its seconds
-pub seconds_of-ends : (hs es : List Heard) → AreEndsOf hs es → seconds_of hs ≡ seconds_of es
+pub seconds_of-ends : (hs es : List RecordHearing) → AreEndsOf hs es → seconds_of hs ≡ seconds_of es
 seconds_of-ends hs es are = same_seconds (seconds_of hs) (seconds_of es) (IsSeconds-of hs) (IsSeconds-of es)
     (λ s. same_ends_in {P = Contains hs} {Q = Contains es} are.among are.between s (value_at nat_cmp s (seconds_of hs))
     (value_at nat_cmp s (seconds_of es)) (at-seconds_of hs s) (at-seconds_of es s))
 
-pub seconds_of-moved : (xs ys : List Heard) → IsPermutation xs ys → seconds_of ys ≡ seconds_of xs
+pub seconds_of-moved : (xs ys : List RecordHearing) → IsPermutation xs ys → seconds_of ys ≡ seconds_of xs
 seconds_of-moved xs ys moved = search (rules, seconds_of-ends, Contains-permutation, between-itself, IsPermutation-sym)
 
 pub IsSeconds-join : (xs ys : Seconds) → IsSeconds xs → IsSeconds ys → IsSeconds (join_seconds xs ys)
@@ -184,7 +184,7 @@ pub at-join : (s : ℕ) (xs ys : Seconds) → IsSeconds xs → IsSeconds ys
     → value_at nat_cmp s (join_seconds xs ys) ≡ joined_at join_ends (value_at nat_cmp s xs) (value_at nat_cmp s ys)
 at-join s xs ys u v = value_at-join nat_cmp_total exact_unsigned join_ends s xs ys u.sorted v.sorted
 
-pub seconds_of-append : (xs ys : List Heard) → seconds_of (xs ++ ys) ≡ join_seconds (seconds_of xs) (seconds_of ys)
+pub seconds_of-append : (xs ys : List RecordHearing) → seconds_of (xs ++ ys) ≡ join_seconds (seconds_of xs) (seconds_of ys)
 seconds_of-append xs ys =
     let u = IsSeconds-of xs in
     let v = IsSeconds-of ys in
@@ -198,11 +198,11 @@ seconds_of-append xs ys =
     (λ h m. Contains-append_right xs ys h m) (λ h m. Contains-append_cases xs ys h m) s (value_at nat_cmp s (seconds_of xs))
     (value_at nat_cmp s (seconds_of ys)) (at-seconds_of xs s) (at-seconds_of ys s))))
 
-pub seconds_of-one : (h : Heard) → seconds_of (h ∷ []) ≡ only h
+pub seconds_of-one : (h : RecordHearing) → seconds_of (h ∷ []) ≡ only h
 unfolding seconds_of
 seconds_of-one h = refl
 
-pub seconds_of-push : (xs : List Heard) (h : Heard) → seconds_of (xs ++ h ∷ []) ≡ join_seconds (seconds_of xs) (only h)
+pub seconds_of-push : (xs : List RecordHearing) (h : RecordHearing) → seconds_of (xs ++ h ∷ []) ≡ join_seconds (seconds_of xs) (only h)
 seconds_of-push xs h = seconds_of-append xs (h ∷ []) ∙ ap (join_seconds (seconds_of xs)) (seconds_of-one h)
 
 -- ---- hearings that are joined one by one
@@ -211,7 +211,7 @@ pub joined_none : (old : Seconds) → old ≡ join_seconds old (seconds_of [])
 unfolding seconds_of
 joined_none old = refl
 
-pub joined_next : (old self new : Seconds) (hs : List Heard) (i : ℕ) (h : Heard) → IsSeconds old → i < length hs → h ≡ get_or hs i h
+pub joined_next : (old self new : Seconds) (hs : List RecordHearing) (i : ℕ) (h : RecordHearing) → IsSeconds old → i < length hs → h ≡ get_or hs i h
     → self ≡ join_seconds old (seconds_of (take i hs)) → new ≡ join_seconds self (only h)
     → new ≡ join_seconds old (seconds_of (take (i + 1) hs))
 joined_next old self new hs i h u l is so_far next =
@@ -222,7 +222,7 @@ joined_next old self new hs i h u l is so_far next =
     ∙ ap (join_seconds old) (sym (seconds_of-push first h)) ∙ ap (λ xs. join_seconds old (seconds_of xs)) (sym more)
 
 -- some of them lie between
-pub part_first : (old other new : Seconds) (hs : List Heard) → IsSeconds old → seconds_of hs ≡ other → JoinsFirst old hs new
+pub part_first : (old other new : Seconds) (hs : List RecordHearing) → IsSeconds old → seconds_of hs ≡ other → JoinsFirst old hs new
     → IsPartOfJoin join_seconds old other new
 part_first old other new hs u is w = grind (
   arith,

@@ -12,7 +12,7 @@ use Rattle.std.specs.Map.Iter.{TakesFirst}
 use Rattle.mdns_capture.specs.declared.moment.Moment.{Moment}
 use Rattle.mdns_message.specs.declared.hearing.Hearing.{Hearing}
 use Rattle.mdns_join.specs.declared.latest.Latest.{Latest}
-use Rattle.mdns_cache.specs.Live.{AreLiveRecords, IsNewest, NoneLater, record_of}
+use Rattle.mdns_cache.specs.Live.{AreLiveRecords, IsNewest, NoneLater, key_of_last}
 use Rattle.mdns_cache.proofs.StandsPartLemmas.{Contains-nil}
 use Rattle.mdns_lives.specs.declared.life.Life.{Life}
 use Rattle.mdns_lives.specs.Chronicle.{AreAllLives, live_rows}
@@ -55,12 +55,12 @@ AreLiveSince-lives some_end until_end same_end heard now none rows all = record 
   since = λ r among.
       let w = from_rows since_row now rows r among in
       let are = (all.each w.last w.lives w.row).1 in
-      subst (λ (r : (Latest × ℕ) × ℕ). IsLiveSince heard now (record_of r.0.0) r.1) w.is record {
+      subst (λ (r : (Latest × ℕ) × ℕ). IsLiveSince heard now (key_of_last r.0.0) r.1) w.is record {
         lives = w.lives;
         are = are;
         life = w.life;
         among = w.among;
-        during = goes_on some_end until_end same_end heard now none (record_of w.last) w.lives are w.life w.among w.later;
+        during = goes_on some_end until_end same_end heard now none (key_of_last w.last) w.lives are w.life w.among w.later;
         begins = refl;
       };
 }

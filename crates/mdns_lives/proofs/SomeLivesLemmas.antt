@@ -10,7 +10,7 @@ use Rattle.mdns_message.specs.Resource.{key_of, key_cmp}
 use Rattle.mdns_message.specs.laws.Resource.{key_cmp-total, key_cmp-exact}
 use Rattle.join_map.specs.laws.Entries.{is_Equal}
 use Rattle.mdns_cache.specs.Live.{flush_moments}
-use Rattle.mdns_lives.specs.declared.life.Heard.{Heard}
+use Rattle.mdns_lives.specs.declared.life.RecordHearing.{RecordHearing}
 use Rattle.mdns_lives.specs.declared.life.Life.{Life}
 use Rattle.mdns_lives.specs.Lives.{AreLives}
 use Rattle.mdns_lives.specs.History.{heard_of, IsHeardAs, IsHistory, AreFlushes, IsUpTo, AreInOrder}
@@ -21,29 +21,29 @@ use Rattle.mdns_lives.proofs.WalkLemmas.{AreLivesBy-walked}
 use Rattle.mdns_lives.proofs.BridgeLemmas.{SomeLast, AreLives-from_history}
 
 -- hearings in order with one more at its place
-record IsPut (h : Heard) (hs put : List Heard) : Type 0 where
+record IsPut (h : RecordHearing) (hs put : List RecordHearing) : Type 0 where
   pub in_order : AreInOrder put
-  pub exactly : (x : Heard) → Contains put x ↔ ((h ≡ x) ⊎ Contains hs x)
+  pub exactly : (x : RecordHearing) → Contains put x ↔ ((h ≡ x) ⊎ Contains hs x)
 
-cons-exactly : (h : Heard) (hs : List Heard) (x : Heard) → Contains (h ∷ hs) x ↔ ((h ≡ x) ⊎ Contains hs x)
+cons-exactly : (h : RecordHearing) (hs : List RecordHearing) (x : RecordHearing) → Contains (h ∷ hs) x ↔ ((h ≡ x) ⊎ Contains hs x)
 cons-exactly h hs x = grind (arith, Contains-cases, Contains-head, Contains-later)
 
 -- a hearing that counts no more than h, before hearings in order with h put among them
-before_put : (g h : Heard) (hs put : List Heard) → AreInOrder (g ∷ hs) → IsUpTo g h → IsPut h hs put → AreInOrder (g ∷ put)
+before_put : (g h : RecordHearing) (hs put : List RecordHearing) → AreInOrder (g ∷ hs) → IsUpTo g h → IsPut h hs put → AreInOrder (g ∷ put)
 before_put g h hs [] o b p = tt
 before_put g h hs (x ∷ xs) o b p = (
   elim ((p.exactly x).0 (Contains-head x xs)) [
-    | inl same ↦ subst (λ (y : Heard). IsUpTo g y) same b
+    | inl same ↦ subst (λ (y : RecordHearing). IsUpTo g y) same b
     | inr rest ↦ up_to hs o x rest
   ],
   p.in_order,
 )
   where
-    up_to : (ys : List Heard) → AreInOrder (g ∷ ys) → (y : Heard) → Contains ys y → IsUpTo g y
+    up_to : (ys : List RecordHearing) → AreInOrder (g ∷ ys) → (y : RecordHearing) → Contains ys y → IsUpTo g y
     up_to [] o y m = absurd (Contains-nil y m)
     up_to (z ∷ zs) o y m = IsUpTo-onward g z y o.0 (first_least z zs o.1 y m)
 
-put : (h : Heard) (hs : List Heard) → AreInOrder hs → (put : List Heard) × IsPut h hs put
+put : (h : RecordHearing) (hs : List RecordHearing) → AreInOrder hs → (put : List RecordHearing) × IsPut h hs put
 put h [] o = (h ∷ [], record { in_order = tt; exactly = cons-exactly h [] })
 put h (g ∷ gs) o =
     elim (either_order h g) [
@@ -54,13 +54,13 @@ put h (g ∷ gs) o =
           in_order = before_put g h gs rest.0 o down rest.1;
           exactly = λ x. (
             λ m. elim (Contains-cases g rest.0 x m) [
-              | inl same ↦ inr (subst (λ (y : Heard). Contains (g ∷ gs) y) same (Contains-head g gs))
+              | inl same ↦ inr (subst (λ (y : RecordHearing). Contains (g ∷ gs) y) same (Contains-head g gs))
               | inr later ↦ elim ((rest.1.exactly x).0 later) [ inl same ↦ inl same | inr among ↦ inr (Contains-later g gs x among) ]
             ],
             λ w. elim w [
               | inl same ↦ Contains-later g rest.0 x ((rest.1.exactly x).1 (inl same))
               | inr among ↦ elim (Contains-cases g gs x among) [
-                | inl same ↦ subst (λ (y : Heard). Contains (g ∷ rest.0) y) same (Contains-head g rest.0)
+                | inl same ↦ subst (λ (y : RecordHearing). Contains (g ∷ rest.0) y) same (Contains-head g rest.0)
                 | inr later ↦ Contains-later g rest.0 x ((rest.1.exactly x).1 (inr later))
               ]
             ],
@@ -71,11 +71,11 @@ put h (g ∷ gs) o =
 
 -- the history of a record, in order
 pub record HasHistory (heard : List Hearing) (key : Key) : Type 0 where
-  pub history : List Heard
+  pub history : List RecordHearing
   pub in_order : AreInOrder history
   pub is_history : IsHistory heard key history
 
-later-heard : (h : Hearing) (hs : List Hearing) (key : Key) (x : Heard) → IsHeardAs hs key x → IsHeardAs (h ∷ hs) key x
+later-heard : (h : Hearing) (hs : List Hearing) (key : Key) (x : RecordHearing) → IsHeardAs hs key x → IsHeardAs (h ∷ hs) key x
 later-heard h hs key x w =
     record { hearing = w.hearing; among = Contains-later h hs w.hearing w.among; of_record = w.of_record; gives = w.gives }
 

@@ -11,7 +11,7 @@ use Rattle.std.specs.List.Sorted.{IsPermutation, IsSorted}
 use Rattle.std.proofs.lemmas.List.Sorted.{IsPermutation-sym, Contains-permutation}
 use Rattle.mdns_capture.specs.declared.moment.Moment.{Moment}
 use Rattle.mdns_join.specs.Nanos.{nanos_of}
-use Rattle.mdns_lives.specs.declared.life.Heard.{Heard}
+use Rattle.mdns_lives.specs.declared.life.RecordHearing.{RecordHearing}
 use Rattle.mdns_lives.specs.History.{AreInOrder}
 use Rattle.mdns_lives.specs.Seconds.{heard_cmp}
 use Rattle.mdns_join.specs.Kept.{has}
@@ -21,7 +21,7 @@ use Rattle.mdns_cache.proofs.StandsPartLemmas.{Contains-nil, Contains-head, Cont
 
 -- ---- hearings
 
-pub AreInOrder-from_sorted : (hs : List Heard) → IsSorted heard_cmp hs → AreInOrder hs
+pub AreInOrder-from_sorted : (hs : List RecordHearing) → IsSorted heard_cmp hs → AreInOrder hs
 AreInOrder-from_sorted [] up = tt
 AreInOrder-from_sorted (h ∷ []) up = tt
 AreInOrder-from_sorted (h ∷ g ∷ hs) up = (

@@ -7,7 +7,7 @@ use Rattle.std.proofs.lemmas.List.{drop_all, drop_more, drop-set-lt, take_more, 
 use Rattle.std.proofs.lemmas.List.Elements.{Contains-append_left, Contains-append_right, Contains-append_cases}
 use Rattle.std.proofs.lemmas.List.Sorted.{IsPermutation-sym, Contains-permutation}
 use Rattle.mdns_cache.proofs.StandsPartLemmas.{Contains-head, Contains-later, Contains-cases}
-use Rattle.mdns_lives.specs.declared.life.Heard.{Heard}
+use Rattle.mdns_lives.specs.declared.life.RecordHearing.{RecordHearing}
 use Rattle.mdns_lives.specs.History.{IsUpTo, AreInOrder}
 use Rattle.mdns_lives.specs.Seconds.{second_of, IsBetween, AreEndsOf, IsThinned}
 use Rattle.mdns_lives.proofs.OrderLemmas.{IsUpTo-onward, no_later, in_order-rest}
@@ -15,14 +15,14 @@ use Rattle.mdns_lives.proofs.SecondsLemmas.{between-itself}
 
 -- ---- what lies between what is left
 
-pub AreEndsOf-itself : (hs : List Heard) → AreEndsOf hs hs
+pub AreEndsOf-itself : (hs : List RecordHearing) → AreEndsOf hs hs
 AreEndsOf-itself hs = record { among = λ h m. m; between = λ h m. between-itself h m }
 
-pub AreEndsOf-moved : (xs ys : List Heard) → IsPermutation xs ys → AreEndsOf xs ys
+pub AreEndsOf-moved : (xs ys : List RecordHearing) → IsPermutation xs ys → AreEndsOf xs ys
 AreEndsOf-moved xs ys moved = search (rules, Contains-permutation, IsPermutation-sym, between-itself)
 
 -- the ends of ends
-pub AreEndsOf-onward : (hs es fs : List Heard) → AreEndsOf hs es → AreEndsOf es fs → AreEndsOf hs fs
+pub AreEndsOf-onward : (hs es fs : List RecordHearing) → AreEndsOf hs es → AreEndsOf es fs → AreEndsOf hs fs
 AreEndsOf-onward hs es fs a b = record {
   among = λ h m. a.among h (b.among h m);
   between = λ h m.
@@ -41,29 +41,29 @@ AreEndsOf-onward hs es fs a b = record {
       };
 }
 
-pub thinned-same : (hs es : List Heard) → hs ≡ es → IsThinned hs es
+pub thinned-same : (hs es : List RecordHearing) → hs ≡ es → IsThinned hs es
 thinned-same hs es same = grind (arith, AreEndsOf-itself)
 
 -- ---- one hearing is dropped
 
-module _ (a b n : Heard) (rest : List Heard) where
-  abbrev Whole : List Heard → List Heard
+module _ (a b n : RecordHearing) (rest : List RecordHearing) where
+  abbrev Whole : List RecordHearing → List RecordHearing
   Whole front = front ++ a ∷ b ∷ n ∷ rest
 
-  abbrev Left : List Heard → List Heard
+  abbrev Left : List RecordHearing → List RecordHearing
   Left front = front ++ a ∷ n ∷ rest
 
-  order_left : (front : List Heard) → AreInOrder (Whole front) → AreInOrder (Left front)
+  order_left : (front : List RecordHearing) → AreInOrder (Whole front) → AreInOrder (Left front)
   order_left [] o = (IsUpTo-onward a b n o.0 o.1.0, o.1.1)
   order_left (x ∷ []) o = (o.0, order_left [] o.1)
   order_left (x ∷ y ∷ front) o = (o.0, order_left (y ∷ front) o.1)
 
-  pub between_ends : (front : List Heard) → AreInOrder (Whole front) → IsUpTo a b × IsUpTo b n
+  pub between_ends : (front : List RecordHearing) → AreInOrder (Whole front) → IsUpTo a b × IsUpTo b n
   between_ends [] o = (o.0, o.1.0)
   between_ends (x ∷ front) o = between_ends front (in_order-rest x (Whole front) o)
 
-  module _ (front : List Heard) (same : second_of a ≡ second_of n) where
-    left_behind : (h : Heard) → Contains (a ∷ n ∷ rest) h → Contains (Left front) h
+  module _ (front : List RecordHearing) (same : second_of a ≡ second_of n) where
+    left_behind : (h : RecordHearing) → Contains (a ∷ n ∷ rest) h → Contains (Left front) h
     left_behind h m = Contains-append_right front (a ∷ n ∷ rest) h m
 
     of_dropped : AreInOrder (Whole front) → IsBetween (Contains (Left front)) b
@@ -82,25 +82,25 @@ module _ (a b n : Heard) (rest : List Heard) where
           to_greatest = w.1;
         }
 
-    between_left : AreInOrder (Whole front) → (h : Heard) → Contains (Whole front) h → IsBetween (Contains (Left front)) h
+    between_left : AreInOrder (Whole front) → (h : RecordHearing) → Contains (Whole front) h → IsBetween (Contains (Left front)) h
     between_left o h m =
         elim (Contains-append_cases front (a ∷ b ∷ n ∷ rest) h m) [
           | inl x ↦ between-itself h (Contains-append_left front (a ∷ n ∷ rest) h x)
           | inr y ↦ elim (Contains-cases a (b ∷ n ∷ rest) h y) [
-            | inl e ↦ between-itself h (subst (λ (z : Heard). Contains (Left front) z) e (left_behind a (Contains-head a (n ∷ rest))))
+            | inl e ↦ between-itself h (subst (λ (z : RecordHearing). Contains (Left front) z) e (left_behind a (Contains-head a (n ∷ rest))))
             | inr z ↦ elim (Contains-cases b (n ∷ rest) h z) [
-              | inl e ↦ subst (λ (x : Heard). IsBetween (Contains (Left front)) x) e (of_dropped o)
+              | inl e ↦ subst (λ (x : RecordHearing). IsBetween (Contains (Left front)) x) e (of_dropped o)
               | inr r ↦ between-itself h (left_behind h (Contains-later a (n ∷ rest) h r))
             ]
           ]
         ]
 
-    among_whole : (h : Heard) → Contains (Left front) h → Contains (Whole front) h
+    among_whole : (h : RecordHearing) → Contains (Left front) h → Contains (Whole front) h
     among_whole h m =
         elim (Contains-append_cases front (a ∷ n ∷ rest) h m) [
           | inl x ↦ Contains-append_left front (a ∷ b ∷ n ∷ rest) h x
           | inr y ↦ Contains-append_right front (a ∷ b ∷ n ∷ rest) h (elim (Contains-cases a (n ∷ rest) h y) [
-            | inl e ↦ subst (λ (z : Heard). Contains (a ∷ b ∷ n ∷ rest) z) e (Contains-head a (b ∷ n ∷ rest))
+            | inl e ↦ subst (λ (z : RecordHearing). Contains (a ∷ b ∷ n ∷ rest) z) e (Contains-head a (b ∷ n ∷ rest))
             | inr r ↦ Contains-later a (b ∷ n ∷ rest) h (Contains-later b (n ∷ rest) h r)
           ])
         ]
@@ -113,20 +113,20 @@ module _ (a b n : Heard) (rest : List Heard) where
 
 -- ---- by index
 
-pub drop_next : (xs : List Heard) (i : ℕ) (x : Heard) → i < length xs → x ≡ get_or xs i x → drop i xs ≡ x ∷ drop (i + 1) xs
+pub drop_next : (xs : List RecordHearing) (i : ℕ) (x : RecordHearing) → i < length xs → x ≡ get_or xs i x → drop i xs ≡ x ∷ drop (i + 1) xs
 drop_next xs i x l is = drop_more xs i x l ∙ ap (λ y. y ∷ drop (i + 1) xs) (sym is)
 
-pub take_next : (xs : List Heard) (i : ℕ) (x : Heard) → i < length xs → x ≡ get_or xs i x → take (i + 1) xs ≡ take i xs ++ x ∷ []
+pub take_next : (xs : List RecordHearing) (i : ℕ) (x : RecordHearing) → i < length xs → x ≡ get_or xs i x → take (i + 1) xs ≡ take i xs ++ x ∷ []
 take_next xs i x l is = take_more xs i x l ∙ ap (λ y. take i xs ++ y ∷ []) (sym is)
 
 -- the next hearing goes behind those that are kept
-pub kept_behind : (xs : List Heard) (kept place : ℕ) (next : Heard) → kept ≤ place → place < length xs
+pub kept_behind : (xs : List RecordHearing) (kept place : ℕ) (next : RecordHearing) → kept ≤ place → place < length xs
     → next ≡ get_or xs place next
     → IsThinned (take kept xs ++ drop place xs) (take (kept + 1) (slice_set xs kept next) ++ drop (place + 1) (slice_set xs kept next))
 kept_behind xs kept place next le l is = grind (arith, take_more_set, drop-set-lt, thinned-same, slice_set, drop_next, append_assoc)
 
 -- the next hearing goes in place of the last one, and is of the second of the one before
-pub kept_in_place : (xs : List Heard) (kept place : ℕ) (a next : Heard) → 2 ≤ kept → kept ≤ place → place < length xs
+pub kept_in_place : (xs : List RecordHearing) (kept place : ℕ) (a next : RecordHearing) → 2 ≤ kept → kept ≤ place → place < length xs
     → a ≡ get_or xs (kept - 2) a → next ≡ get_or xs place next → second_of a ≡ second_of next
     → IsThinned (take kept xs ++ drop place xs)
     (take kept (slice_set xs (kept - 1) next) ++ drop (place + 1) (slice_set xs (kept - 1) next))
@@ -139,26 +139,26 @@ kept_in_place xs kept place a next two le l first now same =
     let behind = drop (place + 1) xs in
     let whole : take kept xs ++ drop place xs ≡ take j xs ++ a ∷ b ∷ next ∷ behind =
     (λ i. take (is i) xs ++ drop_next xs place next l now i)
-    ∙ ap (λ (zs : List Heard). zs ++ next ∷ behind)
-    (take_more xs (j + 1) a (omega (arith, is, le, l)) ∙ ap (λ (zs : List Heard). zs ++ b ∷ []) one)
+    ∙ ap (λ (zs : List RecordHearing). zs ++ next ∷ behind)
+    (take_more xs (j + 1) a (omega (arith, is, le, l)) ∙ ap (λ (zs : List RecordHearing). zs ++ b ∷ []) one)
     ∙ append_assoc (take j xs ++ a ∷ []) (b ∷ []) (next ∷ behind)
     ∙ append_assoc (take j xs) (a ∷ []) (b ∷ next ∷ behind) in
     let front : take kept (slice_set xs (kept - 1) next) ≡ (take j xs ++ a ∷ []) ++ next ∷ [] =
     (λ i. take (is i) (slice_set xs (at i) next)) ∙ take_more_set xs (j + 1) next (omega (arith, is, le, l))
-    ∙ ap (λ (zs : List Heard). zs ++ next ∷ []) one in
+    ∙ ap (λ (zs : List RecordHearing). zs ++ next ∷ []) one in
     let rest = drop-set-lt (place + 1) xs (kept - 1) next (omega (arith, two, le)) in
     let left : take kept (slice_set xs (kept - 1) next) ++ drop (place + 1) (slice_set xs (kept - 1) next)
     ≡ take j xs ++ a ∷ next ∷ behind =
     (λ i. front i ++ rest i)
     ∙ append_assoc (take j xs ++ a ∷ []) (next ∷ []) behind
     ∙ append_assoc (take j xs) (a ∷ []) (next ∷ behind) in
-    subst (λ (zs : List Heard). IsThinned zs (take kept (slice_set xs (kept - 1) next) ++ drop (place + 1) (slice_set xs (kept - 1) next)))
+    subst (λ (zs : List RecordHearing). IsThinned zs (take kept (slice_set xs (kept - 1) next) ++ drop (place + 1) (slice_set xs (kept - 1) next)))
     (sym whole)
-    (subst (λ (zs : List Heard). IsThinned (take j xs ++ a ∷ b ∷ next ∷ behind) zs) (sym left)
+    (subst (λ (zs : List RecordHearing). IsThinned (take j xs ++ a ∷ b ∷ next ∷ behind) zs) (sym left)
     (thinned-dropped a b next behind (take j xs) same))
 
 -- the first hearings are all that are left
-pub all_kept : (items kept : List Heard) (n place : ℕ) → length items ≤ place → kept ≡ take n items
+pub all_kept : (items kept : List RecordHearing) (n place : ℕ) → length items ≤ place → kept ≡ take n items
     → take n items ++ drop place items ≡ kept
 all_kept items kept n place over is =
-    ap (λ (zs : List Heard). take n items ++ zs) (drop_all place items over) ∙ append-nil (take n items) ∙ sym is
+    ap (λ (zs : List RecordHearing). take n items ++ zs) (drop_all place items over) ∙ append-nil (take n items) ∙ sym is

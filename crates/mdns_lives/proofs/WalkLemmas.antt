@@ -4,7 +4,7 @@ use Rattle.std.proofs.Common.{◌∙◌, subst, inl, inr, ◌⊎◌, arith, if�
 use Rattle.std.specs.Prelude.{nat_le}
 use Rattle.std.proofs.lemmas.Bool.{ltb-true, ltb-false, eqb-true, cases_lt}
 use Rattle.std.proofs.lemmas.Bool.Decides.{nat_tests}
-use Rattle.mdns_lives.specs.declared.life.Heard.{Heard}
+use Rattle.mdns_lives.specs.declared.life.RecordHearing.{RecordHearing}
 use Rattle.mdns_lives.specs.declared.life.Life.{Life}
 use Rattle.mdns_cache.specs.Live.{life_of}
 use Rattle.mdns_cache.specs.LentRecords.{end_of}
@@ -23,25 +23,25 @@ life-positive (suc n) = grind (arith, nat_tests)
 module _ (flushes : List ℕ) where
   -- ---- the end after a hearing
 
-  pub ends_later : (h : Heard) → h.moment.nanos < end_after flushes h
+  pub ends_later : (h : RecordHearing) → h.moment.nanos < end_after flushes h
   ends_later h = grind (arith, life-positive, end-reached)
 
-  same_end : (a b : Heard) → a.moment.nanos ≡ b.moment.nanos → a.ttl ≡ b.ttl → end_after flushes a ≡ end_after flushes b
+  same_end : (a b : RecordHearing) → a.moment.nanos ≡ b.moment.nanos → a.ttl ≡ b.ttl → end_after flushes a ≡ end_after flushes b
   same_end a b e f = ap (λ n. end_of flushes n (n + life_of a.ttl)) e
       ∙ ap (λ n. end_of flushes b.moment.nanos (b.moment.nanos + life_of n)) f
 
   -- the moment is before the end after the last hearing until then
-  abbrev pub IsBeforeEnd : List Heard → ℕ → Type 0
-  IsBeforeEnd hs now = (last : Heard) × IsLastAt hs now last × (now < end_after flushes last)
+  abbrev pub IsBeforeEnd : List RecordHearing → ℕ → Type 0
+  IsBeforeEnd hs now = (last : RecordHearing) × IsLastAt hs now last × (now < end_after flushes last)
 
-  live-before : (hs : List Heard) (now : ℕ) → IsLiveAt hs flushes now → IsBeforeEnd hs now
+  live-before : (hs : List RecordHearing) (now : ℕ) → IsLiveAt hs flushes now → IsBeforeEnd hs now
   live-before hs now w = (
     w.last,
     w.is_last,
     (until_end_of flushes w.last.moment.nanos (out_of w.last) now).1 (w.running, w.unstruck),
   )
 
-  before-live : (hs : List Heard) (now : ℕ) → IsBeforeEnd hs now → IsLiveAt hs flushes now
+  before-live : (hs : List RecordHearing) (now : ℕ) → IsBeforeEnd hs now → IsLiveAt hs flushes now
   before-live hs now w =
       let both = (until_end_of flushes w.0.moment.nanos (out_of w.0) now).0 w.2 in
       record { last = w.0; is_last = w.1; running = both.0; unstruck = both.1 }
@@ -49,44 +49,44 @@ module _ (flushes : List ℕ) where
   -- ---- one hearing before others
 
   -- the only hearing is the last one
-  only_last : (p : Heard) (now : ℕ) → p.moment.nanos ≤ now → IsLastAt (p ∷ []) now p
+  only_last : (p : RecordHearing) (now : ℕ) → p.moment.nanos ≤ now → IsLastAt (p ∷ []) now p
   only_last p now l = grind (arith, Contains-head, Contains-cases, IsUpTo-itself, Contains-nil)
 
-  only_before : (p : Heard) (now : ℕ) → IsBeforeEnd (p ∷ []) now → (p.moment.nanos ≤ now) × (now < end_after flushes p)
+  only_before : (p : RecordHearing) (now : ℕ) → IsBeforeEnd (p ∷ []) now → (p.moment.nanos ≤ now) × (now < end_after flushes p)
   only_before p now w = grind (arith, Contains-cases, Contains-nil)
 
   -- before the next hearing the first one is the last
-  first_last : (p h : Heard) (hs : List Heard) (now : ℕ) → AreInOrder (h ∷ hs) → p.moment.nanos ≤ now → now < h.moment.nanos
+  first_last : (p h : RecordHearing) (hs : List RecordHearing) (now : ℕ) → AreInOrder (h ∷ hs) → p.moment.nanos ≤ now → now < h.moment.nanos
       → IsLastAt (p ∷ h ∷ hs) now p
   first_last p h hs now o l k = record {
     among = Contains-head p (h ∷ hs);
     by_then = l;
     greatest = λ x m e. elim (Contains-cases p (h ∷ hs) x m) [
-      | inl same ↦ subst (λ (y : Heard). IsUpTo y p) same (IsUpTo-itself p)
+      | inl same ↦ subst (λ (y : RecordHearing). IsUpTo y p) same (IsUpTo-itself p)
       | inr rest ↦ (let up : h.moment.nanos ≤ x.moment.nanos = no_later h x (first_least h hs o x rest) in absurd (omega (arith, up, e, k)))
     ];
   }
 
   -- the last of the later hearings is the last
-  later_last : (p h : Heard) (hs : List Heard) (now : ℕ) (last : Heard) → IsUpTo p h → AreInOrder (h ∷ hs)
+  later_last : (p h : RecordHearing) (hs : List RecordHearing) (now : ℕ) (last : RecordHearing) → IsUpTo p h → AreInOrder (h ∷ hs)
       → IsLastAt (h ∷ hs) now last → IsLastAt (p ∷ h ∷ hs) now last
   later_last p h hs now last b o w = record {
     among = Contains-later p (h ∷ hs) last w.among;
     by_then = w.by_then;
     greatest = λ x m e. elim (Contains-cases p (h ∷ hs) x m) [
-      | inl same ↦ subst (λ (y : Heard). IsUpTo y last) same (IsUpTo-onward p h last b (first_least h hs o last w.among))
+      | inl same ↦ subst (λ (y : RecordHearing). IsUpTo y last) same (IsUpTo-onward p h last b (first_least h hs o last w.among))
       | inr rest ↦ w.greatest x rest e
     ];
   }
 
   -- from the next hearing on, the first one isn't needed
-  next_last : (p h : Heard) (hs : List Heard) (now : ℕ) (last : Heard) → IsUpTo p h → h.moment.nanos ≤ now
+  next_last : (p h : RecordHearing) (hs : List RecordHearing) (now : ℕ) (last : RecordHearing) → IsUpTo p h → h.moment.nanos ≤ now
       → IsLastAt (p ∷ h ∷ hs) now last → now < end_after flushes last → IsBeforeEnd (h ∷ hs) now
   next_last p h hs now last b k w e =
       elim (Contains-cases p (h ∷ hs) last w.among) [
         | inl same ↦ (
             let up : IsUpTo h last = w.greatest h (Contains-later p (h ∷ hs) h (Contains-head h hs)) k in
-            let down : IsUpTo last h = subst (λ (y : Heard). IsUpTo y h) same b in (
+            let down : IsUpTo last h = subst (λ (y : RecordHearing). IsUpTo y h) same b in (
               h,
               record {
                 among = Contains-head h hs;
@@ -103,40 +103,40 @@ module _ (flushes : List ℕ) where
       ]
 
   -- the moment is from a hearing on, before the next one, and before the end
-  abbrev IsPiece : Heard → Heard → ℕ → Type 0
+  abbrev IsPiece : RecordHearing → RecordHearing → ℕ → Type 0
   IsPiece p h now = (p.moment.nanos ≤ now) × (now < h.moment.nanos) × (now < end_after flushes p)
 
-  step : (p h : Heard) (hs : List Heard) (now : ℕ) → IsUpTo p h → AreInOrder (h ∷ hs)
+  step : (p h : RecordHearing) (hs : List RecordHearing) (now : ℕ) → IsUpTo p h → AreInOrder (h ∷ hs)
       → IsBeforeEnd (p ∷ h ∷ hs) now → IsPiece p h now ⊎ IsBeforeEnd (h ∷ hs) now
   step p h hs now b o w =
       elim (cases_lt now h.moment.nanos) [
         | inl l ↦ elim (Contains-cases p (h ∷ hs) w.0 w.1.among) [
-          | inl same ↦ inl (subst (λ (y : Heard). IsPiece y h now) (sym same) (w.1.by_then, l, w.2))
+          | inl same ↦ inl (subst (λ (y : RecordHearing). IsPiece y h now) (sym same) (w.1.by_then, l, w.2))
           | inr rest ↦ (let up = no_later h w.0 (first_least h hs o w.0 rest) in
               let by : w.0.moment.nanos ≤ now = w.1.by_then in absurd (omega (arith, up, by, l)))
         ]
         | inr k ↦ inr (next_last p h hs now w.0 b k w.1 w.2)
       ]
 
-  piece-before : (p h : Heard) (hs : List Heard) (now : ℕ) → AreInOrder (h ∷ hs) → p.moment.nanos ≤ now
+  piece-before : (p h : RecordHearing) (hs : List RecordHearing) (now : ℕ) → AreInOrder (h ∷ hs) → p.moment.nanos ≤ now
       → now < h.moment.nanos → now < end_after flushes p → IsBeforeEnd (p ∷ h ∷ hs) now
   piece-before p h hs now o l k e = (p, first_last p h hs now o l k, e)
 
-  rest-before : (p h : Heard) (hs : List Heard) (now : ℕ) → IsUpTo p h → AreInOrder (h ∷ hs) → IsBeforeEnd (h ∷ hs) now
+  rest-before : (p h : RecordHearing) (hs : List RecordHearing) (now : ℕ) → IsUpTo p h → AreInOrder (h ∷ hs) → IsBeforeEnd (h ∷ hs) now
       → IsBeforeEnd (p ∷ h ∷ hs) now
   rest-before p h hs now b o w = (w.0, later_last p h hs now w.0 b o w.1, w.2)
 
   -- ---- the moments in the lives of a walk
 
   -- `life` has begun no later than the hearing p, and ends as p says
-  abbrev IsSoFar : Heard → Life → Type 0
+  abbrev IsSoFar : RecordHearing → Life → Type 0
   IsSoFar p life = (life.from.nanos ≤ p.moment.nanos) × (life.until ≡ end_after flushes p)
 
   -- the moment is in the life, before the hearing p
-  abbrev IsEarlier : Heard → Life → ℕ → Type 0
+  abbrev IsEarlier : RecordHearing → Life → ℕ → Type 0
   IsEarlier p life now = (life.from.nanos ≤ now) × (now < p.moment.nanos)
 
-  from_lives : (hs : List Heard) (p : Heard) (life : Life) (now : ℕ) → AreInOrder (p ∷ hs) → IsSoFar p life
+  from_lives : (hs : List RecordHearing) (p : RecordHearing) (life : Life) (now : ℕ) → AreInOrder (p ∷ hs) → IsSoFar p life
       → IsInOne (lives_from flushes life hs) now → IsEarlier p life now ⊎ IsBeforeEnd (p ∷ hs) now
   unfolding lives_from
   from_lives [] p life now o s (inl d) =
@@ -173,7 +173,7 @@ module _ (flushes : List ℕ) where
             ]
       ] refl w
 
-  into_lives : (hs : List Heard) (p : Heard) (life : Life) (now : ℕ) → AreInOrder (p ∷ hs) → IsSoFar p life
+  into_lives : (hs : List RecordHearing) (p : RecordHearing) (life : Life) (now : ℕ) → AreInOrder (p ∷ hs) → IsSoFar p life
       → IsEarlier p life now ⊎ IsBeforeEnd (p ∷ hs) now → IsInOne (lives_from flushes life hs) now
   unfolding lives_from
   into_lives [] p life now o s (inl e) = let end = ends_later p in inl (e.0, omega (arith, e.1, end, s.1))
@@ -204,7 +204,7 @@ module _ (flushes : List ℕ) where
   -- ---- they are apart
 
   -- and after a moment before the first of them
-  apart : (hs : List Heard) (p : Heard) (life : Life) → AreInOrder (p ∷ hs) → IsSoFar p life
+  apart : (hs : List RecordHearing) (p : RecordHearing) (life : Life) → AreInOrder (p ∷ hs) → IsSoFar p life
       → AreApart (lives_from flushes life hs)
       × ((low : ℕ) → low < life.from.nanos → AreApartAfter low (lives_from flushes life hs))
   unfolding lives_from
@@ -230,22 +230,22 @@ module _ (flushes : List ℕ) where
 
   -- ---- why they end
 
-  end_by : (h : Heard) → IsEndBy flushes h (end_after flushes h) (reason_after flushes h)
+  end_by : (h : RecordHearing) → IsEndBy flushes h (end_after flushes h) (reason_after flushes h)
   end_by h = grind (arith, end-by_life, nat_lt, ltb-true, end-reached, ltb-false, eqb-true, nat_tests)
 
-  later_ends : (p h : Heard) (hs : List Heard) (life : Life) → IsUpTo p h → AreInOrder (h ∷ hs)
+  later_ends : (p h : RecordHearing) (hs : List RecordHearing) (life : Life) → IsUpTo p h → AreInOrder (h ∷ hs)
       → EndsBy (h ∷ hs) flushes life → EndsBy (p ∷ h ∷ hs) flushes life
   later_ends p h hs life b o w = record { is_last = later_last p h hs life.until life.last b o w.is_last; ends = w.ends }
 
   -- `life` ends as the hearing p says
-  abbrev IsEnding : Heard → Life → Type 0
+  abbrev IsEnding : RecordHearing → Life → Type 0
   IsEnding p life = (life.from.nanos ≤ p.moment.nanos) × (life.until ≡ end_after flushes p) × (life.reason ≡ reason_after flushes p)
       × (life.last ≡ p)
 
-  end_of_life : (hs : List Heard) (p : Heard) (life : Life) → IsEnding p life → IsLastAt hs life.until p → EndsBy hs flushes life
+  end_of_life : (hs : List RecordHearing) (p : RecordHearing) (life : Life) → IsEnding p life → IsLastAt hs life.until p → EndsBy hs flushes life
   end_of_life hs p life s last = grind (arith, end_by)
 
-  ends_of_lives : (hs : List Heard) (p : Heard) (life : Life) → AreInOrder (p ∷ hs) → IsEnding p life
+  ends_of_lives : (hs : List RecordHearing) (p : RecordHearing) (life : Life) → AreInOrder (p ∷ hs) → IsEnding p life
       → (x : Life) → Contains (lives_from flushes life hs) x → EndsBy (p ∷ hs) flushes x
   unfolding lives_from
   ends_of_lives [] p life o s x m =
@@ -275,7 +275,7 @@ module _ (flushes : List ℕ) where
 
   -- ---- the walk gives the lives
 
-  pub AreLivesBy-walked : (hs : List Heard) → AreInOrder hs → AreLivesBy hs flushes (walked flushes hs)
+  pub AreLivesBy-walked : (hs : List RecordHearing) → AreInOrder hs → AreLivesBy hs flushes (walked flushes hs)
   AreLivesBy-walked [] o = grind (arith, apart, Contains-nil)
   AreLivesBy-walked (p ∷ hs) o = record {
     apart = (apart hs p (life_after flushes p) o (omega arith, refl)).0;
@@ -295,12 +295,12 @@ module _ (flushes : List ℕ) where
   unfolding lives_from
   lives_from-over life = refl
 
-  pub lives_from-on : (life : Life) (h : Heard) (hs : List Heard) → h.moment.nanos ≤ life.until
+  pub lives_from-on : (life : Life) (h : RecordHearing) (hs : List RecordHearing) → h.moment.nanos ≤ life.until
       → lives_from flushes life (h ∷ hs) ≡ lives_from flushes (carried_on life (life_after flushes h)) hs
   unfolding lives_from
   lives_from-on life h hs l = grind (arith, leb-false)
 
-  pub lives_from-anew : (life : Life) (h : Heard) (hs : List Heard) → life.until < h.moment.nanos
+  pub lives_from-anew : (life : Life) (h : RecordHearing) (hs : List RecordHearing) → life.until < h.moment.nanos
       → lives_from flushes life (h ∷ hs) ≡ life ∷ lives_from flushes (life_after flushes h) hs
   unfolding lives_from
   lives_from-anew life h hs l = grind (arith, leb-true)

@@ -19,8 +19,8 @@ abbrev pub begins_of : List Life → List ℕ
 begins_of lives = map (λ (life : Life). life.from.nanos) lives
 
 -- the record is a PTR record, which stands beside the others of its set (RFC 6763, section 4.1)
-abbrev pub is_shared : Latest → Bool
-is_shared last = number_of last.resource.body == 12
+abbrev pub is_pointer_record : Latest → Bool
+is_pointer_record last = number_of last.resource.body == 12
 
 -- the record is one of the set
 abbrev pub is_of_set : RecordSet → Latest → Bool
@@ -67,7 +67,7 @@ chosen Changes rows = changes_in rows
 -- there are no rows, or the record is one more of their set, which may change
 abbrev pub goes_on : List (Latest × List Life) → Latest → Bool
 goes_on [] last = true
-goes_on (row ∷ rows) last = not (is_shared row.0) && is_of_set (set_key_of row.0.resource) last
+goes_on (row ∷ rows) last = not (is_pointer_record row.0) && is_of_set (set_key_of row.0.resource) last
 
 -- The rows with the lives that are chosen, of each set by its rows alone, which stand together, and of each PTR record alone.
 -- The first of them come after other rows of their set.

@@ -11,7 +11,7 @@ use Rattle.join_map.specs.Entries.{AllFit, value_at, joined, joined_at, gathered
 use Rattle.mdns_join.specs.declared.latest.Latest.{Latest}
 use Rattle.mdns_join.specs.Kept.{has, union, IsAscending}
 use Rattle.mdns_cache.specs.Contents.{later_moment}
-use Rattle.mdns_cache.specs.Live.{IsUnheard, IsLast, IsNewest, IsFlushedAt, record_of}
+use Rattle.mdns_cache.specs.Live.{IsUnheard, IsLast, IsNewest, IsFlushedAt, key_of_last}
 use Rattle.mdns_lives.specs.declared.account.Account.{Account}
 use Rattle.mdns_lives.specs.declared.life.Life.{Life}
 use Rattle.mdns_lives.specs.Account.{IsAccount, IsOwnAccount, account_of, join_account}
@@ -24,9 +24,9 @@ use Rattle.mdns_lives.specs.Seconds.{Seconds, Ends, AreEndsIn, ends_at}
 
 -- the rows are the records that were heard, each once, in key order, by their last hearings, and with their lives
 pub record AreAllLives (heard : List Hearing) (rows : List (Latest × List Life)) : Type 0 where
-  pub ascending : IsStrictlySortedBy key_cmp (map (λ (row : Latest × List Life). record_of row.0) rows)
+  pub ascending : IsStrictlySortedBy key_cmp (map (λ (row : Latest × List Life). key_of_last row.0) rows)
   pub each : (l : Latest) (lives : List Life) → Contains rows (l, lives)
-      → IsLast heard (record_of l) l × AreLives heard (record_of l) lives
+      → IsLast heard (key_of_last l) l × AreLives heard (key_of_last l) lives
   pub all : (key : Key) (l : Latest) → IsLast heard key l → (lives : List Life) × Contains rows (l, lives)
 
 -- the lives that go on after `end`, each with its record's last hearing and its own end

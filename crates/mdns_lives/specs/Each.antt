@@ -9,7 +9,7 @@ use Rattle.mdns_join.specs.Latest.{latest_of}
 use Rattle.mdns_join.specs.Kept.{ascending}
 use Rattle.mdns_join.specs.Nanos.{nanos_of}
 use Rattle.mdns_lives.specs.declared.account.Account.{Account}
-use Rattle.mdns_lives.specs.declared.life.Heard.{Heard}
+use Rattle.mdns_lives.specs.declared.life.RecordHearing.{RecordHearing}
 use Rattle.mdns_lives.specs.Account.{account}
 use Rattle.mdns_lives.specs.Chronicle.{Accounts, accounts}
 use Rattle.mdns_lives.specs.Seconds.{seconds_of}
@@ -20,11 +20,11 @@ pub record IsLatestIn (moments : List Moment) (latest : Moment) : Type 0 where
   pub greatest : (t : Moment) → Contains moments t → t.nanos ≤ latest.nanos
 
 -- a moment with this TTL
-abbrev pub heard_with : ℕ → Moment → Heard
+abbrev pub heard_with : ℕ → Moment → RecordHearing
 heard_with ttl t = record { moment = t; ttl = ttl }
 
 -- each of some moments with this TTL
-abbrev pub heard_each : ℕ → List Moment → List Heard
+abbrev pub heard_each : ℕ → List Moment → List RecordHearing
 heard_each ttl ts = map (heard_with ttl) ts
 
 -- the account of a hearing at each of these moments

@@ -6,7 +6,7 @@ pub mod Heard
 pub mod History
 pub mod Lives
 pub mod Packed
-pub mod Recording
+pub mod MessageChronicle
 pub mod LentLives
 pub mod Seconds
 pub mod Since

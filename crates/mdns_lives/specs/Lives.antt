@@ -9,7 +9,7 @@ use Rattle.mdns_capture.specs.Limits.{second}
 use Rattle.mdns_cache.specs.Live.{IsLast, IsLive, Strikes, life_of}
 use Rattle.mdns_lives.specs.declared.life.Life.{Life}
 use Rattle.mdns_lives.specs.declared.life.EndReason.{EndReason}
-use Rattle.mdns_lives.specs.declared.life.EndReason.TheVariants.{RanOut, Goodbye, Flushed}
+use Rattle.mdns_lives.specs.declared.life.EndReason.TheVariants.{Expired, Goodbye, Flushed}
 
 -- ---- when a record was live
 
@@ -55,7 +55,7 @@ IsStruckAt heard key t end = (flush : Hearing) × Strikes heard key t flush × (
 -- A record with this last hearing ends then for that reason: the hearing's TTL runs out, the hearing was a goodbye
 -- (section 10.1), or, where that is earlier, a flush of its set is one second old (section 10.2).
 abbrev pub IsEndFor : List Hearing → Key → Latest → ℕ → EndReason → Type 0
-IsEndFor heard key last end RanOut = (0 < last.ttl) × (end ≡ last.moment.nanos + life_of last.ttl)
+IsEndFor heard key last end Expired = (0 < last.ttl) × (end ≡ last.moment.nanos + life_of last.ttl)
 IsEndFor heard key last end Goodbye = (last.ttl ≡ 0) × (end ≡ last.moment.nanos + life_of last.ttl)
 IsEndFor heard key last end Flushed = (end < last.moment.nanos + life_of last.ttl) × IsStruckAt heard key last.moment.nanos end
 

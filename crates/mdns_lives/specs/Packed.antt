@@ -4,11 +4,11 @@ use Rattle.std.proofs.Common.{arith}
 use mathlib.Core.HLevel.{is_prop→PathP}
 use native.Mathlib.Bridge.{le_prop}
 use Rattle.mdns_capture.specs.Limits.{second, greatest_moment}
-use Rattle.mdns_lives.specs.declared.life.Heard.{Heard}
+use Rattle.mdns_lives.specs.declared.life.RecordHearing.{RecordHearing}
 use Rattle.mdns_lives.specs.declared.packed.Packed.TheInside.{Inside}
 
 -- the hearing that is kept
-abbrev pub heard_in : Inside → Heard
+abbrev pub heard_in : Inside → RecordHearing
 heard_in a = record { moment = record { nanos = a.seconds * second + a.nanos; limit = a.limit }; ttl = a.ttl }
 
 -- the nanoseconds past the second are less than a second
@@ -20,7 +20,7 @@ pub within_limit : (n : ℕ) → n ≤ greatest_moment → n / second * second +
 within_limit n low = omega (arith, low)
 
 -- how a hearing is kept
-abbrev pub packed_as : Heard → Inside
+abbrev pub packed_as : RecordHearing → Inside
 packed_as h = record {
   nanos = h.moment.nanos % second;
   seconds = h.moment.nanos / second;

@@ -6,23 +6,23 @@ use Rattle.std.specs.Ordering.{nat_cmp, on, then_cmp, flip_args}
 use Rattle.join_map.specs.Entries.{value_at, put_entry, joined, one_entry, IsJoinMap}
 use Rattle.join_map.specs.Join.{greater_of}
 use Rattle.mdns_capture.specs.Limits.{second}
-use Rattle.mdns_lives.specs.declared.life.Heard.{Heard}
+use Rattle.mdns_lives.specs.declared.life.RecordHearing.{RecordHearing}
 use Rattle.mdns_lives.specs.History.{IsUpTo, AreInOrder}
 
 -- hearings of a record in the order of their moments, then TTLs
-abbrev pub heard_cmp : Heard → Heard → Ordering
+abbrev pub heard_cmp : RecordHearing → RecordHearing → Ordering
 heard_cmp = then_cmp (on (λ h. h.moment) (on (λ m. m.nanos) nat_cmp)) (on (λ h. h.ttl) nat_cmp)
 
 -- the whole second that a hearing is in
-abbrev pub second_of : Heard → ℕ
+abbrev pub second_of : RecordHearing → ℕ
 second_of h = h.moment.nanos / second
 
 -- ---- the ends of seconds
 
 -- among the hearings that are there, one counts no more than this one and one no less, both in its second
-pub record IsBetween (IsThere : Heard → Type 0) (h : Heard) : Type 0 where
-  pub least : Heard
-  pub greatest : Heard
+pub record IsBetween (IsThere : RecordHearing → Type 0) (h : RecordHearing) : Type 0 where
+  pub least : RecordHearing
+  pub greatest : RecordHearing
   pub least_there : IsThere least
   pub greatest_there : IsThere greatest
   pub least_in : second_of least ≡ second_of h
@@ -31,17 +31,17 @@ pub record IsBetween (IsThere : Heard → Type 0) (h : Heard) : Type 0 where
   pub to_greatest : IsUpTo h greatest
 
 -- the ends are some of the hearings, and each hearing is between two of them
-pub record AreEndsOf (heard ends : List Heard) : Type 0 where
-  pub among : (h : Heard) → Contains ends h → Contains heard h
-  pub between : (h : Heard) → Contains heard h → IsBetween (Contains ends) h
+pub record AreEndsOf (heard ends : List RecordHearing) : Type 0 where
+  pub among : (h : RecordHearing) → Contains ends h → Contains heard h
+  pub between : (h : RecordHearing) → Contains heard h → IsBetween (Contains ends) h
 
 -- hearings in order stay so, and lie between those that are left
-pub record IsThinned (hs es : List Heard) : Type 0 where
+pub record IsThinned (hs es : List RecordHearing) : Type 0 where
   pub in_order : AreInOrder hs → AreInOrder es
   pub ends : AreInOrder hs → AreEndsOf hs es
 
 -- of three hearings in a row, the third is of a later second than the first
-abbrev pub IsSparse : List Heard → Type 0
+abbrev pub IsSparse : List RecordHearing → Type 0
 IsSparse [] = Unit {0}
 IsSparse (a ∷ []) = Unit {0}
 IsSparse (a ∷ b ∷ []) = Unit {0}
@@ -49,27 +49,27 @@ IsSparse (a ∷ b ∷ c ∷ hs) = (second_of a < second_of c) × IsSparse (b ∷
 
 -- the least and the greatest hearing of a second
 pub record Ends : Type 0 where
-  pub least : Heard
-  pub greatest : Heard
+  pub least : RecordHearing
+  pub greatest : RecordHearing
 
 -- ends by their parts
-abbrev pub ends : Heard → Heard → Ends
+abbrev pub ends : RecordHearing → RecordHearing → Ends
 ends least greatest = record { least = least; greatest = greatest }
 
 -- these are the ends of the second s of the hearings that are there
-pub record AreEnds (IsThere : Heard → Type 0) (s : ℕ) (e : Ends) : Type 0 where
+pub record AreEnds (IsThere : RecordHearing → Type 0) (s : ℕ) (e : Ends) : Type 0 where
   pub least_there : IsThere e.least
   pub greatest_there : IsThere e.greatest
   pub least_in : second_of e.least ≡ s
   pub greatest_in : second_of e.greatest ≡ s
-  pub between : (h : Heard) → IsThere h → second_of h ≡ s → IsUpTo e.least h × IsUpTo h e.greatest
+  pub between : (h : RecordHearing) → IsThere h → second_of h ≡ s → IsUpTo e.least h × IsUpTo h e.greatest
 
 -- none of the hearings that are there is in the second s
-abbrev pub IsUnheardIn : (Heard → Type 0) → ℕ → Type 0
-IsUnheardIn IsThere s = (h : Heard) → IsThere h → second_of h ≢ s
+abbrev pub IsUnheardIn : (RecordHearing → Type 0) → ℕ → Type 0
+IsUnheardIn IsThere s = (h : RecordHearing) → IsThere h → second_of h ≢ s
 
 -- the ends of the second s, if a hearing that is there is in it
-abbrev pub AreEndsIn : (Heard → Type 0) → ℕ → Option Ends → Type 0
+abbrev pub AreEndsIn : (RecordHearing → Type 0) → ℕ → Option Ends → Type 0
 AreEndsIn IsThere s o = MatchOption o (IsUnheardIn IsThere s) (AreEnds IsThere s)
 
 -- ---- all seconds
@@ -95,20 +95,20 @@ abbrev pub join_seconds : Seconds → Seconds → Seconds
 join_seconds xs ys = joined nat_cmp join_ends xs ys
 
 -- the second of one hearing
-abbrev pub only : Heard → Seconds
+abbrev pub only : RecordHearing → Seconds
 only h = one_entry (second_of h) (ends h h)
 
 -- the seconds of the hearings of a list
-unfoldable pub seconds_of : List Heard → Seconds
+unfoldable pub seconds_of : List RecordHearing → Seconds
 seconds_of [] = []
 seconds_of (h ∷ hs) = put_entry nat_cmp join_ends (seconds_of hs) (second_of h) (ends h h)
 
 -- some of the first hearings of a list were joined
-abbrev pub JoinsFirst : Seconds → List Heard → Seconds → Type 0
+abbrev pub JoinsFirst : Seconds → List RecordHearing → Seconds → Type 0
 JoinsFirst old hs new = (n : ℕ) × (new ≡ join_seconds old (seconds_of (take n hs)))
 
 -- those that are kept are sparse, or no more than 32 are left
-abbrev pub IsThin : (kept : List Heard) (left : ℕ) → Type 0
+abbrev pub IsThin : (kept : List RecordHearing) (left : ℕ) → Type 0
 IsThin kept left = (left ≤ 32) ⊎ IsSparse kept
 
 -- room for at most twice what is held as long as that is fewer than 32 hearings; and for fewer than 128, or for four in each second
@@ -125,6 +125,6 @@ ends_at s None = None
 ends_at s (Some seconds) = value_at nat_cmp s seconds
 
 -- the hearings that are held, in order
-abbrev pub listed_ends : Seconds → List Heard
+abbrev pub listed_ends : Seconds → List RecordHearing
 listed_ends [] = []
 listed_ends (e ∷ es) = e.1.least ∷ e.1.greatest ∷ listed_ends es

@@ -4,7 +4,7 @@ use Rattle.std.specs.List.{filter, flat_map}
 use Rattle.mdns_message.specs.declared.hearing.Hearing.{Hearing}
 use Rattle.mdns_message.specs.declared.key.Key.{Key}
 use Rattle.mdns_join.specs.declared.latest.Latest.{Latest}
-use Rattle.mdns_cache.specs.Live.{AreLiveRecords, record_of}
+use Rattle.mdns_cache.specs.Live.{AreLiveRecords, key_of_last}
 use Rattle.mdns_cache.specs.LentRecords.{last_lent}
 use Rattle.mdns_lives.specs.declared.life.Life.{Life}
 use Rattle.mdns_lives.specs.declared.live_since.LiveSince.{LiveSince}
@@ -27,7 +27,7 @@ live_row row = row.0
 -- has been live
 pub record AreLiveSince (heard : List Hearing) (now : ℕ) (rows : List ((Latest × ℕ) × ℕ)) : Type 0 where
   pub records : AreLiveRecords heard now (map live_row rows)
-  pub since : (row : (Latest × ℕ) × ℕ) → Contains rows row → IsLiveSince heard now (record_of row.0.0) row.1
+  pub since : (row : (Latest × ℕ) × ℕ) → Contains rows row → IsLiveSince heard now (key_of_last row.0.0) row.1
 
 -- the value of a lent row
 abbrev pub live_since_lent : LiveSince → (Latest × ℕ) × ℕ

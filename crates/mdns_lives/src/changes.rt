@@ -8,7 +8,7 @@ ghost use Rattle.mdns_message.specs.declared.hearing.Hearing.{Hearing};
 ghost use Rattle.mdns_join.specs.Nanos.{nanos_of};
 ghost use Rattle.mdns_cache.specs.LentRecords.{last_lent};
 ghost use Rattle.mdns_lives.specs.Changes.{AreOfOne, begins_in, begins_of, by_sets, changes_in, chosen, goes_on};
-ghost use Rattle.mdns_lives.specs.Changes.{is_shared, kept_if, maybe_row, strays};
+ghost use Rattle.mdns_lives.specs.Changes.{is_pointer_record, kept_if, maybe_row, strays};
 ghost use Rattle.mdns_lives.specs.Chronicle.{AreAllLives, Chronicles, rows_of};
 ghost use Rattle.mdns_lives.specs.LentLives.{row_lent};
 
@@ -180,18 +180,18 @@ fn goes_on(set: &[RecordLives<'_>], last: &Last<'_>) -> bool
 }
 
 // Returns whether a record is a PTR record.
-fn is_shared(last: &Last<'_>) -> bool
-    ensures { result ≡ is_shared (last_lent last.now) }
+fn is_pointer_record(last: &Last<'_>) -> bool
+    ensures { result ≡ is_pointer_record (last_lent last.now) }
 {
     last.resource.body.number() == RecordType::Ptr.number()
 }
 
 // Returns whether two records are of one set, which may change.
 fn is_held_with(first: &Last<'_>, last: &Last<'_>) -> bool
-    ensures { IsTrue result ↔ ((is_shared (last_lent first.now) ≡ false)
+    ensures { IsTrue result ↔ ((is_pointer_record (last_lent first.now) ≡ false)
         × (set_key_of (last_lent first.now).resource ≡ set_key_of (last_lent last.now).resource)) }
 {
-    !is_shared(first)
+    !is_pointer_record(first)
         && first.resource.body.number() == last.resource.body.number()
         && folded_eq(first.resource.owner.wire(), last.resource.owner.wire())
 }
@@ -206,7 +206,7 @@ fn has_changed(alloc: Global, set: &[RecordLives<'_>]) -> Result<bool, Want>
     let Some(first) = set.first() else {
         return Ok(false);
     };
-    if is_shared(&first.last) {
+    if is_pointer_record(&first.last) {
         return Ok(false);
     }
     // A record alone has none before it, and most records are alone in their set.

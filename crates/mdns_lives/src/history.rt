@@ -5,7 +5,7 @@ ghost use Rattle.std.specs.Prelude.{IfNone, IfOk, IfSome, IsErr, IsTrue, OnOk, O
 ghost use Rattle.mdns_message.specs.Borrowed.{hearing_lent};
 ghost use Rattle.mdns_message.specs.Resource.{key_of};
 ghost use Rattle.mdns_join.specs.Latest.{IsKeyed, later, latest_of};
-ghost use Rattle.mdns_lives.specs.declared.life.Heard.{Heard};
+ghost use Rattle.mdns_lives.specs.declared.life.RecordHearing.{RecordHearing};
 ghost use Rattle.mdns_lives.specs.History.{AreInOrder};
 ghost use Rattle.mdns_lives.specs.Each.{heard_each};
 ghost use Rattle.mdns_lives.specs.Seconds.{HasRoomAfter, IsRoomFor, IsSeconds, IsThin, IsThinned, JoinsFirst};
@@ -13,7 +13,7 @@ ghost use Rattle.mdns_lives.specs.Seconds.{join_seconds, only, seconds_of};
 ghost use Rattle.mdns_lives.specs.laws.Seconds.{seconds-laws};
 
 use crate::flush_moments::sort_runs;
-use crate::life::Heard;
+use crate::life::RecordHearing;
 use crate::packed::Packed;
 use join_map::{Join, JoinOwn, Semilattice};
 use mdns_capture::Moment;
@@ -63,7 +63,7 @@ impl History {
     }
 
     /// Adds a hearing. After `Want` the history is as before.
-    pub(crate) fn add(&mut self, heard: Heard) -> Result<(), Want>
+    pub(crate) fn add(&mut self, heard: RecordHearing) -> Result<(), Want>
         ensures ok { OnOk result (self.new ≡ join_seconds self.old (only heard)) }
         ensures err { OnErr result (self.new ≡ self.old) }
     {
@@ -209,7 +209,7 @@ fn with_each(
 }
 
 // Adds a hearing to a list as `History::add` does.
-fn push_one(items: &mut Vec<Packed>, heard: Heard) -> Result<(), Want>
+fn push_one(items: &mut Vec<Packed>, heard: RecordHearing) -> Result<(), Want>
     ensures ok { OnOk result (seconds_of items.new.items ≡ join_seconds (seconds_of items.old.items) (only heard)) }
     ensures err { OnErr result (seconds_of items.new.items ≡ seconds_of items.old.items) }
     ensures room { OnOk result (HasRoomAfter (vec_capacity items.old) (vec_capacity items.new) (vec_len items.new)) }
@@ -310,7 +310,7 @@ fn push_each(items: &mut Vec<Packed>, ttl: u32, moments: &[Moment])
     ensures capacity { vec_capacity items.new ≡ vec_capacity items.old }
 {
     for moment in moments {
-        items.push_reserved(Packed::of(Heard {
+        items.push_reserved(Packed::of(RecordHearing {
             moment: *moment,
             ttl,
         }));

@@ -3,7 +3,7 @@
 ghost use Rattle.std.specs.Prelude.{◌≡◌, ◌≢◌, ◌↔◌, ◌<◌, ◌≤◌, ℕ, List, Contains};
 ghost use Rattle.mdns_message.specs.declared.hearing.Hearing.{Hearing};
 ghost use Rattle.mdns_message.specs.declared.key.Key.{Key};
-ghost use Rattle.mdns_lives.specs.declared.life.Heard.{Heard};
+ghost use Rattle.mdns_lives.specs.declared.life.RecordHearing.{RecordHearing};
 ghost use Rattle.mdns_lives.specs.declared.life.Life.{Life};
 ghost use Rattle.mdns_lives.specs.History.{IsHistory, AreFlushes, AreLivesBy};
 ghost use Rattle.mdns_lives.specs.Seconds.{AreEndsOf};
@@ -18,19 +18,19 @@ use mdns_cache::laws::{live_until_end, no_flush_is_missed, one_end, one_last_hea
 
 /// A history has exactly one list of lives.
 pub fn one_list_by()
-    ensures { (heard : List Heard) (flushes : List ℕ) (lives others : List Life) → AreLivesBy heard flushes lives
+    ensures { (heard : List RecordHearing) (flushes : List ℕ) (lives others : List Life) → AreLivesBy heard flushes lives
         → AreLivesBy heard flushes others → lives ≡ others }
 {}
 
 /// Of a record's hearings within one whole second the first and the last are enough: those between them change no life.
 pub fn lives_by_ends()
-    ensures { (heard ends : List Heard) (flushes : List ℕ) (lives : List Life) → AreEndsOf heard ends
+    ensures { (heard ends : List RecordHearing) (flushes : List ℕ) (lives : List Life) → AreEndsOf heard ends
         → (AreLivesBy heard flushes lives ↔ AreLivesBy ends flushes lives) }
 {}
 
 /// The lives of a record are those by its own hearings and the flush moments of its set.
 pub fn lives_by_history()
-    ensures { (heard : List Hearing) (key : Key) (history : List Heard) (flushes : List ℕ) (lives : List Life)
+    ensures { (heard : List Hearing) (key : Key) (history : List RecordHearing) (flushes : List ℕ) (lives : List Life)
         → IsHistory heard key history → AreFlushes heard key.set flushes
         → (AreLivesBy history flushes lives ↔ AreLives heard key lives) }
 {

@@ -4,7 +4,7 @@ use mdns_capture::Moment;
 
 /// A hearing of a record: its moment and its TTL.
 #[derive(Clone, Copy)]
-pub struct Heard {
+pub struct RecordHearing {
     /// The packet's moment.
     pub moment: Moment,
     /// The time to live in seconds; 0 is a goodbye (RFC 6762, section 10.1).
@@ -15,7 +15,7 @@ pub struct Heard {
 #[derive(Clone, Copy)]
 pub enum EndReason {
     /// The TTL of its last hearing ran out. Texts say `expired`.
-    RanOut,
+    Expired,
     /// Its last hearing was a goodbye, one second before (RFC 6762, section 10.1).
     Goodbye,
     /// A cache flush of its record set struck it (RFC 6762, section 10.2).
@@ -29,7 +29,7 @@ pub struct Life {
     /// The moment of its first hearing.
     pub from: Moment,
     /// The last hearing in it, which decides when and why it ends.
-    pub last: Heard,
+    pub last: RecordHearing,
     /// Its end, in nanoseconds since 1970. It may be later than the greatest `Moment`.
     pub until: u64,
     /// Why it ends.

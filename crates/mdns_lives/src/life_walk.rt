@@ -2,16 +2,16 @@
 
 ghost use Rattle.std.specs.Prelude.{◌≡◌, ◌+◌, ◌++◌, ◌∷◌, ℕ, List, IfOk, OnOk};
 ghost use Rattle.mdns_capture.specs.Limits.{second};
-ghost use Rattle.mdns_lives.specs.declared.life.Heard.{Heard};
+ghost use Rattle.mdns_lives.specs.declared.life.RecordHearing.{RecordHearing};
 ghost use Rattle.mdns_join.specs.Kept.{IsAscending, IsAscendingAbove};
 ghost use Rattle.mdns_join.specs.Nanos.{nanos_of};
 ghost use Rattle.mdns_cache.specs.LentRecords.{end_of};
 ghost use Rattle.mdns_lives.specs.History.{AreInOrder, AreLivesBy};
 ghost use Rattle.mdns_lives.specs.LifeWalk.{GiveSameEnds, life_after, lives_from, walked};
 
-use crate::life::{EndReason, Heard, Life};
+use crate::life::{EndReason, Life, RecordHearing};
 use crate::packed::Packed;
-use mdns_cache::lifetime::life;
+use mdns_cache::lifetime::lifetime_nanos;
 use mdns_capture::Moment;
 use mdns_capture::moment::SECOND;
 use memory::Want;
@@ -65,9 +65,14 @@ fn push_lives(
 }
 
 // Takes the next hearing: it carries the life on, or comes after its end and begins the next one.
-fn take_next(lives: &mut Vec<Life>, life: Life, next: Heard, later: &[Moment]) -> Result<Life, Want>
+fn take_next(
+    lives: &mut Vec<Life>,
+    life: Life,
+    next: RecordHearing,
+    later: &[Moment],
+) -> Result<Life, Want>
     requires { IsAscendingAbove (next.moment.nanos + second) (nanos_of later.now) }
-    ensures { IfOk result (λ taken. (hs : List Heard) → lives.new.items ++ lives_from (nanos_of later.now) taken hs
+    ensures { IfOk result (λ taken. (hs : List RecordHearing) → lives.new.items ++ lives_from (nanos_of later.now) taken hs
         ≡ lives.old.items ++ lives_from (nanos_of later.now) life (next ∷ hs)) }
 {
     let after = life_after(later, next);
@@ -84,18 +89,18 @@ fn take_next(lives: &mut Vec<Life>, life: Life, next: Heard, later: &[Moment]) -
 }
 
 // Returns the life of a record whose one hearing is this one, by the flushes that came late enough to strike it.
-fn life_after(later: &[Moment], heard: Heard) -> Life
+fn life_after(later: &[Moment], heard: RecordHearing) -> Life
     requires { IsAscendingAbove (heard.moment.nanos + second) (nanos_of later.now) }
     ensures { result ≡ life_after (nanos_of later.now) heard }
 {
-    let out = heard.moment.nanos() + life(heard.ttl);
+    let out = heard.moment.nanos() + lifetime_nanos(heard.ttl);
     let until = end_by(later, out);
     let reason = if until < out {
         EndReason::Flushed
     } else if heard.ttl == 0 {
         EndReason::Goodbye
     } else {
-        EndReason::RanOut
+        EndReason::Expired
     };
     Life {
         from: heard.moment,

@@ -187,7 +187,7 @@ impl<'a> LivesWalk<'a> {
         };
         let flushes = FlushMoments::all_of(self.flushes.moments(key.set()));
         let lives = lives_by(self.alloc, &account.history, flushes)?;
-        let last = shown(&account.latest);
+        let last = borrowed_last(&account.latest);
         Ok(Some(RecordLives { last, lives }))
     }
 }
@@ -209,7 +209,7 @@ fn lives_by(alloc: Global, history: &History, flushes: &[Moment]) -> Result<Vec<
 }
 
 // Borrows a last hearing.
-fn shown(latest: &Latest) -> Last<'_>
+fn borrowed_last(latest: &Latest) -> Last<'_>
     ensures { last_lent result ≡ latest.now }
 {
     Last {

@@ -4,14 +4,14 @@ ghost use Rattle.std.specs.Prelude.{◌≡◌, ◌+◌, ◌*◌, ◌/◌, ◌%�
 ghost use Rattle.mdns_capture.specs.Limits.{second, greatest_moment};
 ghost use Rattle.mdns_lives.specs.Seconds.{second_of};
 
-use crate::life::Heard;
+use crate::life::RecordHearing;
 use mdns_capture::Moment;
 use mdns_capture::moment::SECOND;
 use std::cmp::Ordering;
 use std::marker::Model;
 
-/// A hearing in 12 bytes; a `Heard` takes 16, since a `Moment` is aligned to 8. Its value is the `Heard`, and it is
-/// ordered by moment, then TTL.
+/// A hearing in 12 bytes; a `RecordHearing` takes 16, since a `Moment` is aligned to 8. Its value is the `RecordHearing`,
+/// and it is ordered by moment, then TTL.
 #[derive(Clone, Copy)]
 pub struct Packed {
     // The nanoseconds of its moment past the last whole second, and then the seconds: in this order `rank` loads both
@@ -23,9 +23,9 @@ pub struct Packed {
 }
 
 impl Model for Packed {
-    ghost use Rattle.mdns_lives.specs.declared.life.Heard.{Heard};
+    ghost use Rattle.mdns_lives.specs.declared.life.RecordHearing.{RecordHearing};
 
-    ghost Value = { Heard };
+    ghost Value = { RecordHearing };
 
     ghost use Rattle.mdns_lives.specs.Packed.{AreParts, heard_in, packed_as, packed_as-heard_in};
 
@@ -40,7 +40,7 @@ impl Model for Packed {
 
 impl Packed {
     /// Packs a hearing.
-    pub(crate) fn of(heard: Heard) -> Packed
+    pub(crate) fn of(heard: RecordHearing) -> Packed
         ensures { result ≡ heard }
     {
         let nanos = heard.moment.nanos();
@@ -52,13 +52,13 @@ impl Packed {
     }
 
     /// Returns the hearing.
-    pub(crate) fn heard(&self) -> Heard
+    pub(crate) fn heard(&self) -> RecordHearing
         ensures { result ≡ self.now }
     {
         let Some(moment) = Moment::from_parts(self.seconds, self.nanos) else {
             unreachable!()
         };
-        Heard {
+        RecordHearing {
             moment,
             ttl: self.ttl,
         }

@@ -3,14 +3,14 @@
 ghost use Rattle.std.specs.Prelude.{◌≡◌, ◌++◌, ◌∷◌, List, IfOk, OnOk};
 ghost use Rattle.mdns_message.specs.Resource.{key_of};
 ghost use Rattle.mdns_message.specs.declared.hearing.Hearing.{Hearing};
-ghost use Rattle.mdns_lives.specs.declared.life.Heard.{Heard};
+ghost use Rattle.mdns_lives.specs.declared.life.RecordHearing.{RecordHearing};
 ghost use Rattle.mdns_lives.specs.Chronicle.{Chronicles};
 ghost use Rattle.mdns_lives.specs.Heard.{AreSecondsHeard, AreSecondsHeld, heard_once, seconds_from, seconds_walked};
 ghost use Rattle.mdns_lives.specs.History.{AreInOrder};
 ghost use Rattle.mdns_lives.specs.Seconds.{second_of};
 
 use crate::history::History;
-use crate::life::Heard;
+use crate::life::RecordHearing;
 use crate::lives::Lives;
 use crate::packed::Packed;
 use mdns_capture::moment::SECOND;
@@ -21,8 +21,8 @@ use std::alloc::Global;
 /// The first and the last hearing of a record within one whole second, by moment, then TTL.
 #[derive(Clone, Copy)]
 pub struct SecondHeard {
-    pub first: Heard,
-    pub last: Heard,
+    pub first: RecordHearing,
+    pub last: RecordHearing,
 }
 
 impl Lives {
@@ -84,9 +84,9 @@ fn push_seconds(
 fn take_next(
     to: &mut Vec<SecondHeard>,
     current: SecondHeard,
-    next: Heard,
+    next: RecordHearing,
 ) -> Result<SecondHeard, Want>
-    ensures { IfOk result (λ taken. (hs : List Heard) → to.new.items ++ seconds_from taken hs
+    ensures { IfOk result (λ taken. (hs : List RecordHearing) → to.new.items ++ seconds_from taken hs
         ≡ to.old.items ++ seconds_from current (next ∷ hs)) }
 {
     if second(next) == second(current.first) {
@@ -100,7 +100,7 @@ fn take_next(
 }
 
 // Returns the second of which this is the one hearing.
-fn once(heard: Heard) -> SecondHeard
+fn once(heard: RecordHearing) -> SecondHeard
     ensures { result ≡ heard_once heard }
 {
     SecondHeard {
@@ -110,7 +110,7 @@ fn once(heard: Heard) -> SecondHeard
 }
 
 // Returns the whole second that a hearing is in.
-fn second(heard: Heard) -> u64
+fn second(heard: RecordHearing) -> u64
     ensures { result ≡ second_of heard }
 {
     heard.moment.nanos() / SECOND

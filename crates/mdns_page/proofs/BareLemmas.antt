@@ -9,7 +9,7 @@ use Rattle.mdns_message.specs.Parts.{address_of, content_of}
 use Rattle.mdns_message.specs.declared.body.RecordData.TheVariants as body
 use Rattle.mdns_message.specs.declared.parts.Address.{Address}
 use Rattle.mdns_lives.specs.declared.life.Life.{Life}
-use Rattle.mdns_lives.specs.declared.life.EndReason.TheVariants.{RanOut, Goodbye, Flushed}
+use Rattle.mdns_lives.specs.declared.life.EndReason.TheVariants.{Expired, Goodbye, Flushed}
 use Rattle.mdns_browse.specs.declared.about.Subject.{Subject}
 use Rattle.mdns_browse.specs.declared.instance.Server.{Server}
 use Rattle.mdns_join.specs.declared.latest.Latest.{Latest}
@@ -110,7 +110,7 @@ live_line-same axis rows others same =
       count (λ life. goes_on axis life && is_for Goodbye life.reason),
       count (is_ended axis Goodbye),
       count (is_ended axis Flushed),
-      count (is_ended axis RanOut),
+      count (is_ended axis Expired),
     ) refl
 
 about-same : (about others : List Subject) → length about ≡ length others → about_line unsaid about ≡ about_line unsaid others

@@ -19,7 +19,7 @@ use Rattle.mdns_message.specs.Resource.{key_cmp}
 use Rattle.mdns_message.specs.laws.Resource.{key_cmp-exact, key_cmp-total}
 use Rattle.mdns_join.specs.declared.latest.Latest.{Latest}
 use Rattle.mdns_cache.proofs.StandsPartLemmas.{Contains-nil}
-use Rattle.mdns_cache.specs.Live.{IsLast, IsUnheard, record_of}
+use Rattle.mdns_cache.specs.Live.{IsLast, IsUnheard, key_of_last}
 use Rattle.mdns_lives.specs.declared.life.Life.{Life}
 use Rattle.mdns_lives.specs.declared.seconds_heard.SecondHeard.{SecondHeard}
 use Rattle.mdns_lives.specs.Chronicle.{Accounts, AreAllLives, Chronicles, last_held}
@@ -83,7 +83,7 @@ all-weaker P Q step xs all k d within = step _ (all k d within)
 
 -- the record of a row
 abbrev pub row_key : Row → Key
-row_key row = record_of row.last
+row_key row = key_of_last row.last
 
 pub keys-kept : (rows others : List Row) → map unheard rows ≡ map unheard others → map row_key rows ≡ map row_key others
 keys-kept rows others same = sym (map-map row_key unheard rows) ∙ ap (map row_key) same ∙ map-map row_key unheard others
@@ -151,10 +151,10 @@ adjacent (x ∷ y ∷ keys) sorted (suc k) d low high =
 -- rows of records that are in order
 pub rows-sorted : (part : TimelinePart) (rows : List Row) (records : List (Latest × List Life))
     → map record_in rows ≡ filter (λ row. is_of part row.0) records
-    → IsStrictlySortedBy key_cmp (map (λ (row : Latest × List Life). record_of row.0) records)
+    → IsStrictlySortedBy key_cmp (map (λ (row : Latest × List Life). key_of_last row.0) records)
     → IsStrictlySortedBy key_cmp (map row_key rows)
 rows-sorted part rows records are sorted =
-    let key = λ (row : Latest × List Life). record_of row.0 in
+    let key = λ (row : Latest × List Life). key_of_last row.0 in
     subst (IsStrictlySortedBy key_cmp) (ap (map key) (sym are) ∙ map-map key record_in rows)
     (sorted-filter key_cmp key (λ row. is_of part row.0) records sorted)
 
@@ -259,7 +259,7 @@ found-hears heard keys key own rows place d new seconds are same found equal tol
 -- ---- the records that are left of a capture
 
 abbrev pub keys_left : List (Latest × List Life) → List Key
-keys_left rows = map (λ (row : Latest × List Life). record_of row.0) rows
+keys_left rows = map (λ (row : Latest × List Life). key_of_last row.0) rows
 
 -- the key is one of these
 abbrev pub Among : List Key → Key → Type 0
@@ -267,9 +267,9 @@ Among [] key = ⊥
 Among (k ∷ keys) key = (k ≡ key) ⊎ Among keys key
 
 contains-among : (rows : List (Latest × List Life)) (row : Latest × List Life) (k : ℕ) → k < length rows → get_or rows k row ≡ row
-    → Among (keys_left rows) (record_of row.0)
+    → Among (keys_left rows) (key_of_last row.0)
 contains-among [] row k within is = absurd (omega arith)
-contains-among (first ∷ rows) row zero within is = inl (ap (λ (r : Latest × List Life). record_of r.0) is)
+contains-among (first ∷ rows) row zero within is = inl (ap (λ (r : Latest × List Life). key_of_last r.0) is)
 contains-among (first ∷ rows) row (suc k) within is = inr (contains-among rows row k (omega arith) is)
 
 later-apart : (key : Key) (keys : List Key) → AllByRecursion (λ k. key_cmp key k ≡ Less) keys → Among keys key → ⊥
@@ -289,7 +289,7 @@ module _ (c : Accounts) (heard : List Hearing) (stands : Chronicles c heard) (ro
   }
   never-by (Some last) is =
       let found = lives.all key last is in
-      let own : record_of last ≡ key = ap record_of (sym is.gives) ∙ is.of_record in
+      let own : key_of_last last ≡ key = ap key_of_last (sym is.gives) ∙ is.of_record in
       absurd (none (subst (Among (keys_left rows)) own
       (contains-among rows (last, found.0) found.1.0 found.1.1 found.1.2)))
 
@@ -350,12 +350,12 @@ module _ (heard : List Hearing) (key : Key) (keys : List Key) (later : AllByRecu
 -- one record more
 pub up_to-more : (heard : List Hearing) (left more : List (Latest × List Life)) (record_taken : Latest × List Life)
     (old mid new : List Row) → left ≡ record_taken ∷ more → IsStrictlySortedBy key_cmp (keys_left left)
-    → AreEach (IsUpTo heard (keys_left left)) old mid → AreEach (HearsRecord heard (record_of record_taken.0)) mid new
+    → AreEach (IsUpTo heard (keys_left left)) old mid → AreEach (HearsRecord heard (key_of_last record_taken.0)) mid new
     → IsStrictlySortedBy key_cmp (keys_left more) × AreEach (IsUpTo heard (keys_left more)) old new
 unfolding IsStrictlySortedBy
 up_to-more heard left more taken old mid new first sorted was hears =
     let in_order = subst (λ (rs : List (Latest × List Life)). IsStrictlySortedBy key_cmp (keys_left rs)) first sorted in
-    let key = record_of taken.0 in (
+    let key = key_of_last taken.0 in (
       in_order.1,
       each-both (IsUpTo heard (key ∷ keys_left more)) (HearsRecord heard key) (IsUpTo heard (keys_left more))
           (up_to-one heard key (keys_left more) in_order.0) old mid new
@@ -417,7 +417,7 @@ so_far-more chronicles i chronicle old mid new within at was hears each count ar
 -- a row as it is made
 pub row-begun : (chronicles : List Accounts) (row : Row) → row.capture_count ≡ length chronicles
     → ((each : List (List Hearing)) → AreEach Chronicles (few_of chronicles) each
-    → AreShownBy false each (record_of row.last) row.heard)
+    → AreShownBy false each (key_of_last row.last) row.heard)
     → (each : List (List Hearing)) → AreEach Chronicles chronicles each → IsBegun each row
 row-begun chronicles row count heard each are = record {
   count = count ∙ each-count Chronicles chronicles each are;
@@ -440,8 +440,8 @@ module _ (each : List (List Hearing)) where
   counted-few : false ≡ nat_lt 4 (length each) → (row : Row) → IsBegun each row → IsCounted each row
   counted-few few row begun = record {
     count = begun.count;
-    heard = subst (λ (many : Bool). AreShownBy many each (record_of row.last) row.heard) few
-        (subst (λ (es : List (List Hearing)). AreShownBy false es (record_of row.last) row.heard)
+    heard = subst (λ (many : Bool). AreShownBy many each (key_of_last row.last) row.heard) few
+        (subst (λ (es : List (List Hearing)). AreShownBy false es (key_of_last row.last) row.heard)
         (ap (λ (many : Bool). if many then [] else each) (sym few)) begun.heard);
   }
 
@@ -449,14 +449,14 @@ module _ (each : List (List Hearing)) where
   begun-many : true ≡ nat_lt 4 (length each) → (row : Row) → IsBegun each row → IsSoFar (length each) [] row
   begun-many many row begun = record {
     captures = begun.count;
-    heard = nothing-shown (few_of each) (record_of row.last) row.heard (ap (λ (many : Bool). if many then [] else each) (sym many))
+    heard = nothing-shown (few_of each) (key_of_last row.last) row.heard (ap (λ (many : Bool). if many then [] else each) (sym many))
         begun.heard;
   }
 
   counted-many : true ≡ nat_lt 4 (length each) → (row : Row) → IsSoFar (length each) each row → IsCounted each row
   counted-many many row far = record {
     count = far.captures;
-    heard = subst (λ (b : Bool). AreShownBy b each (record_of row.last) row.heard) many far.heard;
+    heard = subst (λ (b : Bool). AreShownBy b each (key_of_last row.last) row.heard) many far.heard;
   }
 
 pub all-few : (chronicles : List Accounts) (rows : List Row) → length chronicles ≤ 4 → (each : List (List Hearing))

@@ -12,7 +12,7 @@ use Rattle.std.specs.declared.cmp.Ordering.TheVariants.{Less}
 use Rattle.mdns_message.specs.declared.hearing.Hearing.{Hearing}
 use Rattle.mdns_message.specs.Resource.{key_cmp}
 use Rattle.mdns_join.specs.declared.latest.Latest.{Latest}
-use Rattle.mdns_cache.specs.Live.{record_of}
+use Rattle.mdns_cache.specs.Live.{key_of_last}
 use Rattle.mdns_lives.specs.Chronicle.{AreAllLives}
 use Rattle.mdns_lives.specs.declared.life.Life.{Life}
 use Rattle.mdns_browse.specs.declared.about.Subject.{Subject}
@@ -104,8 +104,8 @@ module _ {X K : Type 0} (c : K → K → Ordering) (key : X → K) (p : X → Bo
 
 -- the rows of a page that may be large
 pub few-sorted : (large : Bool) (rows : List (Latest × List Life))
-    → IsStrictlySortedBy key_cmp (map (λ (row : Latest × List Life). record_of row.0) rows)
-    → IsStrictlySortedBy key_cmp (map (λ (row : Latest × List Life). record_of row.0) (if large then [] else rows))
+    → IsStrictlySortedBy key_cmp (map (λ (row : Latest × List Life). key_of_last row.0) rows)
+    → IsStrictlySortedBy key_cmp (map (λ (row : Latest × List Life). key_of_last row.0) (if large then [] else rows))
 unfolding IsStrictlySortedBy
 few-sorted true rows sorted = tt
 few-sorted false rows sorted = sorted
@@ -113,11 +113,11 @@ few-sorted false rows sorted = sorted
 module _ (heard : List Hearing) (rows : List (Latest × List Life)) (are : AreAllLives heard rows) where
   -- some of the records, and the last hearings that are looked up
   pub some-sorted : (p : Latest × List Life → Bool)
-      → IsStrictlySortedBy key_cmp (map (λ (row : Latest × List Life). record_of row.0) (filter p rows))
-  some-sorted p = sorted-filter key_cmp (λ (row : Latest × List Life). record_of row.0) p rows are.ascending
+      → IsStrictlySortedBy key_cmp (map (λ (row : Latest × List Life). key_of_last row.0) (filter p rows))
+  some-sorted p = sorted-filter key_cmp (λ (row : Latest × List Life). key_of_last row.0) p rows are.ascending
 
-  pub looked_up-sorted : (about : List Subject) → IsStrictlySortedBy key_cmp (map record_of (looked_up about rows))
+  pub looked_up-sorted : (about : List Subject) → IsStrictlySortedBy key_cmp (map key_of_last (looked_up about rows))
   unfolding IsStrictlySortedBy
   looked_up-sorted [] = tt
   looked_up-sorted (subject ∷ about) =
-      subst (IsStrictlySortedBy key_cmp) (sym (map-map record_of (λ (row : Latest × List Life). row.0) rows)) are.ascending
+      subst (IsStrictlySortedBy key_cmp) (sym (map-map key_of_last (λ (row : Latest × List Life). row.0) rows)) are.ascending

@@ -9,7 +9,7 @@ use Rattle.std.specs.declared.cmp.Ordering.TheVariants.{Less}
 use Rattle.std.proofs.lemmas.Cmp.{ranked}
 use Rattle.mdns_capture.specs.Limits.{second}
 use Rattle.mdns_cache.proofs.StandsPartLemmas.{Contains-head, Contains-later}
-use Rattle.mdns_lives.specs.declared.life.Heard.{Heard}
+use Rattle.mdns_lives.specs.declared.life.RecordHearing.{RecordHearing}
 use Rattle.mdns_lives.specs.declared.seconds_heard.SecondHeard.{SecondHeard}
 use Rattle.mdns_lives.specs.Heard.{number_of}
 use Rattle.mdns_lives.specs.Seconds.{second_of}
@@ -33,7 +33,7 @@ abbrev IsInIf : Axis → ℕ → Option Mark → Type 0
 IsInIf axis n None = Unit {0}
 IsInIf axis n (Some mark) = IsIn axis n mark
 
-point-in : (axis : Axis) (n : ℕ) (heard : Heard) → second_of heard ≡ n → IsIn axis n (point axis heard)
+point-in : (axis : Axis) (n : ℕ) (heard : RecordHearing) → second_of heard ≡ n → IsIn axis n (point axis heard)
 point-in axis n heard within = record { moment = heard.moment.nanos; within = within; begins = refl; ends = refl }
 
 first-if : (axis : Axis) (n : ℕ) (mark : Mark) (b : Bool) → IsIn axis n mark → IsInIf axis n (if b then None else Some mark)
@@ -44,7 +44,7 @@ last-if : (axis : Axis) (n : ℕ) (mark : Mark) (b : Bool) → IsIn axis n mark 
 last-if axis n mark true is = is
 last-if axis n mark false is = tt
 
-goodbye-in : (n : ℕ) (last first : Heard) (b : Bool) → second_of last ≡ n → second_of first ≡ n
+goodbye-in : (n : ℕ) (last first : RecordHearing) (b : Bool) → second_of last ≡ n → second_of first ≡ n
     → second_of (if b then last else first) ≡ n
 goodbye-in n last first true same_last same_first = same_last
 goodbye-in n last first false same_last same_first = same_first

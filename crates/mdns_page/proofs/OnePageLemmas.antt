@@ -13,8 +13,8 @@ use Rattle.mdns_capture.specs.Savefile.{PacketAt}
 use Rattle.mdns_join.specs.declared.latest.Latest.{Latest}
 use Rattle.mdns_join.specs.laws.Latest.{moment-same}
 use Rattle.mdns_message.specs.declared.hearing.Hearing.{Hearing}
-use Rattle.mdns_cache.specs.Live.{record_of}
-use Rattle.mdns_lives.specs.declared.life.Heard.{Heard}
+use Rattle.mdns_cache.specs.Live.{key_of_last}
+use Rattle.mdns_lives.specs.declared.life.RecordHearing.{RecordHearing}
 use Rattle.mdns_lives.specs.declared.life.Life.{Life}
 use Rattle.mdns_lives.specs.declared.seconds_heard.SecondHeard.{SecondHeard}
 use Rattle.mdns_lives.specs.Heard.{AreSecondsHeard, AreSecondsOf, number_of}
@@ -99,7 +99,7 @@ same-members (x ∷ xs) (y ∷ ys) p q into back =
 abbrev second_by : Ends → SecondHeard
 second_by e = record { first = e.least; last = e.greatest }
 
-module _ (IsThere : Heard → Type 0) where
+module _ (IsThere : RecordHearing → Type 0) where
   seconds-within : (xs ys : List SecondHeard) → AreSecondsOf IsThere xs → AreSecondsOf IsThere ys
       → (s : SecondHeard) → Contains xs s → Contains ys s
   seconds-within xs ys are too s among =
@@ -132,9 +132,9 @@ module _ (each : List (List Hearing)) (rows : List (Latest × List Life)) where
       let shown = counted.heard in
       let again = too.heard in
       let seconds : shown.all ≡ again.all =
-      one-each (λ (hearings : List Hearing) (seconds : List SecondHeard). AreSecondsHeard hearings (record_of a.last) seconds)
+      one-each (λ (hearings : List Hearing) (seconds : List SecondHeard). AreSecondsHeard hearings (key_of_last a.last) seconds)
       (λ hearings x y are again. one-seconds _ x y are again) each shown.all again.all shown.are
-      (subst (λ (l : Latest). AreEach (λ hearings seconds. AreSecondsHeard hearings (record_of l) seconds) each again.all) (sym last) again.are) in
+      (subst (λ (l : Latest). AreEach (λ hearings seconds. AreSecondsHeard hearings (key_of_last l) seconds) each again.all) (sym last) again.are) in
       let heard : a.heard ≡ b.heard = shown.shown ∙ ap (shown_seconds (nat_lt 4 (length each))) seconds ∙ sym again.shown in
       let servers : a.servers ≡ b.servers =
       served ∙ ap (λ (l : Latest). servers_of rows (body_of l)) last ∙ sym other in

@@ -5,7 +5,7 @@ use Rattle.std.specs.List.{filter}
 use Rattle.std.specs.List.Sorted.{IsStrictlySortedBy}
 use Rattle.mdns_message.specs.Resource.{key_cmp}
 use Rattle.mdns_join.specs.declared.latest.Latest.{Latest}
-use Rattle.mdns_cache.specs.Live.{record_of}
+use Rattle.mdns_cache.specs.Live.{key_of_last}
 use Rattle.mdns_lives.specs.LentLives.{row_lent}
 use Rattle.mdns_lives.specs.declared.life.Life.{Life}
 use Rattle.mdns_lives.specs.declared.lives.RecordLives.{RecordLives}
@@ -23,10 +23,10 @@ filter-map {X = X} p f (x ∷ xs) =
 
 -- rows that are lent are in key order by their last hearings
 pub ascending-lent : {R : Type 0} (lent : R → Latest × List Life) (rows : List R)
-    → IsStrictlySortedBy key_cmp (map (λ (row : Latest × List Life). record_of row.0) (map lent rows))
-    → IsStrictlySortedBy key_cmp (map (λ r. record_of (lent r).0) rows)
+    → IsStrictlySortedBy key_cmp (map (λ (row : Latest × List Life). key_of_last row.0) (map lent rows))
+    → IsStrictlySortedBy key_cmp (map (λ r. key_of_last (lent r).0) rows)
 ascending-lent lent rows sorted =
-    subst (IsStrictlySortedBy key_cmp) (map-map (λ (row : Latest × List Life). record_of row.0) lent rows) sorted
+    subst (IsStrictlySortedBy key_cmp) (map-map (λ (row : Latest × List Life). key_of_last row.0) lent rows) sorted
 
 -- the lives of rows that are lent
 pub lives-lent : (rows : List RecordLives) → map lives_lent rows ≡ map (λ (row : Latest × List Life). row.1) (map row_lent rows)

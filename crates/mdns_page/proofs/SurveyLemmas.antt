@@ -7,7 +7,7 @@ use Rattle.mdns_capture.specs.Savefile.{PacketAt}
 use Rattle.mdns_message.specs.declared.hearing.Hearing.{Hearing}
 use Rattle.mdns_message.specs.Resource.{key_cmp}
 use Rattle.mdns_join.specs.declared.latest.Latest.{Latest}
-use Rattle.mdns_cache.specs.Live.{AreLiveRecords, record_of}
+use Rattle.mdns_cache.specs.Live.{AreLiveRecords, key_of_last}
 use Rattle.mdns_lives.specs.Chronicle.{Chronicles}
 use Rattle.mdns_lives.specs.Since.{AreLiveSince, all_since_rows, live_row}
 use Rattle.mdns_lives.specs.declared.life.Life.{Life}
@@ -46,8 +46,8 @@ module _ (heard : List Hearing) (axis : Axis) (rows : List (Latest × List Life)
   live-ascending =
       let since = all_since_rows axis.end.nanos rows in
       subst (IsStrictlySortedBy key_cmp)
-      (map-map (λ (row : Latest × ℕ). record_of row.0) live_row since ∙ sym (map-map record_of (λ row. (given_of_since row).last) since)
-      ∙ ap (map record_of) (sym (map-map (λ (row : GivenRow). row.last) given_of_since since))) are.records.ascending
+      (map-map (λ (row : Latest × ℕ). key_of_last row.0) live_row since ∙ sym (map-map key_of_last (λ row. (given_of_since row).last) since)
+      ∙ ap (map key_of_last) (sym (map-map (λ (row : GivenRow). row.last) given_of_since since))) are.records.ascending
 
   pub live-since : AreLiveGiven heard axis.end.nanos (live_given axis rows)
   live-since =

@@ -1,7 +1,7 @@
 -- The lanes below the bars of a row: in which seconds each capture heard its record.
 use Rattle.std.specs.Prelude.{ℕ, ◌+◌, ◌*◌, ◌==◌, ◌||◌, nat_lt, Bool, if◌then◌else◌, Option, None, Some, List, [], ◌∷◌, ◌++◌, codes}
 use Rattle.std.specs.Fmt.{decimal}
-use Rattle.mdns_lives.specs.declared.life.Heard.{Heard}
+use Rattle.mdns_lives.specs.declared.life.RecordHearing.{RecordHearing}
 use Rattle.mdns_lives.specs.declared.seconds_heard.SecondHeard.{SecondHeard}
 use Rattle.mdns_survey.specs.declared.reading.Span.{Span}
 use Rattle.mdns_page.specs.Axis.{drawn_if, place, place_end}
@@ -27,11 +27,11 @@ abbrev pub is_goodbye : SecondHeard → Bool
 is_goodbye second = (second.last.ttl == 0) || (second.first.ttl == 0)
 
 -- its goodbye: the last hearing, if that is one
-abbrev pub goodbye_of : SecondHeard → Heard
+abbrev pub goodbye_of : SecondHeard → RecordHearing
 goodbye_of second = if second.last.ttl == 0 then second.last else second.first
 
 -- the place of a hearing
-abbrev pub point : Axis → Heard → Mark
+abbrev pub point : Axis → RecordHearing → Mark
 point axis heard = record { begin = place axis heard.moment.nanos; end = place axis heard.moment.nanos }
 
 -- where the second has a stroke of this kind, if it has one: a tick at its first hearing, or a thick one at its goodbye

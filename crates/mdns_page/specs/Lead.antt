@@ -5,7 +5,7 @@ use Rattle.std.specs.List.{join_by}
 use Rattle.mdns_capture.specs.Text.{ending_text}
 use Rattle.mdns_lives.specs.declared.life.Life.{Life}
 use Rattle.mdns_lives.specs.declared.life.EndReason.{EndReason}
-use Rattle.mdns_lives.specs.declared.life.EndReason.TheVariants.{RanOut, Goodbye, Flushed}
+use Rattle.mdns_lives.specs.declared.life.EndReason.TheVariants.{Expired, Goodbye, Flushed}
 use Rattle.mdns_browse.specs.declared.about.Subject.{Subject}
 use Rattle.mdns_survey.specs.ProgramLines.{is_whole}
 use Rattle.people_text.specs.MomentText.{millis_text}
@@ -49,7 +49,7 @@ live_line axis rows =
     ++ codes " live at <time>" ++ millis_text axis.end.nanos ++ codes "</time>"
     ++ said_text (count_last (λ life. goes_on axis life && is_for Goodbye life.reason) rows) ++ codes "."
     ++ others_text (count_last (is_ended axis Goodbye) rows) (count_last (is_ended axis Flushed) rows)
-    (count_last (is_ended axis RanOut) rows) ++ codes "</p>\n"
+    (count_last (is_ended axis Expired) rows) ++ codes "</p>\n"
 
 -- ---- what the page is about
 

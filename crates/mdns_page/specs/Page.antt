@@ -4,7 +4,7 @@ use Rattle.std.specs.List.{filter}
 use Rattle.mdns_capture.specs.Savefile.{PacketAt}
 use Rattle.mdns_message.specs.declared.hearing.Hearing.{Hearing}
 use Rattle.mdns_join.specs.declared.latest.Latest.{Latest}
-use Rattle.mdns_cache.specs.Live.{AreLiveRecords, record_of}
+use Rattle.mdns_cache.specs.Live.{AreLiveRecords, key_of_last}
 use Rattle.mdns_lives.specs.declared.life.Life.{Life}
 use Rattle.mdns_lives.specs.Chronicle.{AreAllLives}
 use Rattle.mdns_lives.specs.Since.{IsLiveSince, all_since_rows}
@@ -42,7 +42,7 @@ record_given given = (given.last, given.end)
 
 -- the record has been live since then
 abbrev pub IsSinceKnown : List Hearing → ℕ → Latest → Option ℕ → Type 0
-IsSinceKnown heard now last since = (from : ℕ) × (since ≡ Some from) × IsLiveSince heard now (record_of last) from
+IsSinceKnown heard now last since = (from : ℕ) × (since ≡ Some from) × IsLiveSince heard now (key_of_last last) from
 
 -- the live records, each with since when it has been live
 pub record AreLiveGiven (heard : List Hearing) (now : ℕ) (rows : List GivenRow) : Type 0 where

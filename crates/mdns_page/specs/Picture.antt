@@ -5,7 +5,7 @@ use Rattle.std.specs.Fmt.{decimal}
 use Rattle.std.specs.List.{filter_map, flat_map}
 use Rattle.mdns_lives.specs.declared.life.Life.{Life}
 use Rattle.mdns_lives.specs.declared.life.EndReason.{EndReason}
-use Rattle.mdns_lives.specs.declared.life.EndReason.TheVariants.{RanOut, Goodbye, Flushed}
+use Rattle.mdns_lives.specs.declared.life.EndReason.TheVariants.{Expired, Goodbye, Flushed}
 use Rattle.mdns_page.specs.Axis.{place, place_end}
 use Rattle.mdns_page.specs.BarTitles.{life_title}
 use Rattle.mdns_page.specs.declared.axis.Axis.{Axis}
@@ -20,7 +20,7 @@ abbrev pub goes_on : Axis → Life → Bool
 goes_on axis life = nat_lt axis.end.nanos life.until
 
 abbrev pub is_for : EndReason → EndReason → Bool
-is_for RanOut RanOut = true
+is_for Expired Expired = true
 is_for Goodbye Goodbye = true
 is_for Flushed Flushed = true
 is_for _ _ = false
@@ -72,10 +72,10 @@ abbrev pub class_of : Stroke → List ℕ
 class_of Bar = codes "b"
 class_of Server = codes "s"
 class_of (Pin Goodbye) = codes "m1"
-class_of (Pin RanOut) = codes "m2"
+class_of (Pin Expired) = codes "m2"
 class_of (Pin Flushed) = codes "m3"
 class_of (Head Goodbye) = codes "h1"
-class_of (Head RanOut) = codes "h2"
+class_of (Head Expired) = codes "h2"
 class_of (Head Flushed) = codes "h3"
 class_of (Tick top) = codes "t"
 class_of (GoodbyeTick top) = codes "z"

@@ -3,7 +3,7 @@ use Rattle.std.specs.Prelude.{ℕ, ◌==◌, if◌then◌else◌, List, [], ◌+
 use Rattle.std.specs.Fmt.{decimal}
 use Rattle.std.specs.List.{flat_map}
 use Rattle.mdns_lives.specs.declared.life.Life.{Life}
-use Rattle.mdns_lives.specs.declared.life.EndReason.TheVariants.{RanOut, Goodbye, Flushed}
+use Rattle.mdns_lives.specs.declared.life.EndReason.TheVariants.{Expired, Goodbye, Flushed}
 use Rattle.mdns_lives.specs.declared.seconds_heard.SecondHeard.{SecondHeard}
 use Rattle.mdns_page.specs.Captures.{each_from}
 use Rattle.mdns_page.specs.Lanes.{height, lane_text}
@@ -19,6 +19,6 @@ picture look lives servers heard =
     codes "<svg viewBox=\"0 0 1000 " ++ decimal (height look.lanes)
     ++ codes "\" preserveAspectRatio=\"none\" aria-hidden=\"true\"><use href=\"#g\"/>" ++ bars axis look.titled Bar lives
     ++ flat_map (bars axis look.titled Server) servers ++ path (mark_of axis) (Pin Goodbye) lives
-    ++ path (mark_of axis) (Head Goodbye) lives ++ path (mark_of axis) (Pin RanOut) lives
+    ++ path (mark_of axis) (Head Goodbye) lives ++ path (mark_of axis) (Pin Expired) lives
     ++ path (mark_of axis) (Pin Flushed) lives ++ path (mark_of axis) (Head Flushed) lives
     ++ (if look.lanes == 0 then [] else each_from (lane_text axis look.lanes) 0 heard) ++ codes "</svg>"

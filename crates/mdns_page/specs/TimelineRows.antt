@@ -3,7 +3,7 @@ use Rattle.std.specs.Prelude.{◌≡◌, ◌≢◌, ◌⊎◌, nat_lt, Bool, fal
 use Rattle.std.specs.List.{filter}
 use Rattle.mdns_message.specs.declared.hearing.Hearing.{Hearing}
 use Rattle.mdns_message.specs.declared.key.Key.{Key}
-use Rattle.mdns_cache.specs.Live.{record_of}
+use Rattle.mdns_cache.specs.Live.{key_of_last}
 use Rattle.mdns_browse.specs.Services.{AreEach}
 use Rattle.mdns_lives.specs.Heard.{AreSecondsHeard}
 use Rattle.mdns_lives.specs.declared.seconds_heard.SecondHeard.{SecondHeard}
@@ -19,7 +19,7 @@ pub record AreShownBy (many : Bool) (each : List (List Hearing)) (key : Key) (he
 -- the row counts the captures, and has the seconds of its record; of more than four captures only of those that heard it
 pub record IsCounted (each : List (List Hearing)) (row : Row) : Type 0 where
   pub count : row.capture_count ≡ length each
-  pub heard : AreShownBy (nat_lt 4 (length each)) each (record_of row.last) row.heard
+  pub heard : AreShownBy (nat_lt 4 (length each)) each (key_of_last row.last) row.heard
 
 -- ---- as rows are made
 
@@ -30,7 +30,7 @@ few_of captures = if nat_lt 4 (length captures) then [] else captures
 -- the row counts the captures, and has the seconds of its record in those in which it is looked up
 pub record IsBegun (each : List (List Hearing)) (row : Row) : Type 0 where
   pub count : row.capture_count ≡ length each
-  pub heard : AreShownBy false (few_of each) (record_of row.last) row.heard
+  pub heard : AreShownBy false (few_of each) (key_of_last row.last) row.heard
 
 -- the row without seconds
 abbrev pub unheard : Row → Row
@@ -49,10 +49,10 @@ heard_too row seconds = record {
 -- the row has more than before what a capture with these hearings tells of its record
 pub record HearsCapture (heard : List Hearing) (old new : Row) : Type 0 where
   pub seconds : List SecondHeard
-  pub are : AreSecondsHeard heard (record_of old.last) seconds
+  pub are : AreSecondsHeard heard (key_of_last old.last) seconds
   pub is : new ≡ heard_too old seconds
 
 -- the row does if its record has this key, and is as before otherwise
 abbrev pub HearsRecord : List Hearing → Key → Row → Row → Type 0
 HearsRecord heard key old new =
-    ((record_of old.last ≡ key) × HearsCapture heard old new) ⊎ ((record_of old.last ≢ key) × (new ≡ old))
+    ((key_of_last old.last ≡ key) × HearsCapture heard old new) ⊎ ((key_of_last old.last ≢ key) × (new ≡ old))

@@ -115,7 +115,7 @@ pub(crate) fn open_word(reason: EndReason) -> &'static str
     ensures { result.now ≡ codes "still " ++ open_text reason }
 {
     match reason {
-        EndReason::RanOut => "still live",
+        EndReason::Expired => "still live",
         EndReason::Goodbye => "still live, said goodbye",
         EndReason::Flushed => "still live, flushed",
     }
@@ -126,7 +126,7 @@ pub(crate) fn reason_word(reason: EndReason) -> &'static str
     ensures { result.now ≡ reason_text reason }
 {
     match reason {
-        EndReason::RanOut => "expired",
+        EndReason::Expired => "expired",
         EndReason::Goodbye => "goodbye",
         EndReason::Flushed => "flushed",
     }

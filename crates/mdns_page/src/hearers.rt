@@ -5,7 +5,7 @@ ghost use Rattle.std.specs.List.{All, filter};
 ghost use Rattle.std.specs.List.Sorted.{IsStrictlySortedBy};
 ghost use Rattle.mdns_message.specs.Resource.{key_cmp, key_of};
 ghost use Rattle.mdns_message.specs.declared.hearing.Hearing.{Hearing};
-ghost use Rattle.mdns_cache.specs.Live.{record_of};
+ghost use Rattle.mdns_cache.specs.Live.{key_of_last};
 ghost use Rattle.mdns_browse.specs.Services.{AreEach};
 ghost use Rattle.mdns_lives.specs.Chronicle.{Chronicles};
 ghost use Rattle.mdns_page.specs.TimelineRows.{HearsCapture, HearsRecord, IsBegun, IsCounted, unheard};
@@ -28,7 +28,7 @@ pub(crate) fn add_hearers<'a>(
     chronicles: &[Lives],
 ) -> Result<(), Want>
     ensures same { OnOk result (map unheard (map counted_lent rows.new.items) ≡ map unheard (map counted_lent rows.old.items)) }
-    ensures heard { OnOk result (IsStrictlySortedBy key_cmp (map (λ (row : Row). record_of row.last) (map counted_lent rows.old.items))
+    ensures heard { OnOk result (IsStrictlySortedBy key_cmp (map (λ (row : Row). key_of_last row.last) (map counted_lent rows.old.items))
         → (each : List (List Hearing)) → AreEach Chronicles chronicles.now each
         → All (IsBegun each) (map counted_lent rows.old.items) → All (IsCounted each) (map counted_lent rows.new.items)) }
 {
@@ -44,7 +44,7 @@ pub(crate) fn add_hearers<'a>(
 
 // Makes the keys of the rows' records.
 fn keys_of<'a>(alloc: Global, rows: &[CountedRow<'a>]) -> Result<Vec<Key>, Want>
-    ensures { IfOk result (λ keys. keys.items ≡ map (λ (row : Row). record_of row.last) (map counted_lent rows.now)) }
+    ensures { IfOk result (λ keys. keys.items ≡ map (λ (row : Row). key_of_last row.last) (map counted_lent rows.now)) }
 {
     let mut keys = Vec::with_capacity(alloc, rows.len())?;
     for row in rows {
@@ -61,7 +61,7 @@ fn add_capture<'a>(
     keys: &[Key],
     chronicle: &Lives,
 ) -> Result<(), Want>
-    requires { keys.now ≡ map (λ (row : Row). record_of row.last) (map counted_lent rows.old.items) }
+    requires { keys.now ≡ map (λ (row : Row). key_of_last row.last) (map counted_lent rows.old.items) }
     ensures same { OnOk result (map unheard (map counted_lent rows.new.items) ≡ map unheard (map counted_lent rows.old.items)) }
     ensures heard { OnOk result (IsStrictlySortedBy key_cmp keys.now → (heard : List Hearing) → Chronicles chronicle.now heard
         → AreEach (HearsCapture heard) (map counted_lent rows.old.items) (map counted_lent rows.new.items)) }
@@ -81,7 +81,7 @@ fn add_record<'a>(
     chronicle: &Lives,
     resource: &Resource,
 ) -> Result<(), Want>
-    requires { keys.now ≡ map (λ (row : Row). record_of row.last) (map counted_lent rows.old.items) }
+    requires { keys.now ≡ map (λ (row : Row). key_of_last row.last) (map counted_lent rows.old.items) }
     ensures same { OnOk result (map unheard (map counted_lent rows.new.items) ≡ map unheard (map counted_lent rows.old.items)) }
     ensures heard { OnOk result (IsStrictlySortedBy key_cmp keys.now → (heard : List Hearing) → Chronicles chronicle.now heard
         → AreEach (HearsRecord heard (key_of resource.now)) (map counted_lent rows.old.items) (map counted_lent rows.new.items)) }

@@ -5,7 +5,7 @@ ghost use Rattle.std.specs.List.{filter};
 ghost use Rattle.std.specs.List.Sorted.{IsStrictlySortedBy};
 ghost use Rattle.mdns_message.specs.Parts.{address_of};
 ghost use Rattle.mdns_message.specs.Resource.{key_cmp};
-ghost use Rattle.mdns_cache.specs.Live.{record_of};
+ghost use Rattle.mdns_cache.specs.Live.{key_of_last};
 ghost use Rattle.mdns_cache.specs.LentRecords.{last_lent};
 ghost use Rattle.mdns_lives.specs.LentLives.{row_lent};
 ghost use Rattle.mdns_browse.specs.Services.{body_of, other_given};
@@ -37,7 +37,7 @@ pub(crate) fn kept_rows<'a>(
     heard: &[Last<'_>],
     about: &[Subject],
 ) -> Result<Vec<RecordLives<'a>>, Want>
-    ensures { IfOk result (λ kept. IsStrictlySortedBy key_cmp (map record_of (map last_lent heard.now))
+    ensures { IfOk result (λ kept. IsStrictlySortedBy key_cmp (map key_of_last (map last_lent heard.now))
         → map row_lent kept.items ≡ filter (λ row. is_kept about.now (map last_lent heard.now) row.0) rows.entry) }
 {
     let mut kept = Vec::new(alloc);
@@ -56,7 +56,7 @@ fn push_kept<'a>(
     about: &[Subject],
     scratch: &mut String,
 ) -> Result<(), Want>
-    ensures { OnOk result (IsStrictlySortedBy key_cmp (map record_of (map last_lent heard.now))
+    ensures { OnOk result (IsStrictlySortedBy key_cmp (map key_of_last (map last_lent heard.now))
         → map row_lent to.new.items ≡ map row_lent to.old.items
         ++ filter (λ row. is_kept about.now (map last_lent heard.now) row.0) (row_lent row.entry ∷ [])) }
 {
@@ -74,7 +74,7 @@ pub(crate) fn is_kept(
     about: &[Subject],
     scratch: &mut String,
 ) -> Result<bool, Want>
-    ensures { IfOk result (λ kept. IsStrictlySortedBy key_cmp (map record_of (map last_lent heard.now))
+    ensures { IfOk result (λ kept. IsStrictlySortedBy key_cmp (map key_of_last (map last_lent heard.now))
         → kept ≡ is_kept about.now (map last_lent heard.now) (last_lent last.now)) }
 {
     if instance_of(last).is_some() {
@@ -94,7 +94,7 @@ pub(crate) fn is_drawn(
     about: &[Subject],
     scratch: &mut String,
 ) -> Result<bool, Want>
-    ensures { IfOk result (λ drawn. IsStrictlySortedBy key_cmp (map record_of (map last_lent heard.now))
+    ensures { IfOk result (λ drawn. IsStrictlySortedBy key_cmp (map key_of_last (map last_lent heard.now))
         → drawn ≡ is_drawn about.now (map last_lent heard.now) (last_lent last.now)) }
 {
     match instance_of(last) {

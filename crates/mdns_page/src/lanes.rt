@@ -13,7 +13,7 @@ ghost use Rattle.mdns_page.specs.Timeline.{seconds_lent};
 use crate::axis::Axis;
 use crate::captures::{CaptureFacts, FEW_CAPTURES};
 use crate::picture::{Mark, Stroke, push_next, push_path_last};
-use mdns_lives::{Heard, SecondHeard};
+use mdns_lives::{RecordHearing, SecondHeard};
 use mdns_message::Want;
 use mdns_survey::reading::Span;
 
@@ -74,7 +74,7 @@ pub(crate) fn is_goodbye(second: &SecondHeard) -> bool
 }
 
 // Returns the goodbye of a second that has one: its last hearing, if that is one.
-fn goodbye_of(second: &SecondHeard) -> Heard
+fn goodbye_of(second: &SecondHeard) -> RecordHearing
     ensures { result ≡ goodbye_of second.now }
 {
     if second.last.ttl == 0 {
@@ -180,7 +180,7 @@ fn goodbye_mark(axis: Axis, second: &SecondHeard) -> Option<Mark>
 }
 
 // Returns the place of a hearing.
-fn point(axis: Axis, heard: Heard) -> Mark
+fn point(axis: Axis, heard: RecordHearing) -> Mark
     ensures { result ≡ point axis heard }
 {
     let place = axis.place(heard.moment.nanos());

@@ -56,7 +56,7 @@ fn push_live_line(to: &mut String, axis: Axis, rows: &[CountedRow<'_>]) -> Resul
     let said = said_count(axis, rows);
     let goodbyes = ended_count(axis, EndReason::Goodbye, rows);
     let flushed = ended_count(axis, EndReason::Flushed, rows);
-    let expired = ended_count(axis, EndReason::RanOut, rows);
+    let expired = ended_count(axis, EndReason::Expired, rows);
     to.push_str("<p class=\"lead\">")?;
     push_count(
         to,

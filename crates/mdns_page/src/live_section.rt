@@ -13,14 +13,14 @@ ghost use Rattle.mdns_page.specs.LiveSheet.{Adds, type_begin};
 
 use crate::axis::Axis;
 use crate::live_sheet::LiveSheet;
-use crate::owners::{Owned, following_len};
-use mdns_browse::sheet::{Given, walk_given};
+use crate::owners::{HasOwner, following_len};
+use mdns_browse::sheet::{InstancePointer, walk_given};
 use mdns_cache::Last;
 use mdns_message::{Name, Want};
 use people_text::moment_text::push_millis;
 use std::mem;
 
-impl Owned for Given<'_> {
+impl HasOwner for InstancePointer<'_> {
     ghost owner = { λ given. type_of (given_lent given) };
 
     fn owner(&self) -> &Name {
@@ -37,7 +37,7 @@ pub(crate) fn push_live(
     axis: Axis,
     opened: bool,
     rows: &[Last<'_>],
-    given: &[Given<'_>],
+    given: &[InstancePointer<'_>],
 ) -> Result<(), Want>
     ensures { OnOk result (AreAscending (map last_lent rows.now) → string_bytes to.new
         ≡ string_bytes to.old ++ live_text isolated axis opened (map last_lent rows.now) (map given_lent given.now)) }
@@ -58,7 +58,7 @@ fn push_groups(
     sheet: &mut LiveSheet,
     opened: bool,
     rows: &[Last<'_>],
-    given: &[Given<'_>],
+    given: &[InstancePointer<'_>],
 ) -> Result<(), Want>
     ensures { OnOk result (AreAscending (map last_lent rows.now) → Adds sheet.old
         (flat_map (live_group isolated sheet.old.axis opened (map last_lent rows.now)) (grouped type_of (map given_lent given.now)))
@@ -80,7 +80,7 @@ fn push_group(
     opened: bool,
     rows: &[Last<'_>],
     owner: &Name,
-    given: &[Given<'_>],
+    given: &[InstancePointer<'_>],
 ) -> Result<(), Want>
     ensures { OnOk result (AreAscending (map last_lent rows.now) → Adds sheet.old (type_begin isolated opened owner.now
         ++ flat_map (live_row isolated sheet.old.axis) (filter_map (instance_row_in (map last_lent rows.now)) (map given_lent given.now))

@@ -10,7 +10,7 @@ use crate::group::push_group_begin;
 use crate::html::push_isolated;
 use crate::live_words::{push_address, push_given, push_server, push_text, push_unresolved_if};
 use mdns_browse::push_shown_instance;
-use mdns_browse::sheet::{Given, Sheet};
+use mdns_browse::sheet::{InstancePointer, Sheet};
 use mdns_cache::LiveRecord;
 use mdns_message::{BorrowedBody, Bytes, Name, Want};
 use people_text::shown_names::push_shown_name;
@@ -72,7 +72,7 @@ impl Sheet for LiveSheet {
         Ok(())
     }
 
-    fn instance_begin(&mut self, given: &Given<'_>, name: &Name) -> Result<(), Want> {
+    fn instance_begin(&mut self, given: &InstancePointer<'_>, name: &Name) -> Result<(), Want> {
         self.text.push_str("<li><div>")?;
         self.scratch.clear();
         push_shown_instance(&mut self.scratch, &name.borrowed())?;

@@ -16,7 +16,7 @@ ghost use Rattle.mdns_page.specs.LiveSheet.{address_after, lines};
 
 use crate::axis::{Axis, Dates, push_short};
 use crate::html::push_isolated;
-use mdns_browse::sheet::Given;
+use mdns_browse::sheet::InstancePointer;
 use mdns_browse::{push_shown_address, push_shown_order};
 use mdns_capture::Moment;
 use mdns_message::text_data::first_string;
@@ -25,12 +25,16 @@ use people_text::durations::push_duration;
 use people_text::shown::push_shown;
 
 /// Appends since when an instance is live, where that is known, and how much longer.
-pub(crate) fn push_given(to: &mut String, axis: Axis, given: &Given<'_>) -> Result<(), Want>
+pub(crate) fn push_given(
+    to: &mut String,
+    axis: Axis,
+    given: &InstancePointer<'_>,
+) -> Result<(), Want>
     ensures { OnOk result (string_bytes to.new ≡ string_bytes to.old ++ given_words axis (given_lent given.now)) }
 {
     to.push_str("<small>")?;
     push_since(to, axis.dates, given.since)?;
-    push_left(to, axis.end, given)?;
+    push_time_left(to, axis.end, given)?;
     push_word(to, "</small>")
 }
 
@@ -47,7 +51,7 @@ fn push_since(to: &mut String, dates: Dates, since: Option<Moment>) -> Result<()
 }
 
 // Appends how much longer an instance lives, or that it has said goodbye (RFC 6762, section 10.1).
-fn push_left(to: &mut String, now: Moment, given: &Given<'_>) -> Result<(), Want>
+fn push_time_left(to: &mut String, now: Moment, given: &InstancePointer<'_>) -> Result<(), Want>
     ensures { OnOk result (string_bytes to.new ≡ string_bytes to.old ++ (if (given_lent given.now).last.ttl == 0
         then codes "said goodbye" else duration_text ((given_lent given.now).end - now.nanos) ++ codes " left")) }
 {

@@ -8,7 +8,7 @@ use dns_name::fold::folded_cmp;
 use mdns_message::Name;
 
 /// A row of a record, whose owner is the type if the record gives an instance.
-pub(crate) trait Owned {
+pub(crate) trait HasOwner {
     /// The owner of the record.
     ghost owner: { Self → List ℕ };
 
@@ -18,7 +18,7 @@ pub(crate) trait Owned {
 }
 
 /// Returns how many rows after one are of its type and follow it directly.
-pub(crate) fn following_len<'a, R: Owned>(first: &'a R, others: &'a [R]) -> usize
+pub(crate) fn following_len<'a, R: HasOwner>(first: &'a R, others: &'a [R]) -> usize
     ensures value { result ≡ following (R.owner first.now) (map R.owner others.now) }
     ensures within { result ≤ length others.now }
 {

@@ -25,7 +25,7 @@ use crate::timeline::is_open;
 use crate::timeline_rows::counted_rows;
 use mdns_browse::about::Subject;
 use mdns_browse::report::ReportFault;
-use mdns_browse::sheet::Given;
+use mdns_browse::sheet::InstancePointer;
 use mdns_cache::{Last, LiveRecord};
 use mdns_lives::{LiveSince, Lives};
 use mdns_message::Want;
@@ -44,13 +44,13 @@ use std::alloc::Global;
 /// The captures end as for lives: at the moment of `as_of`, or with `AsOf::Newest` at the latest packet's moment. The
 /// page begins at the earliest packet's moment, or at the end where that is earlier.
 #[derive(Drop)]
-pub struct Page<'a> {
+pub struct PageRequest<'a> {
     pub names: &'a [String],
     pub as_of: AsOf,
     pub about: Subjects,
 }
 
-impl<'a> Question for Page<'a> {
+impl<'a> Question for PageRequest<'a> {
     ghost use Rattle.mdns_survey.specs.Chronicling.{EachChronicled};
     ghost use Rattle.mdns_survey.specs.Filter.{filter_of};
     ghost use Rattle.mdns_page.specs.Page.{asked_page};
@@ -69,7 +69,7 @@ impl<'a> Question for Page<'a> {
     }
 }
 
-impl<'a> TextAnswer for Page<'a> {
+impl<'a> TextAnswer for PageRequest<'a> {
     fn text(
         self,
         alloc: Global,
@@ -192,7 +192,7 @@ fn live_of(
 }
 
 fn push_given<'a>(
-    to: &mut Vec<Given<'a>>,
+    to: &mut Vec<InstancePointer<'a>>,
     row: &LiveSince<'a>,
     heard: &[Last<'_>],
     about: &[Subject],
@@ -209,10 +209,10 @@ fn push_given<'a>(
 }
 
 // Returns a live record as one that gives an instance.
-fn given_by<'a>(row: &LiveSince<'a>) -> Given<'a>
+fn given_by<'a>(row: &LiveSince<'a>) -> InstancePointer<'a>
     ensures { given_lent result ≡ given_of_since (live_since_lent row.now) }
 {
-    Given {
+    InstancePointer {
         row: LiveRecord {
             last: row.last,
             end: row.end,

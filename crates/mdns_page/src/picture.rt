@@ -201,7 +201,7 @@ pub(crate) fn is_for(reason: EndReason, other: EndReason) -> bool
     ensures { result ≡ is_for reason other }
 {
     match (reason, other) {
-        (EndReason::RanOut, EndReason::RanOut) => true,
+        (EndReason::Expired, EndReason::Expired) => true,
         (EndReason::Goodbye, EndReason::Goodbye) => true,
         (EndReason::Flushed, EndReason::Flushed) => true,
         _ => false,
@@ -240,10 +240,10 @@ fn class_of(stroke: Stroke) -> &'static str
         Stroke::Bar => "b",
         Stroke::Server => "s",
         Stroke::Pin(EndReason::Goodbye) => "m1",
-        Stroke::Pin(EndReason::RanOut) => "m2",
+        Stroke::Pin(EndReason::Expired) => "m2",
         Stroke::Pin(EndReason::Flushed) => "m3",
         Stroke::Head(EndReason::Goodbye) => "h1",
-        Stroke::Head(EndReason::RanOut) => "h2",
+        Stroke::Head(EndReason::Expired) => "h2",
         Stroke::Head(EndReason::Flushed) => "h3",
         Stroke::Tick(_) => "t",
         Stroke::GoodbyeTick(_) => "z",

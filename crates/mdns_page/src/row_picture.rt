@@ -33,7 +33,7 @@ pub(crate) fn push_picture(
     push_servers(to, axis, look.titled, servers)?;
     push_path(to, axis, Stroke::Pin(EndReason::Goodbye), lives)?;
     push_path(to, axis, Stroke::Head(EndReason::Goodbye), lives)?;
-    push_path(to, axis, Stroke::Pin(EndReason::RanOut), lives)?;
+    push_path(to, axis, Stroke::Pin(EndReason::Expired), lives)?;
     push_path(to, axis, Stroke::Pin(EndReason::Flushed), lives)?;
     push_path(to, axis, Stroke::Head(EndReason::Flushed), lives)?;
     push_lanes(to, axis, look.lanes, heard)?;

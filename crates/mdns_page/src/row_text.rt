@@ -17,7 +17,7 @@ use crate::kept_records::TimelinePart;
 use crate::life_words::push_lives_words;
 use crate::look::Look;
 use crate::other_rows::{push_host_name, push_whole_name};
-use crate::owners::Owned;
+use crate::owners::HasOwner;
 use crate::picture::goes_on;
 use crate::row_picture::push_picture;
 use crate::timeline_rows::CountedRow;
@@ -25,7 +25,7 @@ use mdns_browse::push_shown_instance;
 use mdns_lives::Life;
 use mdns_message::{BorrowedName, Content, Name, Resource, Want};
 
-impl Owned for CountedRow<'_> {
+impl HasOwner for CountedRow<'_> {
     ghost owner = { λ row. owner_of (counted_lent row) };
 
     fn owner(&self) -> &Name {

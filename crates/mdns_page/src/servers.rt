@@ -7,7 +7,7 @@ ghost use Rattle.mdns_message.specs.Resource.{key_cmp, set_key_cmp, set_key_of, 
 ghost use Rattle.mdns_message.specs.declared.record_type.RecordType.TheVariants.{Srv};
 ghost use Rattle.mdns_join.specs.declared.latest.Latest.{Latest};
 ghost use Rattle.mdns_lives.specs.declared.life.Life.{Life};
-ghost use Rattle.mdns_cache.specs.Live.{record_of};
+ghost use Rattle.mdns_cache.specs.Live.{key_of_last};
 ghost use Rattle.mdns_cache.specs.LentRecords.{last_lent};
 ghost use Rattle.mdns_lives.specs.LentLives.{row_lent};
 ghost use Rattle.mdns_browse.specs.Services.{body_of, set_for};
@@ -29,7 +29,7 @@ pub(crate) fn is_server(last: &Last<'_>) -> bool
 
 /// Finds the SRV records of the instance that PTR data gives, by binary search; none for other data.
 pub(crate) fn servers_of<'a, 'b>(rows: &'a [RecordLives<'b>], body: &Body) -> &'a [RecordLives<'b>]
-    ensures { IsStrictlySortedBy key_cmp (map (λ (row : Latest × List Life). record_of row.0) (map row_lent rows.now))
+    ensures { IsStrictlySortedBy key_cmp (map (λ (row : Latest × List Life). key_of_last row.0) (map row_lent rows.now))
         → map lives_lent result.now ≡ servers_of (map row_lent rows.now) body.now }
 {
     match body.pointer() {
@@ -40,7 +40,7 @@ pub(crate) fn servers_of<'a, 'b>(rows: &'a [RecordLives<'b>], body: &Body) -> &'
 
 // Finds the SRV records of a name.
 fn servers_named<'a, 'b>(rows: &'a [RecordLives<'b>], name: &Name) -> &'a [RecordLives<'b>]
-    ensures { IsStrictlySortedBy key_cmp (map (λ (row : Latest × List Life). record_of row.0) (map row_lent rows.now))
+    ensures { IsStrictlySortedBy key_cmp (map (λ (row : Latest × List Life). key_of_last row.0) (map row_lent rows.now))
         → map row_lent result.now ≡ servers_named (map row_lent rows.now) name.now }
 {
     let first = rows.partition_point(|row| server_cmp(row.last.resource, name).is_lt());

@@ -5,7 +5,7 @@ ghost use Rattle.std.specs.List.{All, filter};
 ghost use Rattle.std.specs.List.Sorted.{IsStrictlySortedBy};
 ghost use Rattle.mdns_message.specs.Resource.{key_cmp, key_of};
 ghost use Rattle.mdns_message.specs.declared.hearing.Hearing.{Hearing};
-ghost use Rattle.mdns_cache.specs.Live.{record_of};
+ghost use Rattle.mdns_cache.specs.Live.{key_of_last};
 ghost use Rattle.mdns_browse.specs.Services.{AreEach, body_of};
 ghost use Rattle.mdns_join.specs.declared.latest.Latest.{Latest};
 ghost use Rattle.mdns_lives.specs.declared.life.Life.{Life};
@@ -48,9 +48,9 @@ pub(crate) fn counted_rows<'a>(
     ensures records { IfOk result (λ rows.
         map (λ (row : Row). (row.last, row.lives)) (map counted_lent rows.items)
         ≡ filter (λ row. is_of part row.0) (map row_lent records.now)) }
-    ensures heard { IfOk result (λ rows. IsStrictlySortedBy key_cmp (map (λ (row : Latest × List Life). record_of row.0) (map row_lent records.now))
+    ensures heard { IfOk result (λ rows. IsStrictlySortedBy key_cmp (map (λ (row : Latest × List Life). key_of_last row.0) (map row_lent records.now))
         → (each : List (List Hearing)) → AreEach Chronicles chronicles.now each → All (IsCounted each) (map counted_lent rows.items)) }
-    ensures servers { IfOk result (λ rows. IsStrictlySortedBy key_cmp (map (λ (row : Latest × List Life). record_of row.0) (map row_lent servers.now))
+    ensures servers { IfOk result (λ rows. IsStrictlySortedBy key_cmp (map (λ (row : Latest × List Life). key_of_last row.0) (map row_lent servers.now))
         → All (λ (row : Row). row.servers ≡ servers_of (map row_lent servers.now) (body_of row.last)) (map counted_lent rows.items)) }
 {
     let mut rows = begun_rows(alloc, part, records, servers, chronicles)?;
@@ -71,7 +71,7 @@ fn begun_rows<'a>(
         ≡ filter (λ row. is_of part row.0) (map row_lent records.now)) }
     ensures heard { IfOk result (λ rows. (each : List (List Hearing)) → AreEach Chronicles chronicles.now each
         → All (IsBegun each) (map counted_lent rows.items)) }
-    ensures servers { IfOk result (λ rows. IsStrictlySortedBy key_cmp (map (λ (row : Latest × List Life). record_of row.0) (map row_lent servers.now))
+    ensures servers { IfOk result (λ rows. IsStrictlySortedBy key_cmp (map (λ (row : Latest × List Life). key_of_last row.0) (map row_lent servers.now))
         → All (λ (row : Row). row.servers ≡ servers_of (map row_lent servers.now) (body_of row.last)) (map counted_lent rows.items)) }
 {
     let mut rows = Vec::new(alloc);
@@ -94,7 +94,7 @@ fn begun_row<'a>(
     ensures record { IfOk result (λ row. ((counted_lent row).last, (counted_lent row).lives) ≡ row_lent «record».now) }
     ensures heard { IfOk result (λ row. (each : List (List Hearing)) → AreEach Chronicles chronicles.now each
         → IsBegun each (counted_lent row)) }
-    ensures servers { IfOk result (λ row. IsStrictlySortedBy key_cmp (map (λ (row : Latest × List Life). record_of row.0) (map row_lent servers.now))
+    ensures servers { IfOk result (λ row. IsStrictlySortedBy key_cmp (map (λ (row : Latest × List Life). key_of_last row.0) (map row_lent servers.now))
         → (counted_lent row).servers ≡ servers_of (map row_lent servers.now) (body_of (counted_lent row).last)) }
 {
     let heard = heard_by(alloc, few_of(chronicles), record.last.resource)?;

@@ -61,14 +61,14 @@ takes-read Took left old new reading states read = record {
 }
 
 -- the cache that is made at the end stands for the capture's hearings
-pub listens-heard : (left : Option (List ℕ)) (empty listening : Listened) (cache : Contents) (reading : Reading)
+pub listens-heard : (left : Option (List ℕ)) (empty gathering : Listened) (cache : Contents) (reading : Reading)
     → StandsWith empty.contents empty.memory []
-    → ((heard : List Hearing) → StandsWith listening.contents listening.memory heard → StandsFor cache heard)
-    → HearsCapture (λ _ (l : Listened). StandsWith l.contents l.memory) left empty listening reading
+    → ((heard : List Hearing) → StandsWith gathering.contents gathering.memory heard → StandsFor cache heard)
+    → HearsCapture (λ _ (l : Listened). StandsWith l.contents l.memory) left empty gathering reading
     → IfSome left (λ bytes. Listens bytes
     (record { cache = cache; tally = reading.summary.tally; ending = reading.summary.ending }))
-listens-heard None empty listening cache reading nothing finish heard = tt
-listens-heard (Some bytes) empty listening cache reading nothing finish heard = record {
+listens-heard None empty gathering cache reading nothing finish heard = tt
+listens-heard (Some bytes) empty gathering cache reading nothing finish heard = record {
   outcomes = heard.outcomes;
   tells = record { packets = heard.packets; reads = heard.is_reading.reads; come = heard.is_reading.come };
   counts = heard.is_reading.counts;

@@ -12,8 +12,8 @@ use Rattle.mdns_capture.specs.Savefile.{PacketAt}
 use Rattle.mdns_message.specs.declared.hearing.Hearing.{Hearing}
 use Rattle.mdns_message.specs.Message.{MessageReads}
 use Rattle.mdns_browse.specs.Services.{AreEach}
-use Rattle.mdns_survey.specs.declared.outcome.Found.{Found}
-use Rattle.mdns_survey.specs.declared.outcome.Found.TheVariants as found
+use Rattle.mdns_survey.specs.declared.outcome.PacketOutcome.{PacketOutcome}
+use Rattle.mdns_survey.specs.declared.outcome.PacketOutcome.TheVariants as found
 use Rattle.mdns_survey.specs.declared.outcome.SkipReason.{SkipReason}
 use Rattle.mdns_survey.specs.declared.skips.Skips.{Skips}
 use Rattle.mdns_survey.specs.Outcomes.{ComesTo}
@@ -32,7 +32,7 @@ heard-no-skip packet payload hearings carries reads =
     (payload, carries, λ passed. not_passed payload passed reads.header)
 
 -- what was found of a packet says why it is skipped, if it is
-pub skip-found : (packet : PacketAt) (what : Found) → ComesTo packet.moment packet.frame (outcome_of what)
+pub skip-found : (packet : PacketAt) (what : PacketOutcome) → ComesTo packet.moment packet.frame (outcome_of what)
     → SaysWhy packet.frame what → IsSkipOf packet (why_of what)
 skip-found packet (found.Skipped why) comes says = says
 skip-found packet (found.Refused damage) comes says =

@@ -7,7 +7,7 @@ use Rattle.mdns_capture.specs.Savefile.{PacketAt}
 use Rattle.mdns_join.specs.declared.latest.Latest.{Latest}
 use Rattle.mdns_lives.specs.declared.life.Life.{Life}
 use Rattle.mdns_lives.specs.Chronicle.{Chronicles}
-use Rattle.mdns_lives.specs.Recording.{Recorded, RecordsAll}
+use Rattle.mdns_lives.specs.MessageChronicle.{Recorded, RecordsAll}
 use Rattle.mdns_browse.specs.declared.report.Form.{Form}
 use Rattle.mdns_browse.specs.declared.report.Form.TheVariants.{Pretty}
 use Rattle.mdns_browse.specs.declared.life_text.Layout.{Layout}

@@ -6,8 +6,8 @@ use Rattle.mdns_capture.specs.Savefile.{header_fault, snap_length, CaptureReads,
 use Rattle.mdns_cache.specs.Contents.{StandsFor}
 use Rattle.mdns_survey.specs.declared.listen.ListenFault.{ListenFault}
 use Rattle.mdns_survey.specs.declared.listen.ListenFault.TheVariants.{Begin, Read}
-use Rattle.mdns_survey.specs.declared.outcome.Found.{Found}
-use Rattle.mdns_survey.specs.declared.outcome.Found.TheVariants as found
+use Rattle.mdns_survey.specs.declared.outcome.PacketOutcome.{PacketOutcome}
+use Rattle.mdns_survey.specs.declared.outcome.PacketOutcome.TheVariants as found
 use Rattle.mdns_survey.specs.declared.listen.Heard.{Heard}
 use Rattle.mdns_message.specs.declared.hearing.Hearing.{Hearing}
 use Rattle.mdns_survey.specs.declared.reading.Reading.{Reading}
@@ -18,7 +18,7 @@ use Rattle.mdns_survey.specs.Skips.{CountsSkips}
 use Rattle.mdns_survey.specs.Span.{span_of}
 
 -- the outcome that was found
-abbrev pub outcome_of : Found → Outcome
+abbrev pub outcome_of : PacketOutcome → Outcome
 outcome_of (found.Skipped why) = skipped
 outcome_of (found.Refused damage) = refused
 outcome_of (found.Heard source message) = heard message.now

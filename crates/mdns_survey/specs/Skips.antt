@@ -5,8 +5,8 @@ use Rattle.mdns_capture.specs.Limits.{most_packets}
 use Rattle.mdns_capture.specs.Savefile.{PacketAt}
 use Rattle.mdns_message.specs.Message.{IsQuery, IsIgnored}
 use Rattle.mdns_browse.specs.Services.{AreEach}
-use Rattle.mdns_survey.specs.declared.outcome.Found.{Found}
-use Rattle.mdns_survey.specs.declared.outcome.Found.TheVariants as found
+use Rattle.mdns_survey.specs.declared.outcome.PacketOutcome.{PacketOutcome}
+use Rattle.mdns_survey.specs.declared.outcome.PacketOutcome.TheVariants as found
 use Rattle.mdns_survey.specs.declared.outcome.SkipReason.{SkipReason}
 use Rattle.mdns_survey.specs.declared.skips.Skips.{Skips}
 use Rattle.mdns_survey.specs.Reasons.{row_of}
@@ -22,7 +22,7 @@ is_why own (Some other) = (row_of own).place == (row_of other).place
 -- THE PACKETS
 
 -- why a packet of which this was found is skipped, if it is
-abbrev pub why_of : Found → Option SkipReason
+abbrev pub why_of : PacketOutcome → Option SkipReason
 why_of (found.Skipped why) = Some why
 why_of (found.Refused damage) = None
 why_of (found.Heard source message) = None

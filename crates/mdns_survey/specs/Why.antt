@@ -6,8 +6,8 @@ use Rattle.mdns_message.specs.declared.fault.MessageFault.{MessageFault}
 use Rattle.mdns_message.specs.declared.fault.MessageFault.TheVariants as fault
 use Rattle.mdns_message.specs.Message.{IsShort, IsQuery, IsIgnored}
 use Rattle.mdns_message.specs.FirstMessageFault.{MessageFails}
-use Rattle.mdns_survey.specs.declared.outcome.Found.{Found}
-use Rattle.mdns_survey.specs.declared.outcome.Found.TheVariants as found
+use Rattle.mdns_survey.specs.declared.outcome.PacketOutcome.{PacketOutcome}
+use Rattle.mdns_survey.specs.declared.outcome.PacketOutcome.TheVariants as found
 use Rattle.mdns_survey.specs.declared.outcome.SkipReason.{SkipReason}
 use Rattle.mdns_survey.specs.declared.outcome.SkipReason.TheVariants as why
 
@@ -32,7 +32,7 @@ abbrev pub IsRefusedFor : List ℕ → MessageFault → Type 0
 IsRefusedFor frame damage = (payload : List ℕ) × FrameCarries frame payload × IsDamagedBy payload damage
 
 -- the payload is the one that the frame carries, and empty where the frame fails a check
-abbrev pub IsPayloadOf : List ℕ → Found → List ℕ → Type 0
+abbrev pub IsPayloadOf : List ℕ → PacketOutcome → List ℕ → Type 0
 IsPayloadOf frame (found.Skipped (why.Frame cause)) payload = payload ≡ []
 IsPayloadOf frame (found.Skipped why.Query) payload = FrameCarries frame payload
 IsPayloadOf frame (found.Skipped why.Ignored) payload = FrameCarries frame payload
@@ -40,7 +40,7 @@ IsPayloadOf frame (found.Refused damage) payload = FrameCarries frame payload
 IsPayloadOf frame (found.Heard source message) payload = FrameCarries frame payload
 
 -- what was found says why a packet with that frame told nothing, or from which address its message was sent
-abbrev pub SaysWhy : List ℕ → Found → Type 0
+abbrev pub SaysWhy : List ℕ → PacketOutcome → Type 0
 SaysWhy frame (found.Skipped why) = IsSkippedFor frame why
 SaysWhy frame (found.Refused damage) = IsRefusedFor frame damage
 SaysWhy frame (found.Heard source message) = IsSourceOf frame source

@@ -69,7 +69,7 @@ pub fn answer_request<R: Source + Drop, O: Sink, E: Sink>(
         (writing O.Sink out.old out.new) (writing E.Sink err.old err.new) }
     ensures unfailed { result ≢ REFUSED → O.failures out.new ≡ O.failures out.old }
 {
-    let named = Named {
+    let named = NamedProgram {
         program: "mdnsmerge",
         files: names,
     };
@@ -82,7 +82,7 @@ pub fn answer_request<R: Source + Drop, O: Sink, E: Sink>(
 
 /// The program that answers a question, as its error lines begin, and the names of the captures' files.
 #[derive(Clone, Copy)]
-pub struct Named<'a> {
+pub struct NamedProgram<'a> {
     pub program: &'a str,
     pub files: &'a [String],
 }
@@ -92,7 +92,7 @@ pub struct Named<'a> {
 pub fn answer_with<R: Source + Drop, Q: Answer + Drop, O: Sink, E: Sink>(
     question: Q,
     says: bool,
-    named: Named<'_>,
+    named: NamedProgram<'_>,
     readers: Vec<R>,
     out: &mut O,
     err: &mut E,
@@ -110,7 +110,7 @@ pub fn answer_with<R: Source + Drop, Q: Answer + Drop, O: Sink, E: Sink>(
     ensures unfailed { result ≢ REFUSED → O.failures out.new ≡ O.failures out.old }
 {
     let alloc = *readers.allocator();
-    let Named { program, files } = named;
+    let NamedProgram { program, files } = named;
     match survey_with(alloc, readers, question, out) {
         Ok(summaries) => {
             if says {

@@ -9,11 +9,11 @@ ghost use Rattle.mdns_survey.specs.Filter.{selected};
 ghost use Rattle.mdns_survey.specs.declared.each_capture.EachChronicling.{EachChronicling};
 
 use crate::filter::{Filter, Filtered};
-use crate::hearer::finished;
+use crate::hearer::lives_of_chronicle;
 use crate::listen::{Collector, ListenFault, hear_capture};
 use crate::reading::Reading;
 use mdns_capture::Source;
-use mdns_lives::{Chronicle, Lives, Recording};
+use mdns_lives::{Chronicle, Lives, MessageChronicle};
 use mdns_message::Want;
 use std::alloc::Global;
 
@@ -52,7 +52,7 @@ impl EachChronicling {
     }
 }
 
-/// Each capture is heard by a `Recording` of its own, since a chronicle of all doesn't tell them apart.
+/// Each capture is heard by a `MessageChronicle` of its own, since a chronicle of all doesn't tell them apart.
 impl Collector for EachChronicling {
     ghost use Rattle.mdns_survey.specs.Chronicling.{ChroniclesAll};
 
@@ -64,7 +64,7 @@ impl Collector for EachChronicling {
         reader: R,
     ) -> Result<Reading, ListenFault> {
         let mut filtered = Filtered {
-            hearer: Recording::new(alloc),
+            hearer: MessageChronicle::new(alloc),
             filter: self.filter,
         };
         let reading = match hear_capture(alloc, reader, &mut filtered) {
@@ -72,7 +72,7 @@ impl Collector for EachChronicling {
             // The clauses name this very fault, and `?` would convert it.
             Err(fault) => return Err(fault),
         };
-        let capture = match finished(filtered.hearer) {
+        let capture = match lives_of_chronicle(filtered.hearer) {
             Ok(capture) => capture,
             Err(Want) => return Err(ListenFault::Memory),
         };

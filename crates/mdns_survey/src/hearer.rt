@@ -1,5 +1,5 @@
-//! `Hearer`, which takes hearings, and three of them: `Listening`, which fills a cache, `Recording`, which records hearings for a
-//! chronicle, and `Forgetful`, which only counts.
+//! `Hearer`, which takes hearings, and three of them: `MessageGathering`, which fills a cache, `MessageChronicle`, which
+//! records hearings for a chronicle, and `Forgetful`, which only counts.
 
 ghost use Rattle.std.specs.Prelude.{◌≡◌, ◌++◌, List, IfNone, IfOk, IfSome, OnOk};
 ghost use Rattle.mdns_capture.specs.declared.moment.Moment.{Moment};
@@ -7,13 +7,13 @@ ghost use Rattle.mdns_message.specs.declared.hearing.Hearing.{Hearing};
 ghost use Rattle.mdns_message.specs.Message.{MessageReads};
 ghost use Rattle.mdns_cache.specs.Repeats.{ReadsAs};
 ghost use Rattle.mdns_lives.specs.Chronicle.{Chronicles};
-ghost use Rattle.mdns_lives.specs.Recording.{RecordsAll};
+ghost use Rattle.mdns_lives.specs.MessageChronicle.{RecordsAll};
 
-use crate::outcome::Found;
+use crate::outcome::PacketOutcome;
 use crate::reading::Consumer;
-use mdns_cache::{Listening, Messages};
+use mdns_cache::{MessageGathering, RememberedMessages};
 use mdns_capture::{Moment, Packet};
-use mdns_lives::{Lives, Recording};
+use mdns_lives::{Lives, MessageChronicle};
 use mdns_message::{MessageReader, Want};
 use std::alloc::Global;
 
@@ -54,10 +54,15 @@ impl<H: Hearer> Consumer for H {
 
     ghost Broke = { λ _ _ _ _ _. Unit {0} };
 
-    fn take(&mut self, packet: &Packet<'_>, payload: &[u8], found: &Found) -> Result<(), Want> {
+    fn take(
+        &mut self,
+        packet: &Packet<'_>,
+        payload: &[u8],
+        found: &PacketOutcome,
+    ) -> Result<(), Want> {
         match found {
-            Found::Heard { message, .. } => self.hear_all(payload, packet.moment, message)?,
-            Found::Skipped(_) | Found::Refused(_) => {}
+            PacketOutcome::Heard { message, .. } => self.hear_all(payload, packet.moment, message)?,
+            PacketOutcome::Skipped(_) | PacketOutcome::Refused(_) => {}
         }
         Ok(())
     }
@@ -67,10 +72,10 @@ impl<H: Hearer> Consumer for H {
     }
 }
 
-impl Hearer for Listening {
+impl Hearer for MessageGathering {
     ghost use Rattle.mdns_cache.specs.Repeats.{StandsWith};
 
-    ghost Stands = { λ _ listening. StandsWith listening.contents listening.memory };
+    ghost Stands = { λ _ gathering. StandsWith gathering.contents gathering.memory };
 
     fn count(&mut self, message: &[u8]) -> Option<usize> {
         self.count(message)
@@ -90,10 +95,10 @@ impl Hearer for Listening {
     }
 }
 
-impl Hearer for Recording {
-    ghost use Rattle.mdns_lives.specs.Recording.{RecordsAll};
+impl Hearer for MessageChronicle {
+    ghost use Rattle.mdns_lives.specs.MessageChronicle.{RecordsAll};
 
-    ghost Stands = { λ _ recording. RecordsAll recording.contents recording.memory };
+    ghost Stands = { λ _ chronicle. RecordsAll chronicle.contents chronicle.memory };
 
     fn count(&mut self, message: &[u8]) -> Option<usize> {
         self.count(message)
@@ -113,25 +118,25 @@ impl Hearer for Recording {
     }
 }
 
-/// Makes the chronicle of the hearings that were recorded, sorted by record.
-pub(crate) fn finished(recording: Recording) -> Result<Lives, Want>
+/// Makes the lives of the hearings that were recorded, sorted by record.
+pub(crate) fn lives_of_chronicle(chronicle: MessageChronicle) -> Result<Lives, Want>
     ensures { IfOk result (λ lives. (heard : List Hearing)
-        → RecordsAll recording.contents recording.memory heard → Chronicles lives heard) }
+        → RecordsAll chronicle.contents chronicle.memory heard → Chronicles lives heard) }
 {
-    recording.finish()?.finish()
+    chronicle.finish()?.finish()
 }
 
 /// A hearer that keeps no hearing; it remembers messages only to count their hearings without reading them again.
 #[derive(Drop)]
 pub(crate) struct Forgetful {
-    messages: Messages,
+    messages: RememberedMessages,
     alloc: Global,
 }
 
 impl Forgetful {
     pub(crate) fn new(alloc: Global) -> Forgetful {
         Forgetful {
-            messages: Messages::new(alloc),
+            messages: RememberedMessages::new(alloc),
             alloc,
         }
     }

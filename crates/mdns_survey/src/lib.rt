@@ -23,7 +23,7 @@ pub mod status;
 pub mod summary;
 pub mod survey;
 
-pub use answers::{Named, answer, answer_request, answer_with};
+pub use answers::{NamedProgram, answer, answer_request, answer_with};
 pub use each_capture::EachChronicling;
 pub use listen::{Heard, ListenFault};
 pub use program_lines::{check_line, ending_line, fault_line, open_line};

@@ -9,7 +9,7 @@ ghost use Rattle.mdns_survey.specs.Listen.{Listens, ListensTo, HearsCapture, Tak
 use crate::hearer::Hearer;
 use crate::reading::{Consumer, Reading, ReadingFault, read_capture};
 use crate::summary::Tally;
-use mdns_cache::{Cache, Listening};
+use mdns_cache::{Cache, MessageGathering};
 use mdns_capture::{BeginFault, Ending, Source};
 use mdns_message::Want;
 use std::alloc::Global;
@@ -47,13 +47,13 @@ pub fn listen<R: Source + Drop>(alloc: Global, reader: R) -> Result<Heard, Liste
     ensures over { IfOk result (λ heard. IsOver heard.ending) }
     ensures steady { IsTrue (R.steady reader) → IfErr result IsNoReadFault }
 {
-    let mut listening = Listening::new(alloc);
-    let reading = match hear_capture(alloc, reader, &mut listening) {
+    let mut gathering = MessageGathering::new(alloc);
+    let reading = match hear_capture(alloc, reader, &mut gathering) {
         Ok(reading) => reading,
         // The clauses name this very fault, and `?` would convert it.
         Err(fault) => return Err(fault),
     };
-    let cache = match listening.finish() {
+    let cache = match gathering.finish() {
         Ok(cache) => cache,
         Err(Want) => return Err(ListenFault::Memory),
     };

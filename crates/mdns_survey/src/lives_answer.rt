@@ -20,7 +20,7 @@ ghost use Rattle.mdns_survey.specs.Refusals.{BlamesWriter};
 
 use crate::filter::Filtered;
 use crate::head::head_in;
-use crate::hearer::finished;
+use crate::hearer::lives_of_chronicle;
 use crate::question::{Answer, Question};
 use crate::reading::Reading;
 use crate::readings::{captures_begin, captures_end};
@@ -30,7 +30,7 @@ use mdns_browse::about::{Subject, keeps_record};
 use mdns_browse::life_text::{Layout, push_lives, push_lives_head};
 use mdns_browse::report::Form;
 use mdns_capture::{Broken, Moment, Sink, write_whole};
-use mdns_lives::{ChosenWalk, Lives, RecordLives, Recording};
+use mdns_lives::{ChosenWalk, Lives, MessageChronicle, RecordLives};
 use mdns_message::Want;
 use std::alloc::Global;
 
@@ -42,7 +42,7 @@ impl Question for LivesRequest {
     ghost use Rattle.mdns_survey.specs.Filter.{filter_of};
     ghost use Rattle.mdns_survey.specs.Question.{asked_lives};
 
-    type Collector = Filtered<Recording>;
+    type Collector = Filtered<MessageChronicle>;
 
     ghost asked = { asked_lives };
 
@@ -50,9 +50,9 @@ impl Question for LivesRequest {
 
     ghost Heard = { λ question now. Chronicled (filter_of question.as_of) now.hearer };
 
-    fn collector(&self, alloc: Global) -> Result<Filtered<Recording>, Want> {
+    fn collector(&self, alloc: Global) -> Result<Filtered<MessageChronicle>, Want> {
         Ok(Filtered {
-            hearer: Recording::new(alloc),
+            hearer: MessageChronicle::new(alloc),
             filter: self.as_of.filter(),
         })
     }
@@ -69,26 +69,26 @@ impl Answer for LivesRequest {
     fn write<W: Sink>(
         self,
         alloc: Global,
-        collector: Filtered<Recording>,
+        collector: Filtered<MessageChronicle>,
         readings: &[Reading],
         out: &mut W,
     ) -> Result<(), SurveyFault> {
-        let lives = match finished(collector.hearer) {
+        let lives = match lives_of_chronicle(collector.hearer) {
             Ok(lives) => lives,
             Err(Want) => return Err(SurveyFault::Memory),
         };
         let begin = captures_begin(self.as_of, readings);
-        let end = captures_end(self.as_of, readings);
-        if let Some(newest) = newest_after(&lives, end) {
+        let end_of_captures = captures_end(self.as_of, readings);
+        if let Some(newest) = newest_after(&lives, end_of_captures) {
             return Err(SurveyFault::Early { newest });
         }
         let about = self.about.as_slice();
         let columns = lives.chosen(self.which);
-        let layout = match layout_of(alloc, columns, self.form, about, end) {
+        let layout = match layout_of(alloc, columns, self.form, about, end_of_captures) {
             Ok(layout) => layout,
             Err(Want) => return Err(SurveyFault::Memory),
         };
-        let text = match text_before(alloc, &self, readings, layout, begin, end) {
+        let text = match text_before(alloc, &self, readings, layout, begin, end_of_captures) {
             Ok(text) => text,
             Err(Want) => return Err(SurveyFault::Memory),
         };
@@ -97,23 +97,27 @@ impl Answer for LivesRequest {
             form: self.form,
             about,
             width: layout.width,
-            end,
+            end_of_captures,
         };
         write_rows(text, rows, lines, out)
     }
 }
 
-/// Returns the newest hearing's moment, where it is later than `end`.
-pub fn newest_after(lives: &Lives, end: Moment) -> Option<Moment>
-    ensures some { IfSome result (λ newest. (end.nanos < newest.nanos)
+/// Returns the newest hearing's moment, where it is later than `end_of_captures`.
+pub fn newest_after(lives: &Lives, end_of_captures: Moment) -> Option<Moment>
+    ensures some { IfSome result (λ newest. (end_of_captures.nanos < newest.nanos)
         × ((heard : List Hearing) → Chronicles lives.now heard → IsNewest heard newest)) }
     ensures newest { IfSome result (λ newest. lives.now.newest ≡ Some newest) }
     ensures none { IfNone result ((heard : List Hearing) → Chronicles lives.now heard
-        → (hearing : Hearing) → Contains heard hearing → hearing.moment.nanos ≤ end.nanos) }
-    ensures none_later { IfNone result (NoneLater lives.now.newest end) }
+        → (hearing : Hearing) → Contains heard hearing → hearing.moment.nanos ≤ end_of_captures.nanos) }
+    ensures none_later { IfNone result (NoneLater lives.now.newest end_of_captures) }
 {
     let newest = lives.newest()?;
-    if end < newest { Some(newest) } else { None }
+    if end_of_captures < newest {
+        Some(newest)
+    } else {
+        None
+    }
 }
 
 // The lines of rows: their form, what the records are about, the width of the column of ends, and the end of the captures.
@@ -122,7 +126,7 @@ struct RowLines<'a> {
     form: Form,
     about: &'a [Subject],
     width: usize,
-    end: Moment,
+    end_of_captures: Moment,
 }
 
 // Returns what stands before the lives: the head of captures with these readings, and the heading.
@@ -132,13 +136,20 @@ fn text_before(
     readings: &[Reading],
     layout: Layout,
     begin: Moment,
-    end: Moment,
+    end_of_captures: Moment,
 ) -> Result<String, Want>
     ensures { IfOk result (λ text. (head : List ℕ) × Heads request.now.form readings.now head × (string_bytes text
-        ≡ head ++ lives_head request.now.which request.now.form layout.count layout.width begin.nanos end.nanos)) }
+        ≡ head ++ lives_head request.now.which request.now.form layout.count layout.width begin.nanos end_of_captures.nanos)) }
 {
     let mut text = head_in(alloc, request.form, readings)?;
-    push_lives_head(&mut text, request.which, request.form, layout, begin, end)?;
+    push_lives_head(
+        &mut text,
+        request.which,
+        request.form,
+        layout,
+        begin,
+        end_of_captures,
+    )?;
     Ok(text)
 }
 
@@ -148,12 +159,12 @@ fn layout_of(
     rows: ChosenWalk<'_>,
     form: Form,
     about: &[Subject],
-    end: Moment,
+    end_of_captures: Moment,
 ) -> Result<Layout, Want>
-    ensures { IfOk result (FitsForm form end.nanos (kept_rows about.now rows.entry)) }
+    ensures { IfOk result (FitsForm form end_of_captures.nanos (kept_rows about.now rows.entry)) }
 {
     match form {
-        Form::Pretty => columns_of(alloc, rows, about, end),
+        Form::Pretty => columns_of(alloc, rows, about, end_of_captures),
         _ => Ok(Layout::new()),
     }
 }
@@ -163,15 +174,15 @@ fn columns_of(
     alloc: Global,
     rows: ChosenWalk<'_>,
     about: &[Subject],
-    end: Moment,
+    end_of_captures: Moment,
 ) -> Result<Layout, Want>
-    ensures { IfOk result (IsLayout end.nanos (kept_rows about.now rows.entry)) }
+    ensures { IfOk result (IsLayout end_of_captures.nanos (kept_rows about.now rows.entry)) }
 {
     let mut walk = rows;
     let mut layout = Layout::new();
     let mut scratch = String::new(alloc);
     while let Some(row) = walk.next()? {
-        layout = with_row(layout, about, end, &row, &mut scratch)?;
+        layout = with_row(layout, about, end_of_captures, &row, &mut scratch)?;
     }
     Ok(layout)
 }
@@ -180,16 +191,16 @@ fn columns_of(
 fn with_row(
     layout: Layout,
     about: &[Subject],
-    end: Moment,
+    end_of_captures: Moment,
     row: &RecordLives<'_>,
     scratch: &mut String,
 ) -> Result<Layout, Want>
     ensures { IfOk result (λ more. (taken : List (Latest × List Life))
-        → IsLayout end.nanos (kept_rows about.now taken) layout
-        → IsLayout end.nanos (kept_rows about.now (taken ++ row_lent row.now ∷ [])) more) }
+        → IsLayout end_of_captures.nanos (kept_rows about.now taken) layout
+        → IsLayout end_of_captures.nanos (kept_rows about.now (taken ++ row_lent row.now ∷ [])) more) }
 {
     if keeps_record(about, &row.last.resource.borrowed(), scratch)? {
-        return layout.with(end, row.lives.as_slice());
+        return layout.with(end_of_captures, row.lives.as_slice());
     }
     Ok(layout)
 }
@@ -202,9 +213,9 @@ fn write_rows<W: Sink>(
     out: &mut W,
 ) -> Result<(), SurveyFault>
     ensures written { OnOk result (Appends (W.written out.old) (W.written out.new)
-        (string_bytes head ++ flat_map (lives_text lines.entry.form lines.entry.width lines.entry.end.nanos)
+        (string_bytes head ++ flat_map (lives_text lines.entry.form lines.entry.width lines.entry.end_of_captures.nanos)
         (kept_rows lines.entry.about.now rows.entry))) }
-    ensures stops { IfErr result (StopsRows (string_bytes head) (lives_text lines.entry.form lines.entry.width lines.entry.end.nanos)
+    ensures stops { IfErr result (StopsRows (string_bytes head) (lives_text lines.entry.form lines.entry.width lines.entry.end_of_captures.nanos)
         (kept_rows lines.entry.about.now rows.entry) (writing W.Sink out.old out.new)) }
     ensures writer { IfErr result (BlamesWriter (writing W.Sink out.old out.new)) }
     ensures unfailed { OnOk result (W.failures out.new ≡ W.failures out.old) }
@@ -240,13 +251,20 @@ fn push_row(
     scratch: &mut String,
 ) -> Result<(), Want>
     ensures { OnOk result (string_bytes text.new ≡ string_bytes text.old
-        ++ flat_map (lives_text lines.entry.form lines.entry.width lines.entry.end.nanos)
+        ++ flat_map (lives_text lines.entry.form lines.entry.width lines.entry.end_of_captures.nanos)
         (kept_rows lines.entry.about.now (row_lent row.now ∷ []))) }
 {
     let resource = row.last.resource;
     let lives = row.lives.as_slice();
     if keeps_record(lines.about, &resource.borrowed(), scratch)? {
-        push_lives(text, lines.form, lines.width, lines.end, resource, lives)?;
+        push_lives(
+            text,
+            lines.form,
+            lines.width,
+            lines.end_of_captures,
+            resource,
+            lives,
+        )?;
     }
     Ok(())
 }

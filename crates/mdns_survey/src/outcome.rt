@@ -37,7 +37,7 @@ impl SkipReason {
 
 /// The outcome of a packet.
 #[derive(Drop)]
-pub enum Found<'a> {
+pub enum PacketOutcome<'a> {
     /// Its frame carries no Multicast DNS payload, or a message that isn't a response, or is to be ignored
     /// (RFC 6762, section 18).
     Skipped(SkipReason),
@@ -57,7 +57,7 @@ pub fn found_of<'a>(
     moment: Moment,
     payload: &[u8],
     source: SourceAddress,
-) -> Result<Found<'a>, Want>
+) -> Result<PacketOutcome<'a>, Want>
     ensures comes { IfOk result (λ found. (frame : List ℕ) → FrameCarries frame payload.now
         → ComesTo moment frame (outcome_of found)) }
     ensures why { IfOk result (λ found. (frame : List ℕ) → FrameCarries frame payload.now → IsSourceOf frame source
@@ -69,13 +69,13 @@ pub fn found_of<'a>(
 {
     one_message_outcome();
     match reader.read(moment, payload) {
-        Ok(()) => Ok(Found::Heard {
+        Ok(()) => Ok(PacketOutcome::Heard {
             source,
             message: reader,
         }),
-        Err(MessageFault::Query) => Ok(Found::Skipped(SkipReason::Query)),
-        Err(MessageFault::Ignored) => Ok(Found::Skipped(SkipReason::Ignored)),
+        Err(MessageFault::Query) => Ok(PacketOutcome::Skipped(SkipReason::Query)),
+        Err(MessageFault::Ignored) => Ok(PacketOutcome::Skipped(SkipReason::Ignored)),
         Err(MessageFault::Memory) => Err(Want),
-        Err(fault) => Ok(Found::Refused(fault)),
+        Err(fault) => Ok(PacketOutcome::Refused(fault)),
     }
 }

@@ -19,7 +19,7 @@ ghost use Rattle.mdns_survey.specs.Span.{earlier_moment, joined_spans, span_at};
 ghost use Rattle.mdns_survey.specs.Why.{IsPayloadOf, SaysWhy};
 
 use crate::listen::ListenFault;
-use crate::outcome::{Found, SkipReason, found_of};
+use crate::outcome::{PacketOutcome, SkipReason, found_of};
 use crate::reasons::row_of;
 use crate::skips::{Skips, why_of};
 use crate::summary::{Summary, Tally};
@@ -44,7 +44,7 @@ pub trait Consumer {
         &mut self,
         packet: &Packet<'_>,
         payload: &[u8],
-        found: &Found,
+        found: &PacketOutcome,
     ) -> Result<(), Self::Fault>
         requires comes { ComesTo packet.now.moment packet.now.frame.now (outcome_of found.now) }
         requires why { SaysWhy packet.now.frame.now found.now }
@@ -232,7 +232,7 @@ fn take_packet<C: Consumer>(
             return Ok(pass(
                 packet,
                 &[],
-                &Found::Skipped(SkipReason::Frame(cause)),
+                &PacketOutcome::Skipped(SkipReason::Frame(cause)),
                 consumer,
                 tally,
                 skips,
@@ -251,7 +251,7 @@ fn take_packet<C: Consumer>(
 fn pass<C: Consumer>(
     packet: &Packet<'_>,
     payload: &[u8],
-    found: &Found,
+    found: &PacketOutcome,
     consumer: &mut C,
     tally: &mut Tally,
     skips: &mut Skips,

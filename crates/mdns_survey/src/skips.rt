@@ -5,7 +5,7 @@ ghost use Rattle.mdns_capture.specs.Limits.{most_packets};
 ghost use Rattle.mdns_capture.specs.Savefile.{PacketAt};
 ghost use Rattle.mdns_survey.specs.Skips.{CountsSkip, CountsSkips, IsSkipOf, count_of, why_of};
 
-use crate::outcome::{Found, SkipReason};
+use crate::outcome::{PacketOutcome, SkipReason};
 use crate::reasons::row_of;
 
 /// How many packets of a capture were skipped for each reason.
@@ -43,13 +43,13 @@ impl Skips {
 }
 
 /// Returns why a packet is skipped, or `None` if it isn't.
-pub(crate) fn why_of(found: &Found) -> Option<SkipReason>
+pub(crate) fn why_of(found: &PacketOutcome) -> Option<SkipReason>
     ensures { result ≡ why_of found.now }
 {
     match *found {
-        Found::Skipped(why) => Some(why),
-        Found::Refused(_) => None,
-        Found::Heard { .. } => None,
+        PacketOutcome::Skipped(why) => Some(why),
+        PacketOutcome::Refused(_) => None,
+        PacketOutcome::Heard { .. } => None,
     }
 }
 

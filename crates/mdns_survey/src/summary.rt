@@ -4,7 +4,7 @@ ghost use Rattle.std.specs.Prelude.{◌≡◌, ◌+◌, ◌*◌, ◌<◌, ◌≤
 ghost use Rattle.mdns_capture.specs.Limits.{most_packets};
 ghost use Rattle.mdns_message.specs.Message.{most_hearings};
 
-use crate::outcome::Found;
+use crate::outcome::PacketOutcome;
 use mdns_capture::Ending;
 use std::fmt;
 
@@ -53,7 +53,7 @@ impl Tally {
     }
 
     /// Counts one packet more.
-    pub fn count(&mut self, found: &Found)
+    pub fn count(&mut self, found: &PacketOutcome)
         requires room { self.old.packets < most_packets }
         requires few { length (hearings_of_outcome (outcome_of found.now)) ≤ most_hearings }
         ensures { (outcomes : List Outcome) → Counts outcomes self.old
@@ -62,9 +62,9 @@ impl Tally {
         let mut counted = *self;
         counted.packets += 1;
         match found {
-            Found::Skipped(_) => counted.skipped += 1,
-            Found::Refused(_) => counted.refused += 1,
-            Found::Heard { message, .. } => {
+            PacketOutcome::Skipped(_) => counted.skipped += 1,
+            PacketOutcome::Refused(_) => counted.refused += 1,
+            PacketOutcome::Heard { message, .. } => {
                 counted.messages += 1;
                 counted.hearings += message.len() as u64;
             }

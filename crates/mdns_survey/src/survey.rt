@@ -22,7 +22,7 @@ use crate::request::ReportRequest;
 use crate::summary::Summary;
 use mdns_browse::laws::report_about_all;
 use mdns_browse::report::{Ask, ReportFault, report_in};
-use mdns_cache::{Cache, Listening};
+use mdns_cache::{Cache, MessageGathering};
 use mdns_capture::{Moment, Sink, Source};
 use mdns_message::Want;
 use std::alloc::Global;
@@ -108,7 +108,7 @@ impl Question for ReportRequest {
     ghost use Rattle.mdns_survey.specs.Filter.{counted, filter_of};
     ghost use Rattle.mdns_survey.specs.Question.{asked_report};
 
-    type Collector = Filtered<Listening>;
+    type Collector = Filtered<MessageGathering>;
 
     ghost asked = { asked_report };
 
@@ -117,9 +117,9 @@ impl Question for ReportRequest {
     ghost Heard = { λ request now packets outcomes. StandsWith now.hearer.contents now.hearer.memory
         (counted (filter_of request.as_of) outcomes) };
 
-    fn collector(&self, alloc: Global) -> Result<Filtered<Listening>, Want> {
+    fn collector(&self, alloc: Global) -> Result<Filtered<MessageGathering>, Want> {
         Ok(Filtered {
-            hearer: Listening::new(alloc),
+            hearer: MessageGathering::new(alloc),
             filter: self.as_of.filter(),
         })
     }
@@ -129,7 +129,7 @@ impl TextAnswer for ReportRequest {
     fn text(
         self,
         alloc: Global,
-        collector: Filtered<Listening>,
+        collector: Filtered<MessageGathering>,
         readings: &[Reading],
     ) -> Result<String, ReportFault> {
         let cache = match collector.hearer.finish() {

@@ -19,7 +19,7 @@ use mdns_browse::report::Form;
 use mdns_capture::{Broken, Moment, Packet, Sink, Source, write_whole};
 use mdns_message::Want;
 use mdns_survey::listen::{ListenFault, listen_with};
-use mdns_survey::outcome::Found;
+use mdns_survey::outcome::PacketOutcome;
 use mdns_survey::reading::{Consumer, Reading, Span};
 use mdns_survey::summary::Summary;
 use std::alloc::Global;
@@ -105,19 +105,24 @@ impl Consumer for HearingSpan {
 
     ghost Broke = { λ _ _ _ _ _. Unit {0} };
 
-    fn take(&mut self, packet: &Packet<'_>, _payload: &[u8], found: &Found) -> Result<(), Want> {
+    fn take(
+        &mut self,
+        packet: &Packet<'_>,
+        _payload: &[u8],
+        found: &PacketOutcome,
+    ) -> Result<(), Want> {
         self.span = Span::both(self.span, span_of_found(packet.moment, found));
         Ok(())
     }
 }
 
 // Returns the span of the hearings of a packet.
-fn span_of_found(moment: Moment, found: &Found) -> Option<Span>
+fn span_of_found(moment: Moment, found: &PacketOutcome) -> Option<Span>
     ensures { (frame : List ℕ) → ComesTo moment frame (outcome_of found.now)
         → result ≡ span_of (hearing_moments (hearings_of_outcome (outcome_of found.now))) }
 {
     match found {
-        Found::Heard { message, .. } if !message.is_empty() => Some(Span::at(moment)),
+        PacketOutcome::Heard { message, .. } if !message.is_empty() => Some(Span::at(moment)),
         _ => None,
     }
 }

@@ -25,7 +25,7 @@ use mdns_capture::{BeginFault, Broken, Packet, Sink, Source, SourceAddress, writ
 use mdns_message::text_data::push_string;
 use mdns_message::{MessageReader, Want};
 use mdns_survey::listen::ListenFault;
-use mdns_survey::outcome::Found;
+use mdns_survey::outcome::PacketOutcome;
 use mdns_survey::reading::{Consumer, ReadingFault, read_capture};
 use mdns_survey::summary::Summary;
 use std::alloc::Global;
@@ -170,13 +170,13 @@ impl<W: Sink> Consumer for Lines<'_, W> {
         &mut self,
         packet: &Packet<'_>,
         _payload: &[u8],
-        found: &Found,
+        found: &PacketOutcome,
     ) -> Result<(), TraceFault> {
         match write_piece(&mut self.text, self.out) {
             Ok(()) => {}
             Err(Broken) => return Err(TraceFault::Write),
         }
-        match print_packet(self.wanted, found, packet, &mut self.text) {
+        match push_packet(self.wanted, found, packet, &mut self.text) {
             Ok(()) => Ok(()),
             Err(Want) => Err(TraceFault::Listen(ListenFault::Memory)),
         }
@@ -193,9 +193,9 @@ pub(crate) fn word_of(alloc: Global, name: &str) -> Result<String, Want>
 }
 
 // Appends the lines of a packet.
-fn print_packet(
+fn push_packet(
     wanted: Wanted<'_>,
-    found: &Found,
+    found: &PacketOutcome,
     packet: &Packet<'_>,
     text: &mut String,
 ) -> Result<(), Want>
@@ -204,18 +204,18 @@ fn print_packet(
         (outcome_of found.now) (string_bytes text.old) (string_bytes text.new)) }
 {
     match wanted.trace {
-        Trace::Hearings(form) => print_hearings(wanted, form, found, packet, text),
-        Trace::Packets(form) => print_why(wanted, form, found, packet, text),
+        Trace::Hearings(form) => push_hearings(wanted, form, found, packet, text),
+        Trace::Packets(form) => push_why(wanted, form, found, packet, text),
         // The line of a span is written by `write_span`.
         Trace::Spans(_) => Ok(()),
     }
 }
 
 // Appends the lines of the hearings of a packet.
-fn print_hearings(
+fn push_hearings(
     wanted: Wanted<'_>,
     form: Form,
-    found: &Found,
+    found: &PacketOutcome,
     packet: &Packet<'_>,
     text: &mut String,
 ) -> Result<(), Want>
@@ -224,8 +224,10 @@ fn print_hearings(
         (outcome_of found.now) (string_bytes text.old) (string_bytes text.new)) }
 {
     match found {
-        Found::Heard { source, message } => push_hearing_lines(wanted, form, text, source, message),
-        Found::Skipped(_) | Found::Refused(_) => Ok(()),
+        PacketOutcome::Heard { source, message } => push_hearing_lines(
+            wanted, form, text, source, message,
+        ),
+        PacketOutcome::Skipped(_) | PacketOutcome::Refused(_) => Ok(()),
     }
 }
 
@@ -256,10 +258,10 @@ fn push_hearing_lines(
 }
 
 // Appends the line of a packet, if it told nothing.
-fn print_why(
+fn push_why(
     wanted: Wanted<'_>,
     form: Form,
-    found: &Found,
+    found: &PacketOutcome,
     packet: &Packet<'_>,
     text: &mut String,
 ) -> Result<(), Want>
@@ -269,11 +271,23 @@ fn print_why(
         × (string_bytes text.new ≡ string_bytes text.old ++ lines)) }
 {
     match found {
-        Found::Skipped(why) => print_untold(wanted, form, packet, Untold::Skipped(*why), text),
-        Found::Refused(fault) => print_untold(wanted, form, packet, Untold::Refused(*fault), text),
-        Found::Heard { message, .. } => {
+        PacketOutcome::Skipped(why) => push_untold_packet(
+            wanted,
+            form,
+            packet,
+            Untold::Skipped(*why),
+            text,
+        ),
+        PacketOutcome::Refused(fault) => push_untold_packet(
+            wanted,
+            form,
+            packet,
+            Untold::Refused(*fault),
+            text,
+        ),
+        PacketOutcome::Heard { message, .. } => {
             if message.is_empty() {
-                print_untold(wanted, form, packet, Untold::Unlisted, text)
+                push_untold_packet(wanted, form, packet, Untold::Unlisted, text)
             } else {
                 Ok(())
             }
@@ -282,7 +296,7 @@ fn print_why(
 }
 
 // Appends the line of a packet that told nothing.
-fn print_untold(
+fn push_untold_packet(
     wanted: Wanted<'_>,
     form: Form,
     packet: &Packet<'_>,

@@ -8,8 +8,8 @@ ghost use Rattle.mdnsmerge.specs.Task.{AnswersTask, IsTaskRefused};
 use command_line::program::{MDNSMERGE, arguments, open_or_refuse, print_fault, refuse};
 use command_line::{Asked, Task, asked};
 use mdns_capture::{Sink, Source, Through};
-use mdns_page::page::Page;
-use mdns_survey::answers::{Named, answer_request, answer_with};
+use mdns_page::page::PageRequest;
+use mdns_survey::answers::{NamedProgram, answer_request, answer_with};
 use mdns_survey::status::REFUSED;
 use std::alloc::Global;
 use std::process::ExitCode;
@@ -77,12 +77,12 @@ fn answer_task<R: Source + Drop, O: Sink, E: Sink>(
     match task {
         Task::Survey(request) => answer_request(alloc, request, names, readers, out, err),
         Task::Page { as_of, about } => {
-            let page = Page {
+            let page = PageRequest {
                 names,
                 as_of,
                 about,
             };
-            let named = Named {
+            let named = NamedProgram {
                 program: "mdnsmerge",
                 files: names,
             };

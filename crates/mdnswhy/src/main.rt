@@ -11,9 +11,9 @@ use mdns_browse::about::Subject;
 use mdns_browse::report::Form;
 use mdns_capture::Through;
 use mdns_listeners::Groups;
-use mdns_listeners::listeners::Listeners;
+use mdns_listeners::listeners::ListenersRequest;
 use mdns_message::Want;
-use mdns_survey::answers::{Named, answer_with};
+use mdns_survey::answers::{NamedProgram, answer_with};
 use mdns_trace::inquiry::{Inquiry, Trace, Tracer};
 use mdns_trace::trace_answer::answer_traces;
 use mdns_trace::verdicts::answer_files;
@@ -100,12 +100,12 @@ fn compare_listeners(rt: &HostRuntime, form: Form, groups: &Groups, names: &[Str
     let mut err = Through(rt.stderr());
     match open_or_refuse(rt, MDNSWHY, names, &mut err) {
         Ok(readers) => {
-            let named = Named {
+            let named = NamedProgram {
                 program: "mdnswhy",
                 files: names,
             };
             answer_with(
-                Listeners { groups, form },
+                ListenersRequest { groups, form },
                 true,
                 named,
                 readers,

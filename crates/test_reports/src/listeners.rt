@@ -5,8 +5,8 @@ use crate::slow::two_names;
 use mdns_browse::report::Form;
 use mdns_capture::Source;
 use mdns_listeners::Groups;
-use mdns_listeners::listeners::Listeners;
-use mdns_survey::answers::{Named, answer_with};
+use mdns_listeners::listeners::ListenersRequest;
+use mdns_survey::answers::{NamedProgram, answer_with};
 use mdns_survey::status::{DAMAGED, REFUSED, WHOLE};
 use std::alloc::Global;
 use test_values::changed;
@@ -96,11 +96,11 @@ fn status_of<R: Source + Drop>(
     if names.len() != readers.len() || groups.of().len() != readers.len() {
         return None;
     }
-    let named = Named {
+    let named = NamedProgram {
         program: "mdnswhy",
         files: names,
     };
-    let question = Listeners { groups, form };
+    let question = ListenersRequest { groups, form };
     Some(answer_with(question, true, named, readers, out, err))
 }
 

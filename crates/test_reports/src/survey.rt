@@ -8,8 +8,8 @@ use crate::words::words_of;
 use command_line::{Task, asked};
 use mdns_browse::report::{Ask, Form};
 use mdns_listeners::Groups;
-use mdns_listeners::listeners::Listeners;
-use mdns_page::page::Page;
+use mdns_listeners::listeners::ListenersRequest;
+use mdns_page::page::PageRequest;
 use mdns_survey::survey::{SurveyFault, survey};
 use mdns_survey::{AsOf, ListenFault, Request, Subjects, survey_request, survey_with};
 use std::alloc::Global;
@@ -87,7 +87,7 @@ fn page_fault(
     if names.len() != readers.len() {
         return None;
     }
-    let page = Page {
+    let page = PageRequest {
         names: names.as_slice(),
         as_of,
         about,
@@ -105,7 +105,7 @@ fn listeners_fault(
         return None;
     }
     let groups = Groups::new(alloc, names.as_slice(), &[]).ok()?;
-    let question = Listeners {
+    let question = ListenersRequest {
         groups: &groups,
         form: Form::Lines,
     };

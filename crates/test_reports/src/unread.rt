@@ -7,8 +7,8 @@ use crate::listeners::listeners_status;
 use crate::slow::{Trial, passes_at_each_call, two_names};
 use crate::traces::{FIRST_UNREAD, FIRST_UNREAD_JSON, HEARING, SECOND_UNREAD, SPAN, files_of};
 use mdns_browse::report::{Ask, Form};
-use mdns_page::page::Page;
-use mdns_survey::answers::{Named, answer_request, answer_with};
+use mdns_page::page::PageRequest;
+use mdns_survey::answers::{NamedProgram, answer_request, answer_with};
 use mdns_survey::status::REFUSED;
 use mdns_survey::{AsOf, LivesRequest, ReportRequest, Request, Subjects, Which};
 use mdns_trace::{Trace, Tracer, answer_files, answer_traces};
@@ -48,10 +48,10 @@ fn request_of(alloc: Global, run: Run) -> Request {
     }
 }
 
-fn page_of<'a>(alloc: Global, names: &'a [String]) -> Page<'a>
+fn page_of<'a>(alloc: Global, names: &'a [String]) -> PageRequest<'a>
     ensures { result.names.now ≡ names.now }
 {
-    Page {
+    PageRequest {
         names,
         as_of: AsOf::Newest,
         about: Subjects::new(Vec::new(alloc)),
@@ -97,7 +97,7 @@ fn status_of(
         )),
         Run::Page => {
             let page = page_of(alloc, names);
-            let named = Named {
+            let named = NamedProgram {
                 program: "mdnsmerge",
                 files: names,
             };

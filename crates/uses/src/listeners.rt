@@ -18,13 +18,13 @@ use mdns_browse::Form;
 use mdns_capture::{Sink, Source, Through};
 use mdns_listeners::clock::is_one_clock;
 use mdns_listeners::laws::order_changes_no_count;
-use mdns_listeners::listeners::Listeners;
+use mdns_listeners::listeners::ListenersRequest;
 use mdns_listeners::{
     Groups, HeardMessage, ListenerRow, ListenerSpans, PairRow, SenderRow, listener_rows, pair_rows,
     sender_rows,
 };
 use mdns_message::Want;
-use mdns_survey::answers::{Named, answer_with};
+use mdns_survey::answers::{NamedProgram, answer_with};
 use mdns_survey::question::survey_with;
 use mdns_survey::status::REFUSED;
 use mdns_survey::summary::Summary;
@@ -48,7 +48,7 @@ pub fn listeners_of<R: Source + Drop>(
         Err(Want) => return Err(SurveyFault::Memory),
     };
     let mut text = Through(Vec::new(alloc));
-    let question = Listeners {
+    let question = ListenersRequest {
         groups: &groups,
         form: Form::Lines,
     };
@@ -70,11 +70,11 @@ pub fn compare<R: Source + Drop, O: Sink, E: Sink>(
         → Reports (AreListeners groups.now Form.Pretty) true (codes "mdnswhy") (map string_bytes names.now) captures
         (writing O.Sink out.old out.new) (writing E.Sink err.old err.new) result }
 {
-    let question = Listeners {
+    let question = ListenersRequest {
         groups,
         form: Form::Pretty,
     };
-    let named = Named {
+    let named = NamedProgram {
         program: "mdnswhy",
         files: names,
     };

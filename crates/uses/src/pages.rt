@@ -4,7 +4,7 @@ ghost use Rattle.std.specs.Prelude.{◌≡◌, [], ℕ, List, length, map, strin
 ghost use Rattle.mdns_page.specs.Page.{SurveysPage};
 
 use mdns_capture::{Source, Through};
-use mdns_page::page::Page;
+use mdns_page::page::PageRequest;
 use mdns_survey::question::survey_with;
 use mdns_survey::request::{AsOf, Subjects};
 use mdns_survey::summary::Summary;
@@ -23,7 +23,7 @@ pub fn page_of<R: Source + Drop>(
         → SurveysPage (map string_bytes names.now) [] as_of bytes told.0.items told.1.items) }
 {
     let mut text = Through(Vec::new(alloc));
-    let page = Page {
+    let page = PageRequest {
         names,
         as_of,
         about: Subjects::new(Vec::new(alloc)),

@@ -11,14 +11,14 @@ use Rattle.mdns_capture.specs.declared.moment.Moment.{Moment}
 use Rattle.join_map.specs.Join.{JoinLaws}
 use Rattle.join_map.specs.laws.Join.{greater_of-laws}
 use Rattle.join_map.specs.laws.Entries.{joined-laws}
-use Rattle.mdns_lives.specs.declared.life.Heard.{Heard}
+use Rattle.mdns_lives.specs.declared.life.RecordHearing.{RecordHearing}
 use Rattle.mdns_lives.specs.Seconds.{heard_cmp, ends, join_ends, join_seconds, IsEnds, IsSeconds}
 
 pub heard_cmp-total : IsTotalOrder heard_cmp
-heard_cmp-total = then_total (on_total (λ (h : Heard). h.moment) (on_total (λ (m : Moment). m.nanos) nat_cmp_total))
-    (on_total (λ (h : Heard). h.ttl) nat_cmp_total)
+heard_cmp-total = then_total (on_total (λ (h : RecordHearing). h.moment) (on_total (λ (m : Moment). m.nanos) nat_cmp_total))
+    (on_total (λ (h : RecordHearing). h.ttl) nat_cmp_total)
 
-pub heard_cmp-exact : (a b : Heard) → heard_cmp a b ≡ Equal → a ≡ b
+pub heard_cmp-exact : (a b : RecordHearing) → heard_cmp a b ≡ Equal → a ≡ b
 heard_cmp-exact a b h =
     let ties = both_tie (nat_cmp a.moment.nanos b.moment.nanos) (nat_cmp a.ttl b.ttl) h in
     let moment = moment-same a.moment b.moment (exact_unsigned a.moment.nanos b.moment.nanos ties.0) in

@@ -1,5 +1,5 @@
 use Rattle.std.proofs.Common.{rules, ◌≡◌, None, Some, inl, inr, refl}
-use Rattle.command_line.specs.Unmade.{text_of}
+use Rattle.command_line.specs.OptionFault.{text_of}
 use Rattle.command_line.proofs.mdnsmerge.as_of.Goals as goal
 
 pub returns-in-None-clause-err : goal.returns-in-None-clause-err

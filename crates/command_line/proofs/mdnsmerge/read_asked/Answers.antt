@@ -1,8 +1,8 @@
 use Rattle.std.proofs.Common.{rules, map, string_bytes}
 use Rattle.command_line.specs.CommandLine.{AsksTask, command_line_with_past, task_of}
 use Rattle.command_line.specs.Line.{IsAsked}
-use Rattle.command_line.specs.Unmade.{MakesNone, MakesScope}
-use Rattle.command_line.proofs.MergeLemmas.{AsksAsked, task-asked, unmade-refused}
+use Rattle.command_line.specs.OptionFault.{MakesNone, MakesScope}
+use Rattle.command_line.proofs.MergeLemmas.{AsksAsked, option_fault-refused, task-asked}
 use Rattle.command_line.proofs.TableLemmas.{asks-also}
 use Rattle.command_line.proofs.mdnsmerge.read_asked.Goals as goal
 
@@ -20,7 +20,7 @@ returns-in-Err-clause-unasked c =
     let what = c.in_ok-asked.asked.what in
     let words = map string_bytes c.args.words.now in
     let asked : IsAsked AsksAsked command_line_with_past words c.in_ok-asked.asked = c.in_ok-asked.ensures.asked in
-    let unmade = c.in-Err.unmade in
-    let none : MakesNone what.0.1 unmade = search rules in
-    unmade-refused command_line_with_past words what (map string_bytes c.in_ok-asked.asked.names.items) unmade c.refusal_of.result
+    let option_fault = c.in-Err.option_fault in
+    let none : MakesNone what.0.1 option_fault = search rules in
+    option_fault-refused command_line_with_past words what (map string_bytes c.in_ok-asked.asked.names.items) option_fault c.refusal_of.result
     asked.0 asked.1 none c.refusal_of.ensures

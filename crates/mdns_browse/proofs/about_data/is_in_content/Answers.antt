@@ -8,13 +8,13 @@ use Rattle.mdns_browse.proofs.about_data.is_in_content.Goals as goal
 pub returns-in-Address : goal.returns-in-Address
 unfolding is_in_content
 returns-in-Address c =
-    c.is_host_address.ensures
+    c.matches_host_address.ensures
     ∙ ap (λ said. list_any (λ subject. is_in_content subject (content_lent said)) c.args.about.now) (sym c.in-Address.is)
 
 pub returns-in-Name : goal.returns-in-Name
 unfolding is_in_content
 returns-in-Name c =
-    IfOk-weaker c.is_name.result _ _
+    IfOk-weaker c.matches_name.result _ _
     (λ is same.
     same ∙ ap (λ said. list_any (λ subject. is_in_content subject (content_lent said)) c.args.about.now) (sym c.in-Name.is))
-    c.is_name.ensures
+    c.matches_name.ensures

@@ -15,7 +15,7 @@ returns-in_default c sorted =
 pub returns-then-branch : goal.returns-then-branch
 returns-then-branch c sorted =
     let about = c.args.about.now in
-    let named = c.in_ok-is_name.ensures ∙ ap (λ name. list_any (is_name_about name) about) c.borrowed.ensures in
+    let named = c.in_ok-matches_name.ensures ∙ ap (λ name. list_any (is_name_about name) about) c.borrowed.ensures in
     let parts =
     server-parts about (map last_lent c.args.rows.now) (body_of (last_lent c.args.row.now)) _ _ _ c.in-Some.ensures
     (c.of_set-fours.ensures sorted) (c.of_set-sixes.ensures sorted) in
@@ -24,7 +24,7 @@ returns-then-branch c sorted =
 pub returns-then-branch-2 : goal.returns-then-branch-2
 returns-then-branch-2 c sorted =
     let about = c.args.about.now in
-    let named = c.in_ok-is_name.ensures ∙ ap (λ name. list_any (is_name_about name) about) c.borrowed.ensures in
+    let named = c.in_ok-matches_name.ensures ∙ ap (λ name. list_any (is_name_about name) about) c.borrowed.ensures in
     let parts =
     server-parts about (map last_lent c.args.rows.now) (body_of (last_lent c.args.row.now)) _ _ _ c.in-Some.ensures
     (c.of_set-fours.ensures sorted) (c.of_set-sixes.ensures sorted) in
@@ -35,7 +35,7 @@ returns c =
     IfOk-weaker c.is_in_rows-2.result _ _
     (λ is same sorted.
     let about = c.args.about.now in
-    let named = c.in_ok-is_name.ensures ∙ ap (λ name. list_any (is_name_about name) about) c.borrowed.ensures in
+    let named = c.in_ok-matches_name.ensures ∙ ap (λ name. list_any (is_name_about name) about) c.borrowed.ensures in
     let parts =
     server-parts about (map last_lent c.args.rows.now) (body_of (last_lent c.args.row.now)) _ _ _ c.in-Some.ensures
     (c.of_set-fours.ensures sorted) (c.of_set-sixes.ensures sorted) in

@@ -7,7 +7,7 @@ use Rattle.mdns_cache.specs.LentRecords.{last_lent, live_record_lent}
 use Rattle.mdns_browse.specs.About.{keeps_instance}
 use Rattle.mdns_browse.specs.Given.{given_lent}
 use Rattle.mdns_browse.specs.ColumnPieces.{piece_columns, rows_pieces}
-use Rattle.mdns_browse.specs.Columns.{instances_pretty, left_text, widest}
+use Rattle.mdns_browse.specs.Columns.{instances_pretty, time_left_text, widest}
 use Rattle.mdns_browse.specs.Report.{instances_about, records_about}
 use Rattle.mdns_browse.specs.Services.{AreAscending, InstanceRow, given_of, gives_instance, lasts_in, others_in}
 use Rattle.mdns_browse.proofs.InstanceLemmas.{shown-again, shown_in}
@@ -43,7 +43,7 @@ returns c heard stands =
           (string_bytes c.new-sheet.result.text) begun _ _ given c.new-sheet.ensures.text (sym (length-map listed given_lent))
           (c.in_ok-width.ensures
           ∙ ap
-          (λ rows. max (widest (map (given_left now) (map given_lent listed))) (widest (map (left_text now) (map live_record_lent rows))))
+          (λ rows. max (widest (map (given_left now) (map given_lent listed))) (widest (map (time_left_text now) (map live_record_lent rows))))
           same)
           c.in_ok-push_heading.ensures
           (pushed.written

@@ -4,4 +4,4 @@ use Rattle.mdns_browse.specs.Columns.{widest}
 use Rattle.mdns_browse.proofs.life_columns.end_width.Given as goal
 
 abbrev pub invariant-loop-life : goal.invariant-loop-life
-invariant-loop-life l = l.width ≡ widest (map (end_shown l.end.nanos) (take l.life-index l.lives))
+invariant-loop-life l = l.width ≡ widest (map (end_shown l.end_of_captures.nanos) (take l.life-index l.lives))

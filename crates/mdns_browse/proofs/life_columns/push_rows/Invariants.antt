@@ -12,4 +12,4 @@ invariant-loop-life l =
     string_bytes l.text
     ≡ string_bytes l.initial.text
     ++ flat_map (λ life. millis_text life.from.nanos ++ codes "  " ++ millis_text life.until ++ codes "  "
-    ++ padded l.width (end_shown l.end.nanos life) ++ string_bytes l.tail) (take l.life-index l.lives)
+    ++ padded l.width (end_shown l.end_of_captures.nanos life) ++ string_bytes l.tail) (take l.life-index l.lives)

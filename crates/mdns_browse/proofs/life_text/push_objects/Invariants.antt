@@ -8,4 +8,4 @@ use Rattle.mdns_browse.proofs.life_text.push_objects.Given as goal
 abbrev pub invariant-loop-life : goal.invariant-loop-life
 invariant-loop-life l =
     string_bytes l.text
-    ≡ string_bytes l.initial.text ++ flat_map (λ life. string_bytes l.head.text ++ life_rest l.end.nanos life) (take l.life-index l.lives)
+    ≡ string_bytes l.initial.text ++ flat_map (λ life. string_bytes l.head.text ++ life_rest l.end_of_captures.nanos life) (take l.life-index l.lives)

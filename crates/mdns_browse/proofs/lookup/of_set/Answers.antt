@@ -2,7 +2,7 @@ use Rattle.std.proofs.Common.{rules, length, take, drop, ◌-◌}
 use Rattle.std.specs.Ordering.{is_lt, is_le}
 use Rattle.std.proofs.lemmas.List.Sorted.{IsPartitionPoint-from_clause}
 use Rattle.mdns_message.specs.Resource.{type_number}
-use Rattle.mdns_cache.specs.Live.{record_of}
+use Rattle.mdns_cache.specs.Live.{key_of_last}
 use Rattle.mdns_cache.specs.LentRecords.{last_lent}
 use Rattle.mdns_cache.specs.declared.cache.Last.{Last}
 use Rattle.mdns_browse.specs.Services.{set_for}
@@ -17,7 +17,7 @@ returns c ascending =
     let first = c.partition_point-first.result in
     let count = c.partition_point-count.result in
     let after = take (length rows - first) (drop first rows) in
-    let key = λ (r : Last). record_of (last_lent r) in
+    let key = λ (r : Last). key_of_last (last_lent r) in
     let set = set_for owner number in
     let sorted = ascending_seen last_lent rows ascending in
     let whole = after_whole rows first in

@@ -22,7 +22,7 @@ returns-then-nanos-end-clause-next c =
     let lives : now < c.end_of-end.result = omega (arith, c.if-nanos-end.true, c.nanos.ensures) in
     shows_next c.args.flushes.now left now c.args.entries.now c.loop-key.entries c.loop-key.invariant
     (c.in-Some.key.now, latest) c.next.new.self c.in-Some.ensures.steps new later (subst (λ n. now < n) held lives)
-    ∙ (λ i. (sym c.shown-last.ensures i, sym held i) ∷ live_of new now c.next.new.self)
+    ∙ (λ i. (sym c.borrowed_last-last.ensures i, sym held i) ∷ live_of new now c.next.new.self)
 
 pub returns-then-nanos-end-clause-sorted : goal.returns-then-nanos-end-clause-sorted
 returns-then-nanos-end-clause-sorted c = grind (arith, rest_sorted)

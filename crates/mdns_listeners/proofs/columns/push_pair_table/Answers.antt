@@ -10,7 +10,7 @@ use Rattle.mdns_listeners.proofs.columns.push_pair_table.Goals as goal
 pub returns : goal.returns
 returns c =
     let heads : List (List ℕ) = map cell_text c.pair_heads-heads.result in
-    let rows : List (List (List ℕ)) = map (cells_of_pair (map string_bytes c.args.files.now)) c.args.rows.now in
+    let rows : List (List (List ℕ)) = map (cells_of_pair (map string_bytes c.args.listener_names.now)) c.args.rows.now in
     table_by_parts heads rows _ _ _ _ _
     (c.in_ok-widen.ensures ∙ ap (λ (widths : List ℕ). widened widths heads) c.new-layout.ensures)
     c.in_ok-widen_to_pairs.ensures c.in_ok-push_row.ensures.text

@@ -9,5 +9,5 @@ invariant-loop-row l = record {
   widths : l.layout.widths.items ≡ l.fn.layout.widths.items;
   text : string_bytes l.to
       ≡ string_bytes l.fn.to ++ flat_map (row_line l.fn.layout.widths.items)
-      (map (cells_of_pair (map string_bytes l.files)) (take l.row-index l.rows));
+      (map (cells_of_pair (map string_bytes l.listener_names)) (take l.row-index l.rows));
 }

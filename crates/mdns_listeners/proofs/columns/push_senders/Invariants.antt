@@ -10,5 +10,5 @@ invariant-loop-sender l = record {
   widths : l.layout.widths.items ≡ l.fn.layout.widths.items;
   text : string_bytes l.to
       ≡ string_bytes l.fn.to ++ flat_map (row_line l.fn.layout.widths.items)
-      (map (cells_of_sender (map string_bytes l.files)) (map sender_lent (take l.sender-index l.senders)));
+      (map (cells_of_sender (map string_bytes l.listener_names)) (map sender_lent (take l.sender-index l.senders)));
 }

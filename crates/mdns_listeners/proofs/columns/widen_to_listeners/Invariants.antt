@@ -8,5 +8,5 @@ use Rattle.mdns_listeners.proofs.columns.widen_to_listeners.Given as goal
 abbrev pub invariant-loop-index : goal.invariant-loop-index
 invariant-loop-index l =
     fold widened l.layout.widths.items
-    (map (cells_of_listener (map string_bytes l.files)) (enumerate_from l.index (drop l.index l.rows)))
-    ≡ fold widened l.fn.layout.widths.items (map (cells_of_listener (map string_bytes l.files)) (enumerate_from 0 l.rows))
+    (map (cells_of_listener (map string_bytes l.listener_names)) (enumerate_from l.index (drop l.index l.rows)))
+    ≡ fold widened l.fn.layout.widths.items (map (cells_of_listener (map string_bytes l.listener_names)) (enumerate_from 0 l.rows))

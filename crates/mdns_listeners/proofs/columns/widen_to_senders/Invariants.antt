@@ -9,5 +9,5 @@ use Rattle.mdns_listeners.proofs.columns.widen_to_senders.Given as goal
 abbrev pub invariant-loop-sender : goal.invariant-loop-sender
 invariant-loop-sender l =
     fold widened l.layout.widths.items
-    (map (cells_of_sender (map string_bytes l.files)) (map sender_lent (drop l.sender-index l.senders)))
-    ≡ fold widened l.fn.layout.widths.items (map (cells_of_sender (map string_bytes l.files)) (map sender_lent l.senders))
+    (map (cells_of_sender (map string_bytes l.listener_names)) (map sender_lent (drop l.sender-index l.senders)))
+    ≡ fold widened l.fn.layout.widths.items (map (cells_of_sender (map string_bytes l.listener_names)) (map sender_lent l.senders))

@@ -5,4 +5,4 @@ use Rattle.mdns_listeners.proofs.facts.push_pair_lines.Given as goal
 
 abbrev pub invariant-loop-row : goal.invariant-loop-row
 invariant-loop-row l =
-    string_bytes l.to ≡ string_bytes l.fn.to ++ flat_map (line_of_pair (map string_bytes l.files)) (take l.row-index l.rows)
+    string_bytes l.to ≡ string_bytes l.fn.to ++ flat_map (line_of_pair (map string_bytes l.listener_names)) (take l.row-index l.rows)

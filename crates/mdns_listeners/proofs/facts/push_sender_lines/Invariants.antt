@@ -7,4 +7,4 @@ use Rattle.mdns_listeners.proofs.facts.push_sender_lines.Given as goal
 abbrev pub invariant-loop-sender : goal.invariant-loop-sender
 invariant-loop-sender l =
     string_bytes l.to
-    ≡ string_bytes l.fn.to ++ flat_map (line_of_sender (map string_bytes l.files)) (map sender_lent (take l.sender-index l.senders))
+    ≡ string_bytes l.fn.to ++ flat_map (line_of_sender (map string_bytes l.listener_names)) (map sender_lent (take l.sender-index l.senders))

@@ -12,7 +12,7 @@ returns c = IfOk-weaker c.listeners_text.result _ _ (λ text written hearings li
   are_named = subst (λ (rows : List SenderRow). AreNamed hearings rows (map sender_lent c.in_ok-senders-2.senders.items))
       (c.as_slice.ensures.value ∙ c.in_ok-senders.ensures) (c.in_ok-senders-2.ensures hearings listed);
   lines = written ∙ ap (listeners_text c.args.form) (λ k. record {
-    files = c.names.ensures k;
+    listener_names = c.names.ensures k;
     listeners = (c.as_slice-2.ensures.value ∙ c.in_ok-listeners.ensures) k;
     pairs = (c.as_slice-3.ensures.value ∙ c.in_ok-pairs.ensures) k;
     senders = ap (map sender_lent) c.as_slice-4.ensures.value k;

@@ -7,7 +7,7 @@ use Rattle.mdns_listeners.proofs.listeners.text_of.Goals as goal
 
 pub returns : goal.returns
 returns c = IfOk-weaker c.facts_text.result _ _ (λ text written packets outcomes gathered have. record {
-  told = c.args.gatherer.messages.told;
+  told = c.args.collector.messages.told;
   tell = gathered.tell;
   rows = c.in_ok-rows.rows.items;
   are_heard = c.in_ok-rows.ensures.heard;

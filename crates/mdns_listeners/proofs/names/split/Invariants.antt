@@ -1,11 +1,11 @@
 use Rattle.std.proofs.Common.{◌≡◌, ◌++◌, map}
-use Rattle.mdns_listeners.specs.declared.names.Named.{Named}
+use Rattle.mdns_listeners.specs.declared.names.SenderAddressName.{SenderAddressName}
 use Rattle.mdns_listeners.proofs.names.split.Given as goal
 
 -- the lists have what was taken of the names
 abbrev pub invariant-loop-one : goal.invariant-loop-one
 invariant-loop-one l = record {
-  sources : l.sources.items ≡ map (λ (one : Named). one.source) l.yielded;
-  names : l.names.items ≡ map (λ (one : Named). one.name) l.yielded;
+  sources : l.sources.items ≡ map (λ (one : SenderAddressName). one.source) l.yielded;
+  names : l.names.items ≡ map (λ (one : SenderAddressName). one.name) l.yielded;
   left : l.fn.held.items ≡ l.yielded ++ l.one-iterator.rest.items;
 }

@@ -8,11 +8,11 @@ use Rattle.mdns_lives.specs.declared.lives.RecordLives.{RecordLives}
 use Rattle.mdns_lives.proofs.ChosenLemmas.{kept-alone, kept-set}
 use Rattle.mdns_lives.proofs.changes.has_changed.Goals as goal
 
-pub returns-then-is_shared-clause-ok : goal.returns-then-is_shared-clause-ok
-returns-then-is_shared-clause-ok c =
+pub returns-then-is_pointer_record-clause-ok : goal.returns-then-is_pointer_record-clause-ok
+returns-then-is_pointer_record-clause-ok c =
     let set = c.args.set.now in
     let begun = ascending (begins_in (map row_lent set)) in
-    let shared = sym c.if-is_shared.true ∙ c.is_shared.ensures in
+    let shared = sym c.if-is_pointer_record.true ∙ c.is_pointer_record.ensures in
     kept-set set c.in-Some.first.now begun false c.in-Some.ensures.value c.requires refl
     (ap (λ b. not b && list_any (λ (row : RecordLives). strays row.lives.items begun) set) shared)
 
@@ -20,7 +20,7 @@ pub returns-clause-ok : goal.returns-clause-ok
 returns-clause-ok c =
     let set = c.args.set.now in
     let begun = nanos_of c.as_slice.result.now in
-    let own = sym c.if-is_shared.false ∙ c.is_shared.ensures in
+    let own = sym c.if-is_pointer_record.false ∙ c.is_pointer_record.ensures in
     kept-set set c.in-Some.first.now begun c.any_strays.result c.in-Some.ensures.value c.requires
     (ap nanos_of c.as_slice.ensures.value ∙ c.sort.ensures ∙ ap ascending c.in_ok-begun.ensures)
     (c.any_strays.ensures

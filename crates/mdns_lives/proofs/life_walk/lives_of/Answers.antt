@@ -1,5 +1,5 @@
 use Rattle.std.proofs.Common.{ap, sym, subst, ◌∙◌, ◌∷◌, ◌++◌, List}
-use Rattle.mdns_lives.specs.declared.life.Heard.{Heard}
+use Rattle.mdns_lives.specs.declared.life.RecordHearing.{RecordHearing}
 use Rattle.mdns_lives.specs.declared.life.Life.{Life}
 use Rattle.mdns_join.specs.Nanos.{nanos_of}
 use Rattle.mdns_lives.specs.History.{AreInOrder, AreLivesBy}
@@ -14,7 +14,7 @@ returns-clause-walked c =
     let gs = nanos_of c.later_than-later.result.now in
     let begun = c.heard-begun.result in
     let rest = c.in-Some.rest.now in
-    let whole = c.in-Some.ensures.cases.0 ∙ ap (λ (h : Heard). h ∷ rest) (sym c.heard-begun.ensures) in
+    let whole = c.in-Some.ensures.cases.0 ∙ ap (λ (h : RecordHearing). h ∷ rest) (sym c.heard-begun.ensures) in
     c.in_ok-push_lives.ensures
     ∙ ap (λ (l : List Life). l ++ lives_from gs c.life_after.result rest) c.new-lives.ensures.items
     ∙ ap (λ (a : Life). lives_from gs a rest) c.life_after.ensures

@@ -4,7 +4,7 @@ use Rattle.std.proofs.lemmas.List.{at_drop_all, drop_more}
 use Rattle.mdns_join.specs.Nanos.{nanos_of}
 use Rattle.mdns_join.specs.laws.Kept.{IsAscending-from_above}
 use Rattle.mdns_capture.specs.Limits.{second}
-use Rattle.mdns_lives.specs.declared.life.Heard.{Heard}
+use Rattle.mdns_lives.specs.declared.life.RecordHearing.{RecordHearing}
 use Rattle.mdns_lives.specs.declared.life.Life.{Life}
 use Rattle.mdns_lives.specs.History.{AreInOrder}
 use Rattle.mdns_lives.specs.LifeWalk.{lives_from}
@@ -26,12 +26,12 @@ loop-packed-preserved c =
     let hs = drop (c.loop-packed.packed-index + 1) c.args.heard.now in
     let left : drop c.loop-packed.packed-index c.args.heard.now ≡ next ∷ hs =
     drop_more c.args.heard.now c.loop-packed.packed-index c.packed-item.result (omega arith)
-    ∙ ap (λ (h : Heard). h ∷ hs) (sym c.packed-item.is ∙ sym c.heard-next.ensures) in
+    ∙ ap (λ (h : RecordHearing). h ∷ hs) (sym c.packed-item.is ∙ sym c.heard-next.ensures) in
     let in_order = subst AreInOrder left c.loop-packed.invariant.in_order in
     record {
       lives = c.in_ok-life.ensures hs
           ∙ ap (λ (ls : List Life). pushed ++ ls) (sym (same_lives fs gs next hs life in_order c.later_than-later.ensures.same))
-          ∙ ap (λ (l : List Heard). pushed ++ lives_from fs life l) (sym left)
+          ∙ ap (λ (l : List RecordHearing). pushed ++ lives_from fs life l) (sym left)
           ∙ c.loop-packed.invariant.lives;
       in_order = in_order-rest next hs in_order;
       ascending = IsAscending-from_above (next.moment.nanos + second) gs c.later_than-later.ensures.later;

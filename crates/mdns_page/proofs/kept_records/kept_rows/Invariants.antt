@@ -2,7 +2,7 @@ use Rattle.std.proofs.Common.{◌≡◌, ◌++◌, length, map}
 use Rattle.std.specs.List.{filter}
 use Rattle.std.specs.List.Sorted.{IsStrictlySortedBy}
 use Rattle.mdns_message.specs.Resource.{key_cmp}
-use Rattle.mdns_cache.specs.Live.{record_of}
+use Rattle.mdns_cache.specs.Live.{key_of_last}
 use Rattle.mdns_cache.specs.LentRecords.{last_lent}
 use Rattle.mdns_lives.specs.LentLives.{row_lent}
 use Rattle.mdns_page.specs.KeptRecords.{is_kept}
@@ -11,7 +11,7 @@ use Rattle.mdns_page.proofs.kept_records.kept_rows.Given as goal
 -- those of the rows so far were kept
 abbrev pub invariant-loop-scratch : goal.invariant-loop-scratch
 invariant-loop-scratch l =
-    IsStrictlySortedBy key_cmp (map record_of (map last_lent l.heard))
+    IsStrictlySortedBy key_cmp (map key_of_last (map last_lent l.heard))
     → filter (λ row. is_kept l.about (map last_lent l.heard) row.0) l.fn.rows
     ≡ map row_lent l.kept.items ++ filter (λ row. is_kept l.about (map last_lent l.heard) row.0) l.walk
 

@@ -6,7 +6,7 @@ use Rattle.mdns_page.proofs.owners.following_len.Goals as goal
 pub loop-other-preserved : goal.loop-other-preserved
 loop-other-preserved g c = (
   omega arith,
-  following-more g.R.Owned.owner c.args.others.now c.loop-other.other-index c.loop-other.before.now c.other-item.result _ (omega arith)
+  following-more g.R.HasOwner.owner c.args.others.now c.loop-other.other-index c.loop-other.before.now c.other-item.result _ (omega arith)
       c.other-item.is ((λ i. same_text (sym c.owner.ensures i) (sym c.owner-in-loop-other.ensures i)) ∙ sym c.same_name.ensures
       ∙ c.if-not-same_name.false) c.loop-other.invariant.1,
 )
@@ -14,7 +14,7 @@ loop-other-preserved g c = (
 pub returns-then-not-same_name-clause-value : goal.returns-then-not-same_name-clause-value
 returns-then-not-same_name-clause-value g c =
     c.loop-other.invariant.0
-    ∙ following-end g.R.Owned.owner c.args.others.now c.loop-other.other-index c.loop-other.before.now c.other-item.result _ (omega arith)
+    ∙ following-end g.R.HasOwner.owner c.args.others.now c.loop-other.other-index c.loop-other.before.now c.other-item.result _ (omega arith)
     c.other-item.is ((λ i. same_text (sym c.owner.ensures i) (sym c.owner-in-loop-other.ensures i)) ∙ sym c.same_name.ensures
     ∙ c.if-not-same_name.true) c.loop-other.invariant.1
 
@@ -23,6 +23,6 @@ returns-clause-value g c =
     omega (
       arith,
       c.loop-other.invariant.0,
-      following-all g.R.Owned.owner c.args.others.now c.loop-other.other-index c.loop-other.before.now _ (omega arith)
+      following-all g.R.HasOwner.owner c.args.others.now c.loop-other.other-index c.loop-other.before.now _ (omega arith)
           c.loop-other.invariant.1,
     )

@@ -6,5 +6,5 @@ use Rattle.mdns_page.proofs.owners.following_len.Given as goal
 abbrev pub invariant-loop-other : goal.invariant-loop-other
 invariant-loop-other g l =
     (l.len ≡ l.other-index)
-    × (following (g.R.Owned.owner l.initial.before) (map g.R.Owned.owner l.others)
-    ≡ l.other-index + following (g.R.Owned.owner l.before) (map g.R.Owned.owner (drop l.other-index l.others)))
+    × (following (g.R.HasOwner.owner l.initial.before) (map g.R.HasOwner.owner l.others)
+    ≡ l.other-index + following (g.R.HasOwner.owner l.before) (map g.R.HasOwner.owner (drop l.other-index l.others)))

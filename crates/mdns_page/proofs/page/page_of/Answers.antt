@@ -3,7 +3,7 @@ use Rattle.std.proofs.lemmas.List.{length-map}
 use Rattle.std.specs.List.{filter}
 use Rattle.std.specs.List.Sorted.{IsStrictlySortedBy}
 use Rattle.mdns_message.specs.Resource.{key_cmp}
-use Rattle.mdns_cache.specs.Live.{record_of}
+use Rattle.mdns_cache.specs.Live.{key_of_last}
 use Rattle.mdns_cache.specs.LentRecords.{last_lent}
 use Rattle.mdns_join.specs.declared.latest.Latest.{Latest}
 use Rattle.mdns_lives.specs.Chronicle.{Accounts, Chronicles}
@@ -37,13 +37,13 @@ returns c = λ each heard chronicled all latest.
     let looked : map last_lent c.as_slice.result.now ≡ looked_up about walk = ap (map last_lent) c.as_slice.ensures.value ∙ found in
     let looked_live : map last_lent c.as_slice-2.result.now ≡ looked_up about walk =
     ap (map last_lent) c.as_slice-2.ensures.value ∙ found in
-    let Sorted = λ (ls : List Latest). IsStrictlySortedBy key_cmp (map record_of ls) in
+    let Sorted = λ (ls : List Latest). IsStrictlySortedBy key_cmp (map key_of_last ls) in
     let sorted = looked_up-sorted heard walk lives about in
     let records = map row_lent c.as_slice-records.result.now in
     let kept : records ≡ kept_of about walk =
     ap (map row_lent) c.as_slice-records.ensures.value ∙ c.in_ok-kept.ensures (subst Sorted (sym looked) sorted)
     ∙ ap (λ (ls : List Latest). filter (λ (row : Latest × List Life). is_kept about ls row.0) walk) looked in
-    let in_order = subst (λ (rs : List (Latest × List Life)). IsStrictlySortedBy key_cmp (map (λ (row : Latest × List Life). record_of row.0) rs))
+    let in_order = subst (λ (rs : List (Latest × List Life)). IsStrictlySortedBy key_cmp (map (λ (row : Latest × List Life). key_of_last row.0) rs))
     (sym kept)
     (some-sorted heard walk lives (λ (row : Latest × List Life). is_kept about (looked_up about walk) row.0)) in
     let chronicles = subst (λ (chronicles : List Accounts). AreEach Chronicles chronicles each) (sym c.as_slice-chronicles.ensures.value)
@@ -54,7 +54,7 @@ returns c = λ each heard chronicled all latest.
     c.unless_large-few.ensures
     ∙ ap (λ (large : Bool). if large then [] else records) (c.is_large.ensures ∙ ap is_large count) in
     let Ascending = λ (rs : List (Latest × List Life)).
-    IsStrictlySortedBy key_cmp (map (λ (row : Latest × List Life). record_of row.0) rs) in
+    IsStrictlySortedBy key_cmp (map (λ (row : Latest × List Life). key_of_last row.0) rs) in
     let few_in_order = subst Ascending (sym few) (few-sorted (is_large (length rows)) records in_order) in
     let are = λ (part : TimelinePart) (large : Bool) (made : List Row) (own : AreRows part large each records made).
     subst (λ (rs : List (Latest × List Life)). AreRows part large each rs made) kept own in

@@ -1,7 +1,7 @@
 use Rattle.std.proofs.Common.{◌==◌, [], codes, if◌then◌else◌, map}
 use Rattle.std.specs.List.{flat_map}
 use Rattle.std.specs.String.{string_bytes}
-use Rattle.mdns_lives.specs.declared.life.EndReason.TheVariants.{RanOut, Goodbye, Flushed}
+use Rattle.mdns_lives.specs.declared.life.EndReason.TheVariants.{Expired, Goodbye, Flushed}
 use Rattle.mdns_page.specs.Captures.{each_from}
 use Rattle.mdns_page.specs.Lanes.{lane_text}
 use Rattle.mdns_page.specs.Picture.{bars, mark_of, path}
@@ -18,7 +18,7 @@ returns c =
     let servers = map lives_lent c.args.servers.now in
     parts10 (string_bytes c.args.to.now) _ (bars axis look.titled Bar lives)
     (flat_map (bars axis look.titled Server) servers) (path (mark_of axis) (Pin Goodbye) lives) (path (mark_of axis) (Head Goodbye) lives)
-    (path (mark_of axis) (Pin RanOut) lives) (path (mark_of axis) (Pin Flushed) lives) (path (mark_of axis) (Head Flushed) lives)
+    (path (mark_of axis) (Pin Expired) lives) (path (mark_of axis) (Pin Flushed) lives) (path (mark_of axis) (Head Flushed) lives)
     (if look.lanes == 0 then [] else each_from (lane_text axis look.lanes) 0 (map seconds_lent c.args.heard.now)) (codes "</svg>")
     (string_bytes c.push_picture_begin.new.to) (string_bytes c.push_bars.new.to) (string_bytes c.push_servers.new.to)
     (string_bytes c.push_path.new.to) (string_bytes c.push_path-2.new.to) (string_bytes c.push_path-3.new.to)

@@ -4,7 +4,7 @@ use Rattle.std.specs.Ordering.{is_eq, is_le, is_lt}
 use Rattle.mdns_message.specs.Resource.{set_key_cmp, type_number}
 use Rattle.mdns_message.specs.declared.record_type.RecordType.TheVariants as kind
 use Rattle.mdns_join.specs.declared.latest.Latest.{Latest}
-use Rattle.mdns_cache.specs.Live.{record_of}
+use Rattle.mdns_cache.specs.Live.{key_of_last}
 use Rattle.mdns_cache.specs.LentRecords.{last_lent}
 use Rattle.mdns_lives.specs.LentLives.{row_lent}
 use Rattle.mdns_lives.specs.declared.life.Life.{Life}
@@ -20,7 +20,7 @@ returns c ascending =
     let first = c.partition_point-first.result in
     let count = c.partition_point-count.result in
     let after = take (length rows - first) (drop first rows) in
-    let key = λ (row : RecordLives). record_of (last_lent row.last) in
+    let key = λ (row : RecordLives). key_of_last (last_lent row.last) in
     let set = set_for c.args.name.now (type_number kind.Srv) in
     let sorted = ascending-lent row_lent rows ascending in
     let whole = after_whole rows first in
@@ -30,5 +30,5 @@ returns c ascending =
     let upto =
     IsPartitionPoint-from_clause (λ row. is_le (against key set row)) after count c.partition_point-count.ensures.partitioned
     (parted_after key set rows after first whole sorted) (λ a r q k. search rules) in
-    passing-lent row_lent rows (take count after) (λ (row : Latest × List Life). is_eq (set_key_cmp (record_of row.0).set set))
+    passing-lent row_lent rows (take count after) (λ (row : Latest × List Life). is_eq (set_key_cmp (key_of_last row.0).set set))
     (filter-rest key set rows after first count whole c.partition_point-count.ensures.bound below upto)

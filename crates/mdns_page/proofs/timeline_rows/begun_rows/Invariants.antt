@@ -3,7 +3,7 @@ use Rattle.std.specs.List.{All, filter}
 use Rattle.std.specs.List.Sorted.{IsStrictlySortedBy}
 use Rattle.mdns_message.specs.declared.hearing.Hearing.{Hearing}
 use Rattle.mdns_message.specs.Resource.{key_cmp}
-use Rattle.mdns_cache.specs.Live.{record_of}
+use Rattle.mdns_cache.specs.Live.{key_of_last}
 use Rattle.mdns_join.specs.declared.latest.Latest.{Latest}
 use Rattle.mdns_lives.specs.declared.life.Life.{Life}
 use Rattle.mdns_lives.specs.Chronicle.{Chronicles}
@@ -21,5 +21,5 @@ invariant-loop-record l =
     (map (λ (row : Row). (row.last, row.lives)) (map counted_lent l.rows.items)
     ≡ filter (λ row. is_of l.part row.0) (map row_lent (take l.record-index l.records)))
     × ((each : List (List Hearing)) → AreEach Chronicles l.chronicles each → All (IsBegun each) (map counted_lent l.rows.items))
-    × (IsStrictlySortedBy key_cmp (map (λ (row : Latest × List Life). record_of row.0) (map row_lent l.servers))
+    × (IsStrictlySortedBy key_cmp (map (λ (row : Latest × List Life). key_of_last row.0) (map row_lent l.servers))
     → All (λ (row : Row). row.servers ≡ servers_of (map row_lent l.servers) (body_of row.last)) (map counted_lent l.rows.items))

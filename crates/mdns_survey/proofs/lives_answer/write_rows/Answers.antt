@@ -11,7 +11,7 @@ use Rattle.mdns_survey.proofs.lives_answer.write_rows.Goals as goal
 pub loop-row-init : goal.loop-row-init
 loop-row-init g c =
     record {
-      far = rows-none (string_bytes c.args.head) (kept_text c.args.lines.about.now (lives_text c.args.lines.form c.args.lines.width c.args.lines.end.nanos))
+      far = rows-none (string_bytes c.args.head) (kept_text c.args.lines.about.now (lives_text c.args.lines.form c.args.lines.width c.args.lines.end_of_captures.nanos))
           c.args.rows (g.W.Sink.written c.args.out.now) (string_bytes c.args.head) refl;
       unfailed = search rules;
       stays = λ steady. steady;
@@ -20,7 +20,7 @@ loop-row-init g c =
 pub loop-row-preserved : goal.loop-row-preserved
 loop-row-preserved g c =
     let head = string_bytes c.args.head in
-    let f = kept_text c.args.lines.about.now (lives_text c.args.lines.form c.args.lines.width c.args.lines.end.nanos) in
+    let f = kept_text c.args.lines.about.now (lives_text c.args.lines.form c.args.lines.width c.args.lines.end_of_captures.nanos) in
     let rows = c.args.rows in
     let old = string_bytes c.loop-row.text in
     let row = c.in-Ok-Some.row in
@@ -39,7 +39,7 @@ loop-row-preserved g c =
 pub returns-in-Err-write_piece-clause-stops : goal.returns-in-Err-write_piece-clause-stops
 returns-in-Err-write_piece-clause-stops g c =
     let head = string_bytes c.args.head in
-    let lines = lives_text c.args.lines.form c.args.lines.width c.args.lines.end.nanos in
+    let lines = lives_text c.args.lines.form c.args.lines.width c.args.lines.end_of_captures.nanos in
     let f = kept_text c.args.lines.about.now lines in
     let rows = c.args.rows in
     let old = string_bytes c.loop-row.text in
@@ -56,7 +56,7 @@ returns-in-Err-write_piece-clause-stops g c =
 pub returns-clause-stops : goal.returns-clause-stops
 returns-clause-stops g c =
     let head = string_bytes c.args.head in
-    let lines = lives_text c.args.lines.form c.args.lines.width c.args.lines.end.nanos in
+    let lines = lives_text c.args.lines.form c.args.lines.width c.args.lines.end_of_captures.nanos in
     subst (λ (t : List ℕ). AppendsPrefix (g.W.Sink.written c.args.out.now) (g.W.Sink.written c.write_whole.new.out) (head ++ t))
     (kept-texts c.args.lines.about.now lines c.args.rows)
     (rows-cut head (kept_text c.args.lines.about.now lines) c.args.rows c.loop-row.walk _ _ _ (string_bytes c.loop-row.text)
@@ -66,18 +66,18 @@ returns-clause-stops g c =
 
 pub returns-in-Err-clause-stops : goal.returns-in-Err-clause-stops
 returns-in-Err-clause-stops g c =
-    kept-stop c.args.lines.about.now (lives_text c.args.lines.form c.args.lines.width c.args.lines.end.nanos) (string_bytes c.args.head) c.args.rows
+    kept-stop c.args.lines.about.now (lives_text c.args.lines.form c.args.lines.width c.args.lines.end_of_captures.nanos) (string_bytes c.args.head) c.args.rows
     c.loop-row.walk _ _ (string_bytes c.loop-row.text) c.loop-row.invariant.far
 
 pub returns-in-Err-push_row-clause-stops : goal.returns-in-Err-push_row-clause-stops
 returns-in-Err-push_row-clause-stops g c =
-    kept-stop c.args.lines.about.now (lives_text c.args.lines.form c.args.lines.width c.args.lines.end.nanos) (string_bytes c.args.head) c.args.rows
+    kept-stop c.args.lines.about.now (lives_text c.args.lines.form c.args.lines.width c.args.lines.end_of_captures.nanos) (string_bytes c.args.head) c.args.rows
     c.loop-row.walk _ _ (string_bytes c.loop-row.text) c.loop-row.invariant.far
 
 pub returns-in-Ok-write_whole-clause-written : goal.returns-in-Ok-write_whole-clause-written
 returns-in-Ok-write_whole-clause-written g c =
     let head = string_bytes c.args.head in
-    let lines = lives_text c.args.lines.form c.args.lines.width c.args.lines.end.nanos in
+    let lines = lives_text c.args.lines.form c.args.lines.width c.args.lines.end_of_captures.nanos in
     let none : c.loop-row.walk ≡ [] = search rules in
     subst (λ (t : List ℕ). Appends (g.W.Sink.written c.args.out.now) (g.W.Sink.written c.write_whole.new.out) (head ++ t))
     (kept-texts c.args.lines.about.now lines c.args.rows)

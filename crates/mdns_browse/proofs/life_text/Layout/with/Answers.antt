@@ -4,5 +4,5 @@ use Rattle.mdns_browse.proofs.life_text.Layout.with.Goals as goal
 
 pub returns : goal.returns
 returns c rows last is =
-    layout-more c.args.end.nanos rows last c.args.lives.now c.args.self _ (search rules)
+    layout-more c.args.end_of_captures.nanos rows last c.args.lives.now c.args.self _ (search rules)
     (c.wider-width.ensures ∙ ap (max c.args.self.width) c.end_width.ensures) is

@@ -8,7 +8,7 @@ pub returns-in-Some-clause-stands : goal.returns-in-Some-clause-stands
 returns-in-Some-clause-stands c = λ heard s.
     let there = subst (λ (x : Contents). last_at c.args.key.now x ≡ Some c.in-Some.latest.now) c.self.view_is
     (sym c.in-Some.ensures.value) in
-    subst (IsLast heard c.args.key.now) (sym c.shown.ensures)
+    subst (IsLast heard c.args.key.now) (sym c.borrowed_last.ensures)
     (IsLast-held c.args.self.now heard c.args.key.now c.in-Some.latest.now there s)
 
 pub returns-in-None-clause-stands : goal.returns-in-None-clause-stands

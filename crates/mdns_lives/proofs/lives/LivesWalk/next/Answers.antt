@@ -46,4 +46,4 @@ returns-clause-ok c =
     ∙ ap (λ (fs : List ℕ). walked fs (listed_ends history)) flushes in
     sym c.self.view_is
     ∙ row_next old new c.self.inside.entries c.next.new.self key c.in-Some.account.now c.in-Some.ensures.steps c.self.invariant
-    later _ _ c.shown-last.ensures walk
+    later _ _ c.borrowed_last-last.ensures walk

@@ -18,8 +18,8 @@ pub returns-in-Some-clause-refused : goal.returns-in-Some-clause-refused
 returns-in-Some-clause-refused g c = λ lefts hears.
     let request = c.args.self in
     let readings = c.args.readings.now in
-    early-ended lefts readings hears request.as_of c.captures_end-end.result c.in-Some.newest
-    (c.captures_end-end.ensures hears.packets (have-spans lefts hears.packets hears.outcomes readings hears.read))
+    early-ended lefts readings hears request.as_of c.captures_end-end_of_captures.result c.in-Some.newest
+    (c.captures_end-end_of_captures.ensures hears.packets (have-spans lefts hears.packets hears.outcomes readings hears.read))
     c.in-Some.ensures.some.0
     (c.in-Some.ensures.some.1 _ (c.in-Ok.ensures (counted (filter_of request.as_of) hears.outcomes) hears.heard))
 
@@ -27,7 +27,7 @@ pub returns-clause-written : goal.returns-clause-written
 returns-clause-written g c =
     let request = c.args.self in
     let readings = c.args.readings.now in
-    let end = c.captures_end-end.result in
+    let end = c.captures_end-end_of_captures.result in
     let rows = c.chosen-rows.result in
     let layout = c.in-Ok-layout_of.layout in
     let before = c.in-Ok-text_before.text in
@@ -42,7 +42,7 @@ returns-clause-written g c =
     (subst (λ (shown : List Row). FitsForm request.form end.nanos (kept_rows c.as_slice-about.result.now shown) layout)
     (c.chosen-columns.ensures.left heard told ∙ sym (c.chosen-rows.ensures.left heard told)) c.in-Ok-layout_of.ensures) in
     writes-lives request lefts readings c.captures_begin-begin.result end hears (c.captures_begin-begin.ensures hears.packets spans)
-    (c.captures_end-end.ensures hears.packets spans) (c.in_default.ensures.none heard told) (rows_of c.in-Ok.lives) rows
+    (c.captures_end-end_of_captures.ensures hears.packets spans) (c.in_default.ensures.none heard told) (rows_of c.in-Ok.lives) rows
     (c.chosen-rows.ensures.all heard told) (c.chosen-rows.ensures.left heard told) layout fits
     c.in-Ok-text_before.ensures.0 (string_bytes before) c.in-Ok-text_before.ensures.1 c.in-Ok-text_before.ensures.2 out
     (subst (λ (about : List Subject). Appends out.old out.new
@@ -54,7 +54,7 @@ pub returns-clause-refused : goal.returns-clause-refused
 returns-clause-refused g c =
     let request = c.args.self in
     let readings = c.args.readings.now in
-    let end = c.captures_end-end.result in
+    let end = c.captures_end-end_of_captures.result in
     let rows = c.chosen-rows.result in
     let layout = c.in-Ok-layout_of.layout in
     let before = c.in-Ok-text_before.text in
@@ -69,7 +69,7 @@ returns-clause-refused g c =
     (subst (λ (shown : List Row). FitsForm request.form end.nanos (kept_rows c.as_slice-about.result.now shown) layout)
     (c.chosen-columns.ensures.left heard told ∙ sym (c.chosen-rows.ensures.left heard told)) c.in-Ok-layout_of.ensures) in
     stops-lives request lefts readings c.captures_begin-begin.result end hears (c.captures_begin-begin.ensures hears.packets spans)
-    (c.captures_end-end.ensures hears.packets spans) (c.in_default.ensures.none heard told) (rows_of c.in-Ok.lives) rows
+    (c.captures_end-end_of_captures.ensures hears.packets spans) (c.in_default.ensures.none heard told) (rows_of c.in-Ok.lives) rows
     (c.chosen-rows.ensures.all heard told) (c.chosen-rows.ensures.left heard told) layout fits
     c.in-Ok-text_before.ensures.0 (string_bytes before) c.in-Ok-text_before.ensures.1 c.in-Ok-text_before.ensures.2 out fault
     (subst (λ (about : List Subject). StopsRows (string_bytes before) (lives_text request.form layout.width end.nanos)

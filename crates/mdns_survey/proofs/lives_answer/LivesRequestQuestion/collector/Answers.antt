@@ -1,5 +1,5 @@
 use Rattle.std.proofs.Common.{refl}
-use Rattle.mdns_lives.specs.Recording.{RecordsAll}
+use Rattle.mdns_lives.specs.MessageChronicle.{RecordsAll}
 use Rattle.mdns_survey.specs.Filter.{filter_of}
 use Rattle.mdns_survey.proofs.SelectedLemmas.{counted-heard}
 use Rattle.mdns_survey.proofs.lives_answer.LivesRequestQuestion.collector.Goals as goal

@@ -8,19 +8,19 @@ use Rattle.mdns_trace.specs.Trace.{AddsLines}
 use Rattle.mdns_trace.proofs.TraceLemmas.{part-more, part-on}
 use Rattle.mdns_trace.proofs.trace.LinesConsumer.take.Goals as goal
 
-pub returns-in-Ok-print_packet-clause-took : goal.returns-in-Ok-print_packet-clause-took
-returns-in-Ok-print_packet-clause-took g c = λ begun packets outcomes taken.
+pub returns-in-Ok-push_packet-clause-took : goal.returns-in-Ok-push_packet-clause-took
+returns-in-Ok-push_packet-clause-took g c = λ begun packets outcomes taken.
     let packet = packet_lent c.args.packet.now in
     let outcome = outcome_of c.args.found.now in
     let written = c.in-Ok.ensures in
     let adds : AddsLines begun.wanted.trace begun.wanted.about.now begun.wanted.file.now packet outcome
-    (string_bytes c.write_piece.new.text) (string_bytes c.print_packet.new.text) =
+    (string_bytes c.write_piece.new.text) (string_bytes c.push_packet.new.text) =
     subst (λ (wanted : Wanted). AddsLines wanted.trace wanted.about.now wanted.file.now packet outcome
-    (string_bytes c.write_piece.new.text) (string_bytes c.print_packet.new.text)) taken.wanted c.in-Ok-print_packet.ensures in
+    (string_bytes c.write_piece.new.text) (string_bytes c.push_packet.new.text)) taken.wanted c.in-Ok-push_packet.ensures in
     record {
       wanted = taken.wanted;
       same = taken.same;
-      prints = part-more packet outcome (string_bytes c.print_packet.new.text)
+      prints = part-more packet outcome (string_bytes c.push_packet.new.text)
           (part-on (g.W.Sink.written c.write_piece.new.out) written.whole.0 (string_bytes c.write_piece.new.text)
           taken.prints written.whole.1 written.whole.2) adds;
       unfailed = written.well.unfailed ∙ taken.unfailed;
@@ -41,8 +41,8 @@ returns-in-Err-clause-broke g c = λ begun packets outcomes taken.
       );
     }
 
-pub returns-in-Err-print_packet-clause-broke : goal.returns-in-Err-print_packet-clause-broke
-returns-in-Err-print_packet-clause-broke g c = λ begun packets outcomes taken.
+pub returns-in-Err-push_packet-clause-broke : goal.returns-in-Err-push_packet-clause-broke
+returns-in-Err-push_packet-clause-broke g c = λ begun packets outcomes taken.
     let written = c.in-Ok.ensures in
     record {
       same = taken.same;

@@ -1,0 +1,14 @@
+use Rattle.std.proofs.Common.{arith}
+use Rattle.std.proofs.Common.{sym, ◌∙◌}
+use Rattle.std.proofs.lemmas.Bool.{false≢true}
+use Rattle.std.proofs.lemmas.Result.{IfOk-weaker}
+use Rattle.mdns_browse.proofs.AboutLemmas.{string-empty, string-word}
+use Rattle.mdns_browse.proofs.about_data.matches_string.Goals as goal
+
+pub returns-then-not-is_word : goal.returns-then-not-is_word
+returns-then-not-is_word c =
+    string-empty c.args.about.now c.args.string.now
+    (λ some. false≢true (sym c.if-not-is_word.true ∙ c.is_word.ensures.1 some))
+
+pub returns : goal.returns
+returns c = grind (arith, IfOk-weaker, string-word)

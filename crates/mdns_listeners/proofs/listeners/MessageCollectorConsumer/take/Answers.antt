@@ -1,0 +1,62 @@
+use Rattle.std.proofs.Common.{◌∙◌, ◌++◌, ◌∷◌, [], ap, inl, inr, refl, subst, sym}
+use Rattle.std.proofs.lemmas.Bool.{false≢true}
+use Rattle.std.proofs.lemmas.Result.{on_ok_weaker}
+use Rattle.mdns_survey.specs.declared.outcome.PacketOutcome.{PacketOutcome}
+use Rattle.mdns_survey.specs.Why.{IsPayloadOf, SaysWhy}
+use Rattle.mdns_listeners.specs.declared.heard.HeardAt.{HeardAt}
+use Rattle.mdns_listeners.specs.declared.listeners.MessageCollector.{MessageCollector}
+use Rattle.mdns_listeners.specs.Kept.{HearsMessage}
+use Rattle.mdns_listeners.specs.Listeners.{Gathers}
+use Rattle.mdns_capture.specs.Capture.{packet_lent}
+use Rattle.mdns_survey.specs.Listen.{outcome_of}
+use Rattle.mdns_message.specs.Message.{MessageReads}
+use Rattle.mdns_survey.specs.Outcomes.{Outcome, ReadsTo, heard, refused, skipped}
+use Rattle.mdns_listeners.proofs.ListenersLemmas.{gathers-told, gathers-untold}
+use Rattle.mdns_listeners.proofs.listeners.MessageCollectorConsumer.take.Goals as goal
+
+pub returns-then-is_empty-clause-took : goal.returns-then-is_empty-clause-took
+returns-then-is_empty-clause-took c = λ begun packets outcomes took.
+    gathers-untold begun c.args.self.now packets outcomes (packet_lent c.args.packet.now) (outcome_of c.args.found.now) (heard []) took
+    (ap outcome_of c.in-Heard.is ∙ ap heard (c.is_empty.ensures.0 c.if-is_empty.true)) (λ listener. refl) refl
+
+pub hear-requires-clause-reads : goal.hear-requires-clause-reads
+hear-requires-clause-reads c =
+    let payload = c.args.payload.now in
+    subst (λ (at : HeardAt). MessageReads at.moment payload c.in-Heard.message.now) (sym c.heard_at-at.ensures)
+    (subst (λ (found : PacketOutcome). ReadsTo c.args.packet.now.moment payload (outcome_of found)) c.in-Heard.is c.requires.reads)
+
+pub hear-requires-clause-some : goal.hear-requires-clause-some
+hear-requires-clause-some c = λ none. false≢true (sym c.if-is_empty.false ∙ c.is_empty.ensures.1 none)
+
+pub returns-else-is_empty-clause-took : goal.returns-else-is_empty-clause-took
+returns-else-is_empty-clause-took c =
+    let frame = c.args.packet.now.frame.now in
+    let payload = c.args.payload.now in
+    let source = c.in-Heard.source in
+    let message = c.in-Heard.message.now in
+    let old = c.args.self.now in
+    let new : MessageCollector = record { of = old.of; place = old.place; messages = c.hear.new.self } in
+    on_ok_weaker c.hear.result (λ hears begun packets outcomes took.
+    subst (λ (o : Outcome). Gathers begun new (packets ++ packet_lent c.args.packet.now ∷ []) (outcomes ++ o ∷ []))
+    (sym (ap outcome_of c.in-Heard.is))
+    (gathers-told begun old new packets outcomes (packet_lent c.args.packet.now) source payload message took refl refl
+    (subst (λ at. HearsMessage source payload at message old.messages new.messages) c.heard_at-at.ensures hears)
+    (subst (SaysWhy frame) c.in-Heard.is c.requires.why)
+    (subst (λ (found : PacketOutcome). IsPayloadOf frame found payload) c.in-Heard.is c.requires.payload)
+    (λ none. false≢true (sym c.if-is_empty.false ∙ c.is_empty.ensures.1 none)))) c.hear.ensures.ok
+
+pub returns-in-Skipped-clause-took : goal.returns-in-Skipped-clause-took
+returns-in-Skipped-clause-took c = λ begun packets outcomes took. elim c.in-Skipped.is [
+  | inl (why, is) ↦ gathers-untold begun c.args.self.now packets outcomes (packet_lent c.args.packet.now)
+      (outcome_of c.args.found.now) skipped took (ap outcome_of is) (λ listener. refl) refl
+  | inr (damage, is) ↦ gathers-untold begun c.args.self.now packets outcomes (packet_lent c.args.packet.now)
+      (outcome_of c.args.found.now) refused took (ap outcome_of is) (λ listener. refl) refl
+]
+
+pub returns-in-Skipped-2-clause-took : goal.returns-in-Skipped-2-clause-took
+returns-in-Skipped-2-clause-took c = λ begun packets outcomes took. elim c.in-Skipped.is [
+  | inl (why, is) ↦ gathers-untold begun c.args.self.now packets outcomes (packet_lent c.args.packet.now)
+      (outcome_of c.args.found.now) skipped took (ap outcome_of is) (λ listener. refl) refl
+  | inr (damage, is) ↦ gathers-untold begun c.args.self.now packets outcomes (packet_lent c.args.packet.now)
+      (outcome_of c.args.found.now) refused took (ap outcome_of is) (λ listener. refl) refl
+]

@@ -1,0 +1,12 @@
+use Rattle.std.proofs.Common.{arith}
+use Rattle.std.proofs.lemmas.Result.{on_ok_weaker}
+use Rattle.mdns_lives.proofs.HearingLemmas.{chronicles-each}
+use Rattle.mdns_lives.proofs.MessageChronicleLemmas.{chronicles-no_moment}
+use Rattle.mdns_lives.proofs.message_chronicle.hear_at_each.Goals as goal
+
+pub returns-in_default : goal.returns-in_default
+returns-in_default c = λ told s.
+    chronicles-no_moment c.args.chronicle.now c.args.message.now c.args.waiting.now told c.in_default.ensures.none s
+
+pub returns-in-Ok : goal.returns-in-Ok
+returns-in-Ok c = grind (arith, on_ok_weaker, chronicles-each)

@@ -1,6 +1,0 @@
-use Rattle.std.proofs.Common.{arith}
-use Rattle.std.proofs.lemmas.Result.{IfOk-weaker}
-use Rattle.mdns_survey.proofs.hearer.finished.Goals as goal
-
-pub returns : goal.returns
-returns c = grind (arith, IfOk-weaker)

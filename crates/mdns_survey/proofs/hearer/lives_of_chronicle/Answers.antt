@@ -1,0 +1,6 @@
+use Rattle.std.proofs.Common.{arith}
+use Rattle.std.proofs.lemmas.Result.{IfOk-weaker}
+use Rattle.mdns_survey.proofs.hearer.lives_of_chronicle.Goals as goal
+
+pub returns : goal.returns
+returns c = grind (arith, IfOk-weaker)
