@@ -1,7 +1,6 @@
 -- Times, offsets and date-times are read as their grammar says.
-use Rattle.std.proofs.Common.{◌≡◌, ◌∙◌, ◌<◌, ◌+◌, ◌*◌, ◌++◌, ◌∷◌, ◌==◌, ℕ, Bool, true, false, cond}
+use Rattle.std.proofs.Common.{◌≡◌, ◌∙◌, ◌<◌, ◌+◌, ◌*◌, ◌++◌, ◌∷◌, ◌==◌, ℕ, Bool, true, false, cond, IfSome, eqb-true, nat_lt, subst}
 use Rattle.std.proofs.Common.{List, [], get_or, drop, Option, Some, None, option_and_then, option_map, refl, sym, ap, arith, inl, inr}
-use Rattle.std.proofs.Common.{IfSome, eqb-true, nat_lt, subst}
 use Rattle.std.proofs.Common.{Result, Ok, Err}
 use Rattle.std.specs.Result.{OkIff, result_ok}
 use Rattle.std.proofs.lemmas.Bool.Decides.{nat_tests}

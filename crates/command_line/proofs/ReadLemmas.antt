@@ -1,6 +1,5 @@
 -- Where clap finds no fault in the words of a command line, its matches ask for something, of one file or more.
-use Rattle.std.proofs.Common.{rules}
-use Rattle.std.proofs.Common.{◌≡◌, ◌≢◌, ◌++◌, ◌*◌, ◌&&◌, refl, subst, sym, inl, inr, not, cond, arith, true, false}
+use Rattle.std.proofs.Common.{rules, ◌≡◌, ◌≢◌, ◌++◌, ◌*◌, ◌&&◌, refl, subst, sym, inl, inr, not, cond, arith, true, false}
 use Rattle.std.proofs.Common.{codes, is_some, Bool, ℕ, List, [], ◌∷◌, Option, Some, None, Result, Err, IfSome, map, option_map}
 use Rattle.std.specs.Prelude.{find, slice_get, option_and_then, ⊤, IsSomeAnd}
 use Rattle.std.specs.Borrow.{Bor}
@@ -20,8 +19,7 @@ use Rattle.clap.specs.Simple.{marked_built, names_of, on_top, rows_at, subcomman
 use Rattle.clap.specs.Takes.{is_given}
 use Rattle.clap.specs.Values.{read_as}
 use Rattle.clap.specs.ValueTests.{accepts}
-use Rattle.clap.specs.Walk.{Row, Text, first_of, all_of, finished}
-use Rattle.clap.specs.Walk.{nothing_held, one_of, row_text, rows_after, settled, stop_after}
+use Rattle.clap.specs.Walk.{Row, Text, first_of, all_of, finished, nothing_held, one_of, row_text, rows_after, settled, stop_after}
 use Rattle.clap.specs.Walk.{walk, walk_from}
 use Rattle.clap.specs.declared.builder.value_parser.Reading.{Reading}
 use Rattle.clap.specs.declared.builder.value_parser.Reading.TheVariants as reading

@@ -1,6 +1,5 @@
 -- A property of the rows that each use of an argument keeps is kept by clap's parse without a fault.
-use Rattle.std.proofs.Common.{arith}
-use Rattle.std.proofs.Common.{◌≡◌, ◌++◌, refl, subst, cond, fold, true, false, is_some, Bool, ℕ, zero, suc, List}
+use Rattle.std.proofs.Common.{arith, ◌≡◌, ◌++◌, refl, subst, cond, fold, true, false, is_some, Bool, ℕ, zero, suc, List}
 use Rattle.std.proofs.Common.{[], ◌∷◌, Option, Some, None, IfSome}
 use Rattle.std.specs.Prelude.{find, length, ⊤}
 use Rattle.std.specs.Option.{option_map_or}
@@ -11,13 +10,11 @@ use Rattle.clap.specs.Kinds.{Kinds, or_else}
 use Rattle.clap.specs.Lexer.{short_of}
 use Rattle.clap.specs.Simple.{Shape}
 use Rattle.clap.specs.Walk.{Held, Names, Outcome, Row, Rule, Step, Text, Waiting, Walk, after_flag, after_step}
-use Rattle.clap.specs.Walk.{arg_by_index, arg_by_long, attached_value, bundle_met, bundle_step}
-use Rattle.clap.specs.Walk.{done, flag_met, idle, long_met}
+use Rattle.clap.specs.Walk.{arg_by_index, arg_by_long, attached_value, bundle_met, bundle_step, done, flag_met, idle, long_met}
 use Rattle.clap.specs.Walk.{long_or_other, next, nothing_held, option, option_met, plain, plain_word}
 use Rattle.clap.specs.Walk.{positional, reacted, refused, rows_after, settled, short_met, short_or_plain}
 use Rattle.clap.specs.Walk.{subcommand, subcommand_met, subcommand_or_other, takes_values, to_positional}
-use Rattle.clap.specs.Walk.{trailing, used, used_by_id, value, waits, walk, walk_from, walked}
-use Rattle.clap.specs.Walk.{with_default, word_met}
+use Rattle.clap.specs.Walk.{trailing, used, used_by_id, value, waits, walk, walk_from, walked, with_default, word_met}
 use Rattle.clap.specs.declared.error.kind.ErrorKind.TheVariants as kind
 
 -- each element has the property

@@ -1,7 +1,6 @@
 //! Moments as people write them: seconds since 1970, or a date and time of RFC 3339.
 
-ghost use Rattle.std.specs.Prelude.{◌≡◌, ℕ, ◌<◌, ◌≤◌, ◌+◌, ◌*◌, ◌^◌, length, IfSome, None, option_copied};
-ghost use Rattle.std.specs.Prelude.{slice_index};
+ghost use Rattle.std.specs.Prelude.{◌≡◌, ℕ, ◌<◌, ◌≤◌, ◌+◌, ◌*◌, ◌^◌, length, IfSome, None, option_copied, slice_index};
 ghost use Rattle.std.specs.Char.{is_ascii_digit, IsAsciiDigit};
 ghost use Rattle.std.specs.List.{prefix_len};
 ghost use Rattle.mdns_capture.specs.Limits.{second};

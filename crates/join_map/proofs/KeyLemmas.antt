@@ -2,12 +2,11 @@
 use Rattle.std.proofs.Common.{◌≡◌, ℕ, suc, zero, ◌+◌, ◌-◌, ◌/◌, ◌<◌, ◌≤◌, length, take, drop, get_or, arith}
 use Rattle.std.proofs.Common.{true≢false, Bool, true, false, cond, List, [], ◌∷◌, ◌++◌, Some, None, Ordering, Less}
 use Rattle.std.proofs.Common.{Equal, Greater, refl, sym, ap, ◌∙◌, subst, is_eq}
-use Rattle.std.specs.Ordering.{match_ordering, ordering_reverse}
+use Rattle.std.specs.Ordering.{match_ordering, ordering_reverse, is_lt}
 use Rattle.std.specs.BTreeMap.{insert_entry}
 use Rattle.std.specs.Cmp.{IsTotalOrder}
 use Rattle.std.specs.List.Sorted.{IsStrictlySortedBy}
 use Rattle.std.specs.Map.{keys_of, set_value}
-use Rattle.std.specs.Ordering.{is_lt}
 use Rattle.std.proofs.lemmas.List.{take-append-drop, take_more, drop_more, get_or_read}
 use Rattle.join_map.proofs.BlockLemmas.{entries_of-cut, entries_of-from}
 use Rattle.join_map.specs.Blocks.{AllAbove, AllBelow, IsOffset, IsAt, IsFree, block_at, entries_of}

@@ -7,8 +7,7 @@ use Rattle.std.specs.List.{AllByRecursion}
 use Rattle.std.specs.Map.{keys_of}
 use Rattle.std.proofs.lemmas.List.{drop_more, drop_at, take_at, get_or_default, get_or_read, get_or-set_other, get_or-set_same, length-set}
 use Rattle.join_map.specs.Blocks.{AllAbove, AllBelow, AllFilled, AllWithin, ArePlaces, IsEntry}
-use Rattle.join_map.specs.Blocks.{IsGap, IsRewritten, IsSpot, block_at, before, after, entries_of, picked}
-use Rattle.join_map.specs.Blocks.{rows}
+use Rattle.join_map.specs.Blocks.{IsGap, IsRewritten, IsSpot, block_at, before, after, entries_of, picked, rows}
 use Rattle.std.specs.Cmp.{IsTotalOrder}
 use Rattle.std.specs.List.Sorted.{IsStrictlySortedBy}
 use Rattle.std.specs.Ordering.{ordering_reverse}

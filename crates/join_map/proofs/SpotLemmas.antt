@@ -1,6 +1,5 @@
 -- What a map has at a key, and how it changes there, by the spot of the key.
-use Rattle.std.proofs.Common.{arith}
-use Rattle.std.proofs.Common.{◌≡◌, List, ◌∷◌, ◌++◌, Some, None, Result, Ok, Err, OnOk}
+use Rattle.std.proofs.Common.{arith, ◌≡◌, List, ◌∷◌, ◌++◌, Some, None, Result, Ok, Err, OnOk}
 use Rattle.std.proofs.Common.{OnErr, Ordering, Equal, sym, ap, ◌∙◌, subst}
 use Rattle.std.specs.BTreeMap.{insert_entry}
 use Rattle.std.specs.Cmp.{IsTotalOrder}

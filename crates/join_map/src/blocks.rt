@@ -4,8 +4,7 @@ ghost use Rattle.std.specs.Prelude.{◌≡◌, ◌<◌, ◌∷◌, ◌++◌, [],
 ghost use Rattle.std.specs.List.Sorted.{IsStrictlySortedBy};
 ghost use Rattle.std.specs.Map.{keys_of};
 ghost use Rattle.join_map.specs.Join.{IsPartOfJoin};
-ghost use Rattle.join_map.specs.Blocks.{block_at, entries_of, picked, IsOrder, IsSpot, IsGap, IsEntry};
-ghost use Rattle.join_map.specs.Blocks.{JoinsAt, before, after};
+ghost use Rattle.join_map.specs.Blocks.{block_at, entries_of, picked, IsOrder, IsSpot, IsGap, IsEntry, JoinsAt, before, after};
 
 use crate::block::Block;
 use crate::copied::Copied;

@@ -10,11 +10,9 @@ use Rattle.mdns_browse.specs.declared.instance.Server.{Server}
 use Rattle.mdns_browse.specs.declared.instance_sheet.InstanceSheet.{InstanceSheet}
 use Rattle.mdns_browse.specs.ColumnPieces.{Writes, piece_columns, row_pieces, rows_pieces, type_pieces}
 use Rattle.mdns_browse.specs.Columns.{heading, instance_rows, instances_pretty, line_of_some, time_left_text}
-use Rattle.mdns_browse.specs.Columns.{other_row, others_pretty, rows_by_type}
-use Rattle.mdns_browse.specs.Columns.{server_line, spaces, type_begin, widest, words_line}
+use Rattle.mdns_browse.specs.Columns.{other_row, others_pretty, rows_by_type, server_line, spaces, type_begin, widest, words_line}
 use Rattle.mdns_browse.specs.Services.{GivenRow, InstanceRow}
-use Rattle.mdns_browse.specs.Sheet.{server_pieces, servers_end, servers_pieces}
-use Rattle.mdns_browse.specs.Sheet.{instance_pieces}
+use Rattle.mdns_browse.specs.Sheet.{server_pieces, servers_end, servers_pieces, instance_pieces}
 use Rattle.mdns_browse.specs.RecordShown.{spaced_wide}
 use Rattle.mdns_browse.specs.laws.ColumnPieces.{columns-laws}
 use Rattle.mdns_browse.proofs.LineLemmas.{flat_map-map, flat_map-pieces}

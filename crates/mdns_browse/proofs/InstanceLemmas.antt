@@ -18,8 +18,7 @@ use Rattle.mdns_browse.specs.declared.about.Subject.{Subject}
 use Rattle.mdns_browse.specs.declared.instance.Instance.{Instance}
 use Rattle.mdns_browse.specs.declared.instance.Server.{Server}
 use Rattle.mdns_browse.specs.Services.{GivenRow, InstanceRow, body_of, given_of, gives_instance, instance_given, instance_in}
-use Rattle.mdns_browse.specs.Services.{instance_row_in, instance_rows_in, lasts_in, name_if, rows_of_set}
-use Rattle.mdns_browse.specs.Services.{server_at}
+use Rattle.mdns_browse.specs.Services.{instance_row_in, instance_rows_in, lasts_in, name_if, rows_of_set, server_at}
 use Rattle.mdns_browse.proofs.KeptLemmas.{filter-all}
 use Rattle.mdns_browse.proofs.ListLemmas.{through-append}
 use Rattle.mdns_browse.proofs.SearchLemmas.{eq_is}

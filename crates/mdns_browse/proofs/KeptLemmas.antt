@@ -1,6 +1,5 @@
 -- What live records give, and what of it is kept: of records one after another it is what each part gives.
-use Rattle.std.proofs.Common.{arith}
-use Rattle.std.proofs.Common.{◌≡◌, refl, ap, ℕ, Bool, true, List, [], ◌∷◌, ◌++◌, map, is_some}
+use Rattle.std.proofs.Common.{arith, ◌≡◌, refl, ap, ℕ, Bool, true, List, [], ◌∷◌, ◌++◌, map, is_some}
 use Rattle.std.proofs.lemmas.List.{map-append}
 use Rattle.std.proofs.lemmas.List.Elements.{filter-append, filter_map-append}
 use Rattle.std.specs.List.{filter, filter_map}

@@ -7,8 +7,7 @@ use Rattle.std.specs.List.{flat_map}
 use Rattle.dns_name.specs.Name.{name_text}
 use Rattle.mdns_browse.specs.declared.instance.Server.{Server}
 use Rattle.mdns_browse.specs.RecordText.{data_words, instance_lines, server_lines, spaced}
-use Rattle.mdns_browse.specs.Sheet.{server_address, server_end, servers_end}
-use Rattle.mdns_browse.specs.Sheet.{server_pieces, servers_pieces, instance_pieces}
+use Rattle.mdns_browse.specs.Sheet.{server_address, server_end, servers_end, server_pieces, servers_pieces, instance_pieces}
 use Rattle.mdns_browse.specs.LinePieces.{piece_lines}
 use Rattle.mdns_browse.specs.Services.{InstanceRow}
 

@@ -13,8 +13,7 @@ use Rattle.dns_name.specs.Name.{IsLabel, folded, longest_label, wire_of}
 use Rattle.mdns_join.specs.declared.latest.Latest.{Latest}
 use Rattle.mdns_browse.specs.Services.{GivesInstance, GivesOther, GivesType, IsServiceName, IsInstanceOf, body_of, instance_given}
 use Rattle.mdns_message.specs.Parts.{pointer_of}
-use Rattle.mdns_browse.specs.Services.{is_instance_of, is_service_name, name_if, other_given, same_text, type_given}
-use Rattle.mdns_browse.specs.Services.{types_owner}
+use Rattle.mdns_browse.specs.Services.{is_instance_of, is_service_name, name_if, other_given, same_text, type_given, types_owner}
 
 -- ---- folding
 

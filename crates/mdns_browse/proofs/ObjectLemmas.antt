@@ -1,6 +1,5 @@
 -- Objects by the pieces that are written of them.
-use Rattle.std.proofs.Common.{arith}
-use Rattle.std.proofs.Common.{◌≡◌, refl, ◌∙◌, ap, ℕ, Bool, true, false, List, [], ◌∷◌, ◌++◌, map, codes}
+use Rattle.std.proofs.Common.{arith, ◌≡◌, refl, ◌∙◌, ap, ℕ, Bool, true, false, List, [], ◌∷◌, ◌++◌, map, codes}
 use Rattle.std.proofs.lemmas.List.{append-nil, append_assoc}
 use Rattle.std.specs.Fmt.{decimal}
 use Rattle.std.specs.List.{flat_map}
@@ -18,8 +17,7 @@ use Rattle.mdns_browse.specs.RecordText.{data_words, text_words}
 use Rattle.mdns_browse.specs.Json.{escaped, parted, comma_unless, first_after, json_string, json_words, json_member, json_object}
 use Rattle.mdns_browse.specs.Json.{record_json, type_json, server_json, instance_json}
 use Rattle.mdns_browse.specs.Services.{InstanceRow}
-use Rattle.mdns_browse.specs.Sheet.{Piece, live_record, service_type, server_address}
-use Rattle.mdns_browse.specs.Sheet.{instance_text, server_pieces, instance_pieces}
+use Rattle.mdns_browse.specs.Sheet.{Piece, live_record, service_type, server_address, instance_text, server_pieces, instance_pieces}
 use Rattle.mdns_browse.specs.LifeText.{end_text, life_json, life_rest, resource_json}
 use Rattle.mdns_browse.specs.JsonPieces.{piece_json, piece_next, pieces_json, pieces_next, strings_json, Grows}
 use Rattle.mdns_browse.specs.laws.JsonPieces.{strings-append, pieces-append, next-append}

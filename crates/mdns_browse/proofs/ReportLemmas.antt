@@ -1,6 +1,5 @@
 -- A report about no subjects lists all.
-use Rattle.std.proofs.Common.{arith}
-use Rattle.std.proofs.Common.{◌≡◌, sym, ap, refl, ◌↔◌, ℕ, true, List, [], ◌∷◌, ◌++◌}
+use Rattle.std.proofs.Common.{arith, ◌≡◌, sym, ap, refl, ◌↔◌, ℕ, true, List, [], ◌∷◌, ◌++◌}
 use Rattle.std.specs.List.{flat_map}
 use Rattle.dns_name.specs.Name.{name_text}
 use Rattle.mdns_message.specs.declared.hearing.Hearing.{Hearing}

@@ -1,6 +1,5 @@
 -- The texts of groups, strings and pieces, one step at a time.
-use Rattle.std.proofs.Common.{arith}
-use Rattle.std.proofs.Common.{◌≡◌, refl, sym, ◌∙◌, ap, ℕ, zero, suc, ◌+◌, List, [], ◌∷◌, ◌++◌, add-one}
+use Rattle.std.proofs.Common.{arith, ◌≡◌, refl, sym, ◌∙◌, ap, ℕ, zero, suc, ◌+◌, List, [], ◌∷◌, ◌++◌, add-one}
 use Rattle.std.proofs.lemmas.List.{append_assoc}
 use Rattle.mdns_message.specs.TextData.{strings_of}
 use Rattle.mdns_browse.specs.RecordText.{ipv6_text, placed_group, string_words, text_words}

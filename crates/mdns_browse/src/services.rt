@@ -8,10 +8,9 @@ ghost use Rattle.mdns_cache.specs.Live.{NoneLater};
 ghost use Rattle.mdns_cache.specs.Contents.{StandsFor};
 ghost use Rattle.mdns_cache.specs.LentRecords.{last_lent};
 ghost use Rattle.mdns_browse.specs.Given.{given_lent};
-ghost use Rattle.mdns_browse.specs.Services.{AreAscending, AreInstances, AreTypes, InstanceRow};
+ghost use Rattle.mdns_browse.specs.Services.{AreAscending, AreInstances, AreTypes, InstanceRow, types_owner};
 ghost use Rattle.mdns_browse.specs.Services.{body_of, data_of_set, instance_given, instance_in, instance_row_in, is_instance_of, lasts_in};
 ghost use Rattle.mdns_browse.specs.Services.{is_service_name, other_given, same_text, servers_in, texts_in, type_given, types_in};
-ghost use Rattle.mdns_browse.specs.Services.{types_owner};
 
 use crate::given_rows::gather;
 use crate::instance::{Addresses, InOrder, Instance, Server, Servers, Texts};

@@ -1,6 +1,5 @@
 -- The laws of the module `laws` that no other file needs.
-use Rattle.std.proofs.Common.{arith}
-use Rattle.std.proofs.Common.{List, [], ◌∷◌, ◌++◌, Option, None, Some, Contains, MatchOption, inl, inr}
+use Rattle.std.proofs.Common.{arith, List, [], ◌∷◌, ◌++◌, Option, None, Some, Contains, MatchOption, inl, inr}
 use Rattle.std.proofs.lemmas.List.Elements.{Contains-append_left, Contains-append_right, Contains-append_cases}
 use Rattle.mdns_message.specs.declared.hearing.Hearing.{Hearing}
 use Rattle.mdns_message.specs.declared.key.Key.{Key}

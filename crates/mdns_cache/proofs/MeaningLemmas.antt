@@ -23,8 +23,7 @@ use Rattle.mdns_join.specs.Nanos.{nanos_of}
 use Rattle.mdns_join.specs.Kept.{has, newest, kept, IsGreatest, IsKept, IsKeptList, IsStruckBy}
 use Rattle.mdns_join.specs.laws.Kept.{struck-kept, struck-kept_iff, has-kept_iff, has-le-newest, has-newest, kept-one}
 use Rattle.mdns_cache.specs.Live.{IsUnheard, IsHeard, IsLast, IsNewest, CountsRecords}
-use Rattle.mdns_cache.specs.Live.{life_of, IsStruck, IsLive, is_flush_of, flush_moments}
-use Rattle.mdns_cache.specs.Live.{IsEnd}
+use Rattle.mdns_cache.specs.Live.{life_of, IsStruck, IsLive, is_flush_of, flush_moments, IsEnd}
 use Rattle.mdns_cache.specs.LentRecords.{end_of, end_held}
 use Rattle.mdns_cache.specs.Contents.{Contents, last_at, flushes_at, kept_of, StandsFor, contents_of}
 use Rattle.mdns_cache.specs.Repeats.{record_heard, at_each, contents_at_each}

@@ -1,6 +1,5 @@
 -- Hearings that differ only in their moments: those of a message, and those that contents don't need.
-use Rattle.std.proofs.Common.{rules}
-use Rattle.std.proofs.Common.{◌≡◌, ◌≢◌, ℕ, ◌≤◌, true, ◌==◌, List, [], ◌∷◌, Option, None, Some, Contains}
+use Rattle.std.proofs.Common.{rules, ◌≡◌, ◌≢◌, ℕ, ◌≤◌, true, ◌==◌, List, [], ◌∷◌, Option, None, Some, Contains}
 use Rattle.std.proofs.Common.{◌⊎◌, ◌↔◌, ◌+◌, ◌<◌, ◌++◌, MatchOption, refl, ap, ◌∙◌, subst, inl, inr, arith, map}
 use Rattle.std.specs.declared.cmp.Ordering.TheVariants.{Greater}
 use Rattle.std.proofs.lemmas.Bool.{false≢true, or_cases, or_left, or_right, eqb-true, eq-eqb}

@@ -13,9 +13,8 @@ use Rattle.join_map.specs.laws.Entries.{same_entries}
 use Rattle.mdns_message.specs.laws.Resource.{key_cmp-exact, key_cmp-total, set_key_cmp-total, set_key_cmp-exact}
 use Rattle.mdns_cache.specs.Live.{IsUnheard, IsLast, IsNewest, SameHearings, flush_moments}
 use Rattle.mdns_cache.specs.Contents.{Contents, MapLaws, later_moment, join_of, last_at, flushes_at, kept_of, StandsFor}
-use Rattle.mdns_cache.proofs.StandsPartLemmas.{lasts-append, lasts-same, kept_of-append, kept_of-same}
+use Rattle.mdns_cache.proofs.StandsPartLemmas.{lasts-append, lasts-same, kept_of-append, kept_of-same, Contains-nil}
 use Rattle.mdns_cache.proofs.StandsPartLemmas.{flush_moments-append, IsFlushedAt-in, IsFlushedAt-from_has, has-from_flushed}
-use Rattle.mdns_cache.proofs.StandsPartLemmas.{Contains-nil}
 use Rattle.mdns_cache.proofs.ContentsLemmas.{newer, last_at-join, flushes_at-join, newest-join, IsContents-join, same_contents, nanos-later}
 use Rattle.std.proofs.lemmas.List.Elements.{Contains-append_left, Contains-append_right, Contains-append_cases}
 

@@ -9,9 +9,7 @@ ghost use Rattle.mdns_join.specs.declared.latest.Latest.{Latest};
 ghost use Rattle.join_map.specs.Join.{IsAtMost, IsPartOfJoin};
 ghost use Rattle.mdns_join.specs.Kept.{has, kept, IsStruckBy};
 ghost use Rattle.mdns_cache.specs.declared.plan.Plan.{Plan};
-ghost use Rattle.mdns_cache.specs.Live.{IsHeard, IsLast, SameHearings};
-ghost use Rattle.mdns_cache.specs.Live.{IsFlushedAt, IsStruck, IsLive, flush_moments};
-ghost use Rattle.mdns_cache.specs.Live.{IsEnd};
+ghost use Rattle.mdns_cache.specs.Live.{IsHeard, IsLast, SameHearings, IsFlushedAt, IsStruck, IsLive, flush_moments, IsEnd};
 ghost use Rattle.mdns_cache.specs.Plan.{hearings_of};
 ghost use Rattle.mdns_cache.specs.Contents.{Contents, IsContents, StandsFor, contents_of, join_of, no_contents};
 

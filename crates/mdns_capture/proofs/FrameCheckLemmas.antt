@@ -2,8 +2,7 @@
 use Rattle.std.proofs.Common.{◌≡◌, ℕ, Bool, true, false, cond, List, [], ◌∷◌, ◌++◌, Option, Some, None, refl}
 use Rattle.mdns_capture.specs.declared.cause.Cause.{Cause}
 use Rattle.mdns_capture.specs.Frame.{Check, first_failing, ip_checks, ip_data, ipv4_checks, ipv4_size_checks}
-use Rattle.mdns_capture.specs.Frame.{ipv4_kind_checks, ipv6_checks, ipv6_size_checks, ipv6_kind_checks, udp_checks}
-use Rattle.mdns_capture.specs.Frame.{cause_of}
+use Rattle.mdns_capture.specs.Frame.{ipv4_kind_checks, ipv6_checks, ipv6_size_checks, ipv6_kind_checks, udp_checks, cause_of}
 
 -- a check that passes leaves the rest to decide, and one that fails decides
 pub passed : (test : Bool) (cause : Cause) (later : Option Cause) → cond test later (Some cause) ≡ None → (test ≡ true) × (later ≡ None)

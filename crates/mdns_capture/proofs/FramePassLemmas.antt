@@ -1,6 +1,5 @@
 -- What passes the checks of a header, as one fact for each check.
-use Rattle.std.proofs.Common.{arith}
-use Rattle.std.proofs.Common.{◌≡◌, ◌≤◌, ℕ, ◌+◌, ◌/◌, List, length, slice_index, None}
+use Rattle.std.proofs.Common.{arith, ◌≡◌, ◌≤◌, ℕ, ◌+◌, ◌/◌, List, length, slice_index, None}
 use Rattle.std.specs.Prelude.{bit_and}
 use Rattle.std.proofs.lemmas.Bool.{leb-true, eqb-true, le-leb, eq-eqb}
 use Rattle.mdns_capture.specs.Savefile.{number_at}

@@ -1,8 +1,7 @@
 -- Ascending lists of moments: the place of a moment, inserting one, and the front that is dropped.
 use Rattle.std.proofs.Common.{◌≡◌, ◌≢◌, ℕ, zero, suc, ◌+◌, ◌-◌, ◌<◌, ◌≤◌, Bool, true, false, cond, ◌||◌, ◌==◌, nat_lt}
 use Rattle.std.proofs.Common.{◌⊎◌, List, [], ◌∷◌, ◌++◌, length, get_or, take, drop, insert, refl, sym, ap, ◌∙◌, subst}
-use Rattle.std.proofs.Common.{inl, inr, arith, true≢false, ltb-true, ltb-false, eqb-true, lt-ltb, Result, Ok, Err}
-use Rattle.std.proofs.Common.{OnOk, OnErr}
+use Rattle.std.proofs.Common.{inl, inr, arith, true≢false, ltb-true, ltb-false, eqb-true, lt-ltb, Result, Ok, Err, OnOk, OnErr}
 use Rattle.std.specs.Bool.{OnTrue, OnFalse}
 use Rattle.std.specs.List.Sorted.{IsPartitionPoint, IsPartitionedBy}
 use Rattle.std.proofs.lemmas.Bool.{or_cases, or_right, cases_Bool, cases_lt}

@@ -1,7 +1,6 @@
 //! What each listener heard of each sender, and missed.
 
-ghost use Rattle.std.specs.Prelude.{◌≡◌, ◌≤◌, ◌++◌, [], length, None, IfOk, OnOk};
-ghost use Rattle.std.specs.Prelude.{slice_index, ◌==◌, if◌then◌else◌};
+ghost use Rattle.std.specs.Prelude.{◌≡◌, ◌≤◌, ◌++◌, [], length, None, IfOk, OnOk, slice_index, ◌==◌, if◌then◌else◌};
 ghost use Rattle.std.specs.Cmp.Lexicographic.{slice_cmp};
 ghost use Rattle.std.specs.List.{All, filter, fold, prefix_len};
 ghost use Rattle.std.specs.List.Sorted.{IsStrictlySortedBy};

@@ -1,6 +1,5 @@
 -- Accounts that were joined, or joined in part.
-use Rattle.std.proofs.Common.{arith}
-use Rattle.std.proofs.Common.{◌≡◌, Result, OnErr, sym, subst}
+use Rattle.std.proofs.Common.{arith, ◌≡◌, Result, OnErr, sym, subst}
 use Rattle.join_map.specs.Join.{IsPartOfJoin}
 use Rattle.join_map.specs.laws.Join.{IsPartOfJoin-old, IsPartOfJoin-join}
 use Rattle.mdns_join.specs.declared.latest.Latest.{Latest}

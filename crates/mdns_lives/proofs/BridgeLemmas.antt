@@ -1,7 +1,5 @@
 -- The lives of a record by its history are those by all hearings.
-use Rattle.std.proofs.Common.{rules}
-use Rattle.std.proofs.Common.{◌≡◌, ◌≢◌, ℕ, ◌+◌, ◌<◌, ◌≤◌, List, Contains, refl, sym, ap, ◌∙◌, subst, arith}
-use Rattle.std.proofs.Common.{leb-true, le-leb}
+use Rattle.std.proofs.Common.{rules, ◌≡◌, ◌≢◌, ℕ, ◌+◌, ◌<◌, ◌≤◌, List, Contains, refl, sym, ap, ◌∙◌, subst, arith, leb-true, le-leb}
 use Rattle.std.specs.Prelude.{nat_le}
 use Rattle.std.specs.declared.cmp.Ordering.TheVariants.{Greater}
 use Rattle.std.proofs.lemmas.Bool.{cases_lt}
@@ -11,8 +9,7 @@ use Rattle.mdns_message.specs.declared.key.Key.{Key}
 use Rattle.mdns_join.specs.declared.latest.Latest.{Latest}
 use Rattle.mdns_join.specs.Latest.{latest_cmp, latest_of}
 use Rattle.mdns_join.specs.Kept.{IsStruckBy}
-use Rattle.mdns_cache.specs.Live.{IsHeard, IsLast}
-use Rattle.mdns_cache.specs.Live.{life_of, IsStruck}
+use Rattle.mdns_cache.specs.Live.{IsHeard, IsLast, life_of, IsStruck}
 use Rattle.mdns_lives.specs.declared.life.RecordHearing.{RecordHearing}
 use Rattle.mdns_lives.specs.declared.life.Life.{Life}
 use Rattle.mdns_lives.specs.declared.life.EndReason.{EndReason}

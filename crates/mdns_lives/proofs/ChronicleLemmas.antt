@@ -1,7 +1,5 @@
 -- The hearings that the contents of a chronicle stand for.
-use Rattle.std.proofs.Common.{rules, arith}
-use Rattle.std.proofs.Common.{◌≡◌, ◌↔◌, ◌⊎◌, ℕ, List, [], ◌++◌, Option, None, Some, refl}
-use Rattle.std.proofs.Common.{sym, ap, ◌∙◌}
+use Rattle.std.proofs.Common.{rules, arith, ◌≡◌, ◌↔◌, ◌⊎◌, ℕ, List, [], ◌++◌, Option, None, Some, refl, sym, ap, ◌∙◌}
 use Rattle.std.proofs.Common.{subst, inl, inr}
 use Rattle.std.specs.Prelude.{MatchOption}
 use Rattle.std.specs.Ordering.{nat_cmp}
@@ -12,8 +10,7 @@ use Rattle.mdns_message.specs.RecordSet.{RecordSet}
 use Rattle.mdns_message.specs.Resource.{key_cmp, set_key_cmp}
 use Rattle.mdns_message.specs.laws.Resource.{key_cmp-total, key_cmp-exact, set_key_cmp-total, set_key_cmp-exact}
 use Rattle.join_map.specs.Entries.{value_at, joined, joined_at, IsJoinMap}
-use Rattle.join_map.specs.laws.Entries.{joined_at-None, ValidAt, valid_at, value_at-join, IsJoinMap-none}
-use Rattle.join_map.specs.laws.Entries.{IsJoinMap-join}
+use Rattle.join_map.specs.laws.Entries.{joined_at-None, ValidAt, valid_at, value_at-join, IsJoinMap-none, IsJoinMap-join}
 use Rattle.mdns_join.specs.declared.latest.Latest.{Latest}
 use Rattle.mdns_join.specs.Latest.{later}
 use Rattle.mdns_join.specs.Kept.{union}
@@ -28,8 +25,7 @@ use Rattle.mdns_lives.specs.History.{IsHeardAs}
 use Rattle.mdns_lives.specs.Seconds.{Ends, AreEndsIn, Seconds, join_ends, IsSeconds, join_seconds, ends_at}
 use Rattle.mdns_lives.specs.laws.Account.{account-laws}
 use Rattle.mdns_lives.specs.laws.Flushes.{union-laws}
-use Rattle.mdns_lives.specs.Chronicle.{Accounts, join_accounts, no_accounts, latest_in, history_in, ends_held}
-use Rattle.mdns_lives.specs.Chronicle.{IsFlushIn}
+use Rattle.mdns_lives.specs.Chronicle.{Accounts, join_accounts, no_accounts, latest_in, history_in, ends_held, IsFlushIn}
 use Rattle.mdns_lives.specs.Chronicle.{Chronicles}
 use Rattle.mdns_lives.proofs.SecondsLemmas.{ends-joined, at-join}
 

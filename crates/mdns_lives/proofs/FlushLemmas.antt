@@ -1,6 +1,5 @@
 -- Flush moments that were added in any order.
-use Rattle.std.proofs.Common.{arith}
-use Rattle.std.proofs.Common.{◌≡◌, ℕ, List, ◌++◌, refl}
+use Rattle.std.proofs.Common.{arith, ◌≡◌, ℕ, List, ◌++◌, refl}
 use Rattle.mdns_join.specs.Kept.{has, ascending, union}
 use Rattle.mdns_join.specs.laws.Kept.{has-append, has-ascending, has-union, IsAscending-ascending, IsAscending-union}
 use Rattle.mdns_lives.specs.laws.Flushes.{same_moments}

@@ -1,6 +1,5 @@
 -- The seconds that a walk over hearings in order gives, and those that are held.
-use Rattle.std.proofs.Common.{rules}
-use Rattle.std.proofs.Common.{◌≡◌, ℕ, ◌<◌, ◌≤◌, true, false, Bool, ◌==◌, List, [], ◌∷◌, map, Option, None, Some, Contains}
+use Rattle.std.proofs.Common.{rules, ◌≡◌, ℕ, ◌<◌, ◌≤◌, true, false, Bool, ◌==◌, List, [], ◌∷◌, map, Option, None, Some, Contains}
 use Rattle.std.proofs.Common.{◌⊎◌, refl, sym, ap, ◌∙◌, subst, inl, inr, arith, if◌then◌else◌, eqb-true, eq-eqb}
 use Rattle.std.specs.declared.cmp.Ordering.TheVariants.{Less}
 use Rattle.std.specs.Ordering.{nat_cmp}

@@ -1,7 +1,5 @@
 -- The same hearings give the same rows of lives.
-use Rattle.std.proofs.Common.{rules}
-use Rattle.std.proofs.Common.{arith}
-use Rattle.std.proofs.Common.{◌≡◌, List, [], ◌∷◌, map, Contains, refl, sym, ◌∙◌, subst, inl, inr}
+use Rattle.std.proofs.Common.{rules, arith, ◌≡◌, List, [], ◌∷◌, map, Contains, refl, sym, ◌∙◌, subst, inl, inr}
 use Rattle.std.specs.List.{AllByRecursion}
 use Rattle.std.specs.List.Sorted.{IsStrictlySortedBy}
 use Rattle.std.specs.declared.cmp.Ordering.TheVariants.{Less}

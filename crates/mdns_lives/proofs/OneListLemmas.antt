@@ -1,6 +1,5 @@
 -- A record has one list of lives.
-use Rattle.std.proofs.Common.{◌≡◌, ℕ, ◌<◌, ◌≤◌, List, [], ◌∷◌, Contains, refl, sym}
-use Rattle.std.proofs.Common.{subst, inl, inr, arith}
+use Rattle.std.proofs.Common.{◌≡◌, ℕ, ◌<◌, ◌≤◌, List, [], ◌∷◌, Contains, refl, sym, subst, inl, inr, arith}
 use Rattle.std.proofs.lemmas.Bool.{cases_lt}
 use Rattle.mdns_join.specs.laws.Latest.{moment-same}
 use Rattle.mdns_lives.specs.declared.life.RecordHearing.{RecordHearing}

@@ -14,8 +14,7 @@ use Rattle.join_map.specs.Entries.{put_entry}
 use Rattle.mdns_cache.proofs.StandsPartLemmas.{Contains-nil, Contains-head, Contains-later}
 use Rattle.mdns_lives.specs.declared.life.RecordHearing.{RecordHearing}
 use Rattle.mdns_lives.specs.History.{AreInOrder}
-use Rattle.mdns_lives.specs.Seconds.{second_of, IsSparse, Ends, ends, Seconds, join_ends, join_seconds, only, seconds_of}
-use Rattle.mdns_lives.specs.Seconds.{IsRoomFor}
+use Rattle.mdns_lives.specs.Seconds.{second_of, IsSparse, Ends, ends, Seconds, join_ends, join_seconds, only, seconds_of, IsRoomFor}
 use Rattle.mdns_lives.proofs.OrderLemmas.{no_later, first_least, in_order-rest}
 use Rattle.mdns_lives.proofs.SecondsLemmas.{seconds_of-push}
 use Rattle.mdns_lives.proofs.ThinLemmas.{between_ends, take_next, drop_next}

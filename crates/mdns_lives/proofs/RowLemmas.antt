@@ -1,8 +1,6 @@
 -- The rows of a chronicle are the records that were heard, with their lives.
-use Rattle.std.proofs.Common.{arith}
-use Rattle.std.proofs.Common.{◌≡◌, ◌↔◌, ℕ, true, List, [], ◌∷◌, map, Option, None, Some, Contains, MatchOption, refl, sym}
-use Rattle.std.proofs.Common.{ap, ◌∙◌, subst, unwrap_or}
-use Rattle.std.proofs.Common.{true≢false}
+use Rattle.std.proofs.Common.{arith, ◌≡◌, ◌↔◌, ℕ, true, List, [], ◌∷◌, map, Option, None, Some, Contains, MatchOption, refl, sym}
+use Rattle.std.proofs.Common.{ap, ◌∙◌, subst, unwrap_or, true≢false}
 use Rattle.std.specs.List.{AllByRecursion}
 use Rattle.std.specs.List.Sorted.{IsStrictlySortedBy}
 use Rattle.std.specs.declared.cmp.Ordering.TheVariants.{Less}

@@ -1,8 +1,6 @@
 -- Which hearings the seconds of a list hold, and those of a join.
-use Rattle.std.proofs.Common.{rules}
-use Rattle.std.proofs.Common.{arith}
+use Rattle.std.proofs.Common.{rules, arith, ◌+◌, ◌<◌, length, get_or, take, drop, sym, ap, ◌∙◌, subst, inl, inr}
 use Rattle.std.proofs.Common.{◌≡◌, ◌⊎◌, ℕ, Bool, true, false, cond, List, [], ◌∷◌, ◌++◌, Option, None, Some, Contains, refl}
-use Rattle.std.proofs.Common.{◌+◌, ◌<◌, length, get_or, take, drop, sym, ap, ◌∙◌, subst, inl, inr}
 use Rattle.std.specs.declared.cmp.Ordering.TheVariants.{Less, Equal, Greater}
 use Rattle.std.specs.Ordering.{nat_cmp, is_eq, is_lt, match_ordering, ordering_reverse, flip_args}
 use Rattle.std.specs.Cmp.{nat_cmp_total}

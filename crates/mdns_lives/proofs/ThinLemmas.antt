@@ -1,7 +1,6 @@
 -- Hearings in order from which those between two of their second are dropped.
-use Rattle.std.proofs.Common.{rules}
+use Rattle.std.proofs.Common.{rules, ◌-◌, inl, inr, arith, append_assoc, append-nil, slice_set}
 use Rattle.std.proofs.Common.{◌≡◌, ℕ, ◌+◌, ◌<◌, ◌≤◌, List, [], ◌∷◌, ◌++◌, Contains, length, get_or, take, drop, sym, ap, ◌∙◌, subst}
-use Rattle.std.proofs.Common.{◌-◌, inl, inr, arith, append_assoc, append-nil, slice_set}
 use Rattle.std.specs.List.Sorted.{IsPermutation}
 use Rattle.std.proofs.lemmas.List.{drop_all, drop_more, drop-set-lt, take_more, take_more_set}
 use Rattle.std.proofs.lemmas.List.Elements.{Contains-append_left, Contains-append_right, Contains-append_cases}

@@ -8,10 +8,9 @@ use Rattle.mdns_lives.specs.declared.life.RecordHearing.{RecordHearing}
 use Rattle.mdns_lives.specs.declared.life.Life.{Life}
 use Rattle.mdns_cache.specs.Live.{life_of}
 use Rattle.mdns_cache.specs.LentRecords.{end_of}
-use Rattle.mdns_lives.specs.History.{IsUpTo, AreInOrder, IsLastAt, IsLiveAt}
+use Rattle.mdns_lives.specs.History.{IsUpTo, AreInOrder, IsLastAt, IsLiveAt, IsEndBy, EndsBy, AreLivesBy}
 use Rattle.mdns_lives.proofs.OrderLemmas.{IsUpTo-itself, IsUpTo-onward, no_later, same_moment, same_ttl, first_least}
 use Rattle.mdns_lives.specs.Lives.{IsInOne, AreApartAfter, AreApart}
-use Rattle.mdns_lives.specs.History.{IsEndBy, EndsBy, AreLivesBy}
 use Rattle.mdns_lives.specs.LifeWalk.{out_of, end_after, reason_after, life_after, carried_on, lives_from, walked}
 use Rattle.mdns_cache.proofs.StandsPartLemmas.{Contains-nil, Contains-head, Contains-later, Contains-cases}
 use Rattle.mdns_cache.proofs.EndLemmas.{end-by_life, end-reached, until_end_of}

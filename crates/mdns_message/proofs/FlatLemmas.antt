@@ -1,6 +1,5 @@
 -- Hearings in flat buffers keep their meaning while bytes are added.
-use Rattle.std.proofs.Common.{◌≡◌, ◌∙◌, ℕ, ◌+◌, List, [], ◌∷◌, ◌++◌, length, map, refl, sym, ap}
-use Rattle.std.proofs.Common.{arith, length-append, length-drop}
+use Rattle.std.proofs.Common.{◌≡◌, ◌∙◌, ℕ, ◌+◌, List, [], ◌∷◌, ◌++◌, length, map, refl, sym, ap, arith, length-append, length-drop}
 use Rattle.std.specs.List.{All}
 use Rattle.std.proofs.lemmas.List.{drop_at, length_push, take_all, take-append-le, drop-append-le, map-append}
 use Rattle.std.proofs.lemmas.List.Elements.{All-head, All-tail, All-push, All-weaker}
@@ -10,10 +9,9 @@ use Rattle.dns_name.proofs.ReadNameLemmas.{name_wire}
 use Rattle.mdns_message.specs.declared.body.RecordData.TheVariants as body
 use Rattle.mdns_message.specs.declared.hearing.Hearing.{Hearing}
 use Rattle.mdns_message.specs.declared.flat.ByteRange.{ByteRange}
-use Rattle.mdns_message.specs.Flat.{FlatBody}
+use Rattle.mdns_message.specs.Flat.{FlatBody, AddsFlat, BodyFits, Fits, IsNameIn, IsWithin, body_in, bytes_in, hearing_in}
 use Rattle.mdns_message.specs.declared.flat.FlatHearing.{FlatHearing}
 use Rattle.mdns_message.specs.FlatRecord.{HoldsName}
-use Rattle.mdns_message.specs.Flat.{AddsFlat, BodyFits, Fits, IsNameIn, IsWithin, body_in, bytes_in, hearing_in}
 
 -- a part stays what it is
 part_kept : (bytes more : List ℕ) (s : ByteRange) → IsWithin bytes s → bytes_in (bytes ++ more) s ≡ bytes_in bytes s

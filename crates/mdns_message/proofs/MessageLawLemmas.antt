@@ -15,9 +15,8 @@ use Rattle.dns_name.specs.NameAt.{NameReads}
 use Rattle.mdns_message.specs.RecordAt.{DataFails, DataNameFails, DataNameReads, DataReads, HeaderFails, HeaderStands}
 use Rattle.mdns_message.specs.RecordAt.{HeardRecord, IsCut, LastNameFails, Named, NamedFails, QuestionFails}
 use Rattle.mdns_message.specs.RecordAt.{QuestionRest, QuestionStands, RecordFails, RecordRest, RecordRestFails}
-use Rattle.mdns_message.specs.RecordAt.{RecordStands, RecordTells, RecordTellingFails, data_in, header_of}
+use Rattle.mdns_message.specs.RecordAt.{RecordStands, RecordTells, RecordTellingFails, data_in, header_of, heard_record, wanted}
 use Rattle.mdns_capture.specs.Frame.{word_at}
-use Rattle.mdns_message.specs.RecordAt.{heard_record, wanted}
 use Rattle.mdns_message.specs.Message.{HasHeader, MessageReads, RecordSection, Sections, count_offset, hearing_of}
 use Rattle.mdns_message.specs.FirstMessageFault.{MessageFails, RecordSectionFails, SectionsFail}
 use Rattle.dns_name.proofs.NameLemmas.{name_unique}

@@ -4,8 +4,7 @@ use Rattle.mdns_message.specs.declared.fault.MessageFault.{MessageFault}
 use Rattle.mdns_message.specs.declared.fault.MessageFault.TheVariants as fault
 use Rattle.mdns_message.specs.declared.record_at.Section.{Section}
 use Rattle.mdns_message.specs.declared.record_at.Section.TheVariants.{Answer, Authority, Additional}
-use Rattle.mdns_message.specs.Message.{header_size}
-use Rattle.mdns_message.specs.Message.{RunFails, Pair, PairFails}
+use Rattle.mdns_message.specs.Message.{header_size, RunFails, Pair, PairFails}
 use Rattle.mdns_capture.specs.Frame.{word_at}
 use Rattle.mdns_message.specs.RecordAt.{QuestionStands, QuestionFails, RecordStands, RecordFails}
 use Rattle.mdns_message.specs.Message.{IsShort, IsQuery, IsIgnored, HasHeader, QuestionSection, RecordSection, count_offset}

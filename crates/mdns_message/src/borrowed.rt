@@ -2,8 +2,7 @@
 
 ghost use Rattle.std.specs.Prelude.{◌≡◌, ◌↔◌, IfOk, IsTrue, OnOk};
 ghost use Rattle.mdns_message.specs.Resource.{folded_data_of, service_bytes, body_cmp, resource_cmp};
-ghost use Rattle.mdns_message.specs.Borrowed.{priority_of, weight_of, port_of, tail_of};
-ghost use Rattle.mdns_message.specs.Borrowed.{body_lent, hearing_lent, resource_lent};
+ghost use Rattle.mdns_message.specs.Borrowed.{priority_of, weight_of, port_of, tail_of, body_lent, hearing_lent, resource_lent};
 
 use crate::body::{Body, Bytes, RecordData};
 use crate::hearing::Hearing;

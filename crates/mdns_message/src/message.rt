@@ -1,8 +1,7 @@
 //! Whole messages (RFC 1035, section 4.1; RFC 6762, section 18).
 
 ghost use Rattle.std.specs.Prelude.{◌≡◌, ◌↔◌, ◌<◌, ◌≤◌, ◌+◌, [], length, IfOk, IfErr, IsErrOf, IsTrue, OnErr, OnOk};
-ghost use Rattle.mdns_message.specs.Message.{header_size, most_hearings};
-ghost use Rattle.mdns_message.specs.Message.{Run, RunFails};
+ghost use Rattle.mdns_message.specs.Message.{header_size, most_hearings, Run, RunFails};
 ghost use Rattle.mdns_message.specs.RecordAt.{
   MemoryOr,
   QuestionFails,

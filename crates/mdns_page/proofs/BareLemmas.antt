@@ -18,8 +18,7 @@ use Rattle.people_text.specs.MomentText.{duration_text}
 use Rattle.people_text.specs.Shown.{shown}
 use Rattle.mdns_browse.specs.RecordShown.{shown_address, shown_string, shown_strings}
 use Rattle.mdns_page.specs.declared.axis.Axis.{Axis}
-use Rattle.mdns_page.specs.Bare.{BareLive, BareRow, bare_capture, bare_end}
-use Rattle.mdns_page.specs.Bare.{bare_group, bare_groups, bare_instances, bare_live}
+use Rattle.mdns_page.specs.Bare.{BareLive, BareRow, bare_capture, bare_end, bare_group, bare_groups, bare_instances, bare_live}
 use Rattle.mdns_page.specs.Bare.{bare_row, bare_server, bare_text, is_some_filled, unsaid}
 use Rattle.mdns_page.specs.Captures.{Facts, capture_text, captures_text, each_from}
 use Rattle.mdns_page.specs.Axis.{drawn_if, short_text}
@@ -30,8 +29,7 @@ use Rattle.mdns_page.specs.Lead.{about_line, ending_warning, is_ended, live_line
 use Rattle.mdns_page.specs.Picture.{goes_on, is_for}
 use Rattle.mdns_page.specs.LiveSection.{address_html, live_group, live_row, live_text, server_html, text_html, type_of}
 use Rattle.mdns_page.specs.Document.{Shown, head, page}
-use Rattle.mdns_page.specs.Timeline.{Row, content_name, count_last, group_text, is_open, lives_in, owner_of, row_text}
-use Rattle.mdns_page.specs.Timeline.{timeline}
+use Rattle.mdns_page.specs.Timeline.{Row, content_name, count_last, group_text, is_open, lives_in, owner_of, row_text, timeline}
 use Rattle.mdns_page.specs.declared.kept_records.TimelinePart.{TimelinePart}
 use Rattle.mdns_page.specs.declared.kept_records.TimelinePart.TheVariants.{Addresses, Instances, Names}
 use Rattle.mdns_page.specs.Ticks.{symbols_text}

@@ -1,6 +1,5 @@
 -- What a page begins with.
-use Rattle.std.specs.Prelude.{ℕ, ◌+◌, ◌==◌, ◌&&◌, Bool, true, false, if◌then◌else◌}
-use Rattle.std.specs.Prelude.{List, [], ◌++◌, ◌∷◌, codes, string_bytes}
+use Rattle.std.specs.Prelude.{ℕ, ◌+◌, ◌==◌, ◌&&◌, Bool, true, false, if◌then◌else◌, List, [], ◌++◌, ◌∷◌, codes, string_bytes}
 use Rattle.std.specs.List.{join_by}
 use Rattle.mdns_capture.specs.Text.{ending_text}
 use Rattle.mdns_lives.specs.declared.life.Life.{Life}

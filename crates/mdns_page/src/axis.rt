@@ -4,8 +4,7 @@ ghost use Rattle.std.specs.Prelude.{◌≡◌, ◌<◌, ◌+◌, ◌-◌, ◌/�
 ghost use Rattle.std.specs.String.{string_bytes};
 ghost use Rattle.mdns_capture.specs.Savefile.{PacketAt};
 ghost use Rattle.mdns_survey.specs.Readings.{HaveSpans, all_moments};
-ghost use Rattle.mdns_page.specs.Axis.{IsAxis, dates_of, day_text, is_same_date};
-ghost use Rattle.mdns_page.specs.Axis.{place, place_end, short_text};
+ghost use Rattle.mdns_page.specs.Axis.{IsAxis, dates_of, day_text, is_same_date, place, place_end, short_text};
 
 use mdns_capture::Moment;
 use mdns_capture::moment::SECOND;

@@ -1,6 +1,5 @@
 -- Parts of a capture's bytes are bytes.
-use Rattle.std.proofs.Common.{rules}
-use Rattle.std.proofs.Common.{ℕ, zero, suc, ◌<◌, List, [], ◌∷◌, ◌++◌, drop, slice_index, take, arith}
+use Rattle.std.proofs.Common.{rules, ℕ, zero, suc, ◌<◌, List, [], ◌∷◌, ◌++◌, drop, slice_index, take, arith}
 use Rattle.mdns_capture.specs.Savefile.{PacketAt}
 use Rattle.mdns_capture.specs.Cut.{part_before, part_from, offset_after}
 

@@ -31,8 +31,7 @@ use Rattle.mdns_survey.specs.Outcomes.{AllCome, ComesTo, Outcome, heard, hearing
 use Rattle.mdns_survey.specs.Chronicling.{FitsForm, StopsRows}
 use Rattle.mdns_survey.specs.Head.{Heads, IsHead}
 use Rattle.mdns_survey.specs.Listen.{packet_moments}
-use Rattle.mdns_survey.specs.LivesAnswer.{SurveysLives, WritesFirstRows}
-use Rattle.mdns_survey.specs.LivesAnswer.{captures_begin, captures_end, kept_rows, latest_nanos}
+use Rattle.mdns_survey.specs.LivesAnswer.{SurveysLives, WritesFirstRows, captures_begin, captures_end, kept_rows, latest_nanos}
 use Rattle.mdns_survey.specs.Question.{HearsReaders, IsAnswer, IsTooEarly, Refuses, WritesAnswer, asked_lives}
 use Rattle.mdns_survey.specs.Readings.{all_moments, summaries_of}
 use Rattle.mdns_survey.specs.Filter.{counted, filter_of}

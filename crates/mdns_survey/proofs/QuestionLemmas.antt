@@ -1,6 +1,5 @@
 -- The survey of a question, and why it is refused.
-use Rattle.std.proofs.Common.{arith}
-use Rattle.std.proofs.Common.{◌≡◌, ◌∙◌, ℕ, Bool, List, [], Option, sym, ap, subst}
+use Rattle.std.proofs.Common.{arith, ◌≡◌, ◌∙◌, ℕ, Bool, List, [], Option, sym, ap, subst}
 use Rattle.mdns_capture.specs.Output.{Writing}
 use Rattle.mdns_capture.specs.Savefile.{PacketAt}
 use Rattle.mdns_survey.specs.declared.reading.Reading.{Reading}

@@ -1,9 +1,7 @@
 -- The survey of the readers listened to, and why it is refused.
-use Rattle.std.proofs.Common.{rules}
-use Rattle.std.proofs.Common.{◌≡◌, Bool, IsTrue, ℕ, zero, suc, ◌<◌, List, [], ◌∷◌, ◌++◌, map, length}
-use Rattle.std.proofs.Common.{sym, ap, ◌∙◌, subst, append_assoc, arith, length-append, Option, None, Some}
+use Rattle.std.proofs.Common.{rules, ◌≡◌, Bool, IsTrue, ℕ, zero, suc, ◌<◌, List, [], ◌∷◌, ◌++◌, map, length}
+use Rattle.std.proofs.Common.{sym, ap, ◌∙◌, subst, append_assoc, arith, length-append, Option, None, Some, ◌≤◌, ◌↔◌, inl, inr}
 use Rattle.std.proofs.Common.{IfSome, IsSomeAnd, MatchOption, unwrap_or, Contains, Ok, Err, Result, String, Global}
-use Rattle.std.proofs.Common.{◌≤◌, ◌↔◌, inl, inr}
 use Rattle.std.specs.List.{All, HoldsAt}
 use Rattle.std.proofs.Math.Nat.{lt_of_not-le}
 use Rattle.std.proofs.Math.Seq.{get_or-append_seam}
@@ -34,13 +32,11 @@ use Rattle.mdns_survey.specs.Question.{HearsReaders, IsAnswer, IsTooEarly, Refus
 use Rattle.mdns_survey.specs.Filter.{counted, filter_of}
 use Rattle.mdns_survey.specs.Request.{IsEarly, at_or_newest, moment_of, plain_request}
 use Rattle.mdns_survey.specs.Readings.{summaries_of}
-use Rattle.mdns_survey.specs.Surveys.{all_hearings, IsAsOf, ReportsRequest, SurveysBy}
-use Rattle.mdns_survey.specs.Surveys.{SurveysReport, SurveysRequest}
+use Rattle.mdns_survey.specs.Surveys.{all_hearings, IsAsOf, ReportsRequest, SurveysBy, SurveysReport, SurveysRequest}
 use Rattle.mdns_survey.proofs.ListenedLemmas.{known-head, known-read}
 use Rattle.mdns_survey.proofs.SelectedLemmas.{counted-at, is-earlier}
 use Rattle.mdns_capture.specs.Output.{Writing}
-use Rattle.mdns_survey.specs.Refusals.{RefusesBy, RefusesReaders, RefusesReader}
-use Rattle.mdns_survey.specs.Refusals.{BlamesReaders}
+use Rattle.mdns_survey.specs.Refusals.{RefusesBy, RefusesReaders, RefusesReader, BlamesReaders}
 
 -- the file header of these bytes has no fault, where they are known
 abbrev pub IsSound : Option (List ℕ) → Type 0

@@ -11,8 +11,7 @@ use Rattle.mdns_survey.specs.declared.outcome.PacketOutcome.TheVariants as found
 use Rattle.mdns_survey.specs.declared.listen.Heard.{Heard}
 use Rattle.mdns_message.specs.declared.hearing.Hearing.{Hearing}
 use Rattle.mdns_survey.specs.declared.reading.Reading.{Reading}
-use Rattle.mdns_survey.specs.Outcomes.{Outcome, skipped, refused, heard, AllCome, CaptureTells, Counts}
-use Rattle.mdns_survey.specs.Outcomes.{hearings_in}
+use Rattle.mdns_survey.specs.Outcomes.{Outcome, skipped, refused, heard, AllCome, CaptureTells, Counts, hearings_in}
 use Rattle.mdns_survey.specs.Reasons.{lost_frames}
 use Rattle.mdns_survey.specs.Skips.{CountsSkips}
 use Rattle.mdns_survey.specs.Span.{span_of}

@@ -10,8 +10,7 @@ ghost use Rattle.mdns_capture.specs.Output.{writing};
 ghost use Rattle.mdns_survey.specs.Question.{Refuses, asked_report};
 ghost use Rattle.mdns_survey.specs.Request.{at_or_newest};
 ghost use Rattle.mdns_survey.specs.Surveys.{SurveysBy, SurveysRequest, Listened};
-ghost use Rattle.mdns_survey.specs.Refusals.{BlamesReaders, BlamesWriter, LeavesOut};
-ghost use Rattle.mdns_survey.specs.Refusals.{RefusesBy, RefusesReaders};
+ghost use Rattle.mdns_survey.specs.Refusals.{BlamesReaders, BlamesWriter, LeavesOut, RefusesBy, RefusesReaders};
 
 use crate::filter::Filtered;
 use crate::head::headed;

@@ -12,8 +12,7 @@ use Rattle.std.specs.Str.{IsUtf8, NoCharPasses, NonePass, all_scalars, chars, en
 use Rattle.std.specs.Str.Lossy.{utf8_valid_len}
 use Rattle.dns_name.specs.Name.{labels_of, pieces_of}
 use Rattle.people_text.specs.Shown.{AreBytes, IsPrinted, IsVisible, IsVisibleText, bytes_shown, escaped_byte}
-use Rattle.people_text.specs.Shown.{dotted, hidden_ranges, is_hidden, is_marked, name_shown}
-use Rattle.people_text.specs.Shown.{scalar_text, text_after}
+use Rattle.people_text.specs.Shown.{dotted, hidden_ranges, is_hidden, is_marked, name_shown, scalar_text, text_after}
 use Rattle.people_text.proofs.ScalarLemmas.{first-char, first-scalar, scalar-shown}
 use Rattle.people_text.proofs.ShownLemmas.{ascii-shown, further}
 

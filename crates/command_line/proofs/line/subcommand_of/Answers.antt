@@ -1,5 +1,4 @@
-use Rattle.std.proofs.Common.{arith}
-use Rattle.std.proofs.Common.{rules, ◌∙◌, ap, ap₂, sym, take, List}
+use Rattle.std.proofs.Common.{arith, rules, ◌∙◌, ap, ap₂, sym, take, List}
 use Rattle.std.proofs.lemmas.List.{map-append, map_more, take_all}
 use Rattle.std.proofs.lemmas.Result.{IfOk-weaker}
 use Rattle.clap.specs.Simple.{new_shape}

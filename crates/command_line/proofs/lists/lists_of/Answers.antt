@@ -1,5 +1,4 @@
-use Rattle.std.proofs.Common.{arith}
-use Rattle.std.proofs.Common.{unwrap_or}
+use Rattle.std.proofs.Common.{arith, unwrap_or}
 use Rattle.clap.proofs.WalkLemmas.{raw_values-rows}
 use Rattle.command_line.proofs.OptionLemmas.{lent-words}
 use Rattle.command_line.proofs.lists.lists_of.Goals as goal

@@ -1,5 +1,4 @@
-use Rattle.std.proofs.Common.{arith}
-use Rattle.std.proofs.Common.{◌∷◌, []}
+use Rattle.std.proofs.Common.{arith, ◌∷◌, []}
 use Rattle.mdns_survey.proofs.SaidLemmas.{prefix-after, prefix-of-more}
 use Rattle.command_line.proofs.program.print_line.Goals as goal
 

@@ -1,5 +1,4 @@
-use Rattle.std.proofs.Common.{rules}
-use Rattle.std.proofs.Common.{arith}
+use Rattle.std.proofs.Common.{rules, arith}
 use Rattle.dns_name.proofs.FormLemmas.{IsForm-before, IsForm-after, IsForm-last, IsForm-root}
 use Rattle.dns_name.proofs.name.is_form.Goals as goal
 

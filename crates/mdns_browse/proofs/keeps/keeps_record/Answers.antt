@@ -1,5 +1,4 @@
-use Rattle.std.proofs.Common.{arith}
-use Rattle.std.proofs.Common.{sym, ◌∙◌}
+use Rattle.std.proofs.Common.{arith, sym, ◌∙◌}
 use Rattle.mdns_browse.specs.About.{keeps_record}
 use Rattle.mdns_browse.proofs.AboutLemmas.{keeps-all, keeps-some, or-first, or-rest, record-parts}
 use Rattle.mdns_browse.proofs.keeps.keeps_record.Goals as goal

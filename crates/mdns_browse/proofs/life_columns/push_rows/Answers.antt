@@ -1,5 +1,4 @@
-use Rattle.std.proofs.Common.{arith}
-use Rattle.std.proofs.Common.{ℕ, List, ◌++◌, ◌∷◌, [], codes, ◌≡◌}
+use Rattle.std.proofs.Common.{arith, ℕ, List, ◌++◌, ◌∷◌, [], codes, ◌≡◌}
 use Rattle.std.proofs.lemmas.List.{append_assoc, take_all}
 use Rattle.mdns_message.specs.Resource.{type_name, type_of}
 use Rattle.mdns_message.specs.declared.resource.Resource.{Resource}

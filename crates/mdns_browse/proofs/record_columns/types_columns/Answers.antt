@@ -1,5 +1,4 @@
-use Rattle.std.proofs.Common.{arith}
-use Rattle.std.proofs.Common.{string_bytes}
+use Rattle.std.proofs.Common.{arith, string_bytes}
 use Rattle.mdns_browse.proofs.record_columns.types_columns.Goals as goal
 
 pub returns : goal.returns

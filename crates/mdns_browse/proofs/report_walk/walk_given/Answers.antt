@@ -1,8 +1,7 @@
 use Rattle.mdns_cache.specs.LentRecords.{last_lent}
 use Rattle.mdns_browse.specs.Given.{given_lent}
-use Rattle.std.proofs.lemmas.Grind.{common_steps}
+use Rattle.std.proofs.lemmas.Grind.{common_steps, flat_map-append}
 use Rattle.std.proofs.Common.{None, Some, ◌≡◌, sym, ◌∙◌, ap, subst, List, map, ◌++◌, arith}
-use Rattle.std.proofs.lemmas.Grind.{flat_map-append}
 use Rattle.std.proofs.lemmas.List.{append-nil}
 use Rattle.std.proofs.lemmas.List.Elements.{filter_map-append}
 use Rattle.std.specs.List.{flat_map}

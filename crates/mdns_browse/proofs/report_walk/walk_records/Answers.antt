@@ -1,5 +1,4 @@
-use Rattle.std.proofs.Common.{arith}
-use Rattle.std.proofs.Common.{refl, map}
+use Rattle.std.proofs.Common.{arith, refl, map}
 use Rattle.mdns_cache.specs.LentRecords.{live_record_lent}
 use Rattle.mdns_browse.specs.Report.{records_about}
 use Rattle.mdns_browse.specs.Sheet.{live_record}

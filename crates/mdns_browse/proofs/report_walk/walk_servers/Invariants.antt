@@ -3,8 +3,7 @@ use Rattle.std.specs.List.{flat_map}
 use Rattle.mdns_cache.specs.LentRecords.{last_lent}
 use Rattle.mdns_browse.specs.Services.{AreAscending}
 use Rattle.mdns_browse.specs.Sheet.{server_pieces}
-use Rattle.mdns_browse.proofs.InstanceLemmas.{servers_of}
-use Rattle.mdns_browse.proofs.InstanceLemmas.{servers_of}
+use Rattle.mdns_browse.proofs.InstanceLemmas.{servers_of, servers_of}
 use Rattle.mdns_browse.proofs.report_walk.walk_servers.Given as goal
 
 abbrev pub invariant-loop-row : goal.invariant-loop-row

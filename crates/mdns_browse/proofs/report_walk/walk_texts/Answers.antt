@@ -1,7 +1,6 @@
-use Rattle.std.proofs.Common.{sym, ap, subst, []}
+use Rattle.std.proofs.Common.{sym, ap, subst, [], ◌≡◌, List, map, ◌++◌, arith}
 use Rattle.std.specs.List.{cons_option}
 use Rattle.std.proofs.lemmas.Grind.{common_steps}
-use Rattle.std.proofs.Common.{◌≡◌, List, map, ◌++◌, arith}
 use Rattle.std.proofs.lemmas.List.{map-append}
 use Rattle.mdns_join.specs.declared.latest.Latest.{Latest}
 use Rattle.mdns_cache.specs.LentRecords.{last_lent}

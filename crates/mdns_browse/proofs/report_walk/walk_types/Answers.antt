@@ -1,5 +1,4 @@
-use Rattle.std.proofs.Common.{arith}
-use Rattle.std.proofs.Common.{sym, ap, [], map}
+use Rattle.std.proofs.Common.{arith, sym, ap, [], map}
 use Rattle.std.specs.List.{cons_option, filter}
 use Rattle.mdns_cache.specs.LentRecords.{live_record_lent}
 use Rattle.mdns_browse.specs.About.{keeps_type}

@@ -1,6 +1,5 @@
 use Rattle.std.proofs.lemmas.Grind.{common_steps}
-use Rattle.std.proofs.Common.{arith}
-use Rattle.std.proofs.Common.{refl}
+use Rattle.std.proofs.Common.{arith, refl}
 use Rattle.mdns_browse.specs.Services.{lasts_in, types_in}
 use Rattle.mdns_browse.proofs.KeptLemmas.{types-append}
 use Rattle.mdns_browse.proofs.ListLemmas.{left_all, left_more, left_same}

@@ -1,5 +1,4 @@
-use Rattle.std.proofs.Common.{arith}
-use Rattle.std.proofs.Common.{ap, map}
+use Rattle.std.proofs.Common.{arith, ap, map}
 use Rattle.mdns_cache.specs.LentRecords.{last_lent}
 use Rattle.mdns_cache.proofs.LiveRowLemmas.{kept-all, kept-more, last_of}
 use Rattle.mdns_cache.proofs.live.lasts_of.Goals as goal

@@ -1,5 +1,4 @@
-use Rattle.std.proofs.Common.{arith}
-use Rattle.std.proofs.Common.{nat_cmp}
+use Rattle.std.proofs.Common.{arith, nat_cmp}
 use Rattle.mdns_message.specs.laws.Resource.{resource_cmp-total}
 use Rattle.mdns_join.proofs.OrderLemmas.{then_tied}
 use Rattle.mdns_join.proofs.latest.is_older.Goals as goal

@@ -1,10 +1,8 @@
-use Rattle.std.proofs.Common.{◌≢◌}
-use Rattle.mdns_lives.specs.Changes.{by_sets}
-use Rattle.std.proofs.Common.{◌≡◌, ◌∷◌, [], ◌∙◌, true, List, ap, map, rules, sym}
+use Rattle.std.proofs.Common.{◌≢◌, ◌≡◌, ◌∷◌, [], ◌∙◌, true, List, ap, map, rules, sym}
+use Rattle.mdns_lives.specs.Changes.{by_sets, goes_on, maybe_row}
 use Rattle.std.proofs.lemmas.List.{map-append}
 use Rattle.mdns_cache.specs.LentRecords.{last_lent}
 use Rattle.mdns_lives.specs.declared.lives.RecordLives.{RecordLives}
-use Rattle.mdns_lives.specs.Changes.{goes_on, maybe_row}
 use Rattle.mdns_lives.specs.Lives.{AreApart}
 use Rattle.mdns_lives.specs.LentLives.{row_lent}
 use Rattle.mdns_lives.proofs.ChosenLemmas.{none-left, read-more, read-some}

@@ -1,5 +1,4 @@
-use Rattle.std.proofs.Common.{arith}
-use Rattle.std.proofs.Common.{vec_capacity, vec_len}
+use Rattle.std.proofs.Common.{arith, vec_capacity, vec_len}
 use Rattle.mdns_lives.proofs.RoomLemmas.{room_pushed}
 use Rattle.mdns_lives.proofs.SecondsLemmas.{seconds_of-push}
 use Rattle.mdns_lives.proofs.history.push_one.Goals as goal

@@ -1,5 +1,4 @@
-use Rattle.std.proofs.Common.{arith}
-use Rattle.std.proofs.Common.{vec_capacity, vec_len}
+use Rattle.std.proofs.Common.{arith, vec_capacity, vec_len}
 use Rattle.mdns_lives.specs.Each.{heard_each}
 use Rattle.mdns_lives.proofs.EachLemmas.{room_appended}
 use Rattle.mdns_lives.proofs.SecondsLemmas.{seconds_of-append}

@@ -1,5 +1,4 @@
-use Rattle.std.proofs.Common.{arith}
-use Rattle.std.proofs.Common.{append_assoc, append-nil}
+use Rattle.std.proofs.Common.{arith, append_assoc, append-nil}
 use Rattle.mdns_lives.proofs.message_chronicle.hear_all.Goals as goal
 
 pub loop-hearing-preserved : goal.loop-hearing-preserved

@@ -1,5 +1,4 @@
-use Rattle.std.proofs.Common.{arith}
-use Rattle.std.proofs.Common.{append_assoc}
+use Rattle.std.proofs.Common.{arith, append_assoc}
 use Rattle.mdns_lives.proofs.message_chronicle.hear_all_at_each.Goals as goal
 
 pub loop-hearing-init : goal.loop-hearing-init

@@ -1,5 +1,4 @@
-use Rattle.std.proofs.Common.{arith}
-use Rattle.std.proofs.Common.{append_assoc}
+use Rattle.std.proofs.Common.{arith, append_assoc}
 use Rattle.mdns_lives.proofs.HeardLemmas.{seconds_from-on, seconds_from-anew}
 use Rattle.mdns_lives.proofs.seconds_heard.take_next.Goals as goal
 

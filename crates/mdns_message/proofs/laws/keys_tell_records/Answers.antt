@@ -1,5 +1,4 @@
-use Rattle.std.proofs.Common.{arith}
-use Rattle.std.proofs.Common.{ap}
+use Rattle.std.proofs.Common.{arith, ap}
 use Rattle.std.specs.Cmp.Lexicographic.{bytes_decides}
 use Rattle.mdns_message.specs.Resource.{folded_data_of, set_key_of}
 use Rattle.mdns_message.specs.laws.Resource.{set_keys-same}

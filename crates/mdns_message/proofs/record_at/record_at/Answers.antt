@@ -1,5 +1,4 @@
-use Rattle.std.proofs.Common.{arith}
-use Rattle.std.proofs.Common.{◌≡◌, ◌∙◌, length, rules, sym}
+use Rattle.std.proofs.Common.{arith, ◌≡◌, ◌∙◌, length, rules, sym}
 use Rattle.mdns_message.proofs.RecordLemmas.{flat_after, told_after}
 use Rattle.mdns_message.proofs.record_at.record_at.Goals as goal
 use Rattle.mdns_message.proofs.record_at.record_at.Goals.{else-len-count-via-then-len-count+else-len-knew, else-len-count-via-else-len-count}

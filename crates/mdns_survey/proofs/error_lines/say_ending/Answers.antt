@@ -1,5 +1,4 @@
-use Rattle.std.proofs.Common.{arith}
-use Rattle.std.proofs.Common.{string_bytes}
+use Rattle.std.proofs.Common.{arith, string_bytes}
 use Rattle.mdns_survey.proofs.SaidLemmas.{prefix-of-ending, is-said}
 use Rattle.mdns_survey.proofs.error_lines.say_ending.Goals as goal
 

@@ -1,5 +1,4 @@
-use Rattle.std.proofs.Common.{arith}
-use Rattle.std.proofs.Common.{[], refl}
+use Rattle.std.proofs.Common.{arith, [], refl}
 use Rattle.mdns_survey.proofs.KeptLemmas.{laid-more}
 use Rattle.mdns_survey.proofs.lives_answer.columns_of.Goals as goal
 

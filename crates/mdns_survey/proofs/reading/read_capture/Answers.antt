@@ -1,6 +1,4 @@
-use Rattle.std.proofs.Common.{rules}
-use Rattle.std.proofs.Common.{arith}
-use Rattle.std.proofs.Common.{◌∙◌, Some, ap}
+use Rattle.std.proofs.Common.{rules, arith, ◌∙◌, Some, ap}
 use Rattle.mdns_capture.specs.Capture.{Gives, packet_lent}
 use Rattle.mdns_survey.specs.declared.reading.Span.{Span}
 use Rattle.mdns_survey.specs.Span.{joined_spans}

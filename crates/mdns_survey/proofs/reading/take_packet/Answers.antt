@@ -1,5 +1,4 @@
-use Rattle.std.proofs.Common.{arith}
-use Rattle.std.proofs.Common.{inl}
+use Rattle.std.proofs.Common.{arith, inl}
 use Rattle.mdns_capture.specs.Capture.{packet_lent}
 use Rattle.mdns_survey.specs.Outcomes.{heard}
 use Rattle.mdns_survey.proofs.LossLemmas.{counts-no-loss}

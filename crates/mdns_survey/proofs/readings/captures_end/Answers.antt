@@ -1,5 +1,4 @@
-use Rattle.std.proofs.Common.{arith}
-use Rattle.std.proofs.Common.{◌∙◌, sym}
+use Rattle.std.proofs.Common.{arith, ◌∙◌, sym}
 use Rattle.mdns_survey.proofs.SpanLemmas.{end-given, end-latest, last_of}
 use Rattle.mdns_survey.proofs.readings.captures_end.Goals as goal
 

@@ -1,5 +1,4 @@
-use Rattle.std.proofs.Common.{arith}
-use Rattle.std.proofs.Common.{◌≡◌, ℕ, List, ◌++◌, ap, append_assoc, string_bytes}
+use Rattle.std.proofs.Common.{arith, ◌≡◌, ℕ, List, ◌++◌, ap, append_assoc, string_bytes}
 use Rattle.std.proofs.lemmas.List.{take_rest}
 use Rattle.std.proofs.lemmas.Result.{IfOk-equal}
 use Rattle.people_text.proofs.ShownLemmas.{plain-front}

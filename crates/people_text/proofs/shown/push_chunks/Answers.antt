@@ -1,5 +1,4 @@
-use Rattle.std.proofs.Common.{arith}
-use Rattle.std.proofs.Common.{append-nil, append_assoc, string_bytes}
+use Rattle.std.proofs.Common.{arith, append-nil, append_assoc, string_bytes}
 use Rattle.people_text.proofs.ScalarLemmas.{chunk-shown, shown-none}
 use Rattle.people_text.proofs.shown.push_chunks.Goals as goal
 

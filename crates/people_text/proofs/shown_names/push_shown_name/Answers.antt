@@ -1,5 +1,4 @@
-use Rattle.std.proofs.Common.{arith}
-use Rattle.std.proofs.Common.{◌≡◌, List, ℕ, true, ◌∷◌, ◌++◌, ap, append_assoc, sym, string_bytes}
+use Rattle.std.proofs.Common.{arith, ◌≡◌, List, ℕ, true, ◌∷◌, ◌++◌, ap, append_assoc, sym, string_bytes}
 use Rattle.std.proofs.lemmas.Result.{IfOk-equal}
 use Rattle.dns_name.specs.Name.{labels_of}
 use Rattle.dns_name.proofs.FormLemmas.{IsForm-after, IsForm-last, labels_of-after}

@@ -1,5 +1,4 @@
-use Rattle.std.proofs.Common.{arith}
-use Rattle.std.proofs.Common.{◌∙◌, ap}
+use Rattle.std.proofs.Common.{arith, ◌∙◌, ap}
 use Rattle.join_map.specs.Blocks.{picked}
 use Rattle.join_map.proofs.OrderLemmas.{ArePlaces-order}
 use Rattle.join_map.proofs.PlaceLemmas.{rows-entries}

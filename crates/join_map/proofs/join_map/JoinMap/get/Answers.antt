@@ -1,5 +1,4 @@
-use Rattle.std.proofs.Common.{arith}
-use Rattle.std.proofs.Common.{sym}
+use Rattle.std.proofs.Common.{arith, sym}
 use Rattle.join_map.specs.Blocks.{entries_of}
 use Rattle.join_map.specs.laws.Entries.{IsJoinMap-value}
 use Rattle.join_map.proofs.SpotLemmas.{value_at-spot, value_at-gap}

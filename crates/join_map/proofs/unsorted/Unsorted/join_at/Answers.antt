@@ -1,5 +1,4 @@
-use Rattle.std.proofs.Common.{arith}
-use Rattle.std.proofs.Common.{◌≡◌, ◌<◌, length, get_or, sym, subst, rules}
+use Rattle.std.proofs.Common.{arith, ◌≡◌, ◌<◌, length, get_or, sym, subst, rules}
 use Rattle.join_map.specs.Entries.{AllFit}
 use Rattle.join_map.proofs.GatherLemmas.{fits-at, fits-set, joined_at_place, valid-set}
 use Rattle.join_map.proofs.unsorted.Unsorted.join_at.Goals as goal

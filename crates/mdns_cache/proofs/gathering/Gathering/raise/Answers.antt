@@ -1,5 +1,4 @@
-use Rattle.std.proofs.Common.{arith}
-use Rattle.std.proofs.Common.{Some, subst}
+use Rattle.std.proofs.Common.{arith, Some, subst}
 use Rattle.mdns_cache.specs.Contents.{IsContents}
 use Rattle.mdns_cache.specs.Gathering.{contents_gathered}
 use Rattle.mdns_cache.proofs.BetweenLemmas.{IsContents-raised}

@@ -1,7 +1,5 @@
-use Rattle.std.proofs.Common.{List, ap, ◌∙◌}
+use Rattle.std.proofs.Common.{List, ap, ◌∙◌, arith, append-nil}
 use Rattle.mdns_capture.specs.declared.moment.Moment.{Moment}
-use Rattle.std.proofs.Common.{arith}
-use Rattle.std.proofs.Common.{append-nil}
 use Rattle.std.proofs.lemmas.Result.{on_ok_weaker}
 use Rattle.mdns_message.specs.Borrowed.{hearing_lent}
 use Rattle.mdns_lives.specs.Chronicle.{join_accounts}

@@ -1,5 +1,4 @@
-use Rattle.std.proofs.Common.{arith}
-use Rattle.std.proofs.Common.{sym, subst}
+use Rattle.std.proofs.Common.{arith, sym, subst}
 use Rattle.std.proofs.lemmas.List.{map-append}
 use Rattle.mdns_join.specs.Kept.{IsAscending}
 use Rattle.mdns_join.specs.laws.Kept.{IsAscending-ascending}

@@ -1,5 +1,4 @@
-use Rattle.std.proofs.Common.{arith}
-use Rattle.std.proofs.Common.{refl}
+use Rattle.std.proofs.Common.{arith, refl}
 use Rattle.std.proofs.lemmas.Result.{on_err_weaker}
 use Rattle.join_map.specs.laws.Join.{join-again}
 use Rattle.mdns_cache.proofs.BetweenLemmas.{on_err_any}

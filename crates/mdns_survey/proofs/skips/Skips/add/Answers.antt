@@ -1,5 +1,4 @@
-use Rattle.std.proofs.Common.{arith}
-use Rattle.std.proofs.Common.{subst}
+use Rattle.std.proofs.Common.{arith, subst}
 use Rattle.mdns_survey.specs.Skips.{IsSkipOf}
 use Rattle.mdns_survey.proofs.SkipLemmas.{counts-no-skip, counts-skip}
 use Rattle.mdns_survey.proofs.skips.Skips.add.Goals as goal
