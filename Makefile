@@ -70,10 +70,8 @@ test:
 	$(NEED_RT)
 	trials/gate
 
-# The trials alone, with each allocation refused (trials/README.md). The first time the proofs of `uses` and the tests take
-# minutes.
+# The trials alone, with each allocation refused (trials/README.md). The first time the proofs of the tests take minutes.
 trials: $(PROGRAMS)
-	cd crates/uses && rt run -- $(CURDIR)/examples/west.pcap > /dev/null
 	cd crates/test_values && rt lib
 	for tests in crates/*/src/allocations.rt; do (cd "$${tests%/src/*}" && rt test) || exit 1; done
 	trials/run --program mdnsmerge
