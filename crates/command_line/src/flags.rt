@@ -40,7 +40,7 @@ pub(crate) const LISTENER: Flag = Flag {
     help: "Files named PREFIX... are one listener; repeatable",
 };
 
-/// The flags of an output: some, those of the forms that every output has, and others.
+/// A list of flags: the first ones, `--json`, and the last ones.
 macro_rules! with_forms {
     ([$($first:expr),*], [$($last:expr),*]) => {
         &[
@@ -56,7 +56,7 @@ macro_rules! with_forms {
     };
 }
 
-/// The same, of an output about words: some, those of words, those of forms, and others.
+/// The same with `--about` behind the first ones.
 macro_rules! with_words {
     ([$($first:expr),*], [$($last:expr),*]) => {
         with_forms!([$($first,)* ABOUT], [$($last),*])
@@ -76,9 +76,10 @@ pub(crate) const REPORT_FLAGS: &[Flag] = with_words!([AT, BEFORE], [PRETTY]);
 /// The flags of what has one form, as of a moment.
 pub(crate) const PAGE_FLAGS: &[Flag] = &[AT, BEFORE, ABOUT];
 
-/// The flags of the hearings, of another trace, and of what is said of files.
+/// The flags of `hearings`.
 pub(crate) const HEARINGS_FLAGS: &[Flag] = with_words!([], [PRETTY]);
 
+/// The flags of the other traces.
 pub(crate) const TRACE_FLAGS: &[Flag] = with_forms!([], [PRETTY]);
 
 /// The flags of what is written of listeners.

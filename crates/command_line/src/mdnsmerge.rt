@@ -40,7 +40,7 @@ struct Scope {
     lists: Lists,
 }
 
-/// The subcommands: the reports, which take these flags, others, and `check`. `$report` makes of an `Ask` what its
+/// The subcommands: the reports, which take `$flags`, the `$other` ones, and `check`. `$report` turns an `Ask` into what the
 /// subcommand asks for.
 macro_rules! subcommands {
     ($flags:expr, $report:path, [$($other:expr),*], $check:expr) => {

@@ -56,7 +56,7 @@ abbrev pub known_words : List ℕ → ℕ → Option Quartiles → List ℕ
 known_words file by None = codes "can't tell: no message came once in both"
 known_words file by (Some quartiles) = quartile_words file by quartiles
 
--- what is said of the second listener's clock, whose file is written so
+-- what is said of the second listener's clock, whose name is written as given
 unfoldable pub clock_words : List ℕ → PairRow → List ℕ
 clock_words file row =
     if row.common == 0 then codes "nothing in common: another link, or another filter?"

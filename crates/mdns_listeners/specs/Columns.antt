@@ -54,7 +54,7 @@ sender_count (name ∷ names) = 7
 
 -- ---- rows
 
--- the cells of a listener whose file is written so
+-- the cells of a listener whose name is written as given
 abbrev pub listener_cells : List ℕ → ListenerRow → List (List ℕ)
 listener_cells file row =
     file ∷ decimal row.heard ∷ decimal row.alone ∷ decimal row.missed
@@ -64,7 +64,7 @@ listener_cells file row =
 abbrev pub pair_cells : List ℕ → List ℕ → PairRow → List (List ℕ)
 pair_cells file other row = file ∷ other ∷ decimal row.common ∷ clock_words other row ∷ []
 
--- the cells of a sender that goes by these names, at a listener whose file is written so
+-- the cells of a sender that goes by these names, at a listener whose name is written as given
 abbrev pub sender_cells : List ℕ → SenderRow → List (List ℕ) → List (List ℕ)
 sender_cells file row names =
     source_shown row.source ∷ file ∷ decimal row.heard ∷ decimal row.missed

@@ -41,7 +41,7 @@ median_words (Some quartiles) =
     (codes " ahead " ++ signed_text quartiles.middle) ++ (codes " from " ++ signed_text quartiles.low)
     ++ (codes " to " ++ signed_text quartiles.high)
 
--- the line of a listener whose file is written so
+-- the line of a listener whose name is written as given
 unfoldable pub listener_line : List ℕ → ListenerRow → List ℕ
 listener_line file row =
     file ++ codes " heard " ++ decimal row.heard ++ codes " alone " ++ decimal row.alone ++ codes " missed " ++ decimal row.missed
@@ -53,7 +53,7 @@ pair_line file other row =
     file ++ 32 ∷ other ++ codes " common " ++ decimal row.common ++ median_words row.quartiles
     ++ codes " by " ++ decimal row.by ++ 10 ∷ []
 
--- the line of a sender that goes by these names, at a listener whose file is written so
+-- the line of a sender that goes by these names, at a listener whose name is written as given
 unfoldable pub sender_line : List ℕ → SenderRow → List (List ℕ) → List ℕ
 sender_line file row names =
     source_text row.source ++ 32 ∷ file ++ codes " heard " ++ decimal row.heard ++ codes " missed " ++ decimal row.missed

@@ -12,6 +12,6 @@ pub record NamedSender : Type 0 where
 abbrev pub sender_lent : LentSender → NamedSender
 sender_lent sender = record { row = sender.row; names = sender.names.now }
 
--- the file of the listener at a position; empty if there is no such listener
+-- the name of the listener at a position; empty if there is no such listener
 abbrev pub listener_name_at : List (List ℕ) → ℕ → List ℕ
 listener_name_at listener_names listener = slice_index_or listener_names listener []

@@ -33,7 +33,7 @@ ahead_members (Some quartiles) =
     text_member (codes "ahead") (signed_text quartiles.middle) ∷ text_member (codes "low") (signed_text quartiles.low)
     ∷ text_member (codes "high") (signed_text quartiles.high) ∷ []
 
--- the line of a listener whose file is written so
+-- the line of a listener whose name is written as given
 unfoldable pub listener_json : List ℕ → ListenerRow → List ℕ
 listener_json file row =
     json_object
@@ -47,7 +47,7 @@ pair_json file other row =
     (text_member (codes "file") file ∷ text_member (codes "other") other ∷ number_member (codes "common") row.common
     ∷ (ahead_members row.quartiles ++ number_member (codes "by") row.by ∷ [])) ++ 10 ∷ []
 
--- the line of a sender that goes by these names, at a listener whose file is written so
+-- the line of a sender that goes by these names, at a listener whose name is written as given
 unfoldable pub sender_json : List ℕ → SenderRow → List (List ℕ) → List ℕ
 sender_json file row names =
     json_object

@@ -24,7 +24,7 @@ pub(crate) enum Cell<'a> {
     /// `-` where there is none.
     Moment(Option<Moment>),
     Source(&'a SourceAddress),
-    /// The words on the clock of the second listener of a pair, whose file is written so.
+    /// The words on the clock of the second listener of a pair, whose name is written as given.
     Clock(&'a str, &'a PairRow),
     /// Names with `, ` between them.
     Names(&'a [Name]),

@@ -27,10 +27,10 @@ pub(crate) trait Scribe<R, W> {
     ghost use Rattle.mdns_trace.specs.declared.trace.TraceFault.{TraceFault};
 
     /// What a scribe finds of a file.
-    type PacketOutcome: Drop;
+    type Finding: Drop;
 
     // What was written about a file of that name with that reader, and found of it.
-    ghost Writes: { Self → List ℕ → R → W → W → Self.PacketOutcome → Type 0 };
+    ghost Writes: { Self → List ℕ → R → W → W → Self.Finding → Type 0 };
 
     // What was written before a fault.
     ghost Stops: { Self → List ℕ → R → W → W → TraceFault → Type 0 };
@@ -42,7 +42,7 @@ pub(crate) trait Scribe<R, W> {
         name: &str,
         reader: R,
         out: &mut W,
-    ) -> Result<Self::PacketOutcome, TraceFault>
+    ) -> Result<Self::Finding, TraceFault>
         ensures written { IfOk result (Writes self.now name.now reader out.old out.new) }
         ensures stops { IfErr result (Stops self.now name.now reader out.old out.new) };
 }
@@ -54,7 +54,7 @@ pub(crate) fn write_each<R: Drop, W, S: Scribe<R, W>>(
     names: &[String],
     readers: Vec<R>,
     out: &mut W,
-) -> Result<Vec<S::PacketOutcome>, FilesFault>
+) -> Result<Vec<S::Finding>, FilesFault>
     requires { length names.now ≡ length readers.items }
     ensures written { IfOk result (λ found. WritesEach (S.Writes scribe.now) out.old
         (map string_bytes names.now) readers.items out.new found.items) }
@@ -83,7 +83,7 @@ pub(crate) fn write_each<R: Drop, W, S: Scribe<R, W>>(
 impl<R: Source + Drop, W: Sink> Scribe<R, W> for Tracer<'_> {
     ghost use Rattle.mdns_trace.specs.Inquiry.{StopsTrace, WritesTrace};
 
-    type PacketOutcome = Summary;
+    type Finding = Summary;
 
     ghost Writes = { λ tracer. WritesTrace R.Source W.Sink tracer.trace tracer.about.now };
 

@@ -55,7 +55,7 @@ struct Judge {
 impl<R: Source + Drop, W: Sink> Scribe<Option<R>, W> for Judge {
     ghost use Rattle.mdns_trace.specs.Verdicts.{StopsVerdict, WritesVerdict};
 
-    type PacketOutcome = Verdict;
+    type Finding = Verdict;
 
     ghost Writes = { λ judge. WritesVerdict R.Source W.Sink judge.form };
 
