@@ -72,6 +72,14 @@ def said(words, line, program="mdnsmerge", **how):
     return refused(words, f"{program}: {line}\n", **how)
 
 
+def mdnswhy_of(program):
+    """mdnswhy of the same build as a program: beside it, or in a crate's folder beside that of mdnsmerge."""
+    folder = program.parent
+    if folder.parts[-3:] == ("crates", "mdnsmerge", "out"):
+        folder = folder.parent.with_name("mdnswhy") / "out"
+    return folder / f"mdnswhy{program.suffix}"
+
+
 def named_copy(program, folder, name="mdnsmerge"):
     """A copy of a program under its own name, which usage tells, in a folder where anyone may run it."""
     folder.chmod(0o755)
