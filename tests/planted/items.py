@@ -53,7 +53,7 @@ def owner_of(line):
     """The type and the trait, with its parameters, of an `impl`; the trait alone of a `trait`."""
     kind, rest = OWNER.match(line).groups()
     if kind == "trait":
-        return base(rest), ""
+        return base(rest.rstrip(" {")), ""
     trait, _, owner = after_parameters(rest.rstrip(" {")).rpartition(" for ")
     return base(owner), trait.strip()
 
