@@ -1,6 +1,6 @@
 """What must hold of the pages over the captures of a case: each is markup of few elements, and what it says follows from
 `lives --json` and `instances --json`, and why packets were skipped from `mdnswhy packets`. Only in which seconds a capture
-heard a record, as ticks and words tell, is read from the captures (`trials/lanes.py`)."""
+heard a record, as ticks and words tell, is read from the captures (`tests/judges/lanes.py`)."""
 
 import json
 from collections import Counter

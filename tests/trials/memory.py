@@ -196,7 +196,7 @@ def try_memory(program, folder):
     faults = [(pair, fault_of(pair, program, folder)) for pair in tried]
     for pair, fault in faults:
         if fault:
-            print(f"trials/memory.py: {pair.program} {pair.asked} over {pair.what}: {fault}")
+            print(f"tests/trials/memory.py: {pair.program} {pair.asked} over {pair.what}: {fault}")
     failed = sum(fault is not None for _, fault in faults)
     print(f"{len(tried)} peaks of memory, {failed} failed")
     return failed
