@@ -4,8 +4,8 @@ use memory::Want;
 use std::alloc::Global;
 use std::mem::replace;
 
-/// The slots, from a hash's own on, in which its place may stand. At most half of the slots are taken, so that a run of
-/// so many is hardly met unless someone makes it; then a place is replaced by another.
+/// How many slots, from that of its hash on, may hold a place. At most half of all slots are taken, so that a full run of
+/// as many is rare unless somebody makes one; then a place is replaced by another.
 pub const REACH: usize = 64;
 
 /// The places of things, by a hash of each. What it says is to be checked, since other things may have the same hash,

@@ -64,8 +64,8 @@ fn sort<K: Copied, V>(order: &mut [Ranked], entries: &[(K, V)])
     sort_ties(order, entries, alike.saturating_add(BYTES));
 }
 
-// Sorts places by their prefixes. Where these come in two runs, the later one first, one pass does it: so come records in
-// order of which the first were remembered.
+// Sorts places by their prefixes. One pass does it where they form two runs and the later one belongs first, as where
+// remembered messages come last.
 fn sort_by_prefixes(order: &mut [Ranked])
     ensures { IsPermutation order.old order.new }
 {

@@ -24,8 +24,8 @@ impl Once {
         }
     }
 
-    /// Returns whether the hash was noted, and frees its slot. Otherwise notes it, if its slot is free, and every other
-    /// time if another has the slot: of two that share a slot and come in turn, one stays.
+    /// Returns whether the hash was noted, and then frees its slot. If the slot is free, notes the hash. If another hash has
+    /// it, replaces that every other time, so that of two that share a slot and come in turn, one stays.
     pub(crate) fn comes_again(&mut self, alloc: Global, hash: u64) -> bool {
         if self.slots.is_empty() {
             self.slots = vec![in alloc; 0; SLOTS].unwrap_or(Vec::new(alloc));

@@ -14,7 +14,7 @@ use memory::Want;
 use std::alloc::Global;
 use std::marker::Model;
 
-/// Among how many moments one more is put at once. They fill eight cache lines of 64 bytes, and moving them takes no
+/// Among so many moments one more is put at once, and doesn't wait. They fill eight cache lines of 64 bytes, and moving them takes no
 /// longer than looking up their record set.
 const AT_ONCE: usize = 64;
 
@@ -88,7 +88,7 @@ impl LateMoments {
     }
 }
 
-// Returns whether so many more moments may wait: more than a few are kept, and no fewer than would wait then.
+// Returns whether so many more moments may wait: more than `AT_ONCE` are kept, and no more would wait than are kept.
 fn may_wait(kept: &Moments, late: &[Moment], more: usize) -> bool
     ensures { OnTrue result (length late.now + more ≤ length kept.now) }
 {

@@ -288,7 +288,7 @@ fn make_room(items: &mut Vec<Packed>, more: usize) -> Result<(), Want>
     ensures bound { IsRoomFor (seconds_of items.old.items) (vec_len items.old) (vec_capacity items.old)
         → OnOk result (IsRoomFor (seconds_of items.new.items) (vec_len items.new + more) (vec_capacity items.new)) }
 
-    // Where there is as much room, or at most as many come as are there, it doesn't count whether they come.
+    // The bound also holds if the hearings never come, where they fit already or are no more than those held.
     ensures unused { IsErr result ⊎ (more ≤ max (vec_len items.old) (vec_capacity items.old - vec_len items.old))
         → IsRoomFor (seconds_of items.old.items) (vec_len items.old) (vec_capacity items.old)
         → IsRoomFor (seconds_of items.new.items) (vec_len items.new) (vec_capacity items.new) }

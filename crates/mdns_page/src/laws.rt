@@ -104,8 +104,8 @@ pub fn counts()
     ensures thousands { (n : ℕ) → 1000 ≤ n → n < 2 ^ 128 → commas n ≡ commas (n / 1000) ++ 44 ∷ three_digits (n % 1000) }
 {}
 
-/// Names, of instances, types, hosts, files and subjects, and texts reach a page only by the function `say`. Where it writes
-/// nothing, two pages are equal whose subjects are as many and whose captures, rows and live instances agree in all else.
+/// Names, of instances, types, hosts, files and subjects, and texts reach a page only by the function `say`. If it writes
+/// nothing, two pages are equal that have equally many subjects, and captures, rows and live instances that agree in all else.
 pub fn names()
     ensures { (a b : Shown) (opened : Bool) (lasts others : List Latest) (live now : List GivenRow) → a.axis ≡ b.axis → a.lost ≡ b.lost
         → a.skipped ≡ b.skipped → a.live ≡ live_text unsaid a.axis opened lasts live

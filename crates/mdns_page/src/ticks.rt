@@ -44,8 +44,8 @@ pub(crate) fn push_symbols(
     push_labels_and_lines(to, axis, lanes, captures, ticks.as_slice())
 }
 
-// Appends the labels and the lines at these ticks: the lines as `v` for pictures of captures, and as `g`, with those of the
-// lanes, for those of rows.
+// Appends the labels, and the lines at these ticks twice: as `v` for the pictures of captures, and as `g`, with the lines of
+// the lanes, for those of rows.
 fn push_labels_and_lines(
     to: &mut String,
     axis: Axis,

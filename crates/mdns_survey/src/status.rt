@@ -14,7 +14,8 @@ pub const WHOLE: u8 = 0;
 /// The status where all was printed, and some capture wasn't whole.
 pub const DAMAGED: u8 = 1;
 
-/// The status after an error: nothing was printed, a write failed, or `mdnswhy` stopped after some of its lines.
+/// The status after an error: nothing was printed, a write failed, or what is printed as it is found (`lives`, `changes`,
+/// `mdnswhy`) stopped after some of its lines.
 pub const REFUSED: u8 = 2;
 
 /// Returns the exit status for these summaries.
