@@ -1,4 +1,4 @@
-//! Callers of the libraries: what each layer's contract lets a caller conclude. All but one are proved without a
+//! Callers of the libraries: what each layer's contract lets a caller conclude. All but four are proved without a
 //! proof file.
 #![tactic(auto)]
 

@@ -1,29 +1,35 @@
 //! What listeners heard of one link: asking captures, rows of messages, and what the laws of these say.
 
-ghost use Rattle.std.specs.Prelude.{◌≡◌, ◌≢◌, ◌≤◌, [], ℕ, List, length, map, slice_index, slice_index_or, string_bytes, codes, true};
+ghost use Rattle.std.specs.Prelude.{◌≡◌, ◌≢◌, ◌≤◌, ◌++◌, [], ℕ, List, length, map, slice_index, slice_index_or, string_bytes, codes, true};
 ghost use Rattle.std.specs.Prelude.{Some, option_map, unwrap_or, IfNone, IfOk, IfSome, if◌then◌else◌};
 ghost use Rattle.std.specs.List.{All, list_all, sum_by};
 ghost use Rattle.std.specs.List.Sorted.{IsPermutation};
+ghost use Rattle.mdns_cache.specs.Live.{SameHearings};
 ghost use Rattle.mdns_capture.specs.Output.{writing};
+ghost use Rattle.mdns_message.specs.declared.hearing.Hearing.{Hearing};
 ghost use Rattle.mdns_survey.specs.Answer.{Reports};
 ghost use Rattle.mdns_listeners.specs.Clock.{is_one_clock};
 ghost use Rattle.mdns_listeners.specs.Groups.{grouped};
-ghost use Rattle.mdns_listeners.specs.Heard.{AreHeardIn, HasWholeAddress, Told, times_of};
+ghost use Rattle.mdns_listeners.specs.Heard.{AreHeardIn, HasWholeAddress, HeardRow, Told, times_of};
 ghost use Rattle.mdns_listeners.specs.Listeners.{AreListeners};
+ghost use Rattle.mdns_listeners.specs.Names.{AreNames, ListsNames};
 ghost use Rattle.mdns_listeners.specs.Numbers.{is_of, listener_rows};
 ghost use Rattle.mdns_listeners.specs.Pairs.{pair_rows};
+ghost use Rattle.mdns_listeners.specs.Parts.{joined_rows};
 ghost use Rattle.mdns_listeners.specs.Senders.{sender_rows};
 
 use mdns_browse::Form;
-use mdns_capture::{Sink, Source, Through};
+use mdns_capture::{Sink, Source, SourceAddress, Through};
 use mdns_listeners::clock::is_one_clock;
-use mdns_listeners::laws::order_changes_no_count;
+use mdns_listeners::laws::{
+    one_list_of_names, one_list_of_rows, order_changes_no_count, parts_tell_the_whole,
+};
 use mdns_listeners::listeners::ListenersRequest;
 use mdns_listeners::{
-    Groups, HeardMessage, ListenerRow, ListenerSpans, PairRow, SenderRow, listener_rows, pair_rows,
-    sender_rows,
+    Groups, HeardMessage, HeardMessages, ListenerRow, ListenerSpans, Names, PairRow, SenderRow,
+    listener_rows, pair_rows, sender_rows,
 };
-use mdns_message::Want;
+use mdns_message::{Name, Want};
 use mdns_survey::answers::{NamedProgram, answer_with};
 use mdns_survey::question::survey_with;
 use mdns_survey::status::REFUSED;
@@ -141,4 +147,52 @@ pub fn as_often_in_any_order()
         ≡ sum_by (λ at. if is_of listener at then 1 else 0) (times_of message told) }
 {
     order_changes_no_count();
+}
+
+/// Returns the rows of messages of two collections: the rows are equal where both collections heard the same messages, in the
+/// same order.
+pub fn rows_of_same_messages(
+    one: HeardMessages,
+    other: HeardMessages,
+) -> Result<(Vec<HeardMessage>, Vec<HeardMessage>), Want>
+    ensures one { IfOk result (λ rows. AreHeardIn one.told rows.0.items) }
+    ensures other { IfOk result (λ rows. AreHeardIn other.told rows.1.items) }
+    ensures same { IfOk result (λ rows. one.told ≡ other.told → rows.0.items ≡ rows.1.items) }
+{
+    one_list_of_rows();
+    let (rows, _) = one.finish()?;
+    let (others, _) = other.finish()?;
+    Ok((rows, others))
+}
+
+/// Returns the rows of messages of two captures: joined, they are the rows of both captures, and no other rows are.
+pub fn rows_of_parts(
+    first: HeardMessages,
+    second: HeardMessages,
+) -> Result<(Vec<HeardMessage>, Vec<HeardMessage>), Want>
+    ensures joined { IfOk result (λ rows. AreHeardIn (first.told ++ second.told) (joined_rows rows.0.items rows.1.items)) }
+    ensures whole { IfOk result (λ rows. (whole : List HeardRow) → AreHeardIn (first.told ++ second.told) whole
+        → whole ≡ joined_rows rows.0.items rows.1.items) }
+{
+    one_list_of_rows();
+    parts_tell_the_whole();
+    let (rows, _) = first.finish()?;
+    let (more, _) = second.finish()?;
+    Ok((rows, more))
+}
+
+/// Returns the names of one sender in two collections: the names are equal where both collections are of the same hearings, in
+/// whatever order and however often.
+pub fn names_in_any_order<'a>(
+    sender: &SourceAddress,
+    one: &'a Names,
+    other: &'a Names,
+) -> (&'a [Name], &'a [Name])
+    ensures one { (heard : List Hearing) → ListsNames one.now heard → AreNames sender.now heard result.0.now }
+    ensures other { (heard : List Hearing) → ListsNames other.now heard → AreNames sender.now heard result.1.now }
+    ensures same { (heard more : List Hearing) → ListsNames one.now heard → ListsNames other.now more → SameHearings heard more
+        → result.0.now ≡ result.1.now }
+{
+    one_list_of_names();
+    (one.names_of(sender), other.names_of(sender))
 }
