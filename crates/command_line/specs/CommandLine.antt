@@ -90,6 +90,7 @@ reports = (codes "records", ask.Records) ∷ (codes "types", ask.Types) ∷ (cod
 abbrev pub whats : Table (Option Ask)
 whats = map (λ row. (row.0, told_flags, Some row.1)) reports ++ (codes "check", [], None) ∷ []
 
+-- the command line of `mdnsmerge` for plain requests
 abbrev pub command_line : App
 command_line = line_with (codes "mdnsmerge") false whats
 
@@ -101,6 +102,7 @@ tasks = map (λ row. (row.0, report_flags, asks.Report row.1)) reports
     ∷ (codes "page", page_flags, asks.Page)
     ∷ (codes "check", [], asks.Check) ∷ []
 
+-- the whole command line of `mdnsmerge`
 abbrev pub command_line_with_past : App
 command_line_with_past = line_with (codes "mdnsmerge") true tasks
 
@@ -195,6 +197,7 @@ abbrev pub NamesNone : Text → Text → Text → List Row → Text → Type 0
 NamesNone program name other rows line = (text : Text) × ((first_of name rows ≡ Some text) × (first_of other rows ≡ None)
     × ((moment : Moment) → IsMomentText text moment → ⊥) × (line ≡ no_moment program name text))
 
+-- one of `--at` and `--before` is given, and its text names no moment
 abbrev pub GivesNoMoment : Text → List Row → Text → Type 0
 GivesNoMoment program rows line =
     NamesNone program (codes "at") (codes "before") rows line ⊎ NamesNone program (codes "before") (codes "at") rows line
@@ -209,6 +212,7 @@ inquiries = (codes "hearings", hearings_flags, inquiry.Trace (trace.Hearings for
     ∷ (codes "files", common_forms, inquiry.Files form.Lines)
     ∷ (codes "listeners", listeners_flags, inquiry.Listeners form.Lines) ∷ []
 
+-- the command line of `mdnswhy`
 abbrev pub why_line : App
 why_line = line_with (codes "mdnswhy") true inquiries
 

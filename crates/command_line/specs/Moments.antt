@@ -111,5 +111,6 @@ pub record IsSeconds (text : List ℕ) (moment : Moment) : Type 0 where
 
 -- ---- the text names the moment
 
+-- as seconds since 1970, or as a date and time
 abbrev pub IsMomentText : List ℕ → Moment → Type 0
 IsMomentText text moment = IsSeconds text moment ⊎ IsDateTime text moment

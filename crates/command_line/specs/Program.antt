@@ -37,6 +37,7 @@ Puts writer old new text done = OnTrue done (Appends (writer.written old) (write
     × OnFalse done (AppendsPrefix (writer.written old) (writer.written new) (trimmed text ++ 10 ∷ []))
     × WritesWell writer old new done
 
+-- a text was printed as a line, or a part of it where the write failed
 abbrev pub Prints : {W : Type 0} → sink.Ghosts W → W → W → List ℕ → Type 0
 Prints writer old new text = (done : Bool) × Puts writer old new text done
 

@@ -108,9 +108,11 @@ keeps is_about subjects = (length subjects == 0) || list_any is_about subjects
 unfoldable pub keeps_record : List Subject → Resource → Bool
 keeps_record about resource = keeps (λ subject. is_name_about resource.owner subject || is_in_data subject resource.body) about
 
+-- a service type is about one of the subjects, or there are none
 unfoldable pub keeps_type : List Subject → List ℕ → Bool
 keeps_type about name = keeps (is_name_about name) about
 
+-- and a service instance
 unfoldable pub keeps_instance : List Subject → Instance → Bool
 keeps_instance about instance = keeps (is_instance_about instance) about
 

@@ -76,6 +76,7 @@ record_table now rows =
     let kind = widest (codes "TYPE" ∷ map (λ (row : Latest × ℕ). type_name (type_of row.0.resource.body)) rows) in
     record_heads left heard kind ++ flat_map (record_row left heard kind now) rows
 
+-- the report on records for people: how many there are, and a table
 abbrev pub records_pretty : ℕ → List (Latest × ℕ) → List ℕ
 records_pretty now rows = heading (length rows) (codes "record") (codes "records") now ++ unless_none rows (record_table now rows)
 
@@ -84,6 +85,7 @@ records_pretty now rows = heading (length rows) (codes "record") (codes "records
 unfoldable pub type_row : List ℕ → List ℕ
 type_row name = name_shown name ++ 10 ∷ []
 
+-- the report on service types for people: how many there are, and a line for each
 abbrev pub types_pretty : ℕ → List (List ℕ) → List ℕ
 types_pretty now names =
     heading (length names) (codes "service type") (codes "service types") now ++ unless_none names (flat_map type_row names)

@@ -49,6 +49,7 @@ comes_back begun row = list_any (λ (life : Life). list_any (is_between row.1 li
 abbrev pub has_change : RecordSet → List (Latest × List Life) → Bool
 has_change set own = not (set.number == 12) && list_any (comes_back (begins_in own)) own
 
+-- a record set has changed, by the rows of all records
 abbrev pub has_changed : List (Latest × List Life) → RecordSet → Bool
 has_changed rows set = has_change set (rows_of_set set rows)
 

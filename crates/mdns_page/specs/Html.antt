@@ -8,6 +8,7 @@ html_byte byte =
     if byte == 38 then codes "&amp;" else (if byte == 60 then codes "&lt;" else (if byte == 62 then codes "&gt;"
     else (if byte == 34 then codes "&quot;" else (if byte == 39 then codes "&#39;" else byte ∷ []))))
 
+-- a text as HTML has it, within elements and in attributes
 unfoldable pub html_text : List ℕ → List ℕ
 html_text bytes = flat_map html_byte bytes
 

@@ -31,6 +31,7 @@ IsEarly _ newest = ⊥
 abbrev pub plain_request : Ask → Option Moment → ReportRequest
 plain_request ask at = record { ask = ask; form = Lines; as_of = at_or_newest at; about = [] }
 
+-- what a plain request asks for, in lines of words
 abbrev pub request_of : What → Request
 request_of (what.Report ask at) = request.Report (plain_request ask at)
 request_of what.Check = request.Check

@@ -19,6 +19,7 @@ hidden_ranges =
     ∷ (0x5FFFE, 0x5FFFF) ∷ (0x6FFFE, 0x6FFFF) ∷ (0x7FFFE, 0x7FFFF) ∷ (0x8FFFE, 0x8FFFF) ∷ (0x9FFFE, 0x9FFFF)
     ∷ (0xAFFFE, 0xAFFFF) ∷ (0xBFFFE, 0xBFFFF) ∷ (0xCFFFE, 0xCFFFF) ∷ (0xDFFFE, 0xDFFFF) ∷ (0xE0000, 0x10FFFF) ∷ []
 
+-- a scalar value that isn't shown to people as it is
 unfoldable pub is_hidden : ℕ → Bool
 is_hidden scalar = list_any (λ (range : ℕ × ℕ). nat_le range.0 scalar && nat_le scalar range.1) hidden_ranges
 
