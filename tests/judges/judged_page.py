@@ -25,6 +25,7 @@ from tests.judges.savefile import moment_of, reading_of
 from tests.judges.shown import shown, shown_name
 from tests.judges.subjects import is_instance_about, is_record_about
 from tests.judges.words import data_words, kind_text, moment_text, name_text
+from tests.running.runs import difference
 
 # Of each row the last lives are in words, and with more rows groups begin closed. With more lives bars have no titles.
 IN_WORDS, OPEN_ROWS, TITLED_LIVES = 3, 200, 1000
@@ -296,4 +297,9 @@ def differences(was, must, where="the page"):
         for place, (one, other) in enumerate(zip(was, must), 1):
             yield from differences(one, other, f"{where} {place}")
     elif was != must:
-        yield f"{where}: {was!r}, and not {must!r}"
+        yield "\n".join(difference(f"  {where}", lines_of(must), lines_of(was)))
+
+
+def lines_of(said):
+    """What a page says at one place, a line for each of several things."""
+    return "".join(f"{one if isinstance(one, str) else repr(one)}\n" for one in (said if isinstance(said, list) else [said]))

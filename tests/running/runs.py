@@ -1,6 +1,7 @@
 """Runs of a program, each with what must come of it: its status, and all that it writes on its two streams."""
 
 import difflib
+import inspect
 import os
 import resource
 import shlex
@@ -22,12 +23,14 @@ WHOLE, DAMAGED, REFUSED = 0, 1, 2
 
 
 def place_of_row():
-    """The file and line of the table that is being made, or else of the function that makes a case."""
+    """The file and line of the row that is being made: in its table, in the generator that makes it, or else where it is made."""
     frame, nearest = sys._getframe(2), None
     while frame:
-        if frame.f_code.co_filename != __file__:
+        code = frame.f_code
+        if code.co_filename != __file__:
             nearest = nearest or frame
-            if frame.f_code.co_name == "<module>" and frame.f_globals["__name__"] != "__main__":
+            is_generator = code.co_flags & inspect.CO_GENERATOR and code.co_name != "<genexpr>"
+            if is_generator or code.co_name == "<module>" and frame.f_globals["__name__"] != "__main__":
                 nearest = frame
                 break
         frame = frame.f_back
@@ -35,7 +38,17 @@ def place_of_row():
     return f"{path.relative_to(TOP) if TOP in path.parents else path}:{nearest.f_lineno}"
 
 
-class CaseFields(NamedTuple):
+def placed(row):
+    """A tuple of rows, whose last field is the file and line of each."""
+    def made(cls, *fields, **named):
+        named.setdefault("place", place_of_row())
+        return row.__new__(cls, *fields, **named)
+    return type(row.__name__, (row,), {"__slots__": (), "__doc__": row.__doc__, "__new__": made})
+
+
+@placed
+class Case(NamedTuple):
+    """Words after the program's name, and what must come of them."""
     words: tuple
     status: int
     out: str = ""
@@ -50,17 +63,7 @@ class CaseFields(NamedTuple):
     is_nobody: bool = False
     # Whether the program gets no words at all, not even its name.
     is_nameless: bool = False
-    # The file and line of its row.
     place: str = ""
-
-
-class Case(CaseFields):
-    """Words after the program's name, and what must come of them."""
-    __slots__ = ()
-
-    def __new__(cls, *fields, **named):
-        named.setdefault("place", place_of_row())
-        return super().__new__(cls, *fields, **named)
 
 
 def refused(words, err, **how):
@@ -137,6 +140,15 @@ def status_of(words, **how):
         return None
 
 
+def answer_of(words, folder, patience=PATIENCE, **how):
+    """The same of a run without standard input, whose streams are read while it runs."""
+    try:
+        ended = subprocess.run(words, cwd=folder, stdin=subprocess.DEVNULL, capture_output=True, timeout=patience, **how)
+    except subprocess.TimeoutExpired:
+        return None, b"", b""
+    return ended.returncode, ended.stdout, ended.stderr
+
+
 def can_drop(folder):
     """Whether a run may be made as nobody, who may read the folder, or is made as no root."""
     if os.geteuid():
@@ -154,9 +166,14 @@ def differences(case, answer):
     status, *texts = answer
     found = [] if status == case.status else [f"  status {status}, and not {case.status}"]
     for name, must, was in zip(("standard output", "standard error"), (case.out, case.err), texts):
-        if was != must.encode():
-            found += [f"  {name}, as it must be (-) and as it is (+):", *lines_apart(must.encode(), was)]
+        if was != bytes_of(must):
+            found += difference(f"  {name}", must, was)
     return found
+
+
+def difference(about, must, was):
+    """The lines in which a text isn't what it must be, below what it is about."""
+    return [f"{about}, as it must be (-) and as it is (+):", *lines_apart(must, was)]
 
 
 def lines_apart(must, was):
@@ -185,14 +202,18 @@ def command(program, words):
 
 def agrees(case, program, folder, what="", given=None):
     """Tries a case in a folder, and says what differs."""
-    found = differences(case, run_case(case, program, folder, given))
+    streams = [f", {name} {to}" for name, to in (("output", case.out_to), ("errors", case.err_to)) if to]
+    about = [*([what] if what else []), command(program, case.words) + "".join(streams)]
+    return not fails(case.place, ": ".join(about), differences(case, run_case(case, program, folder, given)))
+
+
+def fails(place, about, found):
+    """Says what was found wrong with a row, if something was; answers whether."""
     if found:
-        about = f"{case.place}: {what}: " if what else f"{case.place}: "
-        streams = [f", {name} {to}" for name, to in (("output", case.out_to), ("errors", case.err_to)) if to]
-        print(f"{about}{command(program, case.words)}{''.join(streams)}", *found, sep="\n")
-    return not found
+        print(f"{place}: {about}", *found, sep="\n")
+    return bool(found)
 
 
 def report_difference(about, must, was):
     """Says that a text isn't what it must be, and which lines differ."""
-    print(f"{about}, as it must be (-) and as it is (+):", *lines_apart(must, was), sep="\n")
+    print(*difference(about, must, was), sep="\n")

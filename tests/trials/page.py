@@ -2,7 +2,6 @@
 
 `trials/run --pages WORDS` runs only the cases whose subject has these words."""
 
-import subprocess
 import tempfile
 from pathlib import Path
 
@@ -11,8 +10,9 @@ from tests.judges.judged_page import Judge, differences
 from tests.judges.markup import Unreadable, expect
 from tests.judges.read_page import read_page
 from tests.judges.words import moment_text
+from tests.running import runs
 from tests.running.program import HIDDEN_CHARACTER
-from tests.running.runs import REFUSED
+from tests.running.runs import REFUSED, answer_of, fails
 from tests.trials.page_captures import cases
 
 # A thousand instances are a page of a megabyte.
@@ -34,41 +34,30 @@ class Trial:
                 content = write_capture(path, "little-nano", content)
             path.write_bytes(content)
             self.files.append((name, content))
-        self.names = [name for name, _ in case.files]
         # How the page looks, once it was read.
         self.style = None
 
-    def run(self, *words):
-        """The status, standard output and standard error of a run on all files."""
-        asked = [self.program, *words, "--", *self.names]
-        try:
-            ended = subprocess.run(asked, cwd=self.folder, stdin=subprocess.DEVNULL, capture_output=True, timeout=PATIENCE)
-        except subprocess.TimeoutExpired:
-            raise Unreadable(f"no end of {words[0]} within {PATIENCE} s") from None
-        return ended.returncode, ended.stdout, ended.stderr
-
-    def options(self):
+    def words(self, command):
+        """The words that ask for what the case asks for, of all files."""
         at, before, about = self.case.asked
         moments = [word for flag, moment in (("--at", at), ("--before", before)) if moment is not None
                    for word in (flag, moment_text(moment))]
-        return [*moments, *(f"--about={word}" for word in about)]
+        return [command, *moments, *(f"--about={word}" for word in about), "--", *(name for name, _ in self.case.files)]
 
-    def faults(self):
-        """What is wrong with the page."""
-        try:
-            return list(self.found())
-        except Unreadable as fault:
-            return [f"no page: {fault}"]
+    def run(self, command):
+        """The status, standard output and standard error of a command."""
+        return answer_of([self.program, *self.words(command)], self.folder, PATIENCE)
 
     def found(self):
-        status, out, err = self.run("page", *self.options())
-        expected, _, lines = self.run("lives", *self.options())
-        if (status, err) != (expected, lines):
-            yield f"status {status} and {err!r}, and not {expected} and {lines!r}, as of lives"
-        elif status == REFUSED:
-            yield from ["a page, though it is refused"] if out else []
-        else:
-            yield from self.differences(out.decode("utf-8", "surrogateescape"))
+        """What is wrong with the page: its status and standard error are those of `lives`."""
+        answer, (status, _, err) = self.run("page"), self.run("lives")
+        must = runs.Case(self.words("page"), status, b"" if status == REFUSED else answer[1], err)
+        yield from runs.differences(must, answer)
+        if status != REFUSED:
+            try:
+                yield from self.differences(answer[1].decode("utf-8", "surrogateescape"))
+            except Unreadable as fault:
+                yield f"  no page: {fault}"
 
     def differences(self, text):
         expect(not HIDDEN_CHARACTER.search(text.replace("\n", "")), "no UTF-8, or a character that people don't see")
@@ -86,14 +75,12 @@ def try_page(program, folder, words=""):
         if words in case.what:
             with tempfile.TemporaryDirectory(dir=folder) as within:
                 trial = Trial(program, Path(within), case)
-                faults = trial.faults()
+                faults = list(trial.found())
             if trial.style:
                 styles.add(trial.style)
             if len(styles) > 1:
-                faults.append("pages look different")
+                faults.append("  pages look different")
             count += 1
-            failed += bool(faults)
-            for fault in faults[:PRINTED]:
-                print(f"mdnsmerge page, {case.what}: {fault}")
+            failed += fails(case.place, f"{case.what}: {runs.command(program, trial.words('page'))}", faults[:PRINTED])
     print(f"{count} pages, {failed} failed")
     return failed

@@ -5,6 +5,7 @@ from typing import NamedTuple
 from tests.captures.link import START, Record
 from tests.captures.wire import ANSWER, PTR, SECOND, SRV, TXT, A, Message, ipv4_frame
 from tests.judges.judged_page import Asked
+from tests.running.runs import placed
 
 SOURCE = bytes((192, 0, 2, 1))
 
@@ -25,11 +26,14 @@ HOSTILE = (
 )
 
 
+@placed
 class Case(NamedTuple):
+    """A page, and the captures that it is of."""
     what: str
     # Names, each with bytes, or with packets as moments and frames.
     files: list
     asked: Asked = Asked()
+    place: str = ""
 
 
 def frame(*told, make=ipv4_frame, source=SOURCE):
