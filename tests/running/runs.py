@@ -200,11 +200,12 @@ def command(program, words):
     return shlex.join([program.name, *readable])
 
 
-def agrees(case, program, folder, what="", given=None):
-    """Tries a case in a folder, and says what differs."""
+def agrees(case, program, folder, what="", given=None, is_long=False):
+    """Tries a case in a folder, and says what differs; one that may print more than a pipe holds is long."""
+    answer = answer_of([program, *case.words], folder) if is_long else run_case(case, program, folder, given)
     streams = [f", {name} {to}" for name, to in (("output", case.out_to), ("errors", case.err_to)) if to]
-    about = [*([what] if what else []), command(program, case.words) + "".join(streams)]
-    return not fails(case.place, ": ".join(about), differences(case, run_case(case, program, folder, given)))
+    about = command(program, case.words) + "".join(streams)
+    return not fails(case.place, f"{what}: {about}" if what else about, differences(case, answer))
 
 
 def fails(place, about, found):

@@ -16,7 +16,7 @@ from tests.judges.hearings import hearings_of
 from tests.judges.lives import CHOICES, lives_text, rows_of
 from tests.judges.words import moment_text
 from tests.running.commands import ANSWERS, ASKS, COMMANDS, END, FLAGS, TWO_FORMS, flags_of, page
-from tests.running.runs import DAMAGED, WHOLE, Case, agrees, refused, said
+from tests.running.runs import DAMAGED, WHOLE, Case, agrees, fails, placed, refused, said
 
 TRY_HELP = "For more information, try '--help'.\n"
 
@@ -36,11 +36,11 @@ def version_of(program):
 
 
 def outdated_pages():
-    """The man pages that aren't of the version and the date of mdnsmerge's."""
+    """The man pages that aren't of the version and the date of mdnsmerge's, with both."""
     heads = {path.name: path.read_text().splitlines()[0] for path in sorted((TOP / "man").glob("*.1"))}
     pages = {name: head.split(maxsplit=3)[3] for name, head in heads.items()}
     newest = pages["mdnsmerge.1"]
-    return [name for name, head in pages.items() if head != newest]
+    return [(name, head) for name, head in pages.items() if head != newest]
 
 
 def misused(words, fault, usage="", tip="", program="mdnsmerge", **how):
@@ -180,6 +180,7 @@ def utc(year, month, day=1, hour=0, minute=0, second=0):
     return timegm((year, month, day, hour, minute, second)) * SECOND
 
 
+@placed
 class Told(NamedTuple):
     """Words after the program's name: what is asked, of which files in which order, and as of which moment, or before
     which, in nanoseconds, or as of the newest hearing."""
@@ -188,6 +189,7 @@ class Told(NamedTuple):
     names: tuple
     at: Optional[int] = None
     before: Optional[int] = None
+    place: str = ""
 
 
 TOLD = (
@@ -338,13 +340,13 @@ def case_of(told, heard, standing, capture):
     end = len(capture)
     if told.what == "check":
         counts = f"packets {len(heard)} skipped 0 refused 0 messages {len(heard)} hearings {2 * len(heard)}"
-        return Case(told.words, DAMAGED, "".join(f"{name}: {counts} cut at {end}\n" for name in told.names))
+        return Case(told.words, DAMAGED, "".join(f"{name}: {counts} cut at {end}\n" for name in told.names), place=told.place)
     if standing is None:
         newest = moment_text(heard[0].moment)
-        return said(told.words, f"the moment is earlier than the newest hearing, {newest}")
+        return said(told.words, f"the moment is earlier than the newest hearing, {newest}", place=told.place)
     cut = "".join(f"mdnsmerge: {name}: cut at {end}\n" for name in told.names)
     answer = lives_of(told, capture) if told.what in CHOICES else report_of(told.what, standing)
-    return Case(told.words, DAMAGED, answer, cut)
+    return Case(told.words, DAMAGED, answer, cut, place=told.place)
 
 
 def try_told(told, program, folder):
@@ -359,10 +361,11 @@ def try_told(told, program, folder):
     return failed
 
 
-def is_fit(text):
-    """Whether a page is one screen, and says at its end what all of them say."""
+def unfit(text):
+    """What is wrong with a page that is no screen, or lacks the end that all have."""
     lines = text.splitlines()
-    return 0 < len(lines) <= LINES and max(map(len, lines)) <= COLUMNS and text.endswith(f"\n\n{END}")
+    is_fit = 0 < len(lines) <= LINES and max(map(len, lines)) <= COLUMNS and text.endswith(f"\n\n{END}")
+    return [] if is_fit else ["  the page is no screen, or lacks what all pages say"]
 
 
 def try_command_lines(program, folder):
@@ -371,12 +374,9 @@ def try_command_lines(program, folder):
     cases = (*REFUSALS, *VERSION, *HELP, *NAMELESS)
     failed = sum(not agrees(case, program, folder) for case in cases)
     failed += sum(try_told(told, program, folder / f"told {number}") for number, told in enumerate(TOLD))
-    unfit = [case.words for case in HELP if not is_fit(case.out)]
-    for words in unfit:
-        print(f"mdnsmerge {words}: the page is no screen, or lacks what all pages say")
-    for name in outdated_pages():
-        unfit.append(name)
-        print(f"man/{name} is of another version or date than mdnsmerge's page")
+    failed += sum(fails(case.place, f"mdnsmerge {case.words}", unfit(case.out)) for case in HELP)
+    failed += sum(fails(f"man/{name}:1", "is of another version or date than mdnsmerge's page", [head])
+                  for name, head in outdated_pages())
     print(f"{len(cases)} command lines that are refused or ask for help or the version, {len(TOLD)} that ask for more, "
-          f"{failed + len(unfit)} failed")
-    return failed + len(unfit)
+          f"{failed} failed")
+    return failed

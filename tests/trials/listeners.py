@@ -6,7 +6,6 @@ other way around; and a file in two parts, which `--listener` makes one again, c
 
 import re
 import shutil
-import subprocess
 import tempfile
 from functools import partial
 from pathlib import Path
@@ -21,7 +20,7 @@ from tests.judges.listeners import COMMAND, FORMS, listeners_text
 from tests.judges.pretty import signed_nanos
 from tests.judges.savefile import reading_of, split_at
 from tests.running import runs
-from tests.running.runs import DAMAGED, PATIENCE, REFUSED, WHOLE, Case, agrees, differences, report_difference
+from tests.running.runs import DAMAGED, REFUSED, WHOLE, Case, agrees, report_difference
 from tests.trials import command_lines
 from tests.trials.command_lines import NO_FILE
 
@@ -81,17 +80,13 @@ def lay_out(folder):
     shutil.copy(folder / "cut.pcap", folder / QUOTED)
 
 
-class Differs(Exception):
-    """What an answer has otherwise than it must."""
-
-
 class Trial:
     """The runs over a set of captures, which are laid out in a folder."""
 
     def __init__(self, program, folder, number, listening):
         self.program, self.folder = program, folder
         self.files, self.prefixes = dict(listening.files), listening.prefixes
-        self.rng = Random(number)
+        self.what, self.rng, self.failed = f"the set {number} of `listening.py`", Random(number), 0
         for name, capture in self.files.items():
             self.add(name, capture)
 
@@ -101,24 +96,16 @@ class Trial:
         path.parent.mkdir(exist_ok=True)
         path.write_bytes(capture)
 
-    def case(self, form, names, prefixes):
-        """What is asked of files, and what must come of it."""
+    def answer(self, form, names, prefixes):
+        """What must come of what is asked of files, which is tried."""
         words = (COMMAND, *form, *(word for prefix in prefixes for word in ("--listener", prefix)), *names)
         readings = {name: reading_of(self.files[name]) for name in names}
         fault = next((f"mdnswhy: {name}: {readings[name].fault}\n" for name in names if readings[name].fault), None)
-        if fault:
-            return Case(words, REFUSED, err=fault)
         endings = "".join(f"mdnswhy: {name}: {readings[name].ending}\n" for name in names if not readings[name].is_whole)
-        text = listeners_text([(name, self.files[name]) for name in names], prefixes, form)
-        return Case(words, DAMAGED if endings else WHOLE, text, endings)
-
-    def answer(self, form, names, prefixes):
-        """The text that is printed, which must be that of the judge."""
-        case = self.case(form, names, prefixes)
-        found = differences(case, answer_of([self.program, *case.words], self.folder))
-        if found:
-            raise Differs("\n".join([runs.command(self.program, case.words), *found]))
-        return case.out
+        text = "" if fault else listeners_text([(name, self.files[name]) for name in names], prefixes, form)
+        case = Case(words, REFUSED if fault else DAMAGED if endings else WHOLE, text, fault or endings)
+        self.failed += not agrees(case, self.program, self.folder, self.what, is_long=True)
+        return text
 
     def run(self):
         names = list(self.files)
@@ -133,7 +120,7 @@ class Trial:
         """In another order of the files the lines are the same, told of each two in one order."""
         again = self.answer((), self.rng.sample(names, len(names)), self.prefixes)
         if in_order(again) != in_order(text):
-            raise Differs(f"{names} in another order: {runs.lines_apart(in_order(text), in_order(again))}")
+            self.fail(f"{names} in another order", in_order(text), in_order(again))
 
     def in_two_parts(self, names):
         """A file that is cut in two where a packet begins is one again by a prefix that no other file has."""
@@ -151,16 +138,11 @@ class Trial:
         one, two = (self.answer((), [*others[:at], *parts, *others[at:]], prefixes)
                     for parts in (["parted.pcap"], ["parted-0.pcap", "parted-1.pcap"]))
         if not are_alike(one, two):
-            raise Differs(f"{name} in two parts: {runs.lines_apart(one, two)}")
+            self.fail(f"{name} in two parts", one, two)
 
-
-def answer_of(words, folder):
-    """The status of a run, or None where it has not ended in time, and what it wrote on its two streams."""
-    try:
-        ended = subprocess.run(words, cwd=folder, stdin=subprocess.DEVNULL, capture_output=True, timeout=PATIENCE)
-    except subprocess.TimeoutExpired:
-        return None, b"", b""
-    return ended.returncode, ended.stdout, ended.stderr
+    def fail(self, about, must, was):
+        self.failed += 1
+        report_difference(f"tests/trials/listeners.py: {self.what}: {about}", must, was)
 
 
 def fits_some(prefix, names):
@@ -208,11 +190,9 @@ def try_sets(why, folder):
     failed = 0
     for number, listening in enumerate(listenings(SETS, folder / "scratch")):
         with tempfile.TemporaryDirectory(dir=folder) as place:
-            try:
-                Trial(why, Path(place), number, listening).run()
-            except Differs as what:
-                failed += 1
-                print(f"the set {number} of listenings: {what}")
+            trial = Trial(why, Path(place), number, listening)
+            trial.run()
+            failed += bool(trial.failed)
     return failed
 
 

@@ -1,30 +1,26 @@
 """Runs of mdnswhy: over small captures, whose lines are written by hand, and over the example captures, where its lines
-must agree with what mdnsmerge says of the same files.
+must be those of the bytes, and agree with what mdnsmerge says of the same files.
 
 What must come of the small ones is known from the man page; `why.rows` has more of them."""
 
 import ipaddress
-import re
 import shutil
-import subprocess
-from collections import Counter
 from functools import partial
-from typing import NamedTuple
+from random import Random
 
 from tests import EXAMPLES
 from tests.captures.built import frame_of, labels, lay_out_small, write_capture
-from tests.captures.wire import A, AAAA, ANSWER, NAMES, PTR, SECOND, SRV, TXT, Message, ipv6_frame
-from tests.judges.json_forms import SPAN, expected, json_text
-from tests.judges.lines import moment_of as moment_in
+from tests.captures.wire import A, AAAA, ANSWER, PTR, SECOND, SRV, TXT, Message, ipv6_frame
+from tests.fuzz.oracles import Seen, try_case
+from tests.judges.json_forms import expected, json_text
 from tests.judges.pretty import pretty_text
-from tests.judges.savefile import moment_of, reading_of, snapshot_length
 from tests.judges.traced import TEXTS, traced_text
 from tests.running import runs
 from tests.running.commands import STRICT, TRACES, TWO_FORMS, WHYS, flags_of, page
-from tests.running.runs import DAMAGED, PATIENCE, REFUSED, WHOLE, Case, agrees
+from tests.running.program import Finding, Program
+from tests.running.runs import DAMAGED, PATIENCE, REFUSED, WHOLE, Case, agrees, fails
 from tests.trials import command_lines
-from tests.trials.command_lines import NO_FILE, is_fit, version_of
-
+from tests.trials.command_lines import NO_FILE, unfit, version_of
 
 said = partial(runs.said, program="mdnswhy")
 misused = partial(command_lines.misused, program="mdnswhy")
@@ -228,157 +224,40 @@ def lay_out(folder):
     shutil.copy(folder / "cut.pcap", folder / QUOTED)
 
 
-class Heard(NamedTuple):
-    """What a line says of a record, and when that was heard."""
-    owner: str
-    kind: str
-    data: str
-    ttl: str
-    moment: str
-
-    def key(self):
-        """What the same record has in any case (RFC 6762, section 16)."""
-        is_name = self.kind in NAMES
-        return self.owner.lower(), self.kind, self.data.lower() if is_name else self.data
-
-    def age(self):
-        """What the last hearing has the most of."""
-        seconds, nanos = self.moment.split(".")
-        return int(seconds), int(nanos), int(self.ttl)
+EXAMPLE_SETS = tuple(Case(names, WHOLE) for names in (
+    ("west.pcap",), ("east.pcap",), ("west.pcap", "east.pcap"), ("east.pcap", "west.pcap")))
 
 
-RECORD = r"(?P<owner>\S+) (?P<kind>\S+)(?P<data>.*) ttl (?P<ttl>\d+)"
-MOMENT = r"(?P<moment>\d+\.\d{9})"
-HEARING_LINE = re.compile(rf"{MOMENT} \S+ \S+ {RECORD}(?: flush)?")
-RECORD_LINE = re.compile(rf"{RECORD} heard {MOMENT} until \d+\.\d{{9}}")
-PACKET_LINE = re.compile(rf"{MOMENT} (\S+) \d+ (skipped|refused|heard) .+")
-CHECK_LINE = re.compile(r"(\S+): packets \d+ skipped (\d+) refused (\d+) messages (\d+) hearings (\d+) .*")
+def traced_cases():
+    """What is printed of the example captures, made of their bytes in each form."""
+    for names in (case.words for case in EXAMPLE_SETS):
+        for trace in TEXTS:
+            text = traced_text(trace, [(name, (EXAMPLES / name).read_bytes()) for name in names])
+            yield Case((trace, *names), WHOLE, text)
+            yield Case((trace, "--json", *names), WHOLE, json_text(trace, text, lambda command: expected("west-east", command)))
+            if trace in TRACES:
+                yield Case((trace, "--pretty", *names), WHOLE, pretty_text(trace, text))
 
 
-def lines_of(program, *words):
-    """The lines that a program prints of the example captures."""
-    run = subprocess.run([program, *words], cwd=EXAMPLES, stdout=subprocess.PIPE, encoding="utf-8", timeout=PATIENCE)
-    return run.stdout.splitlines()
-
-
-def heard_in(layout, lines):
-    """What the lines say that are laid out so."""
-    return [Heard(**found.groupdict()) for found in map(layout.fullmatch, lines) if found]
-
-
-def last_of(hearings):
-    """Of each record its last hearings: of the latest moment, and of these the greatest TTL, in whatever case."""
-    last = {}
-    for heard in sorted(hearings, key=Heard.age):
-        known = last.setdefault(heard.key(), [])
-        if known and known[0].age() < heard.age():
-            known.clear()
-        known.append(heard)
-    return last
-
-
-def heard_otherwise(why, merge, names):
-    """What the hearings of mdnswhy have otherwise than the counts and the records of mdnsmerge."""
-    lines = lines_of(why, "hearings", *names)
-    hearings = heard_in(HEARING_LINE, lines)
-    counted = sum(int(CHECK_LINE.fullmatch(line)[5]) for line in lines_of(merge, "check", *names))
-    if not len(lines) == len(hearings) == counted > 0:
-        yield f"{len(lines)} lines, {len(hearings)} of hearings, and `mdnsmerge check` counts {counted}"
-    last = last_of(hearings)
-    records = heard_in(RECORD_LINE, lines_of(merge, "records", *names))
-    if not records:
-        yield "`mdnsmerge records` has no records"
-    for record in records:
-        if record not in last.get(record.key(), []):
-            yield f"{record} is not the last hearing, {last.get(record.key())}"
-
-
-def counted_otherwise(why, merge, names):
-    """What mdnswhy lists of the packets of each file otherwise than mdnsmerge counts."""
-    lines = lines_of(why, "packets", *names)
-    found = [line.groups()[1:] for line in map(PACKET_LINE.fullmatch, lines) if line]
-    listed, counted = Counter(found), Counter()
-    for line in map(CHECK_LINE.fullmatch, lines_of(merge, "check", *names)):
-        # No two packets of an example have the same moment and source.
-        told = len({(heard[0], heard[2]) for heard in map(str.split, lines_of(why, "hearings", line[1]))})
-        counted += Counter({(line[1], "skipped"): int(line[2]), (line[1], "refused"): int(line[3]),
-                            (line[1], "heard"): int(line[4]) - told})
-    if len(found) != len(lines) or not found:
-        yield f"{len(found)} lines of packets of {len(lines)}"
-    if listed != counted:
-        yield f"`mdnswhy packets` lists {listed}, and `mdnsmerge check` counts {counted}"
-
-
-def spanned_otherwise(why, merge, names):
-    """What mdnswhy says of the span of each file otherwise than the file's headers, the lines of its hearings and the newest
-    of the records of mdnsmerge."""
-    lines = lines_of(why, "spans", *names)
-    if len(lines) != len(names):
-        yield f"{len(lines)} lines of spans of {len(names)} files"
-    for name, line in zip(names, lines):
-        told, *moments, snap = SPAN.fullmatch(line).groups()
-        capture = (EXAMPLES / name).read_bytes()
-        packets, length = [moment_of(capture, packet) for packet in reading_of(capture).packets], snapshot_length(capture)
-        heard = [moment_in(line.moment) for line in heard_in(HEARING_LINE, lines_of(why, "hearings", name))]
-        if (told, *map(moment_in, moments), int(snap)) != (name, min(packets), max(packets), min(heard), max(heard), length):
-            yield f"{line!r} has other moments than the packets and the hearings of {name}"
-        newest = max(moment_in(record.moment) for record in heard_in(RECORD_LINE, lines_of(merge, "records", name)))
-        if moment_in(moments[-1]) != newest:
-            yield f"{line!r} has another last hearing than `mdnsmerge records`"
-
-
-def shown_otherwise(why, names):
-    """What mdnswhy prints for people that doesn't follow from its plain lines."""
-    for trace in TRACES:
-        plain, shown = ("".join(f"{line}\n" for line in lines_of(why, trace, *form, *names)) for form in ((), ("--pretty",)))
-        if shown != pretty_text(trace, plain) or not shown:
-            apart = "\n".join(runs.lines_apart(pretty_text(trace, plain), shown))
-            yield f"`mdnswhy {trace} --pretty` doesn't follow (-) from its plain lines:\n{apart}"
-
-
-def traced_otherwise(why, names):
-    """What mdnswhy says of these captures otherwise than their bytes, and as JSON otherwise than in words."""
-    for trace in TEXTS:
-        must = traced_text(trace, [(name, (EXAMPLES / name).read_bytes()) for name in names])
-        printed = "".join(f"{line}\n" for line in lines_of(why, trace, *names))
-        if printed != must:
-            yield "\n".join([f"`mdnswhy {trace}` differs (+) from the captures (-):", *runs.lines_apart(must, printed)])
-        printed, as_json = ("".join(f"{line}\n" for line in lines_of(why, trace, "--json", *names)),
-                            json_text(trace, must, lambda command: expected("west-east", command)))
-        if printed != as_json:
-            yield "\n".join([f"`mdnswhy {trace} --json` differs (+) from its words (-):", *runs.lines_apart(as_json, printed)])
-
-
-def disagreements(why, merge, names):
-    """What mdnswhy and mdnsmerge say differently of these captures, or mdnswhy in different forms."""
-    yield from traced_otherwise(why, names)
-    yield from heard_otherwise(why, merge, names)
-    yield from counted_otherwise(why, merge, names)
-    yield from spanned_otherwise(why, merge, names)
-    yield from shown_otherwise(why, names)
-
-
-def try_examples(why, merge):
-    """Answers how many sets of example captures the programs say different things of."""
-    failed = 0
-    for names in (["west.pcap"], ["east.pcap"], ["west.pcap", "east.pcap"], ["east.pcap", "west.pcap"]):
-        found = list(disagreements(why, merge, names))
-        failed += bool(found)
-        for what in found:
-            print(f"mdnswhy over {names}: {what}")
-    return failed
+def fault_of(names, merge, why, folder):
+    """What doesn't hold of the answers of both programs over whole example captures, of all that the fuzzer looks at."""
+    programs = [Program(program, folder, PATIENCE) for program in (merge, why)]
+    try:
+        try_case(*programs, Random(0), [(EXAMPLES / name).read_bytes() for name in names], None, Seen())
+    except Finding as finding:
+        return [f"  of these as a.pcap and so on: {finding}"]
+    return []
 
 
 def try_why(merge, folder):
     """Tries the mdnswhy that lies beside mdnsmerge; answers how many runs failed."""
     why = merge.with_name("mdnswhy")
     lay_out(folder)
-    cases = (*HEARINGS, *PACKETS, *SPANS, *FILES, *REFUSALS, *WORDS, *HELP)
+    cases, traced = (*HEARINGS, *PACKETS, *SPANS, *FILES, *REFUSALS, *WORDS, *HELP), list(traced_cases())
     failed = sum(not agrees(case, why, folder) for case in cases)
-    for case in HELP:
-        if not is_fit(case.out):
-            failed += 1
-            print(f"{case.place}: mdnswhy {case.words}: the page is no screen, or lacks what all pages say")
-    failed += try_examples(why, merge)
-    print(f"{len(cases)} runs of mdnswhy, and those over the example captures, {failed} failed")
+    failed += sum(fails(case.place, f"mdnswhy {case.words}", unfit(case.out)) for case in HELP)
+    failed += sum(not agrees(case, why, EXAMPLES, is_long=True) for case in traced)
+    failed += sum(fails(case.place, f"{case.words}", fault_of(case.words, merge, why, folder)) for case in EXAMPLE_SETS)
+    print(f"{len(cases) + len(traced)} runs of mdnswhy, and the oracles of the fuzzer over {len(EXAMPLE_SETS)} sets of example captures, "
+          f"{failed} failed")
     return failed
