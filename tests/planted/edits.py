@@ -1,10 +1,9 @@
 """The planted bugs of a crate: the files `planted/*.edit`, and the function whose contract has to refuse each."""
 
-import re
 from typing import NamedTuple
 
 from tests import TOP
-from tests.planted.items import Crate, items_of
+from tests.planted.items import items_of
 
 # Callers and tests, which are no libraries of the program.
 BESIDE = {"uses", "test_values", "test_rows", "test_hearings", "test_reports"}

@@ -8,7 +8,7 @@ from typing import NamedTuple
 
 from tests.judges.shown import HIDDEN
 from tests.running.commands import FORMS
-from tests.running.runs import lines_apart
+from tests.running.runs import difference
 
 # Characters that people don't see, among them controls.
 HIDDEN_CHARACTER = re.compile("[%s]" % "".join(f"{re.escape(chr(some[0]))}-{re.escape(chr(some[-1]))}" for some in HIDDEN))
@@ -43,7 +43,7 @@ def expect_same(was, must, *what):
         must, was = ("".join(f"{name}: {line}\n" for name, text in zip(("status", "out", "err"), answer)
                              for line in (str(text).splitlines() if name != "status" else [text]))
                      for answer in (must, was))
-    raise Finding(*what, "\n".join(["answered (+) otherwise than it must (-):", *lines_apart(must, was)]))
+    raise Finding(*what, "\n".join(difference("answered", must, was)))
 
 
 class Program:

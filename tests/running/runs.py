@@ -166,7 +166,7 @@ def differences(case, answer):
     status, *texts = answer
     found = [] if status == case.status else [f"  status {status}, and not {case.status}"]
     for name, must, was in zip(("standard output", "standard error"), (case.out, case.err), texts):
-        if was != bytes_of(must):
+        if bytes_of(was) != bytes_of(must):
             found += difference(f"  {name}", must, was)
     return found
 

@@ -1,16 +1,17 @@
 """Refuses each allocation in turn: in whole runs of the programs, and in tests of the libraries' calls.
 
 `refuse_allocation.c` is loaded into each run and refuses one allocation, the first, the second and so on, until a run
-meets no refusal; of a command without options it refuses in further sweeps the next one, too, and all later ones. A run
-of mdnsmerge that met a refusal must say so, and answer nothing else, unless it remembers messages, as `mdnswhy listeners`
-does, too; mdnswhy prints while it reads, so it may have printed the beginning of its answer; lives are printed record by
-record, so those of the first records may have been printed. But a file is read without the buffer that is refused it, so the answer must be whole
-then. A test that met one must pass: it makes the refused call again, and compares with what the call gives where
-nothing was refused. Where all later ones are refused, too, it must fail.
+meets no refusal; of a command without options it refuses in further sweeps the next one, too, and all later ones.
 
-Where the memory of messages that come again is refused an allocation, the run does without. Which allocations are the
-memory's isn't known here, so a run that reads files may give its whole answer whichever was refused, but not where all
-later ones were.
+A run that met a refusal must say so, with status 2, and print nothing else, but:
+
+- mdnswhy prints while it reads, so it may have printed the beginning of its answer; lives are printed record by record.
+- A file is read without the buffer that is refused it, so the answer must be whole then.
+- The memory of messages that come again is done without. Which allocations are that memory's isn't known here, so a run that
+  remembers messages may give its whole answer whichever was refused, but not where all later ones were.
+
+A test that met one must pass: it makes the refused call again, and compares with what the call gives where nothing was refused.
+Where all later ones are refused, too, it must fail.
 
 It also counts them: hearings of records that are known, spelled as before, must ask for few."""
 
@@ -28,16 +29,16 @@ from tests.captures.link import Link
 from tests.captures.wire import SECOND, TXT
 from tests.judges.lives import CHOICES
 from tests.running.commands import ASKS, COMMANDS, FORMS, WHYS, flags_of
+from tests.running.runs import DAMAGED, REFUSED, WHOLE, answer_of, differences, fails, placed
 from tests.trials.memory import again
-from tests.trials.refusals import DAMAGED, REFUSED, WHOLE
 
 SOURCE = TOP / "trials/refuse_allocation.c"
 
 # The module of a crate that has tests for these sweeps.
 MODULE = "allocations"
 
-# How long a run may take, in seconds.
-PATIENCE = 20
+# Of how many faults of a sweep so many lines are printed at most.
+FAULTS, LINES = 5, 12
 
 # How many allocations are refused in a row: one, two, or all from some one on.
 ONE, TWO, ALL = 1, 2, 1 << 40
@@ -62,6 +63,7 @@ LONG_TEXTS, LONG = 15, 1_275
 AFTER_RECORD = re.compile(r' from \d|,"from":')
 
 
+@placed
 class Run(NamedTuple):
     """A run of a program: its words, the last of which are so many files, and its status with ample memory."""
     words: tuple
@@ -73,6 +75,7 @@ class Run(NamedTuple):
     # Whether all files can be opened, so that each is read, and asks for a buffer.
     are_read: bool = True
     program: str = "mdnsmerge"
+    place: str = ""
 
     @property
     def remembers(self):
@@ -126,6 +129,9 @@ WHY_RUNS = tuple(run._replace(program="mdnswhy") for run in (
     Run((), 0, REFUSED),
 ))
 
+# What is counted of a few hearings and of many.
+KNOWN = tuple(Run((asked,), 1, WHOLE) for asked in ("records", "check"))
+
 
 class Answer(NamedTuple):
     """The status of a run, which is negative where a signal ended it, and what it wrote on its two streams."""
@@ -169,7 +175,8 @@ class Refuser:
                 "ALLOCATION_REPORT": write}
         environment = {**os.environ, **{name: str(value) for name, value in told.items()}}
         try:
-            answer = answer_of(words, cwd=self.folder, env=environment, pass_fds=[write])
+            status, out, err = answer_of(words, self.folder, env=environment, pass_fds=[write])
+            answer = Answer(status, text_of(out), text_of(err))
         finally:
             os.close(write)
             with os.fdopen(read) as report:
@@ -178,15 +185,6 @@ class Refuser:
         # A run that was stopped has not said how many allocations there were.
         allocations = sum(int(count) for what, count in said if what == "allocations")
         return Met(answer, refused, allocations)
-
-
-def answer_of(words, **how):
-    """What a program answers; its status is None where it has not ended in time."""
-    try:
-        ended = subprocess.run(words, stdin=subprocess.DEVNULL, capture_output=True, timeout=PATIENCE, **how)
-    except subprocess.TimeoutExpired:
-        return Answer(None, "", "")
-    return Answer(ended.returncode, text_of(ended.stdout), text_of(ended.stderr))
 
 
 def text_of(output):
@@ -200,28 +198,23 @@ class Sweeps:
         self.refuser = refuser
         self.sweeps = self.met = self.failed = 0
 
-    def sweep(self, words, judge, in_a_row=ONE):
-        """Refuses a run's allocations in turn. `judge` finds faults in the plain answer and the other runs by allocation."""
+    def sweep(self, place, words, judge, in_a_row=ONE):
+        """Refuses the allocations of a row's run in turn. `judge` finds faults in the plain answer and the others by allocation."""
         plain = self.refuser.run(words, 0)
         with ThreadPoolExecutor(os.cpu_count()) as pool:
             allocations = range(1, plain.allocations + 1)
             met = dict(zip(allocations, pool.map(lambda it: self.refuser.run(words, it, in_a_row), allocations)))
         last = self.refuser.run(words, plain.allocations + 1)
-        self.count(words, in_a_row, met, [
-            *(f"allocation {allocation}: nothing was refused" for allocation, it in met.items() if not it.refused),
+        faults = [
+            *(f"  allocation {allocation}: nothing was refused" for allocation, it in met.items() if not it.refused),
             *judge(plain.answer, met),
-            *([] if plain.allocations else ["no allocation was met"]),
-            *(["after the last allocation one was refused"] if last.refused else []),
-            *([] if last.answer == plain.answer else ["it answers otherwise where nothing is refused"])])
-
-    def count(self, words, in_a_row, met, faults):
+            *([] if plain.allocations else ["  no allocation was met"]),
+            *(["  after the last allocation one was refused"] if last.refused else []),
+            *apart("where nothing is refused, after the last allocation", plain.answer, last.answer)]
         self.sweeps += 1
         self.met += sum(bool(it.refused) for it in met.values())
-        self.failed += bool(faults)
-        if faults:
-            how = {ONE: "", TWO: ", two refused in a row", ALL: ", all refused from one on"}[in_a_row]
-            print(f"{Path(words[0]).name} {' '.join(words[1:])}{how}:", *faults[:5], f"{len(faults)} faults in all",
-                  sep="\n  ")
+        how = {ONE: "one refused", TWO: "two refused in a row", ALL: "all refused from one on"}[in_a_row]
+        self.failed += fails(place, f"{Path(words[0]).name} {' '.join(words[1:])}, {how}: {len(faults)} faults", faults[:FAULTS])
 
 
 class Judge:
@@ -237,26 +230,25 @@ class Judge:
         self.prints_while_it_reads = run.program == "mdnswhy"
         self.prints_record_by_record = bool(CHOICES.keys() & {*run.words})
         self.may_have_long_text = self.prints_record_by_record or bool({"hearings", "page"} & {*run.words})
-        self.out_of_memory = f"{run.program}: out of memory\n"
-        # What is said of a refusal, each with the index of the file that it names.
-        self.refusals = {self.out_of_memory: None}
+        # How a run ends that was refused an allocation, and what is said of that, each with the index of the file that it names.
+        self.out_of_memory = Answer(REFUSED, "", f"{run.program}: out of memory\n")
+        self.refusals = {self.out_of_memory.err: None}
         for index, name in enumerate(names):
             self.refusals[f"{run.program}: {name}: out of memory\n"] = index
 
     def faults(self, plain, met):
-        if plain.status != self.status:
-            yield f"with ample memory: {shown(plain)}"
+        yield from apart("with ample memory", plain._replace(status=self.status), plain)
         yield from self.buffer_faults(plain, met)
         answers = {allocation: it.answer for allocation, it in met.items() if it.refused != {BUFFER}}
-        allowed = {*short_of_a_line(plain, self.out_of_memory)}
+        allowed = {*short_of_a_line(plain, self.out_of_memory.err)}
         made_good = [allocation for allocation, answer in answers.items() if answer == plain]
         for allocation, answer in answers.items():
             is_allowed = self.is_refusal(answer, plain) or answer in allowed or self.does_without and answer == plain
             if not is_allowed and allocation not in made_good[:self.most_made_good]:
-                yield f"allocation {allocation}: {shown(answer)}"
+                yield from apart(f"allocation {allocation}", self.out_of_memory, answer)
         indexes = [index for index in (self.refusals.get(answer.err) for answer in answers.values()) if index is not None]
         if indexes != sorted(indexes):
-            yield "a later file wants memory before an earlier one"
+            yield "  a later file wants memory before an earlier one"
 
     def is_refusal(self, answer, plain):
         """Whether the answer says that memory was wanting, and there is no more of it than may have been printed before."""
@@ -276,10 +268,9 @@ class Judge:
         without = {allocation: it.answer for allocation, it in met.items()
                    if it.refused == {BUFFER} and not self.is_text(it.answer, plain)}
         for allocation, answer in without.items():
-            if answer != plain:
-                yield f"allocation {allocation}, a buffer: {shown(answer)}"
+            yield from apart(f"allocation {allocation}, a buffer", plain, answer)
         if self.in_a_row == ONE and len(without) != self.buffers:
-            yield f"{len(without)} allocations were buffers, and not {self.buffers}"
+            yield f"  {len(without)} allocations were buffers, and not {self.buffers}"
 
 
 def ends_with_a_record(out, whole):
@@ -302,17 +293,17 @@ def short_of_a_line(plain, out_of_memory):
             yield plain._replace(err="".join([*lines[:at], out_of_memory, *lines[at + 1:]]))
 
 
-def shown(answer):
-    return f"status {answer.status}, {len(answer.out)} characters on standard output, {answer.err!r} on standard error"
+def apart(about, must, was):
+    """What an answer has otherwise than it must, if something: the first lines of it, as one fault."""
+    found = differences(must, was)
+    return ["\n".join([f"  {about}:", *found[:LINES]])] if found else []
 
 
 def passes(plain, met):
     """Finds faults in a test: it passes, whichever allocation was refused, and says what it says where none was."""
-    if plain.status:
-        yield f"it fails: {shown(plain)}"
+    yield from apart("where nothing is refused", plain._replace(status=WHOLE), plain)
     for allocation, it in met.items():
-        if it.answer != plain:
-            yield f"allocation {allocation}: {shown(it.answer)}"
+        yield from apart(f"allocation {allocation}", plain, it.answer)
 
 
 def stops(plain, met):
@@ -320,8 +311,7 @@ def stops(plain, met):
     too, so it stops, and where it passes a call has answered as if nothing had been refused."""
     yield from passes(plain, {})
     for allocation, it in met.items():
-        if it.answer.status != STOPPED:
-            yield f"all allocations from {allocation} on: {shown(it.answer)}"
+        yield from apart(f"all allocations from {allocation} on", it.answer._replace(status=STOPPED), it.answer)
 
 
 def lay_out(folder):
@@ -351,10 +341,17 @@ def tests_in(program):
     return [name for name in names if name.startswith(f"{MODULE}::")]
 
 
+def place_of(program, test):
+    """The file and line of a test."""
+    source = program.parent.parent / f"src/{MODULE}.rt"
+    before, _, _ = source.read_text("utf-8").partition(f"fn {test.rpartition('::')[2]}(")
+    return f"{source.relative_to(TOP)}:{before.count(chr(10)) + 1}"
+
+
 def try_programs(programs, sweeps):
     for run in (*RUNS, *WHY_RUNS):
         for in_a_row in run.in_a_row:
-            sweeps.sweep([programs[run.program], *run.words], Judge(run, in_a_row).faults, in_a_row)
+            sweeps.sweep(run.place, [programs[run.program], *run.words], Judge(run, in_a_row).faults, in_a_row)
 
 
 def try_tests(sweeps):
@@ -364,8 +361,8 @@ def try_tests(sweeps):
             sweeps.failed += 1
             print(f"{program.name} has no {MODULE}: it is not what was built last")
         for test in tests:
-            sweeps.sweep([program, test], passes)
-            sweeps.sweep([program, test], stops, ALL)
+            sweeps.sweep(place_of(program, test), [program, test], passes)
+            sweeps.sweep(place_of(program, test), [program, test], stops, ALL)
 
 
 def try_known(program, refuser, folder):
@@ -374,11 +371,10 @@ def try_known(program, refuser, folder):
     for name, rounds in (("twice.pcap", TWICE), ("often.pcap", OFTEN)):
         write_capture(folder / name, "little-micro", (again(packets, number) for number in range(PACKETS * rounds)))
     failed = 0
-    for asked in ("records", "check"):
-        few, many = (refuser.run([program, asked, name], 0).allocations for name in ("twice.pcap", "often.pcap"))
-        if not 0 < few <= many <= few + OF_KNOWN:
-            failed += 1
-            print(f"mdnsmerge {asked}: {few} allocations, and {many} where what is known is heard again")
+    for run in KNOWN:
+        few, many = (refuser.run([program, *run.words, name], 0).allocations for name in ("twice.pcap", "often.pcap"))
+        found = [] if 0 < few <= many <= few + OF_KNOWN else [f"  {few} allocations, and {many} where what is known is heard again"]
+        failed += fails(run.place, f"mdnsmerge {' '.join(run.words)}", found)
     return failed
 
 

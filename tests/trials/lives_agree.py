@@ -5,7 +5,6 @@ lives.
 The captures are those of `examples/`, and small ones of the measurements."""
 
 import re
-import subprocess
 from typing import NamedTuple
 
 from tests import EXAMPLES
@@ -15,7 +14,7 @@ from tests.captures.link import START, Link
 from tests.captures.real import NAMES, packets_of, repeated
 from tests.captures.wire import SECOND
 from tests.judges.words import moment_text
-from tests.running.runs import PATIENCE, WHOLE, report_difference
+from tests.running.runs import WHOLE, answer_of, placed, report_difference
 
 # A life that goes on: what `records` prints before its first moment, and after it.
 LIVE = re.compile(r"(.*) from \d+\.\d{9} (ttl \d+ heard \d+\.\d{9} until \d+\.\d{9}) live")
@@ -30,10 +29,12 @@ SLOWER = 30
 LATER = (1, 119, 120, 4_500)
 
 
+@placed
 class Heard(NamedTuple):
     """What some listeners heard: for each the moments and frames of its packets."""
     what: str
     captures: list
+    place: str = ""
 
     @property
     def moments(self):
@@ -63,17 +64,14 @@ class Trials:
     def __init__(self, program, folder):
         self.program = program
         self.folder = folder
-        self.about = ""
+        self.about = self.place = ""
         self.count = 0
         self.failed = 0
 
     def answer(self, *words):
         """What is printed, or None where there is another status than 0, or something on standard error."""
-        try:
-            run = subprocess.run([self.program, *words], cwd=self.folder, capture_output=True, text=True, timeout=PATIENCE)
-        except subprocess.TimeoutExpired:
-            return None
-        return run.stdout if (run.returncode, run.stderr) == (WHOLE, "") else None
+        status, out, err = answer_of([self.program, *words], self.folder)
+        return out.decode() if (status, err) == (WHOLE, b"") else None
 
     def expect(self, expected, *words):
         """Tries that a run prints this text."""
@@ -81,7 +79,7 @@ class Trials:
         printed = None if expected is None else self.answer(*words)
         if printed is None or printed != expected:
             self.failed += 1
-            asked = f"lives of {self.about}: mdnsmerge {' '.join(map(str, words))}"
+            asked = f"{self.place}: {self.about}: mdnsmerge {' '.join(map(str, words))}"
             if printed is None:
                 print(f"{asked}: this run, or one with which it must agree, failed")
             else:
@@ -95,7 +93,7 @@ class Trials:
         return names
 
     def try_link(self, link):
-        self.about = link.what
+        self.about, self.place = link.what, link.place
         names, moments = self.lay_out("whole", link.captures), link.moments
         lives = self.answer("lives", *names)
         self.expect(going_on(lives), "records", "--at", moment_text(moments[-1]), *names)

@@ -15,7 +15,7 @@ from tests.captures.unique import unique
 from tests.captures.wire import SECOND, TXT
 from tests.running.commands import TRACES
 from tests.running.measure import become_reaper, cost_of
-from tests.running.runs import WHOLE
+from tests.running.runs import WHOLE, fails, placed
 from tests.trials.page_packets import LOCAL, at, full
 
 # How many mebibytes a long run may take beyond a short one, and any run in all.
@@ -67,6 +67,7 @@ SCATTERED, OF_FILES, OF_PAGE = 400, 4.0, 32.0
 OTHER_FILES = 16
 
 
+@placed
 class Pair(NamedTuple):
     """A long run, and a short one of the same kind: what is asked, of which files, and of which program."""
     what: str
@@ -76,6 +77,7 @@ class Pair(NamedTuple):
     program: str = "mdnsmerge"
     growth: float = GROWTH
     ceiling: float = CEILING
+    place: str = ""
 
 
 def pairs():
@@ -177,15 +179,14 @@ def peak(program, asked, names, folder):
     return cost.mebibytes if cost.status == WHOLE else None
 
 
-def fault_of(pair, program, folder):
-    """What is wrong with the peak of a long run, if something is."""
+def faults_of(pair, program, folder):
+    """What is wrong with the peak of a long run."""
     asked = program.with_name(pair.program)
     long, short = (peak(asked, pair.asked, names, folder) for names in (pair.long, pair.short))
     if long is None or short is None:
-        return "a run failed"
-    if long > min(short + pair.growth, pair.ceiling):
-        return f"{long:.1f} MiB, and {short:.1f} MiB where there is little"
-    return None
+        return ["  a run failed"]
+    most = min(short + pair.growth, pair.ceiling)
+    return [f"  {long:.1f} MiB, {most:.1f} MiB at most, and {short:.1f} MiB where there is little"] if long > most else []
 
 
 def try_memory(program, folder):
@@ -193,10 +194,6 @@ def try_memory(program, folder):
     become_reaper()
     lay_out(folder)
     tried = list(pairs())
-    faults = [(pair, fault_of(pair, program, folder)) for pair in tried]
-    for pair, fault in faults:
-        if fault:
-            print(f"tests/trials/memory.py: {pair.program} {pair.asked} over {pair.what}: {fault}")
-    failed = sum(fault is not None for _, fault in faults)
+    failed = sum(fails(pair.place, f"{pair.program} {pair.asked} over {pair.what}", faults_of(pair, program, folder)) for pair in tried)
     print(f"{len(tried)} peaks of memory, {failed} failed")
     return failed

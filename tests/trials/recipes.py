@@ -12,7 +12,7 @@ import shutil
 import subprocess
 
 from tests import TOP
-from tests.running.runs import lines_apart
+from tests.running.runs import difference, fails
 
 PAGE = TOP / "docs/recipes.md"
 README = TOP / "README.md"
@@ -83,8 +83,7 @@ def fault_of(commands, printed, folder, environment):
         return []
     if printed is None:
         return ["  it prints nothing"]
-    must = "".join(f"{line}\n" for line in printed)
-    return ["  what it must print (-) and what it prints (+):", *lines_apart(must, run.stdout)]
+    return difference("  standard output", "".join(f"{line}\n" for line in printed), run.stdout)
 
 
 def unread(commands):
@@ -111,9 +110,7 @@ def try_recipes(program, folder):
         else:
             counts["run"] += 1
             fault = fault or fault_of(commands, printed, folder, environment)
-        if fault:
-            failed += 1
-            print(f"{at}: {commands.strip()}", *fault, sep="\n")
+        failed += fails(at, commands.strip(), fault)
     lacks = f" for want of {' and '.join(missing)}" if missing else ""
     print(f"recipes: {counts['run']} blocks run, {counts['only read']} only read, {counts['skipped']} skipped{lacks}, "
           f"{failed} failed")
