@@ -38,8 +38,7 @@ class Explained:
     def __init__(self, program, case):
         self.program = program
         self.case = case
-        # Why packets of all captures told nothing, and how many of them lost what they may have told.
-        self.causes = Counter()
+        # How many packets of all captures lost what they may have told.
         self.lost = 0
 
     def answer(self, trace, names, *form):
@@ -94,7 +93,6 @@ class Explained:
         causes = Counter(line[5] or DAMAGED for line in said if not line[7])
         read = causes_of(self.case.captures[name])
         expect(causes == read, "mdnswhy packets", name, "has", causes, "\nand by their frames", read)
-        self.causes += causes
         self.lost += sum(causes[cause] for cause in (*LOSSES, DAMAGED))
         counts, silent = self.case.counts[name], sum(1 for line in said if line[7])
         told = counts["messages"] - silent

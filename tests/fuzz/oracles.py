@@ -47,7 +47,7 @@ def try_case(program, why, rng, captures, second_opinion, seen):
     listened.agree()
     lived.agree()
     Told(case, explained, lived).agree()
-    Paged(case, explained, lived).agree()
+    Paged(case, lived).agree()
     if second_opinion:
         case.compare(second_opinion)
         lived.compare(second_opinion)

@@ -7,6 +7,7 @@ All parts of a page are judged: the heights of pictures, the key and the sentenc
 Moments are nanoseconds since 1970. The *end* is the moment that is asked for, or the latest moment of any packet."""
 
 from collections import Counter
+from functools import lru_cache
 from itertools import groupby
 from typing import NamedTuple
 
@@ -85,9 +86,7 @@ class Judge(Axis):
         every = [moment for moments in self.moments for moment in moments]
         given = asked.before if asked.at is None else asked.at
         super().__init__(max(every, default=0) if given is None else given, self.moments)
-        self.accounts = {account.hearings[-1].key: account for account in
-                         accounts([hearing for heard in self.heard for hearing in heard])}
-        self.lives = {key: list(account.lives()) for key, account in self.accounts.items()}
+        self.accounts, self.lives = lives_of(tuple(hearing for heard in self.heard for hearing in heard))
         self.sets = sets_of(map(self.line, self.accounts))
         # The lives of each SRV record, live or not, by its owner.
         self.servers = {}
@@ -268,6 +267,13 @@ class Judge(Axis):
                     self.lead(), LINKS, list(self.captures()), self.note(), KEY + LANES_KEY if self.lanes else KEY,
                     list(self.timeline()), *(self.group(name, keys) if keys else None for name, keys in others), millis(self.end),
                     list(self.live()), self.table())
+
+
+@lru_cache(maxsize=2)
+def lives_of(hearings):
+    """What was heard of each record, and its lives, by its key."""
+    heard = {account.hearings[-1].key: account for account in accounts(hearings)}
+    return heard, {key: list(account.lives()) for key, account in heard.items()}
 
 
 def points_apart(line):
