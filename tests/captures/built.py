@@ -1,15 +1,11 @@
 """The small files that the trials run the program on."""
 
-import re
-
 from tests import TOP
-from tests.captures.wire import ANSWER, PTR, Capture, Message, ipv4_frame
+from tests.captures.wire import PTR, Capture, ipv4_frame, message_of
+from tests.judges.shown import LABEL, bytes_of
 
 # One packet at 100 s, which tells of one record.
 ONE_PACKET = TOP / "crates/mdnsmerge/data/v1.pcap"
-
-# A byte of a label, escaped or not, or the dot after one.
-PIECE = re.compile(r"\\(\d{3})|\\(.)|(\.)|(.)")
 
 # The address of who sends.
 SOURCE = bytes((192, 0, 2, 1))
@@ -27,13 +23,7 @@ def lay_out_small(folder):
 
 def labels(name):
     """The labels of a name as it is printed, with a dot at its end or without."""
-    parts = [b""]
-    for digits, escaped, dot, other in PIECE.findall(name[:-1] if name.endswith(".") else name):
-        if dot:
-            parts.append(b"")
-        else:
-            parts[-1] += bytes((int(digits),)) if digits else (escaped or other).encode()
-    return tuple(part for part in parts if part)
+    return tuple(map(bytes_of, LABEL.findall(name)))
 
 
 def write_capture(path, magic, packets):
@@ -44,12 +34,9 @@ def write_capture(path, magic, packets):
     return path.read_bytes()
 
 
-def frame_of(records):
+def frame_of(records, make=ipv4_frame, source=SOURCE):
     """A frame with a message whose answers are these, each with its TTL."""
-    message = Message()
-    for record, ttl in records:
-        message.record(ANSWER, record, ttl)
-    return ipv4_frame(SOURCE, message.wire())
+    return make(source, message_of(records))
 
 
 def pointer(owner, target):

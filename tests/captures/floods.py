@@ -4,7 +4,7 @@ import random
 import struct
 
 from tests.captures.link import START, Record
-from tests.captures.wire import A, ANSWER, PTR, SECOND, Message, ipv4_frame
+from tests.captures.wire import A, PTR, SECOND, ipv4_frame, message_of
 
 SOURCE = bytes((198, 18, 0, 1))
 HOST = (b"flood", b"local")
@@ -67,9 +67,7 @@ def hearings(seed, count, seconds, order):
 
 
 def flushes_at(numbers, count, seconds, flush=True):
-    message = Message()
-    message.record(ANSWER, Record(HOST, A, SOURCE, flush), 120)
-    frame = ipv4_frame(SOURCE, message.wire())
+    frame = ipv4_frame(SOURCE, message_of([(Record(HOST, A, SOURCE, flush), 120)]))
     return ((START + number * seconds * SECOND // count, frame) for number in numbers)
 
 
@@ -86,10 +84,8 @@ def instances(seed, packets, order):
 def one_set(numbers, record_of):
     """Packets of a record for each number. None of them flushes the set, so all of them are live."""
     for first in range(0, len(numbers), OF_ONE_SET):
-        message = Message()
-        for number in numbers[first:first + OF_ONE_SET]:
-            message.record(ANSWER, record_of(number), 120)
-        yield START + first * 1000, ipv4_frame(SOURCE, message.wire())
+        message = message_of((record_of(number), 120) for number in numbers[first:first + OF_ONE_SET])
+        yield START + first * 1000, ipv4_frame(SOURCE, message)
 
 
 def address(number):
@@ -104,10 +100,7 @@ def records(packets):
     """So many packets of different records, each heard once."""
     count = packets * TOGETHER
     for first in range(0, count, TOGETHER):
-        message = Message()
-        for number in range(first, first + TOGETHER):
-            host = number * STRIDE % count
-            owner = (b"host-%07d" % host, b"local")
-            message.record(ANSWER, Record(owner, A, struct.pack("!I", 0xC6120000 | host & 0x1FFFF), True), 120)
+        hosts = (number * STRIDE % count for number in range(first, first + TOGETHER))
+        told = [Record((b"host-%07d" % host, b"local"), A, struct.pack("!I", 0xC6120000 | host & 0x1FFFF), True) for host in hosts]
         # Less than a second in all for a million, so that all of them are live.
-        yield START + first * 100, ipv4_frame(SOURCE, message.wire())
+        yield START + first * 100, ipv4_frame(SOURCE, message_of((record, 120) for record in told))

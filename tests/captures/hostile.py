@@ -3,7 +3,7 @@
 import struct
 
 from tests.captures.link import START, Record
-from tests.captures.wire import ANSWER, HEADER_SIZE, IN, PTR, RESPONSE, SECOND, SRV, A, Message, ipv4_frame
+from tests.captures.wire import HEADER_SIZE, IN, PTR, RESPONSE, SECOND, SRV, A, ipv4_frame, message_of
 
 SOURCE = bytes((198, 18, 0, 1))
 
@@ -100,23 +100,18 @@ def long_names_message(number):
     # Bytes that print as four each, in labels that together make a name of 255 bytes.
     target = tuple(bytes((octet,)) * 63 for octet in (0x80, 0x81, 0x82)) + (b"\x83" * 61,)
     suffix = (b"\x84" * 60,) + target[1:]
-    message = Message()
-    for port in range(LONG_NAMED):
-        owner = (struct.pack("!H", port),) + suffix
-        record = Record(owner, SRV, (0, number, port, target), True)
-        message.record(ANSWER, record, 120)
-    return message.wire()
+    return message_of((Record((struct.pack("!H", port),) + suffix, SRV, (0, number, port, target), True), 120)
+                      for port in range(LONG_NAMED))
 
 
 def product(count, together=TOGETHER, instances=1):
     """So many messages of servers that are all on one host, of so many instances in turn, and of as many addresses of that
     host. Among the instances each server is printed with each address."""
     for first in range(0, count * together, together):
-        message = Message()
+        told = []
         for number in range(first, first + together):
             instance = (b"instance-%d" % (number % instances),) + SERVICE
             if number < instances:
-                message.record(ANSWER, Record(SERVICE, PTR, instance, False), 120)
-            message.record(ANSWER, Record(instance, SRV, (0, 0, number, HOST), False), 120)
-            message.record(ANSWER, Record(HOST, A, struct.pack("!I", 0xC6120000 | number), False), 120)
-        yield START + first * 1000, ipv4_frame(SOURCE, message.wire())
+                told.append(Record(SERVICE, PTR, instance, False))
+            told += [Record(instance, SRV, (0, 0, number, HOST), False), Record(HOST, A, struct.pack("!I", 0xC6120000 | number), False)]
+        yield START + first * 1000, ipv4_frame(SOURCE, message_of((record, 120) for record in told))

@@ -7,7 +7,7 @@ from itertools import accumulate, islice
 from typing import NamedTuple
 
 from tests.captures.wire import (A, AAAA, ADDITIONAL, ANSWER, ANY, AUTHORITY, NSEC, PTR, QUERY, SECOND, SRV, TXT, Message,
-                                 ipv4_frame, ipv6_frame)
+                                 ipv4_frame, ipv6_frame, message_of)
 
 START = 1_700_000_000 * SECOND
 
@@ -153,17 +153,11 @@ class Host:
 
     def announcement(self):
         """All records, unasked (RFC 6762, section 8.3)."""
-        message = Message()
-        for record, ttl in self.records():
-            message.record(ANSWER, record, ttl)
-        return message.wire()
+        return message_of(self.records())
 
     def goodbye(self):
         """All records, to be forgotten (RFC 6762, section 10.1)."""
-        message = Message()
-        for record, _ in self.records():
-            message.record(ANSWER, record, 0)
-        return message.wire()
+        return message_of((record, 0) for record, _ in self.records())
 
     def answer(self, index):
         """A service that was asked for, and what is wanted next (RFC 6763, section 12.1)."""

@@ -10,7 +10,7 @@ from tests.captures import hostile
 from tests.captures.link import META, START, Link, Record
 from tests.captures.wire import (A, ADDITIONAL, ANSWER, AUTHORITY, NSEC, PTR, QUERY, RESPONSE, SECOND, SRV, TXT, TYPES, Content,
                                  Message, ipv4_frame, ipv6_frame)
-from tests.judges.savefile import PACKET_HEADER, moment_of, reading_of
+from tests.judges.savefile import frames_in
 
 
 IPV4_SOURCE = bytes((192, 0, 2, 1))
@@ -85,8 +85,7 @@ def of_link(rng):
 
 @lru_cache
 def example(name):
-    capture = (EXAMPLES / name).read_bytes()
-    return [(moment_of(capture, packet), packet.wire[PACKET_HEADER:]) for packet in reading_of(capture).packets]
+    return frames_in((EXAMPLES / name).read_bytes())
 
 
 def of_examples(rng):

@@ -150,6 +150,14 @@ class Message:
         return bytes(self.body)
 
 
+def message_of(records):
+    """A message whose answers are these records, each with its TTL."""
+    message = Message()
+    for record, ttl in records:
+        message.record(ANSWER, record, ttl)
+    return message.wire()
+
+
 def checksum(data):
     """The checksum of IP and UDP (RFC 1071)."""
     if len(data) % 2:

@@ -7,9 +7,9 @@ from typing import NamedTuple
 
 from tests.fuzz.lived import LAST_MOMENT, lives_in
 from tests.judges.lives import CHOICES
-from tests.judges.pretty import (instances_columns, instances_in, lives_columns, others_in, records_columns, sets_of,
+from tests.judges.pretty import (instances_columns, instances_in, lives_columns, others_in, records_columns,
                                   types_columns)
-from tests.judges.lines import Line, Unreadable, instances_text, line_of, lines_of, moment_of, types_names
+from tests.judges.lines import Line, Unreadable, instances_text, line_of, lines_of, moment_of, sets_of, types_names
 from tests.judges.subjects import gives_about, is_about, is_name, is_record_about, some_word
 from tests.judges.words import moment_text
 from tests.running.commands import ASKS, FORMS

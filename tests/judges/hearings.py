@@ -6,10 +6,23 @@ from functools import lru_cache
 from typing import NamedTuple
 
 from tests.captures.wire import CACHE_FLUSH, IN, IPV4_GROUP, IPV6_GROUP, PORT, TYPES, UDP, Content
-from tests.judges.savefile import PACKET_HEADER, moment_of, reading_of
+from tests.judges.savefile import frames_in
 
 IPV4, IPV6 = 0x0800, 0x86DD
 ETHERNET_HEADER, IPV4_HEADER, IPV6_HEADER, UDP_HEADER = 14, 20, 40, 8
+
+# The EtherTypes of VLAN tags (IEEE 802.1Q).
+TAGS = (0x8100, 0x88A8)
+
+# The number of the IPv6 fragment header (RFC 8200 section 4.5), and those of other extension headers (RFC 7045 section 4).
+FRAGMENT_HEADER = 44
+EXTENSIONS = (0, 43, 50, 51, 60, 135, 139, 140, 253, 254)
+
+# Those that may come before a fragment header: hop-by-hop options, routing, destination options (RFC 8200 section 4.1).
+BEFORE_FRAGMENTS = (0, 43, 60)
+
+CUT_HEADER, CUT, MALFORMED = "cut within the IP header", "cut within the datagram", "malformed IP header"
+LENGTH, DAMAGED = "UDP length out of range", "damaged message"
 
 # More fragments, and the offset of a fragment.
 FRAGMENT = 0x3FFF
@@ -49,7 +62,7 @@ class Hearing(NamedTuple):
 
 
 class Nothing(Exception):
-    """A frame that tells nothing: it carries no message, the message is damaged, or it is no response."""
+    """A frame that tells nothing: it carries no message, by the cause that is given, the message is damaged, or it is no response."""
 
 
 def folded(kind, data):
@@ -62,9 +75,8 @@ def folded(kind, data):
 
 def hearings_of(capture):
     """All hearings of a capture, those of its packets in turn."""
-    for packet in reading_of(capture).packets:
-        moment = moment_of(capture, packet)
-        for told in told_by(packet.wire[PACKET_HEADER:]):
+    for moment, frame in frames_in(capture):
+        for told in told_by(frame):
             yield Hearing(moment, *told)
 
 
@@ -77,32 +89,54 @@ def told_by(frame):
         return ()
 
 
+def need(is_so, cause):
+    if not is_so:
+        raise Nothing(cause)
+
+
 def payload_of(frame):
-    """What a frame carries over UDP from the port to the port of the group."""
+    """What a frame carries over UDP from the port to the port of the group. The checks are in the order of the headers."""
+    need(len(frame) >= ETHERNET_HEADER, "cut within the Ethernet header")
     kind, packet = number_at(frame, 12), frame[ETHERNET_HEADER:]
-    if kind not in (IPV4, IPV6):
-        raise Nothing
+    need(kind not in TAGS, "VLAN tag")
+    need(kind in (IPV4, IPV6), "neither IPv4 nor IPv6")
     datagram = ipv4_data(packet) if kind == IPV4 else ipv6_data(packet)
-    if (number_at(datagram, 0), number_at(datagram, 2)) != (PORT, PORT):
-        raise Nothing
-    return part(datagram, UDP_HEADER, number_at(datagram, 4))
+    need(len(datagram) >= UDP_HEADER, LENGTH)
+    need(number_at(datagram, 0) == PORT and number_at(datagram, 2) == PORT, "another port")
+    need(UDP_HEADER <= number_at(datagram, 4) <= len(datagram), LENGTH)
+    return datagram[UDP_HEADER:number_at(datagram, 4)]
 
 
 def ipv4_data(packet):
-    header = part(packet, 0, IPV4_HEADER)
-    size = header[0] % 16 * 4
-    if header[0] // 16 != 4 or size < IPV4_HEADER or number_at(header, 6) & FRAGMENT:
-        raise Nothing
-    if header[9] != UDP or header[16:20] != IPV4_GROUP:
-        raise Nothing
-    return part(packet, size, number_at(header, 2))
+    need(len(packet) >= IPV4_HEADER, CUT_HEADER)
+    size, total = packet[0] % 16 * 4, number_at(packet, 2)
+    need(packet[0] // 16 == 4 and size >= IPV4_HEADER, MALFORMED)
+    need(total >= size, "IPv4 total length below its header")
+    need(len(packet) >= total, CUT)
+    need(not number_at(packet, 6) & FRAGMENT, "fragment")
+    need(packet[9] == UDP, "not UDP")
+    need(packet[16:20] == IPV4_GROUP, "another group")
+    return packet[size:total]
 
 
 def ipv6_data(packet):
-    header = part(packet, 0, IPV6_HEADER)
-    if header[0] // 16 != 6 or header[6] != UDP or header[24:40] != IPV6_GROUP:
-        raise Nothing
-    return part(packet, IPV6_HEADER, IPV6_HEADER + number_at(header, 4))
+    need(len(packet) >= IPV6_HEADER, CUT_HEADER)
+    need(packet[0] // 16 == 6, MALFORMED)
+    end = IPV6_HEADER + number_at(packet, 4)
+    need(len(packet) >= end, CUT)
+    need(not leads_to_fragment(packet[6], packet[IPV6_HEADER:end]), "IPv6 fragment")
+    need(packet[6] not in EXTENSIONS, "IPv6 extension header")
+    need(packet[6] == UDP, "not UDP")
+    need(packet[24:40] == IPV6_GROUP, "another group")
+    return packet[IPV6_HEADER:end]
+
+
+def leads_to_fragment(number, data):
+    """Whether a chain of whole headers leads to that of a fragment: each names the next, and counts its bytes but for the first
+    eight, in eights."""
+    while number in BEFORE_FRAGMENTS and len(data) >= 8 and len(data) >= 8 + 8 * data[1]:
+        number, data = data[0], data[8 + 8 * data[1]:]
+    return number == FRAGMENT_HEADER
 
 
 def source_of(frame):

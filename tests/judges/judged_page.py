@@ -14,10 +14,10 @@ from typing import NamedTuple
 from tests.captures.wire import AAAA, PTR, SECOND, SRV, A
 from tests.judges.axis import Axis, day
 from tests.judges.causes import DAMAGED, LOSSES, causes_of
-from tests.judges.pretty import addresses_of, date_of, duration, millis, sets_of, shown_label, words_below, words_of
+from tests.judges.pretty import date_of, duration, millis, shown_label, words_below, words_of
 from tests.judges.hearings import hearings_of
 from tests.judges.lanes import SIGNED, bases_of, counts_of, height_of, lane_count, seconds_of, ticks_of
-from tests.judges.lines import gives_instance, is_service, line_of, wire_of
+from tests.judges.lines import addresses_of, gives_instance, is_service, line_of, sets_of, wire_of
 from tests.judges.lives import accounts
 from tests.judges.meanings import table_of
 from tests.judges.read_page import HAS_TABLE, Lead, Page, Ticks

@@ -6,13 +6,15 @@ from typing import NamedTuple
 
 from tests.captures.link import META
 from tests.captures.wire import A, AAAA, NAMED, PTR, SECOND, SRV, TXT, Content
+from tests.judges.shown import LABEL, bytes_of
 
 TYPE = "|".join(NAMED)
 
 LINE = re.compile(rf"(\S+) ({TYPE})((?: [!-~]+)*) ttl (\d+) heard (\d+\.\d{{9}}) until (\d+\.\d{{9}})")
 
-# A byte of a label as its three decimal digits, after a backslash or as itself, or the dot between two labels.
-PIECE = re.compile(r"\\(\d{3})|\\([.\\])|([!-\-/-\[\]-~])|(\.)")
+# The bytes of labels as their three decimal digits, after a backslash or as themselves, with a dot between two labels.
+PRINTED = r"(?:\\(?:[01]\d\d|2[0-4]\d|25[0-5]|[.\\])|[!-\-/-\[\]-~])+"
+NAME = re.compile(rf"{PRINTED}(?:\.{PRINTED})*")
 
 
 class Unreadable(Exception):
@@ -72,22 +74,10 @@ def moment_of(text):
 
 def labels_of(text):
     """The labels of a name that was printed."""
-    if text == ".":
-        return ()
-    labels = [b""]
-    at = 0
-    while at < len(text):
-        match = PIECE.match(text, at)
-        if match is None or match[1] and int(match[1]) > 255:
-            raise Unreadable(f"no name: {text}")
-        if match[4]:
-            labels.append(b"")
-        else:
-            labels[-1] += bytes((int(match[1]),)) if match[1] else (match[2] or match[3]).encode()
-        at = match.end()
-    if not all(1 <= len(label) <= 63 for label in labels):
-        raise Unreadable(f"a label of no or too many bytes: {text}")
-    return tuple(labels)
+    labels = tuple(map(bytes_of, LABEL.findall(text))) if NAME.fullmatch(text) else ()
+    if not labels and text != "." or any(len(label) > 63 for label in labels):
+        raise Unreadable(f"no name: {text}")
+    return labels
 
 
 def wire_of(labels):
@@ -112,10 +102,16 @@ def types_text(lines):
 
 def instances_text(lines, given=None):
     """What `instances` prints where these records are live; of the instances that records give all, or the given ones."""
+    sets = sets_of(lines)
+    return "".join(instance_text(line, sets) for line in (lines if given is None else given) if gives_instance(line))
+
+
+def sets_of(lines):
+    """The lines of each record set, by its key."""
     sets = {}
     for line in lines:
         sets.setdefault(line.set_key, []).append(line)
-    return "".join(instance_text(line, sets) for line in (lines if given is None else given) if gives_instance(line))
+    return sets
 
 
 def gives_instance(line):
@@ -133,7 +129,10 @@ def instance_text(line, sets):
 
 def server_text(server, sets):
     priority, weight, port, target = server.words
-    host = wire_of(server.target)
-    addresses = sets.get((host, A), []) + sets.get((host, AAAA), [])
     return f"  server {target} {port} priority {priority} weight {weight}\n" + "".join(
-        f"    address {address.words[0]}\n" for address in addresses)
+        f"    address {address.words[0]}\n" for address in addresses_of(server, sets))
+
+
+def addresses_of(server, sets):
+    host = wire_of(server.target)
+    return sets.get((host, A), []) + sets.get((host, AAAA), [])

@@ -3,9 +3,9 @@ columns of `mdnswhy`."""
 
 from datetime import datetime, timedelta, timezone
 
-from tests.captures.wire import A, AAAA, SECOND, SRV, TXT
+from tests.captures.wire import SECOND, SRV, TXT
 from tests.judges.json_forms import APART, LISTENER, MEMBERS, SENDER, SPAN
-from tests.judges.lines import gives_instance, is_service, moment_of, wire_of
+from tests.judges.lines import addresses_of, gives_instance, is_service, moment_of, wire_of
 from tests.judges.shown import LABEL, bytes_of, short_ipv6, shown, shown_name, shown_words
 
 EPOCH = datetime(1970, 1, 1, tzinfo=timezone.utc)
@@ -55,11 +55,6 @@ def words_below(line, sets):
                for server in sets.get((name, SRV), ())]
     texts = [words_of(text) for text in sets.get((name, TXT), ())]
     return (servers or [["unresolved"]]) + [words for words in texts if words]
-
-
-def addresses_of(server, sets):
-    host = wire_of(server.target)
-    return sets.get((host, A), []) + sets.get((host, AAAA), [])
 
 
 def lives_columns(lives, begin, end, chosen):
@@ -128,13 +123,6 @@ def seconds(nanos):
 
 def millis(nanos):
     return date_of(nanos).strftime("%Y-%m-%dT%H:%M:%S.") + f"{nanos % SECOND // 1_000_000:03}Z"
-
-
-def sets_of(lines):
-    sets = {}
-    for line in lines:
-        sets.setdefault(line.set_key, []).append(line)
-    return sets
 
 
 def instances_in(lines):

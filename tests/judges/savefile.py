@@ -89,6 +89,11 @@ def moment_of(capture, packet):
     return seconds * SECOND + fraction * unit
 
 
+def frames_in(capture):
+    """The moment and the frame of each whole packet."""
+    return [(moment_of(capture, packet), packet.wire[PACKET_HEADER:]) for packet in reading_of(capture).packets]
+
+
 def snapshot_length(capture):
     """The most bytes of a packet that were captured, as the file header says."""
     order, _ = LAYOUTS[capture[:4]]

@@ -7,8 +7,8 @@ from functools import lru_cache
 from itertools import takewhile
 
 from tests.captures.wire import NAMED, NAMES, SRV, Content
-from tests.judges.pretty import addresses_of, shown_label, shown_record, words_of
-from tests.judges.lines import gives_instance, wire_of
+from tests.judges.lines import addresses_of, gives_instance, wire_of
+from tests.judges.pretty import shown_label, shown_record, words_of
 from tests.judges.shown import LABEL, shown_name
 
 # Words that are mostly about nothing.

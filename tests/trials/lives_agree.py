@@ -7,11 +7,10 @@ The captures are those of `examples/`, and small ones of the measurements."""
 import re
 from typing import NamedTuple
 
-from tests import EXAMPLES
 from tests.captures.built import write_capture
 from tests.captures.floods import ORDERS, addresses, flushes, records
 from tests.captures.link import START, Link
-from tests.captures.real import NAMES, packets_of, repeated
+from tests.captures.real import repeated
 from tests.captures.wire import SECOND
 from tests.judges.words import moment_text
 from tests.running.runs import WHOLE, answer_of, placed, report_difference
@@ -42,8 +41,8 @@ class Heard(NamedTuple):
 
 
 def links():
-    yield Heard("the examples", [list(packets_of(EXAMPLES / name)) for name in NAMES])
-    yield Heard("the examples twice", [list(packets) for packets in repeated(2)])
+    for rounds, what in ((1, "the examples"), (2, "the examples twice")):
+        yield Heard(what, list(map(list, repeated(rounds))))
     packets = list(Link(1, 40).packets(3_000))
     yield Heard("a link", shared(packets))
     yield Heard("a slow link", shared([(START + (moment - START) * SLOWER, frame) for moment, frame in packets]))

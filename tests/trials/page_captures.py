@@ -4,7 +4,7 @@ spans, in which seconds captures heard a record, why packets told nothing, what 
 import random
 
 from tests import EXAMPLES, TOP
-from tests.captures.built import write_capture
+from tests.captures.built import frame_of, write_capture
 from tests.captures.floods import ORDERS, flushes
 from tests.captures.hostile import product
 from tests.captures.link import META, START, Link, Record
@@ -14,7 +14,7 @@ from tests.captures.wire import AAAA, PTR, SECOND, SRV, ipv6_frame
 from tests.judges.judged_page import Asked
 from tests.trials.page_names import names
 from tests.trials.page_packets import (HOST, HOSTILE, HTTP, IPP, LOCAL, OVER_UDP, SCTP, TTL, Case, address, alone, at, bye,
-                                       frame, full, nothing, says, server, service, text)
+                                       full, nothing, says, server, service, text)
 
 LINK_LOCAL = bytes.fromhex("fe80000000000000") + bytes((0, 0, 0, 0, 0, 0, 0, 1))
 
@@ -102,7 +102,7 @@ def damaged(folder):
 def causes(_):
     """Packets that tell nothing, each for one cause."""
     four = full(START, b"one")[1]
-    six = frame((service(b"one"), TTL), make=ipv6_frame, source=LINK_LOCAL)
+    six = frame_of([(service(b"one"), TTL)], ipv6_frame, LINK_LOCAL)
     attention = {
         "VLAN tag": changed(four, 12, b"\x81\0\0\1\x08\0"), "outer VLAN tag": changed(six, 12, b"\x88\xa8\0\1\x86\xdd"),
         "cut Ethernet header": four[:13], "cut IPv4 header": four[:33], "cut IPv6 header": six[:53],
@@ -130,7 +130,7 @@ def causes(_):
     yield Case("packets of each cause, of a page about a word", files, Asked(about=("nothing",)))
     yield alone("thousands of queries and tags", *((START + number, normal["query"]) for number in range(2345)),
                 *((START + number, attention["VLAN tag"]) for number in range(1000)))
-    yield alone("a message without a listed record", (START, frame()))
+    yield alone("a message without a listed record", (START, frame_of([])))
 
 
 def changed(frame, place, other):
@@ -302,7 +302,7 @@ def services(_):
         "00000000000000000000000000000000", "00000000000000000000000000000001", "20010db8000000010000000000000001",
         "0001000000000002000000000000ffff", "fe800000000000000000000000000000", "00000000000000000000ffffc0000201")]
     told = [(record, TTL) for record in (one, server(b"one"), *addresses, address(0), address(255))]
-    yield alone("addresses of all forms", (START, frame(*told, make=ipv6_frame, source=LINK_LOCAL)))
+    yield alone("addresses of all forms", (START, frame_of(told, ipv6_frame, LINK_LOCAL)))
     pointers = ((META, HTTP), ((b"_sub", *HTTP), (b"one", *HTTP)), (HTTP, (b"one", *IPP)), (HTTP, HTTP),
                 (HTTP, (b"a", b"b", *HTTP)), (SCTP, (b"one", *SCTP)), (HTTP[:2], (b"one", *HTTP[:2])), (OVER_UDP, (b"one", *OVER_UDP)),
                 ((b"_x", b"_TCP", b"LOCAL"), (b"one", b"_X", b"_tcp", b"Local")))

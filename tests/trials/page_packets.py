@@ -2,12 +2,11 @@
 
 from typing import NamedTuple
 
+from tests.captures.built import frame_of
 from tests.captures.link import START, Record
-from tests.captures.wire import ANSWER, PTR, SECOND, SRV, TXT, A, Message, ipv4_frame
+from tests.captures.wire import PTR, SECOND, SRV, TXT, A
 from tests.judges.judged_page import Asked
 from tests.running.runs import placed
-
-SOURCE = bytes((192, 0, 2, 1))
 
 LOCAL = b"local"
 HTTP, IPP = ((label, b"_tcp", LOCAL) for label in (b"_http", b"_ipp"))
@@ -36,14 +35,6 @@ class Case(NamedTuple):
     place: str = ""
 
 
-def frame(*told, make=ipv4_frame, source=SOURCE):
-    """A frame of a message that tells records, each with its TTL."""
-    message = Message()
-    for record, ttl in told:
-        message.record(ANSWER, record, ttl)
-    return make(source, message.wire())
-
-
 def service(label, of_type=HTTP, flush=False):
     return Record(of_type, PTR, (label, *of_type), flush)
 
@@ -62,7 +53,7 @@ def address(last, host=HOST):
 
 def says(moment, *records, ttl=TTL):
     """A packet that tells records."""
-    return moment, frame(*((record, ttl) for record in records))
+    return moment, frame_of([(record, ttl) for record in records])
 
 
 def bye(moment, *records):

@@ -10,7 +10,7 @@ from random import Random
 
 from tests import EXAMPLES
 from tests.captures.built import frame_of, labels, lay_out_small, write_capture
-from tests.captures.wire import A, AAAA, ANSWER, PTR, SECOND, SRV, TXT, Message, ipv6_frame
+from tests.captures.wire import A, AAAA, PTR, SECOND, SRV, TXT, ipv6_frame
 from tests.fuzz.oracles import Seen, try_case
 from tests.judges.json_forms import expected, json_text
 from tests.judges.pretty import pretty_text
@@ -197,10 +197,8 @@ HELP = (
 
 
 def six_packet():
-    message = Message()
     record = labels("b.local"), AAAA, ipaddress.ip_address("fe80::2").packed, True
-    message.record(ANSWER, record, 4500)
-    return 200 * SECOND + 1, ipv6_frame(ipaddress.ip_address("2001:db8::9").packed, message.wire())
+    return 200 * SECOND + 1, frame_of([(record, 4500)], ipv6_frame, ipaddress.ip_address("2001:db8::9").packed)
 
 
 def gone_packets():
