@@ -8,8 +8,7 @@ from tests.captures import sources
 from tests.captures.built import write_capture
 from tests.captures.link import START, Link
 from tests.captures.mutations import mutate_capture, mutate_frame, mutate_message
-from tests.captures.sources import LAST_MOMENT
-from tests.captures.wire import MAGICS, SECOND
+from tests.captures.wire import LAST_MOMENT, MAGICS, SECOND
 
 # The names of listeners: some begin as others do, and some are escaped where they are printed.
 HOSTS = ("west", "west-2", "w", "east", "back\\slash", "two words", "s\u00fcd", "folder/west-3", "folder/north")

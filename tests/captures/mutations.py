@@ -3,7 +3,8 @@
 import struct
 
 from tests.captures import sources
-from tests.captures.wire import MAGICS, Capture, ipv4_frame, ipv6_frame
+from tests.captures.built import write_capture
+from tests.captures.wire import LAST_MOMENT, MAGICS, ipv4_frame, ipv6_frame
 from tests.judges.savefile import FILE_HEADER, LAYOUTS, LONGEST, reading_of
 
 EDGES = (0, 1, 7, 8, 11, 12, 0x3FFF, 0xFFFF, LONGEST, LONGEST + 1, 2**32 - 1)
@@ -166,8 +167,8 @@ def move(rng, packets):
     """Lets a packet come at another moment."""
     if packets:
         at = rng.randrange(len(packets))
-        moment = rng.choice((0, sources.LAST_MOMENT, packets[at][0] + rng.choice(sources.GAPS), rng.choice(packets)[0]))
-        packets[at] = min(moment, sources.LAST_MOMENT), packets[at][1]
+        moment = rng.choice((0, LAST_MOMENT, packets[at][0] + rng.choice(sources.GAPS), rng.choice(packets)[0]))
+        packets[at] = min(moment, LAST_MOMENT), packets[at][1]
 
 
 def change(rng, packets):
@@ -227,8 +228,5 @@ def part_of(rng, packets, listeners):
 def capture_of(rng, packets, scratch):
     for _ in range(rng.choice((0, 1, 1, 2, 4))):
         rng.choice(PACKETS)(rng, packets)
-    with Capture(scratch, rng.choice(list(MAGICS))) as capture:
-        for moment, frame in packets:
-            capture.packet(moment, frame)
-    made = scratch.read_bytes()
+    made = write_capture(scratch, rng.choice(list(MAGICS)), packets)
     return mutate_capture(rng, made) if rng.random() < 0.4 else made

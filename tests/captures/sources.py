@@ -8,15 +8,13 @@ from tests import EXAMPLES
 from tests.captures import floods
 from tests.captures import hostile
 from tests.captures.link import META, START, Link, Record
-from tests.captures.wire import (A, ADDITIONAL, ANSWER, AUTHORITY, NSEC, PTR, QUERY, RESPONSE, SECOND, SRV, TXT, TYPES, Content,
-                                 Message, ipv4_frame, ipv6_frame)
+from tests.captures.wire import (A, ADDITIONAL, ANSWER, AUTHORITY, LAST_MOMENT, NSEC, PTR, QUERY, RESPONSE, SECOND, SRV, TXT,
+                                 TYPES, Content, Message, ipv4_frame, ipv6_frame)
 from tests.judges.savefile import frames_in
 
 
 IPV4_SOURCE = bytes((192, 0, 2, 1))
 IPV6_SOURCE = bytes.fromhex("fe80000000000000") + bytes((0, 0, 0, 0, 0, 0, 0, 1))
-
-LAST_MOMENT = 4_294_967_295 * SECOND + SECOND - 1
 
 LOCAL = b"local"
 IPP = (b"_ipp", b"_tcp", LOCAL)

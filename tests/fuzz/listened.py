@@ -3,8 +3,7 @@ of the captures, of one that is heard again by another clock, and of parts that 
 
 import struct
 
-from tests.captures.sources import LAST_MOMENT
-from tests.captures.wire import SECOND
+from tests.captures.wire import LAST_MOMENT, SECOND
 from tests.judges.json_forms import APART
 from tests.judges.listeners import COMMAND, FORMS, listeners_text
 from tests.judges.pretty import clock_words

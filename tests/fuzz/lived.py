@@ -3,7 +3,7 @@ and agree with the reports."""
 
 import re
 
-from tests.captures.wire import SECOND
+from tests.captures.wire import LAST_MOMENT, SECOND
 from tests.fuzz.explained import record_key
 from tests.judges.hearings import hearings_of
 from tests.judges.json_forms import json_text
@@ -14,8 +14,6 @@ from tests.judges.words import moment_text
 from tests.running.program import Finding, expect, expect_same
 
 LIFE = re.compile(r"(.*) from (\d+\.\d{9}) (ttl \d+ heard \d+\.\d{9} until (\d+\.\d{9})) (live|expired|goodbye|flushed)")
-
-LAST_MOMENT = 4_294_967_296 * SECOND - 1
 
 # How much later than the newest hearing a moment is that is asked for, besides each end of a life.
 LATER = (0, 1, SECOND, 120 * SECOND)
@@ -68,10 +66,8 @@ class Lived:
 
     def expect_records(self, lives, end):
         """The lives that go on are the live records as of the end of the captures."""
-        expected = "".join(f"{life[1]} {life[3]}\n" for life in lives if life[5] == "live")
         words = ["records", "--at", moment_text(end)]
-        text = self.case.report(words, self.case.names)
-        expect_same(text, expected, *words, "beside the lives that go on")
+        expect_same(self.case.report(words, self.case.names), going_on(lives), *words, "beside the lives that go on")
 
     def later(self):
         """As of a moment no earlier than the newest hearing."""
@@ -115,6 +111,11 @@ class Lived:
         """Another program that does the same prints the same lives."""
         answer = other.run("--lives", *self.case.names)
         expect_same(answer.out, self.texts["lives"], "the other program")
+
+
+def going_on(lives):
+    """The lines of `records` for the lives that go on after the end of the captures."""
+    return "".join(f"{life[1]} {life[3]}\n" for life in lives if life[5] == "live")
 
 
 def lives_in(text):

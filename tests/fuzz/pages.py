@@ -3,7 +3,8 @@ definition of lives give (`judged_page.py`)."""
 
 from collections import Counter
 
-from tests.fuzz.lived import LAST_MOMENT, LATER
+from tests.captures.wire import LAST_MOMENT
+from tests.fuzz.lived import LATER
 from tests.judges.judged_page import Asked, Judge, differences
 from tests.judges.markup import Unreadable
 from tests.judges.read_page import read_page

@@ -5,7 +5,8 @@ from functools import cached_property
 from itertools import compress
 from typing import NamedTuple
 
-from tests.fuzz.lived import LAST_MOMENT, lives_in
+from tests.captures.wire import LAST_MOMENT
+from tests.fuzz.lived import lives_in
 from tests.judges.lives import CHOICES
 from tests.judges.pretty import (instances_columns, instances_in, lives_columns, others_in, records_columns,
                                   types_columns)

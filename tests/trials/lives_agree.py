@@ -4,7 +4,6 @@ lives.
 
 The captures are those of `examples/`, and small ones of the measurements."""
 
-import re
 from typing import NamedTuple
 
 from tests.captures.built import write_capture
@@ -12,11 +11,9 @@ from tests.captures.floods import ORDERS, addresses, flushes, records
 from tests.captures.link import START, Link
 from tests.captures.real import repeated
 from tests.captures.wire import SECOND
+from tests.fuzz.lived import going_on, lives_in
 from tests.judges.words import moment_text
 from tests.running.runs import WHOLE, answer_of, placed, report_difference
-
-# A life that goes on: what `records` prints before its first moment, and after it.
-LIVE = re.compile(r"(.*) from \d+\.\d{9} (ttl \d+ heard \d+\.\d{9} until \d+\.\d{9}) live")
 
 # How many listeners share the packets of a link, and how many moments of each kind are asked for.
 LISTENERS, MOMENTS = 3, 6
@@ -95,7 +92,7 @@ class Trials:
         self.about, self.place = link.what, link.place
         names, moments = self.lay_out("whole", link.captures), link.moments
         lives = self.answer("lives", *names)
-        self.expect(going_on(lives), "records", "--at", moment_text(moments[-1]), *names)
+        self.expect(live_records(lives), "records", "--at", moment_text(moments[-1]), *names)
         self.same_lives(lives, link, names)
         for seconds in LATER:
             self.as_of("--at", moments[-1] + seconds * SECOND, names)
@@ -106,7 +103,7 @@ class Trials:
     def as_of(self, flag, moment, names):
         """Tries that the lives that go on after a moment are the records that are live then."""
         asked = [flag, moment_text(moment), *names]
-        self.expect(going_on(self.answer("lives", *asked)), "records", *asked)
+        self.expect(live_records(self.answer("lives", *asked)), "records", *asked)
 
     def same_lives(self, lives, link, names):
         """Tries the captures in another order, twice, and cut at a packet header."""
@@ -115,12 +112,9 @@ class Trials:
             self.expect(lives, "lives", *same)
 
 
-def going_on(lives):
-    """The lines of `records` for the lives that go on after the end of the captures; None of nothing that was printed."""
-    if lives is None:
-        return None
-    found = (LIVE.fullmatch(line) for line in lives.splitlines())
-    return "".join(f"{life[1]} {life[2]}\n" for life in found if life)
+def live_records(lives):
+    """The lines of `records` by a text of lives; None of nothing that was printed."""
+    return None if lives is None else going_on(lives_in(lives))
 
 
 def try_lives_agree(program, folder):

@@ -5,7 +5,6 @@
 import tempfile
 from pathlib import Path
 
-from tests.captures.built import write_capture
 from tests.judges.judged_page import Judge, differences
 from tests.judges.markup import Unreadable, expect
 from tests.judges.read_page import read_page
@@ -27,13 +26,7 @@ class Trial:
 
     def __init__(self, program, folder, case):
         self.program, self.folder, self.case = program, folder, case
-        self.files = []
-        for name, content in case.files:
-            path = folder / name
-            if not isinstance(content, bytes):
-                content = write_capture(path, "little-nano", content)
-            path.write_bytes(content)
-            self.files.append((name, content))
+        self.files = case.lay_out(folder)
         # How the page looks, once it was read.
         self.style = None
 

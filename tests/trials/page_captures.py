@@ -10,16 +10,14 @@ from tests.captures.hostile import product
 from tests.captures.link import META, START, Link, Record
 from tests.captures.mutations import captures_of
 from tests.captures.real import NAMES, repeated
-from tests.captures.wire import AAAA, PTR, SECOND, SRV, ipv6_frame
+from tests.captures.sources import IPV6_SOURCE
+from tests.captures.wire import AAAA, LAST_MOMENT, PTR, SECOND, SRV, ipv6_frame
 from tests.judges.judged_page import Asked
 from tests.trials.page_names import names
 from tests.trials.page_packets import (HOST, HOSTILE, HTTP, IPP, LOCAL, OVER_UDP, SCTP, TTL, Case, address, alone, at, bye,
                                        full, nothing, says, server, service, text)
 
-LINK_LOCAL = bytes.fromhex("fe80000000000000") + bytes((0, 0, 0, 0, 0, 0, 0, 1))
-
 DAY = 86_400 * SECOND
-LAST_MOMENT = 4_294_967_296 * SECOND - 1
 
 # 2023-11-14, 22:13:20; and half a minute before that day's end.
 NIGHT = 1_700_006_370 * SECOND
@@ -102,7 +100,7 @@ def damaged(folder):
 def causes(_):
     """Packets that tell nothing, each for one cause."""
     four = full(START, b"one")[1]
-    six = frame_of([(service(b"one"), TTL)], ipv6_frame, LINK_LOCAL)
+    six = frame_of([(service(b"one"), TTL)], ipv6_frame, IPV6_SOURCE)
     attention = {
         "VLAN tag": changed(four, 12, b"\x81\0\0\1\x08\0"), "outer VLAN tag": changed(six, 12, b"\x88\xa8\0\1\x86\xdd"),
         "cut Ethernet header": four[:13], "cut IPv4 header": four[:33], "cut IPv6 header": six[:53],
@@ -302,7 +300,7 @@ def services(_):
         "00000000000000000000000000000000", "00000000000000000000000000000001", "20010db8000000010000000000000001",
         "0001000000000002000000000000ffff", "fe800000000000000000000000000000", "00000000000000000000ffffc0000201")]
     told = [(record, TTL) for record in (one, server(b"one"), *addresses, address(0), address(255))]
-    yield alone("addresses of all forms", (START, frame_of(told, ipv6_frame, LINK_LOCAL)))
+    yield alone("addresses of all forms", (START, frame_of(told, ipv6_frame, IPV6_SOURCE)))
     pointers = ((META, HTTP), ((b"_sub", *HTTP), (b"one", *HTTP)), (HTTP, (b"one", *IPP)), (HTTP, HTTP),
                 (HTTP, (b"a", b"b", *HTTP)), (SCTP, (b"one", *SCTP)), (HTTP[:2], (b"one", *HTTP[:2])), (OVER_UDP, (b"one", *OVER_UDP)),
                 ((b"_x", b"_TCP", b"LOCAL"), (b"one", b"_X", b"_tcp", b"Local")))

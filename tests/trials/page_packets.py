@@ -2,7 +2,7 @@
 
 from typing import NamedTuple
 
-from tests.captures.built import frame_of
+from tests.captures.built import frame_of, write_capture
 from tests.captures.link import START, Record
 from tests.captures.wire import PTR, SECOND, SRV, TXT, A
 from tests.judges.judged_page import Asked
@@ -33,6 +33,14 @@ class Case(NamedTuple):
     files: list
     asked: Asked = Asked()
     place: str = ""
+
+    def lay_out(self, folder):
+        """Writes the captures, and answers them by name."""
+        files = [(name, content if isinstance(content, bytes) else write_capture(folder / "made", "little-nano", content))
+                 for name, content in self.files]
+        for name, capture in files:
+            (folder / name).write_bytes(capture)
+        return files
 
 
 def service(label, of_type=HTTP, flush=False):
