@@ -62,13 +62,8 @@ TYPES = {one.number: one for one in (
 NAMED = {one.name: one for one in TYPES.values()}
 
 
-def names_of(*contents):
-    """The names of the types whose data says this."""
-    return tuple(one.name for one in TYPES.values() if one.content in contents)
-
-
-# The types whose data is an address, ends in a name, or is strings.
-ADDRESSES, NAMES, STRINGS = names_of(Content.ADDRESS), names_of(Content.NAME, Content.SERVICE), names_of(Content.STRINGS)
+# The types whose data ends in a name.
+NAMES = tuple(one.name for one in TYPES.values() if one.content in (Content.NAME, Content.SERVICE))
 
 
 class Capture:

@@ -1,17 +1,15 @@
-"""What must hold of the answers of the commands that list lives over the captures of a case: they are those of the definition,
-and agree with the reports."""
+"""What must hold of the records and of the lives that are listed over the captures of a case: they are those of the definition."""
 
 import re
 
 from tests.captures.wire import LAST_MOMENT, SECOND
-from tests.fuzz.explained import record_key
 from tests.judges.hearings import hearings_of
 from tests.judges.json_forms import json_text
 from tests.judges.lines import moment_of
-from tests.judges.lives import CHOICES, lives_text, rows_of
+from tests.judges.lives import CHOICES, lives_text, records_text, rows_of
 from tests.judges.savefile import moment_of as packet_moment
 from tests.judges.words import moment_text
-from tests.running.program import Finding, expect, expect_same
+from tests.running.program import Finding, expect_same
 
 LIFE = re.compile(r"(.*) from (\d+\.\d{9}) (ttl \d+ heard \d+\.\d{9} until (\d+\.\d{9})) (live|expired|goodbye|flushed)")
 
@@ -20,7 +18,7 @@ LATER = (0, 1, SECOND, 120 * SECOND)
 
 
 class Lived:
-    """The answers on lives over the captures of a case."""
+    """The answers on records and on lives over the captures of a case."""
 
     def __init__(self, case):
         self.case = case
@@ -32,22 +30,14 @@ class Lived:
 
     def agree(self):
         """All answers."""
-        self.counted()
         self.texts = self.expect_lives([], self.hearings, self.end)
         self.lives = lives_in(self.texts["lives"])
         self.case.seen.ends.update(life[5] for life in self.lives)
         self.case.seen.ends.update({ask: text.count("\n") for ask, text in self.texts.items()})
-        self.expect_records(self.lives, self.end)
+        self.records()
         self.later()
         self.before()
-        self.within()
         self.same_text()
-
-    def counted(self):
-        """As many hearings are read apart from the programs as `check` counts."""
-        for name, heard in self.heard.items():
-            counted = self.case.counts[name]["hearings"]
-            expect(len(heard) == counted, name, "has", len(heard), "hearings, and counted are", counted)
 
     def expect_lives(self, moments, hearings, end):
         """The answer of each command over hearings where the captures end at a moment, which must be that of the definition, some
@@ -64,10 +54,18 @@ class Lived:
         expect_same(text, lines, *words)
         return text
 
-    def expect_records(self, lives, end):
-        """The lives that go on are the live records as of the end of the captures."""
-        words = ["records", "--at", moment_text(end)]
-        expect_same(self.case.report(words, self.case.names), going_on(lives), *words, "beside the lives that go on")
+    def records(self):
+        """The live records as of the newest hearing, of the end of the captures, and before a moment at which nothing was heard."""
+        newest = max((hearing.moment for hearing in self.hearings), default=0)
+        self.expect_records([], self.hearings, newest)
+        self.expect_records(["--at", moment_text(self.end)], self.hearings, self.end)
+        moment = self.case.rng.choice(self.moments or [0]) + self.case.rng.choice((-1, 1, SECOND, SECOND + 1))
+        if 0 <= moment <= LAST_MOMENT and all(hearing.moment != moment for hearing in self.hearings):
+            self.expect_records(["--before", moment_text(moment)], [one for one in self.hearings if one.moment < moment], moment)
+
+    def expect_records(self, moments, hearings, now):
+        text = self.case.report(["records", *moments], self.case.names)
+        expect_same(text, records_text(rows_of(hearings), now), "records", *moments)
 
     def later(self):
         """As of a moment no earlier than the newest hearing."""
@@ -87,18 +85,6 @@ class Lived:
     def about_packet(self):
         """The moment of a packet, or one soon after it."""
         return self.case.rng.choice(self.moments or [0]) + self.case.rng.choice((0, 0, 1, SECOND))
-
-    def within(self):
-        """At a moment at which nothing was heard those records are live that the report before it lists."""
-        moment = self.case.rng.choice(self.moments or [0]) + self.case.rng.choice((-1, 1, SECOND, SECOND + 1))
-        if not 0 <= moment <= LAST_MOMENT or any(hearing.moment == moment for hearing in self.hearings):
-            return
-        words = ["records", "--before", moment_text(moment)]
-        text = self.case.report(words, self.case.names)
-        listed = sorted(record_key(line.rpartition(" ttl ")[0]) for line in text.splitlines())
-        live = sorted(record_key(life[1]) for life in self.lives
-                      if moment_of(life[2]) <= moment < moment_of(life[4]))
-        expect(listed == live, *words, "\nanswered", text, "\nand live by their lives are", *live)
 
     def same_text(self):
         """Captures shuffled, repeated or cut where a packet header begins have the same lives, of whichever choice."""

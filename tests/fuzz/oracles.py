@@ -1,12 +1,12 @@
-"""What must hold of the program's answers over some captures, whatever is in them.
+"""What must hold of the programs' answers over some captures, whatever is in them.
 
-No second program is needed: what is expected comes from a reading of the packet headers alone, and from the program's
-other answers. Each oracle is a function that raises a finding."""
+What is expected comes from a reading of the packet headers, from a separate reader of frames and messages with the definition of
+lives, and from the programs' other answers. Each oracle is a function that raises a finding."""
 
 import re
 from collections import Counter
 
-from tests.captures.wire import SECOND, STRINGS
+from tests.captures.wire import SECOND
 from tests.fuzz.explained import Explained
 from tests.fuzz.listened import Listened
 from tests.fuzz.lived import Lived
@@ -152,22 +152,11 @@ class Case:
         self.records = self.report(["records"], self.names)
         self.lines = lines = read_back(self.records)
         self.seen.lines.update(line.kind for line in lines)
-        hearings = sum(counts["hearings"] for counts in self.counts.values())
-        expect(bool(lines) == (hearings > 0), hearings, "hearings, and the report is\n" + self.records)
         newest = max((line.heard for line in lines), default=0)
-        self.lines_stand(lines, newest)
         self.services(lines, [])
         if lines:
             self.early(newest)
         self.later(lines, newest)
-
-    def lines_stand(self, lines, now):
-        for line in lines:
-            expect(line.until > now, "ended already:", line.text)
-            expect(line.heard <= line.until <= line.heard + max(line.ttl, 1) * SECOND, "no such end:", line.text)
-            expect(line.ttl < 2**32, "no such TTL:", line.text)
-        for line, following in zip(lines, lines[1:]):
-            expect(are_in_order(line, following), "out of order:", line.text, "\nand then:", following.text)
 
     def services(self, lines, at):
         """The types and the instances follow from the records that are live."""
@@ -273,13 +262,6 @@ def read_back(report):
         return lines_of(report)
     except Unreadable as fault:
         raise Finding(fault) from None
-
-
-def are_in_order(line, following):
-    """Whether a line may stand before another one. Of the same set each record stands once."""
-    if line.set_key != following.set_key:
-        return line.set_key < following.set_key
-    return line.kind in STRINGS or line.data_key < following.data_key
 
 
 def shuffled(rng, names):

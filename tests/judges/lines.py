@@ -1,11 +1,10 @@
 """The lines of `records`, read back; and what `types` and `instances` must print where these are live."""
 
 import re
-import struct
 from typing import NamedTuple
 
 from tests.captures.link import META
-from tests.captures.wire import A, AAAA, NAMED, PTR, SECOND, SRV, TXT, Content
+from tests.captures.wire import A, AAAA, NAMED, PTR, SECOND, SRV, TXT
 from tests.judges.shown import LABEL, bytes_of
 
 TYPE = "|".join(NAMED)
@@ -38,19 +37,6 @@ class Line(NamedTuple):
     @property
     def set_key(self):
         return wire_of(self.owner), NAMED[self.kind].number
-
-    @property
-    def data_key(self):
-        """What orders the records of one set. The text of strings doesn't tell: it leaves out empty ones."""
-        content = NAMED[self.kind].content
-        if content is Content.ADDRESS:
-            word = self.words[0]
-            return bytes.fromhex(word.replace(":", "")) if ":" in word else bytes(map(int, word.split(".")))
-        if content is Content.NAME:
-            return wire_of(self.target)
-        if content is Content.SERVICE:
-            return struct.pack("!HHH", *(int(word) for word in self.words[:3])) + wire_of(self.target)
-        return None
 
 
 def lines_of(report):

@@ -116,11 +116,22 @@ def has_change(lives, begun):
     return any(begun[bisect_right(begun, earlier)] < life.start for earlier, life in zip(before, lives))
 
 
+def records_text(rows, now):
+    """The records that are live as of a moment, which is no earlier than any hearing, a line for each."""
+    return "".join(f"{record_text(last)} {end_text(life)}\n" for last, lives in rows for life in lives if life.start <= now < life.until)
+
+
 def life_line(spelled, life, end):
     """The line of a life, the record being spelled as in a hearing."""
-    words = [name_text(spelled.owner), kind_text(spelled.kind), *data_words(spelled.kind, spelled.data)]
-    return " ".join([*words, "from", moment_text(life.start), "ttl", str(life.last.ttl), "heard",
-                     moment_text(life.last.moment), "until", moment_text(life.until), life.end_word(end)])
+    return f"{record_text(spelled)} from {moment_text(life.start)} {end_text(life)} {life.end_word(end)}"
+
+
+def record_text(spelled):
+    return " ".join([name_text(spelled.owner), kind_text(spelled.kind), *data_words(spelled.kind, spelled.data)])
+
+
+def end_text(life):
+    return f"ttl {life.last.ttl} heard {moment_text(life.last.moment)} until {moment_text(life.until)}"
 
 
 class Choice(NamedTuple):
