@@ -8,7 +8,8 @@
   and the first sentence of its comment. Contracts are left out.
 - Below a line `From [FILE](PATH): ITEM, ITEM`: these functions of that file, and the `use` lines that they need.
 
-It also checks that the crate has the files and names that the rest of a page gives in backquotes."""
+It also checks that the crates have the files and names that the rest of a page gives in backquotes, and those of the other pages
+on the sources: docs/*.md, and README.md of a crate."""
 
 import difflib
 import re
@@ -290,11 +291,11 @@ def made(page):
 
 def absent(page):
     """The files and names that the hand-written part of a page gives in backquotes, and that the sources lack."""
-    text = page.read_text(encoding="utf-8")
-    text = re.sub(r"^```.*?^```$", "", text[:text.index(BEGIN)] + text[text.index(END):], flags=re.M | re.S)
+    text = re.sub(f"{re.escape(BEGIN)}.*{re.escape(END)}", "", page.read_text(encoding="utf-8"), flags=re.S)
+    text = re.sub(r"^```.*?^```$", "", text, flags=re.M | re.S)
     said = set(re.findall(r"`([^`\n]+)`", text))
     files = [name for name in said if re.fullmatch(r"(src|specs)/[\w/]+\.\w+", name)]
-    known = set()
+    known = {crate.name for crate in CRATES.iterdir()}
     for file in CRATES.glob("*/s[rp]*/**/*.[ra][tn]*"):
         known.update(re.findall(r"\w+", file.read_text(encoding="utf-8")))
     words = {word for name in said if re.fullmatch(r"[\w:.]*[a-z]_[\w:.]*|[A-Z][a-z]+[A-Z][\w:.]*", name)
@@ -306,9 +307,10 @@ def main():
     if sys.argv[1:] not in ([], ["--check"]):
         sys.exit(__doc__)
     faults = []
+    for page in (*CRATES.parent.glob("docs/*.md"), *CRATES.glob("*/*.md")):
+        faults += [f"{page.relative_to(CRATES.parent)}: the sources have no {word}" for word in absent(page)]
     for page in sorted(CRATES.glob("*/CALLING.md")):
         name = str(page.relative_to(CRATES.parent))
-        faults += [f"{name}: the sources have no {word}" for word in absent(page)]
         old, new = page.read_text(encoding="utf-8"), made(page)
         if old != new and not sys.argv[1:]:
             page.write_text(new, encoding="utf-8")
