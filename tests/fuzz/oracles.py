@@ -99,28 +99,26 @@ class Case:
         cut = (name for name in names if not self.readings[name].is_whole)
         return "".join(f"mdnsmerge: {name}: {self.readings[name].ending}\n" for name in cut)
 
-    def expect_answer(self, answer, status, out, err, *words):
-        expected = Answer(status, out, err)
-        expect_same(answer, expected, *words)
+    def answered(self, words, status, err, out=None):
+        """What is printed for words, with this status and these error lines; it must be `out`, if that is known."""
+        answer = self.program.run(*words)
+        expect_same(answer, Answer(status, answer.out if out is None else out, err), *words)
+        return answer.out
 
     def report(self, words, names):
         """The text of a report that must be printed; its status and its endings are as they must be."""
-        answer = self.program.run(*words, *names)
-        self.expect_answer(answer, self.status(names), answer.out, self.ending_lines(names), *words, *names)
-        return answer.out
+        return self.answered((*words, *names), self.status(names), self.ending_lines(names))
 
     def checked(self, name):
         """What `check` prints of a capture, its counts being right."""
         reading = self.readings[name]
         self.seen.endings[reading.fault or reading.ending.partition(" at ")[0]] += 1
-        answer = self.program.run("check", name)
         if reading.fault:
-            self.expect_answer(answer, 2, "", self.fault_line([name]), "check", name)
-        else:
-            self.expect_answer(answer, self.status([name]), answer.out, "", "check", name)
-            self.counts[name] = self.counted(answer.out, name)
-            self.seen.counts.update(self.counts[name])
-        return answer.out
+            return self.answered(("check", name), 2, self.fault_line([name]), "")
+        out = self.answered(("check", name), self.status([name]), "")
+        self.counts[name] = self.counted(out, name)
+        self.seen.counts.update(self.counts[name])
+        return out
 
     def counted(self, out, name):
         """The counts in a line of a check. The packets are as many as there are, and each is counted once."""
@@ -135,17 +133,14 @@ class Case:
 
     def checked_together(self, checks):
         """The check of all captures is the checks of each, or the first one's refusal."""
-        answer = self.program.run("check", *self.names)
-        if self.fault:
-            self.expect_answer(answer, 2, "", self.fault, "check", *self.names)
-        else:
-            self.expect_answer(answer, self.status(self.names), "".join(checks), "", "check", *self.names)
+        status, err, out = (2, self.fault, "") if self.fault else (self.status(self.names), "", "".join(checks))
+        self.answered(("check", *self.names), status, err, out)
 
     def refusals(self):
         """Where a capture is refused, each report is, whatever else is asked."""
         for words in (*((ask,) for ask in ANSWERS), ("records", "--at", "0"), ("types", "--before", "0"),
                       ("lives", "--at", "0"), ("page", "--at", "0")):
-            self.expect_answer(self.program.run(*words, *self.names), 2, "", self.fault, *words, *self.names)
+            self.answered((*words, *self.names), 2, self.fault, "")
 
     def reports(self):
         """All reports, as of the newest hearing and later."""
@@ -175,8 +170,7 @@ class Case:
         if newest == 0:
             return
         fault = f"mdnsmerge: the moment is earlier than the newest hearing, {moment_text(newest)}\n"
-        words = [self.rng.choice(ANSWERS), "--at", str((newest - 1) // SECOND)]
-        self.expect_answer(self.program.run(*words, *self.names), 2, "", fault, *words, *self.names)
+        self.answered((self.rng.choice(ANSWERS), "--at", str((newest - 1) // SECOND), *self.names), 2, fault, "")
 
     def later(self, lines, newest):
         """At a later moment stands what ends after it."""
@@ -219,13 +213,12 @@ class Case:
 
     def parts_add_up(self, name, parts):
         """What is counted in the parts of a capture is together what is counted in it."""
-        answer = self.program.run("check", *parts, name)
-        self.expect_answer(answer, self.status([*parts, name]), answer.out, "", "check", *parts, name)
-        lines = answer.out.splitlines(keepends=True)
-        expect(len(lines) == 3, "not a line for each file:", answer.out)
+        out = self.answered(("check", *parts, name), self.status([*parts, name]), "")
+        lines = out.splitlines(keepends=True)
+        expect(len(lines) == 3, "not a line for each file:", out)
         front, rest, whole = (self.counted(line, each) for line, each in zip(lines, [*parts, name]))
         # A sum of counters leaves out zeros, and so does the sign before one.
-        expect(front + rest == +whole, "the parts don't add up:", answer.out)
+        expect(front + rest == +whole, "the parts don't add up:", out)
 
     def expect_same(self, names):
         text = self.report(["records"], names)
