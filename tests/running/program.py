@@ -2,13 +2,12 @@
 
 import re
 import resource
-import subprocess
 from collections import Counter
 from typing import NamedTuple
 
 from tests.judges.shown import HIDDEN
 from tests.running.commands import FORMS
-from tests.running.runs import difference
+from tests.running.runs import answer_of, difference
 
 # Characters that people don't see, among them controls.
 HIDDEN_CHARACTER = re.compile("[%s]" % "".join(f"{re.escape(chr(some[0]))}-{re.escape(chr(some[-1]))}" for some in HIDDEN))
@@ -58,18 +57,14 @@ class Program:
 
     def run(self, *words):
         before = processor_seconds()
-        try:
-            ended = subprocess.run([self.path, *words], cwd=self.folder, stdin=subprocess.DEVNULL, capture_output=True,
-                                   timeout=self.seconds * PATIENCE)
-        except subprocess.TimeoutExpired:
-            raise Finding("no end within", self.seconds * PATIENCE, "seconds:", *words) from None
+        status, out, err = answer_of([self.path, *words], self.folder, self.seconds * PATIENCE)
+        expect(status is not None, "no end within", self.seconds * PATIENCE, "seconds:", *words)
         spent = processor_seconds() - before
         self.slowest = max(self.slowest, spent)
-        self.statuses[ended.returncode] += 1
-        expect(ended.returncode in (0, 1, 2), "status", ended.returncode, "of", *words)
+        self.statuses[status] += 1
+        expect(status in (0, 1, 2), "status", status, "of", *words)
         expect(spent <= self.seconds, f"{spent:.3f} seconds of processor time for", *words)
-        out = people_of(ended.stdout) if {"page", *FORMS} & {*words} else text_of(ended.stdout)
-        return Answer(ended.returncode, out, text_of(ended.stderr))
+        return Answer(status, people_of(out) if {"page", *FORMS} & {*words} else text_of(out), text_of(err))
 
 
 def bound_memory(mebibytes):
