@@ -3,11 +3,11 @@ use Rattle.std.proofs.Common.{◌≡◌, ◌∙◌, ℕ, ◌<◌, ◌≤◌, Boo
 use Rattle.std.proofs.Common.{List, [], ◌∷◌, refl, sym, subst, arith, true≢false, eqb-true, le-leb}
 use Rattle.std.specs.List.{AllByRecursion, list_all, list_any}
 use Rattle.std.proofs.lemmas.Bool.Decides.{nat_tests}
-use Rattle.mdns_join.specs.Kept.{ascending, has, IsAscending, IsAscendingAbove}
-use Rattle.mdns_join.specs.laws.Kept.{has-ascending, same_ascending, IsAscending-ascending, IsAscending-from_above, IsAscendingAbove-has}
+use Rattle.mdns_join.specs.Kept.{has, IsAscending, IsAscendingAbove}
+use Rattle.mdns_join.specs.laws.Kept.{IsAscending-from_above, IsAscendingAbove-has}
 use Rattle.mdns_lives.specs.declared.life.Life.{Life}
 use Rattle.mdns_lives.specs.Lives.{AreApart, AreApartAfter}
-use Rattle.mdns_lives.specs.Changes.{begins_of, is_between, strays}
+use Rattle.mdns_lives.specs.Changes.{is_between, strays}
 
 -- lives that begin later don't count
 all-later : (from m low : ℕ) (lives : List Life) → from ≤ low → AreApartAfter low lives
@@ -79,24 +79,3 @@ changes-stray (life ∷ lives) (m ∷ begun) apart sorted began = by (life.from.
         let held = began.0 in
         let low : m < life.from.nanos = grind (arith, nat_tests, e, held, IsAscendingAbove-has m begun life.from.nanos sorted) in
         grind (arith, nat_tests, later, low)
-
-begins-above : (bound low : ℕ) (lives : List Life) → bound ≤ low → AreApartAfter low lives → IsAscendingAbove bound (begins_of lives)
-begins-above bound low [] l apart = tt
-begins-above bound low (life ∷ lives) l apart =
-    (omega (arith, l, apart.0), begins-above life.from.nanos life.until lives (omega (arith, apart.1)) apart.2)
-
-begins-ascend : (lives : List Life) → AreApart lives → IsAscending (begins_of lives)
-begins-ascend [] apart = tt
-begins-ascend (life ∷ lives) apart = begins-above life.from.nanos life.until lives (omega (arith, apart.0)) apart.1
-
--- when the lives of a record began is in order
-pub begins-sorted : (lives : List Life) → AreApart lives → ascending (begins_of lives) ≡ begins_of lives
-begins-sorted lives apart =
-    let begun = begins_of lives in
-    same_ascending (ascending begun) begun (IsAscending-ascending begun) (begins-ascend lives apart)
-    (λ m held. sym (has-ascending begun m) ∙ held) (λ m held. has-ascending begun m ∙ held)
-
--- lives begin at their own beginnings
-pub own-stay : (lives : List Life) → strays lives (begins_of lives) ≡ false
-own-stay [] = refl
-own-stay (life ∷ lives) = grind (arith, nat_tests, own-stay lives)

@@ -1,8 +1,8 @@
 -- Which record sets have changed, by each set alone.
-use Rattle.std.proofs.Common.{◌≡◌, ◌≢◌, Bool, true, false, ◌&&◌, ◌||◌, ◌==◌, not, if◌then◌else◌, cond, IsTrue, ◌↔◌, ℕ}
-use Rattle.std.proofs.Common.{List, [], ◌∷◌, ◌++◌, length, map, slice_get, Option, Some, unwrap_or}
+use Rattle.std.proofs.Common.{◌≡◌, ◌≢◌, Bool, true, false, ◌&&◌, ◌||◌, ◌==◌, not, nat_le, nat_lt, if◌then◌else◌, cond, IsTrue, ◌↔◌, ℕ, ◌<◌}
+use Rattle.std.proofs.Common.{List, [], ◌∷◌, ◌++◌, map, slice_get, Option, None, Some, unwrap_or}
 use Rattle.std.proofs.Common.{refl, sym, ap, ◌∙◌, subst, true≢false, append_assoc, append-nil, arith}
-use Rattle.std.specs.List.{AllByRecursion, filter, list_any}
+use Rattle.std.specs.List.{AllByRecursion, filter, list_all, list_any}
 use Rattle.std.specs.List.Sorted.{IsStrictlySortedBy}
 use Rattle.std.specs.declared.cmp.Ordering.{Ordering}
 use Rattle.std.specs.declared.cmp.Ordering.TheVariants.{Less, Equal, Greater}
@@ -25,10 +25,11 @@ use Rattle.mdns_lives.specs.declared.life.Which.{Which}
 use Rattle.mdns_lives.specs.declared.life.Which.TheVariants.{All, Changes}
 use Rattle.mdns_lives.specs.declared.lives.RecordLives.{RecordLives}
 use Rattle.mdns_lives.specs.Changes.{AreOf, AreOfOne, begins_in, begins_of, by_sets, changes_in, chosen, comes_back, goes_on, has_change}
-use Rattle.mdns_lives.specs.Changes.{has_changed, is_between, is_of_set, is_pointer_record, kept_if, left_of, strays}
+use Rattle.mdns_lives.specs.Changes.{has_changed, is_between, is_of_set, is_pointer_record, kept_if, left_after, left_of, maybe_next, maybe_row}
+use Rattle.mdns_lives.specs.Changes.{strays}
 use Rattle.mdns_lives.specs.Lives.{AreApart}
 use Rattle.mdns_lives.specs.LentLives.{row_lent}
-use Rattle.mdns_lives.proofs.ChangesLemmas.{begins-sorted, own-stay, BeganAt, changes-stray}
+use Rattle.mdns_lives.proofs.ChangesLemmas.{BeganAt, changes-stray}
 use Rattle.mdns_lives.proofs.LiveLifeLemmas.{Row, row_record}
 use Rattle.mdns_cache.proofs.LiveWalkLemmas.{key_after}
 
@@ -195,15 +196,9 @@ left-whole Changes changed set walk rows none same sorted = grind (arith, sets-a
 some-first : (row : Row) (rows : List Row) → row ∷ rows ≢ []
 some-first row rows none = cc
 
-sets-some : (x : Row) (xs rows : List Row) → by_sets (x ∷ xs) rows ≢ []
+pub sets-some : (x : Row) (xs rows : List Row) → by_sets (x ∷ xs) rows ≢ []
 sets-some x xs [] = some-first _ _
 sets-some x xs (row ∷ rows) = grind (arith, some-first, sets-some x (xs ++ row ∷ []) rows)
-
--- where nothing is left there are no rows
-pub none-left : (set rows : List Row) → by_sets set rows ≡ [] → (set ≡ []) × (rows ≡ [])
-none-left [] [] none = (refl, refl)
-none-left [] (row ∷ rows) none = absurd (sets-some row [] rows none)
-none-left (x ∷ set) rows none = absurd (sets-some x set rows none)
 
 is-set : (set key : RecordSet) (is : Bool) → (IsTrue is ↔ (set ≡ key)) → is ≡ is_eq (set_key_cmp set key)
 is-set set key true test = sym (of-itself set key (test.0 refl))
@@ -229,9 +224,8 @@ of-more set [] row own same apart = (same, apart, tt)
 of-more set (x ∷ rows) row own same apart = (own.0, own.1, of-more set rows row own.2 same apart)
 
 one-more : (set : List Row) (row : Row) → AreOfOne set → goes_on set row.0 ≡ true → AreApart row.1 → AreOfOne (set ++ row ∷ [])
-one-more [] row one on apart = (refl, apart, tt)
-one-more (x ∷ set) row one on apart =
-    of-more (set_in x) (x ∷ set) row one (on-same x row on) apart
+one-more [] row one on apart = absurd one
+one-more (x ∷ set) row one on apart = (one.0, of-more (set_in x) (x ∷ set) row one.1 (on-same x row on) apart)
 
 -- the rows of a set that were read, the first of which was before the others, and what is left of those
 pub record ReadSo (first rows set rest : List Row) : Type 0 where
@@ -246,11 +240,6 @@ read-more first rows set old row rest more read next on apart pushed = record {
       ∙ ap (λ (s : List Row). by_sets s rest) (sym pushed);
   one = subst AreOfOne (sym pushed) (one-more set row read.one on apart);
 }
-
--- a row was left
-pub read-some : (first rows set rest : List Row) (row : Row) (more : List Row) → ReadSo first rows set rest → rest ≡ row ∷ more
-    → by_sets first rows ≢ []
-read-some first rows set rest row more read next none = some-first row more (sym next ∙ (none-left set rest (sym read.left ∙ none)).1)
 
 -- ---- whether a set has changed
 
@@ -291,30 +280,106 @@ changed-stray set rows own =
     (λ (row : Row). any-alike _ _ row.1 (λ (life : Life). sym (any-sorted (is_between row.1 life) begun)))
     ∙ stray-rows set (ascending begun) rows (IsAscending-ascending begun) own (λ m held. has-ascending begun m ∙ held))
 
-pub kept-set : (set : List RecordLives) (first : RecordLives) (begun : List ℕ) (changed : Bool) → Some first ≡ slice_get set 0
-    → AreOfOne (map row_lent set) → begun ≡ ascending (begins_in (map row_lent set))
-    → changed ≡ (not (is_pointer_record (last_lent first.last)) && list_any (λ (row : RecordLives). strays row.lives.items begun) set)
+pub kept-set : (set : List RecordLives) (begun : List ℕ) (changed : Bool) → AreOfOne (map row_lent set)
+    → begun ≡ ascending (begins_in (map row_lent set)) → changed ≡ list_any (λ (row : RecordLives). strays row.lives.items begun) set
     → changes_in (map row_lent set) ≡ map (kept_if changed) (map row_lent set)
-kept-set [] first begun changed at one sorted is = refl
-kept-set (x ∷ set) first begun changed at one sorted is =
+kept-set [] begun changed one sorted is = absurd one
+kept-set (x ∷ set) begun changed one sorted is =
     let rows = map row_lent (x ∷ set) in
-    kept-of rows (set_in (row_lent x)) rows changed one
-    (changed-stray (set_in (row_lent x)) rows one
-    ∙ (λ i. not (is_pointer_record (last_lent (unwrap_or (sym at i) first).last)) && list_any (λ (row : Row). strays row.1 (sym sorted i)) rows)
-    ∙ ap (λ b. not (is_pointer_record (last_lent first.last)) && b) (any-lent (x ∷ set)) ∙ sym is)
+    kept-of rows (set_in (row_lent x)) rows changed one.1
+    (changed-stray (set_in (row_lent x)) rows one.1
+    ∙ (λ i. not (one.0 i) && list_any (λ (row : Row). strays row.1 (sym sorted i)) rows)
+    ∙ any-lent (x ∷ set) ∙ sym is)
   where
     any-lent : (some : List RecordLives) → list_any (λ (row : Row). strays row.1 begun) (map row_lent some)
         ≡ list_any (λ (row : RecordLives). strays row.lives.items begun) some
     any-lent [] = refl
     any-lent (row ∷ some) = ap (λ b. strays row.lives.items begun || b) (any-lent some)
 
--- a record that is alone in its set has no change
-pub kept-alone : (set : List RecordLives) (first : RecordLives) → length set ≡ 1 → Some first ≡ slice_get set 0
-    → AreOfOne (map row_lent set) → changes_in (map row_lent set) ≡ map (kept_if false) (map row_lent set)
-kept-alone [] first one at own = absurd (omega (arith, one))
-kept-alone (row ∷ []) first one at own =
-    let lives = row.lives.items in
-    kept-set (row ∷ []) first (begins_of lives) false at own
-    (sym (ap ascending (append-nil (begins_of lives)) ∙ begins-sorted lives own.1))
-    (grind (arith, own-stay lives))
-kept-alone (row ∷ other ∷ set) first one at own = absurd (omega (arith, one))
+-- ---- a record that is alone in its set
+
+-- the moment is that at which one of its lives began
+own-between : (from m : ℕ) (lives : List Life) → m < from → has (begins_of lives) m ≡ true
+    → list_all (λ (own : Life). nat_le from own.from.nanos || nat_lt own.from.nanos m) lives ≡ false
+own-between from m [] less held = absurd (true≢false (sym held))
+own-between from m (life ∷ lives) less held = grind (arith, nat_tests, own-between from m lives less)
+
+none-own : (lives : List Life) (life : Life) (m : ℕ) → has (begins_of lives) m ≡ true → is_between lives life m ≡ false
+none-own lives life m held = by (nat_lt m life.from.nanos) refl
+  where
+    by : (b : Bool) → nat_lt m life.from.nanos ≡ b → is_between lives life m ≡ false
+    by false e = ap (λ b. b && list_all (λ (own : Life). nat_le life.from.nanos own.from.nanos || nat_lt own.from.nanos m) lives) e
+    by true e =
+        ap (λ b. nat_lt m life.from.nanos && b) (own-between life.from.nanos m lives (grind (arith, nat_tests, e)) held)
+        ∙ ap (λ b. b && false) e
+
+any-own : (lives : List Life) (life : Life) (begun : List ℕ) → ((m : ℕ) → has begun m ≡ true → has (begins_of lives) m ≡ true)
+    → list_any (is_between lives life) begun ≡ false
+any-own lives life [] into = refl
+any-own lives life (m ∷ begun) into =
+    let here = none-own lives life m (into m (grind (arith, nat_tests))) in
+    let rest = any-own lives life begun (λ q held. into q (or_right (m == q) _ held)) in
+    λ i. here i || rest i
+
+none-back : (lives some : List Life) → list_any (λ (life : Life). list_any (is_between lives life) (begins_of lives)) some ≡ false
+none-back lives [] = refl
+none-back lives (life ∷ some) =
+    let here = any-own lives life (begins_of lives) (λ m held. held) in
+    λ i. here i || none-back lives some i
+
+-- its lives are no changes
+pub changes-alone : (row : Row) → changes_in (row ∷ []) ≡ kept_if false row ∷ []
+changes-alone row =
+    let set = set_in row in
+    let own : filter (is_in set) (row ∷ []) ≡ row ∷ [] = λ i. cond (of-itself set set refl i) (row ∷ []) [] in
+    let back = ap (λ (begun : List ℕ). list_any (λ (life : Life). list_any (is_between row.1 life) begun) row.1)
+    (append-nil (begins_of row.1)) ∙ none-back row.1 row.1 in
+    let none : has_changed (row ∷ []) set ≡ false =
+    ap (has_change set) own ∙ (λ i. not (set.number == 12) && (back i || false)) ∙ and-false (not (set.number == 12)) in
+    λ i. (row.0, if none i then row.1 else []) ∷ []
+  where
+    and-false : (b : Bool) → (b && false) ≡ false
+    and-false true = refl
+    and-false false = refl
+
+-- ---- the next record of a walk, and the one after it
+
+-- nothing is left of a set that was read
+pub left-from : (which : Which) (changed : Bool) (old new : List Row) (took : Option RecordLives) (next : Option Row)
+    (walk : Option (List Row)) (rows : List Row) (first : Row) (rest : List Row) → which ≡ Changes
+    → map (kept_if changed) old ≡ maybe_row took ++ map (kept_if changed) new → took ≡ None → new ≡ [] → walk ≡ Some rows
+    → by_sets (maybe_next next) rows ≡ by_sets (first ∷ []) rest → left_of which changed old (maybe_next next) walk ≡ by_sets (first ∷ []) rest
+left-from All changed old new took next walk rows first rest is split none empty walks begun = absurd (cc)
+left-from Changes changed old new took next walk rows first rest is split none empty walks begun =
+    (λ i. map (kept_if changed) old ++ left_after (maybe_next next) (walks i))
+    ∙ ap (λ (xs : List Row). xs ++ by_sets (maybe_next next) rows) (split ∙ (λ i. maybe_row (none i) ++ map (kept_if changed) (empty i)))
+    ∙ begun
+
+-- the second record doesn't go on with the set of the first
+pub left-apart : (which : Which) (changed : Bool) (new : List Row) (first second taken : Row) (rest after : List Row) → which ≡ Changes
+    → new ≡ [] → rest ≡ second ∷ after → goes_on (first ∷ []) second.0 ≡ false → changes_in (first ∷ []) ≡ taken ∷ []
+    → by_sets (first ∷ []) rest ≡ taken ∷ left_of which changed new (second ∷ []) (Some after)
+left-apart All changed new first second taken rest after is empty more ends alone = absurd (cc)
+left-apart Changes changed new first second taken rest after is empty more ends alone =
+    ap (by_sets (first ∷ [])) more
+    ∙ ap (λ b. if b then by_sets (first ∷ second ∷ []) after else changes_in (first ∷ []) ++ by_sets (second ∷ []) after) ends
+    ∙ ap (λ (xs : List Row). xs ++ by_sets (second ∷ []) after) alone
+    ∙ ap (λ (xs : List Row). taken ∷ (map (kept_if changed) xs ++ by_sets (second ∷ []) after)) (sym empty)
+
+pub goes-on-first : (first second : Row) (l m : Latest) (is : Bool) → l ≡ first.0 → m ≡ second.0
+    → (IsTrue is ↔ ((is_pointer_record l ≡ false) × (set_key_of l.resource ≡ set_key_of m.resource))) → goes_on (first ∷ []) second.0 ≡ is
+goes-on-first first second l m is e f test =
+    (λ i. not (is_pointer_record (sym e i)) && is_of_set (set_key_of (sym e i).resource) (sym f i))
+    ∙ sym (is-held (is_pointer_record l) (set_key_of l.resource) (set_key_of m.resource) is test)
+
+pub read-two : (first second : Row) (rows set : List Row) → goes_on (first ∷ []) second.0 ≡ true → AreApart first.1 → AreApart second.1
+    → set ≡ first ∷ second ∷ [] → ReadSo (first ∷ []) (second ∷ rows) set rows
+read-two first second rows set on one two is =
+    read-more (first ∷ []) (second ∷ rows) (first ∷ []) (second ∷ rows) second rows set record {
+      left = refl;
+      one = (unshared (is_pointer_record first.0) (and_parts (not (is_pointer_record first.0)) _ on).0, (refl, one, tt));
+    } refl on two is
+  where
+    unshared : (b : Bool) → not b ≡ true → b ≡ false
+    unshared false e = refl
+    unshared true e = sym e

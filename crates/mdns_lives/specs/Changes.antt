@@ -86,6 +86,11 @@ abbrev pub maybe_row : Option RecordLives → List (Latest × List Life)
 maybe_row None = []
 maybe_row (Some row) = row_lent row ∷ []
 
+-- the record that may be next
+abbrev pub maybe_next : Option (Latest × List Life) → List (Latest × List Life)
+maybe_next None = []
+maybe_next (Some row) = row ∷ []
+
 -- what is left after a set: the row after it, and those after that one, or nothing
 abbrev pub left_after : List (Latest × List Life) → Option (List (Latest × List Life)) → List (Latest × List Life)
 left_after next None = []
@@ -101,10 +106,10 @@ abbrev pub AreOf : RecordSet → List (Latest × List Life) → Type 0
 AreOf set [] = Unit {0}
 AreOf set (row ∷ rows) = (set_key_of row.0.resource ≡ set) × AreApart row.1 × AreOf set rows
 
--- they are of one set
+-- they are of one set, which may change
 abbrev pub AreOfOne : List (Latest × List Life) → Type 0
-AreOfOne [] = Unit {0}
-AreOfOne (row ∷ rows) = AreOf (set_key_of row.0.resource) (row ∷ rows)
+AreOfOne [] = ⊥
+AreOfOne (row ∷ rows) = (is_pointer_record row.0 ≡ false) × AreOf (set_key_of row.0.resource) (row ∷ rows)
 
 -- the lives begin at other moments than the first of these
 abbrev pub strays : List Life → List ℕ → Bool

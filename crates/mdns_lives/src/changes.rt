@@ -1,6 +1,6 @@
 //! The lives of record sets that changed: in which a record came, or came back, after another had come.
 
-ghost use Rattle.std.specs.Prelude.{◌≡◌, ◌≢◌, ◌↔◌, ◌++◌, [], false, List, IfNone, IfOk, IsTrue, OnOk, OnErr, map};
+ghost use Rattle.std.specs.Prelude.{◌≡◌, ◌≢◌, ◌↔◌, ◌++◌, ◌∷◌, [], false, true, List, IfNone, IfOk, IfSome, IsTrue, OnOk, OnErr, map};
 ghost use Rattle.std.specs.List.{list_any};
 ghost use Rattle.std.specs.Map.Iter.{TakesFirst};
 ghost use Rattle.mdns_message.specs.Resource.{set_key_of};
@@ -8,13 +8,13 @@ ghost use Rattle.mdns_message.specs.declared.hearing.Hearing.{Hearing};
 ghost use Rattle.mdns_join.specs.Nanos.{nanos_of};
 ghost use Rattle.mdns_cache.specs.LentRecords.{last_lent};
 ghost use Rattle.mdns_lives.specs.Changes.{AreOfOne, begins_in, begins_of, by_sets, changes_in, chosen, goes_on};
-ghost use Rattle.mdns_lives.specs.Changes.{is_pointer_record, kept_if, maybe_row, strays};
+ghost use Rattle.mdns_lives.specs.Changes.{is_pointer_record, kept_if, maybe_next, maybe_row, strays};
 ghost use Rattle.mdns_lives.specs.Chronicle.{AreAllLives, Chronicles, rows_of};
 ghost use Rattle.mdns_lives.specs.LentLives.{row_lent};
 
 use crate::flush_moments::sort;
 use crate::life::{Life, Which};
-use crate::lives::{Lives, LivesWalk, RecordLives};
+use crate::lives::{Lives, LivesWalk, RecordHeard, RecordLives};
 use dns_name::fold::folded_eq;
 use mdns_cache::Last;
 use mdns_capture::Moment;
@@ -47,13 +47,13 @@ impl Lives {
 pub struct ChosenWalk<'a> {
     which: Which,
 
-    // Those records of the set that was read last which are left, and whether the set has changed. A PTR record is read alone,
-    // since its set never changes; where all lives are chosen, no set is read.
+    // Those records of the set that was read last which are left, and whether the set has changed. No set is read of a record
+    // that is alone in its set, nor of a PTR record, since its set never changes; nor where all lives are chosen.
     set: VecDeque<RecordLives<'a>>,
     changed: bool,
 
-    // The record after the set, which was read to see where the set ends.
-    next: Option<RecordLives<'a>>,
+    // The record after the set or the record that was taken last, which was read to see where the set ends.
+    next: Option<RecordHeard<'a>>,
 
     // The records after these. `None` after an allocation failed.
     rows: Option<LivesWalk<'a>>,
@@ -64,14 +64,12 @@ impl<'a> Model for ChosenWalk<'a> {
     ghost use Rattle.std.specs.Prelude.{List, map};
     ghost use Rattle.mdns_join.specs.declared.latest.Latest.{Latest};
     ghost use Rattle.mdns_lives.specs.declared.life.Life.{Life};
-    ghost use Rattle.mdns_lives.specs.Changes.{AreOfOne, left_of, maybe_row};
+    ghost use Rattle.mdns_lives.specs.Changes.{left_of, maybe_next};
     ghost use Rattle.mdns_lives.specs.LentLives.{row_lent};
 
     ghost Value = { List (Latest × List Life) };
 
-    ghost view = { λ a. left_of a.which a.changed (map row_lent a.set.items) (maybe_row a.next) a.rows };
-
-    ghost invariant = { λ a. AreOfOne (maybe_row a.next) };
+    ghost view = { λ a. left_of a.which a.changed (map row_lent a.set.items) (maybe_next a.next) a.rows };
 }
 
 impl<'a> ChosenWalk<'a> {
@@ -98,7 +96,18 @@ impl<'a> ChosenWalk<'a> {
                 let Some(mut rows) = self.rows.take() else {
                     return Ok(None);
                 };
-                let (set, next) = read_set(self.alloc, self.next.take(), &mut rows)?;
+                let Some(first) = first_of(self.next.take(), &mut rows) else {
+                    return Ok(None);
+                };
+                let Some(second) = rows.next_record() else {
+                    return Ok(Some(alone(self.alloc, first)));
+                };
+                if !is_held_with(first.last(), second.last()) {
+                    self.next = Some(second);
+                    self.rows = Some(rows);
+                    return Ok(Some(alone(self.alloc, first)));
+                }
+                let (set, next) = read_set(self.alloc, first, second, &mut rows)?;
                 self.changed = has_changed(self.alloc, set.as_slice())?;
                 self.set = VecDeque::from_vec(set);
                 self.next = next;
@@ -130,43 +139,46 @@ fn kept_if<'a>(kept: bool, row: RecordLives<'a>) -> RecordLives<'a>
     row
 }
 
-// Takes the records of a set, or one PTR record, and the record after them. The first may have been taken before.
-fn read_set<'a>(
-    alloc: Global,
-    first: Option<RecordLives<'a>>,
-    rows: &mut LivesWalk<'a>,
-) -> Result<(Vec<RecordLives<'a>>, Option<RecordLives<'a>>), Want>
-    requires { AreOfOne (maybe_row first) }
-    ensures left { IfOk result (λ read. by_sets (maybe_row first.entry) rows.old
-        ≡ changes_in (map row_lent read.0.items) ++ by_sets (maybe_row read.1) rows.new) }
-    ensures some { IfOk result (λ read. map row_lent read.0.items ≡ [] → by_sets (maybe_row read.1) rows.new ≡ []) }
-    ensures one { IfOk result (λ read. AreOfOne (map row_lent read.0.items)) }
-    ensures next { IfOk result (λ read. AreOfOne (maybe_row read.1)) }
-    ensures err { OnErr result (by_sets (maybe_row first.entry) rows.old ≢ []) }
+// Takes the record that was read before, or the first one of a walk.
+fn first_of<'a>(next: Option<RecordHeard<'a>>, rows: &mut LivesWalk<'a>) -> Option<RecordHeard<'a>>
+    ensures some { IfSome result (λ first. by_sets (maybe_next next.entry) rows.old ≡ by_sets (first ∷ []) rows.new) }
+    ensures none { IfNone result (by_sets (maybe_next next.entry) rows.old ≡ []) }
 {
-    let mut set = begun_set(alloc, first)?;
-    while let Some(row) = rows.next()? {
-        if !goes_on(set.as_slice(), &row.last) {
-            return Ok((set, Some(row)));
-        }
-        set.push(row)?;
+    match next {
+        Some(first) => Some(first),
+        None => rows.next_record(),
     }
-    Ok((set, None))
 }
 
-// Returns the first record of a set alone, or nothing.
-fn begun_set<'a>(
+// Returns a PTR record, or a record that is alone in its set: it has no record before it whose lives could be changes.
+fn alone<'a>(alloc: Global, row: RecordHeard<'a>) -> RecordLives<'a>
+    ensures { changes_in (row.entry ∷ []) ≡ row_lent result ∷ [] }
+{
+    row.without_lives(alloc)
+}
+
+// Takes the records of a set after its first two, finds the lives of them all, and takes the record after them.
+fn read_set<'a>(
     alloc: Global,
-    first: Option<RecordLives<'a>>,
-) -> Result<Vec<RecordLives<'a>>, Want>
-    ensures ok { IfOk result (λ set. map row_lent set.items ≡ maybe_row first.entry) }
-    ensures err { OnErr result (maybe_row first.entry ≢ []) }
+    first: RecordHeard<'a>,
+    second: RecordHeard<'a>,
+    rows: &mut LivesWalk<'a>,
+) -> Result<(Vec<RecordLives<'a>>, Option<RecordHeard<'a>>), Want>
+    requires { goes_on (first ∷ []) second.0 ≡ true }
+    ensures left { IfOk result (λ read. by_sets (first.entry ∷ []) (second.entry ∷ rows.old)
+        ≡ changes_in (map row_lent read.0.items) ++ by_sets (maybe_next read.1) rows.new) }
+    ensures one { IfOk result (λ read. AreOfOne (map row_lent read.0.items)) }
 {
     let mut set = Vec::new(alloc);
-    if let Some(row) = first {
-        set.push(row)?;
+    set.push(first.with_lives(alloc)?)?;
+    set.push(second.with_lives(alloc)?)?;
+    while let Some(record) = rows.next_record() {
+        if !goes_on(set.as_slice(), record.last()) {
+            return Ok((set, Some(record)));
+        }
+        set.push(record.with_lives(alloc)?)?;
     }
-    Ok(set)
+    Ok((set, None))
 }
 
 // Returns whether a record is to be held with these, or there are none.
@@ -201,18 +213,7 @@ fn is_held_with(first: &Last<'_>, last: &Last<'_>) -> bool
 fn has_changed(alloc: Global, set: &[RecordLives<'_>]) -> Result<bool, Want>
     requires { AreOfOne (map row_lent set.now) }
     ensures ok { IfOk result (λ changed. changes_in (map row_lent set.now) ≡ map (kept_if changed) (map row_lent set.now)) }
-    ensures err { OnErr result (set.now ≢ []) }
 {
-    let Some(first) = set.first() else {
-        return Ok(false);
-    };
-    if is_pointer_record(&first.last) {
-        return Ok(false);
-    }
-    // A record alone has none before it, and most records are alone in their set.
-    if set.len() == 1 {
-        return Ok(false);
-    }
     let mut begun = beginnings(alloc, set)?;
     sort(&mut begun);
     Ok(any_strays(set, begun.as_slice()))

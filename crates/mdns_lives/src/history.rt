@@ -157,7 +157,12 @@ impl Join for History {
 
     fn join_with(&mut self, _alloc: Global, other: &History) -> Result<(), Want> {
         self.valid();
-        self.add_all(other.items.as_slice())
+        self.add_all(other.items.as_slice())?;
+        // Sorting takes a step for each hearing that is held, so few hearings stay unsorted behind many.
+        if other.items.len() >= self.items.len() / 8 {
+            self.sort();
+        }
+        Ok(())
     }
 }
 
@@ -327,6 +332,9 @@ fn thin(items: &mut Vec<Packed>)
     ensures capacity { vec_capacity items.new ≡ vec_capacity items.old }
 {
     sort_runs(items);
+    if items.len() <= SHORT {
+        return;
+    }
     let mut kept = 0;
     for place in 0..items.len() {
         kept = keep(items, kept, place);

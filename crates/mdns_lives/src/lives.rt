@@ -1,6 +1,6 @@
 //! The lives of all records, in key order, and those of several chronicles together.
 
-ghost use Rattle.std.specs.Prelude.{◌≡◌, ◌++◌, [], List, IfOk, IfSome, MatchOption, OnErr, OnOk};
+ghost use Rattle.std.specs.Prelude.{◌≡◌, ◌++◌, [], false, List, IfOk, IfSome, MatchOption, OnErr, OnOk};
 ghost use Rattle.join_map.specs.Entries.{joined, joined_at};
 ghost use Rattle.join_map.specs.Join.{IsPartOfJoin};
 ghost use Rattle.std.specs.Map.Iter.{TakesFirst};
@@ -10,6 +10,7 @@ ghost use Rattle.mdns_cache.specs.Contents.{later_moment};
 ghost use Rattle.mdns_cache.specs.Live.{IsNewest};
 ghost use Rattle.mdns_cache.specs.LentRecords.{last_lent};
 ghost use Rattle.mdns_lives.specs.Account.{join_account};
+ghost use Rattle.mdns_lives.specs.Changes.{kept_if};
 ghost use Rattle.mdns_lives.specs.Chronicle.{AreAccounts, AreAllLives, Chronicles, accounts, join_accounts, rows_of};
 ghost use Rattle.mdns_join.specs.Kept.{IsAscending, union};
 ghost use Rattle.mdns_join.specs.Nanos.{nanos_of};
@@ -182,18 +183,86 @@ impl<'a> LivesWalk<'a> {
         ensures apart { IfOk result (λ next. IfSome next (λ row. AreApart row.lives.items)) }
         ensures err { OnErr result (LosesFirst self.old self.new) }
     {
-        let Some((key, account)) = self.entries.next() else {
+        let Some(record) = self.next_record() else {
             return Ok(None);
         };
-        let flushes = FlushMoments::all_of(self.flushes.moments(key.set()));
-        let lives = lives_by(self.alloc, &account.history, flushes)?;
-        let last = borrowed_last(&account.latest);
-        Ok(Some(RecordLives { last, lives }))
+        let row = record.with_lives(self.alloc)?;
+        Ok(Some(row))
+    }
+
+    /// Takes the next record, without finding its lives; `None` after the last one.
+    pub(crate) fn next_record(&mut self) -> Option<RecordHeard<'a>>
+        ensures { TakesFirst (λ row. row) self.old result self.new }
+    {
+        let (key, account) = self.entries.next()?;
+        Some(RecordHeard {
+            last: borrowed_last(&account.latest),
+            history: &account.history,
+            flushes: FlushMoments::all_of(self.flushes.moments(key.set())),
+        })
     }
 }
 
-// Returns the lives of a record. `finish` has sorted its hearings, unless it joined entries of one record; `join_with` sorts
-// none.
+/// A record that was heard, whose lives haven't been found yet. Its value is its last hearing and these lives.
+#[derive(Drop)]
+pub(crate) struct RecordHeard<'a> {
+    last: Last<'a>,
+    history: &'a History,
+
+    // The flush moments of its record set.
+    flushes: &'a [Moment],
+}
+
+impl<'a> Model for RecordHeard<'a> {
+    ghost use Rattle.std.specs.Prelude.{List};
+    ghost use Rattle.mdns_join.specs.declared.latest.Latest.{Latest};
+    ghost use Rattle.mdns_join.specs.Kept.{IsAscending};
+    ghost use Rattle.mdns_join.specs.Nanos.{nanos_of};
+    ghost use Rattle.mdns_cache.specs.LentRecords.{last_lent};
+    ghost use Rattle.mdns_lives.specs.declared.life.Life.{Life};
+    ghost use Rattle.mdns_lives.specs.LifeWalk.{walked};
+    ghost use Rattle.mdns_lives.specs.Seconds.{listed_ends};
+
+    ghost Value = { Latest × List Life };
+
+    ghost view = { λ a. (last_lent a.last, walked (nanos_of a.flushes.now) (listed_ends a.history.now)) };
+
+    ghost invariant = { λ a. IsAscending (nanos_of a.flushes.now) };
+}
+
+impl<'a> RecordHeard<'a> {
+    /// Returns the last hearing.
+    pub(crate) fn last(&self) -> &Last<'a>
+        ensures { last_lent result.now ≡ self.now.0 }
+    {
+        &self.last
+    }
+
+    /// Finds the lives.
+    pub(crate) fn with_lives(self, alloc: Global) -> Result<RecordLives<'a>, Want>
+        ensures row { IfOk result (λ row. row_lent row ≡ self.entry) }
+        ensures apart { IfOk result (λ row. AreApart row.lives.items) }
+    {
+        let lives = lives_by(alloc, self.history, self.flushes)?;
+        Ok(RecordLives {
+            last: self.last,
+            lives,
+        })
+    }
+
+    /// Leaves the lives out.
+    pub(crate) fn without_lives(self, alloc: Global) -> RecordLives<'a>
+        ensures { row_lent result ≡ kept_if false self.entry }
+    {
+        RecordLives {
+            last: self.last,
+            lives: Vec::new(alloc),
+        }
+    }
+}
+
+// Returns the lives of a record. `finish` has sorted its hearings, unless it joined entries of one record; `join_with` leaves
+// a few unsorted behind many.
 fn lives_by(alloc: Global, history: &History, flushes: &[Moment]) -> Result<Vec<Life>, Want>
     requires { IsAscending (nanos_of flushes.now) }
     ensures walked { IfOk result (λ lives. lives.items ≡ walked (nanos_of flushes.now) (listed_ends history.now)) }

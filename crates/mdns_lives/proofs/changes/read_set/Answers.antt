@@ -1,41 +1,34 @@
-use Rattle.std.proofs.Common.{◌≢◌, ◌≡◌, ◌∷◌, [], ◌∙◌, true, List, ap, map, rules, sym}
-use Rattle.mdns_lives.specs.Changes.{by_sets, goes_on, maybe_row}
+use Rattle.std.proofs.Common.{◌≡◌, ◌++◌, ◌∷◌, [], ◌∙◌, true, List, ap, map, rules, subst, sym}
 use Rattle.std.proofs.lemmas.List.{map-append}
-use Rattle.mdns_cache.specs.LentRecords.{last_lent}
 use Rattle.mdns_lives.specs.declared.lives.RecordLives.{RecordLives}
+use Rattle.mdns_lives.specs.Changes.{goes_on}
 use Rattle.mdns_lives.specs.Lives.{AreApart}
 use Rattle.mdns_lives.specs.LentLives.{row_lent}
-use Rattle.mdns_lives.proofs.ChosenLemmas.{none-left, read-more, read-some}
-use Rattle.mdns_cache.proofs.BetweenLemmas.{on_err_any}
+use Rattle.mdns_lives.proofs.ChosenLemmas.{read-more, read-two}
+use Rattle.mdns_lives.proofs.LiveLifeLemmas.{Row}
 use Rattle.mdns_lives.proofs.changes.read_set.Goals as goal
 
-pub loop-set-preserved : goal.loop-set-preserved
-loop-set-preserved c =
-    let row = c.in-Some.row in
-    let first : c.loop-set.rows ≡ row_lent row ∷ c.next.new.self = rw c.in-Some.is at c.in_ok-row.ensures.ok in
-    let own : AreApart row.lives.items = rw c.in-Some.is at c.in_ok-row.ensures.apart in
+pub loop-record-init : goal.loop-record-init
+loop-record-init c =
+    let first = c.in_ok-with_lives.field-0 in
+    let second = c.in_ok-with_lives-2.field-0 in
+    let one = c.in_ok-with_lives.ensures in
+    let two = c.in_ok-with_lives-2.ensures in
+    let pushed = c.in_ok-push-2.ensures.items ∙ ap (λ (set : List RecordLives). set ++ second ∷ [])
+    (c.in_ok-push.ensures.items ∙ ap (λ (set : List RecordLives). set ++ first ∷ []) c.new-set.ensures.items) in
+    read-two c.args.first c.args.second c.args.rows.now (map row_lent c.push-2.new.self.items) c.requires
+    (subst (λ (row : Row). AreApart row.1) one.row one.apart) (subst (λ (row : Row). AreApart row.1) two.row two.apart)
+    (ap (map row_lent) pushed ∙ (λ i. one.row i ∷ two.row i ∷ []))
+
+pub loop-record-preserved : goal.loop-record-preserved
+loop-record-preserved c =
+    let set = c.loop-record.set.items in
+    let more = c.in_ok-with_lives-3.ensures in
     let on : c.goes_on.result ≡ true = search rules in
-    let goes_as = ap (λ (set : List RecordLives). goes_on (map row_lent set) (last_lent row.last)) (sym c.as_slice.ensures.value)
-    ∙ sym c.goes_on.ensures in
-    let pushed = ap (map row_lent) c.in_ok-push.ensures.items ∙ map-append row_lent c.loop-set.set.items (row ∷ []) in
-    read-more (maybe_row c.args.first) c.args.rows.now (map row_lent c.loop-set.set.items) c.loop-set.rows (row_lent row)
-    c.next.new.self _ c.loop-set.invariant first (goes_as ∙ on) own pushed
-
-pub returns-in_err-set-clause-err : goal.returns-in_err-set-clause-err
-returns-in_err-set-clause-err c =
-    let some : by_sets (maybe_row c.args.first) c.args.rows.now ≢ [] =
-    λ none. c.in_err-set.ensures.err (none-left (maybe_row c.args.first) c.args.rows.now none).0 in
-    on_err_any _ some
-
-pub returns-in_err-row-clause-err : goal.returns-in_err-row-clause-err
-returns-in_err-row-clause-err c =
-    let lost = c.in_err-row.ensures.err in
-    on_err_any _ (read-some (maybe_row c.args.first) c.args.rows.now (map row_lent c.loop-set.set.items) c.loop-set.rows lost.0
-    c.next.new.self c.loop-set.invariant lost.1)
-
-pub returns-in_err-push-clause-err : goal.returns-in_err-push-clause-err
-returns-in_err-push-clause-err c =
-    let row = c.in-Some.row in
-    let first : c.loop-set.rows ≡ row_lent row ∷ c.next.new.self = rw c.in-Some.is at c.in_ok-row.ensures.ok in
-    on_err_any _ (read-some (maybe_row c.args.first) c.args.rows.now (map row_lent c.loop-set.set.items) c.loop-set.rows (row_lent row)
-    c.next.new.self c.loop-set.invariant first)
+    let goes_as : goes_on (map row_lent set) c.in-Some.record.0 ≡ c.goes_on.result =
+    (λ i. goes_on (map row_lent (sym c.as_slice.ensures.value i)) (sym c.last.ensures i)) ∙ sym c.goes_on.ensures in
+    let pushed = ap (map row_lent) c.in_ok-push-3.ensures.items ∙ map-append row_lent set (c.in_ok-with_lives-3.field-0 ∷ [])
+    ∙ (λ i. map row_lent set ++ more.row i ∷ []) in
+    read-more (c.args.first ∷ []) (c.args.second ∷ c.args.rows.now) (map row_lent set) c.loop-record.rows c.in-Some.record
+    c.next_record.new.self _ c.loop-record.invariant c.in-Some.ensures (goes_as ∙ on)
+    (subst (λ (row : Row). AreApart row.1) more.row more.apart) pushed

@@ -1,0 +1,7 @@
+use Rattle.std.proofs.Common.{◌∙◌, ◌∷◌, [], ap, sym}
+use Rattle.mdns_lives.proofs.ChosenLemmas.{changes-alone}
+use Rattle.mdns_lives.proofs.LiveLifeLemmas.{Row}
+use Rattle.mdns_lives.proofs.changes.alone.Goals as goal
+
+pub returns : goal.returns
+returns c = changes-alone c.args.row ∙ ap (λ (row : Row). row ∷ []) (sym c.without_lives.ensures)
