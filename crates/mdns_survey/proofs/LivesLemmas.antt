@@ -1,7 +1,7 @@
 -- The chronicle of the readers listened to, and the end of their captures.
-use Rattle.std.proofs.Common.{◌≡◌, ◌∙◌, ℕ, ◌<◌, ◌≤◌, List, [], ◌∷◌, ◌++◌, Option, Some, length, map}
-use Rattle.std.proofs.Common.{refl, ap, subst, inl, inr, append_assoc, arith, IsSomeAnd}
-use Rattle.std.specs.Prelude.{Contains}
+use Rattle.std.proofs.Common.{◌≡◌, ◌∙◌, ℕ, ◌<◌, ◌≤◌, List, [], ◌∷◌, ◌++◌, Option, None, Some, length, map}
+use Rattle.std.proofs.Common.{refl, ap, subst, sym, inl, inr, append_assoc, append-nil, arith, IsSomeAnd}
+use Rattle.std.specs.Prelude.{Contains, option_map}
 use Rattle.std.specs.List.{flat_map}
 use Rattle.std.specs.Io.KnownBytes.{Appends}
 use Rattle.std.proofs.Math.Nat.{le-max_left, le-max_right}
@@ -23,6 +23,7 @@ use Rattle.mdns_lives.specs.Changes.{chosen}
 use Rattle.mdns_browse.specs.LifeText.{end_width, lives_head, lives_in, lives_report, lives_text}
 use Rattle.mdns_survey.specs.declared.request.LivesRequest.{LivesRequest}
 use Rattle.mdns_survey.specs.declared.reading.Reading.{Reading}
+use Rattle.mdns_survey.specs.declared.summary.Summary.{Summary}
 use Rattle.mdns_survey.specs.declared.request.AsOf.{AsOf}
 use Rattle.mdns_survey.specs.declared.request.AsOf.TheVariants.{Newest, At, Before}
 use Rattle.mdns_survey.specs.declared.survey.SurveyFault.{SurveyFault}
@@ -32,7 +33,7 @@ use Rattle.mdns_survey.specs.Chronicling.{FitsForm, StopsRows}
 use Rattle.mdns_survey.specs.Head.{Heads, IsHead}
 use Rattle.mdns_survey.specs.Listen.{packet_moments}
 use Rattle.mdns_survey.specs.LivesAnswer.{SurveysLives, WritesFirstRows, captures_begin, captures_end, kept_rows, latest_nanos}
-use Rattle.mdns_survey.specs.Question.{HearsReaders, IsAnswer, IsTooEarly, Refuses, WritesAnswer, asked_lives}
+use Rattle.mdns_survey.specs.Question.{Asked, HearsReaders, IsAnswer, IsTooEarly, Refuses, WritesAnswer, asked_after, asked_lives, past}
 use Rattle.mdns_survey.specs.Readings.{all_moments, summaries_of}
 use Rattle.mdns_survey.specs.Filter.{counted, filter_of}
 use Rattle.mdns_survey.specs.Request.{moment_of}
@@ -152,6 +153,48 @@ module _ (end : ℕ) (rows : List (Latest × List Life)) (layout : Layout) where
   lines-fit Json some fits = refl
   lines-fit Pretty some fits = ap (λ n. flat_map (lives_text Pretty n end) some) fits.width
 
+-- A TEXT BEFORE ALL ELSE
+
+appends-past : (old new : Option (List ℕ)) (first rest : List ℕ) → Appends old new (first ++ rest)
+    → Appends (option_map (λ (written : List ℕ). written ++ first) old) new rest
+appends-past None new first rest written = tt
+appends-past (Some text) None first rest written = absurd written
+appends-past (Some text) (Some more) first rest written = written ∙ sym (append_assoc text first rest)
+
+-- where that is empty, it makes no difference
+past-nothing : (out : Writing) → past [] out ≡ out
+past-nothing out = ap (λ (old : Option (List ℕ)). record {
+  old = old;
+  new = out.new;
+  failures = out.failures;
+  new_failures = out.new_failures;
+  steady = out.steady;
+}) (same out.old) where
+  same : (old : Option (List ℕ)) → option_map (λ (written : List ℕ). written ++ []) old ≡ old
+  same None = refl
+  same (Some text) = ap (λ (t : List ℕ). Some t) (append-nil text)
+
+module _ (asked : Asked) (lefts : List (Option (List ℕ))) (preface : List ℕ) (none : preface ≡ []) (out : Writing) where
+  bare : (captures : List (List ℕ)) (summaries : List Summary) (text : List ℕ)
+      → (asked_after preface asked).Answers captures summaries text → asked.Answers captures summaries text
+  bare captures summaries text (rest, is, answers) =
+      subst (asked.Answers captures summaries) (sym (is ∙ ap (λ (p : List ℕ). p ++ rest) none)) answers
+
+  pub bare-written : (summaries : List Summary) → WritesAnswer (asked_after preface asked) lefts summaries out
+      → WritesAnswer asked lefts summaries out
+  bare-written summaries written = λ captures known.
+      let (text, answers, appends) = written captures known in (text, bare captures summaries text answers, appends)
+
+  pub bare-refused : (fault : SurveyFault) → Refuses (asked_after preface asked) lefts out fault → Refuses asked lefts out fault
+  bare-refused (File index fault) why = why
+  bare-refused (Early newest) why = why
+  bare-refused Memory (inl untouched) = inl untouched
+  bare-refused Memory (inr stops) = inr (λ captures known.
+      subst (asked.Stops captures) (ap (λ (p : List ℕ). past p out) none ∙ past-nothing out) (stops captures known))
+  bare-refused Write why = λ captures known.
+      let (summaries, (text, answers, prefix)) = why captures known in
+      (summaries, (text, bare captures summaries text answers, prefix))
+
 -- THE LIVES OF THE READERS LISTENED TO
 
 module _ {Heard : List (List PacketAt) → List (List Outcome) → Type 0} (request : LivesRequest) (lefts : List (Option (List ℕ)))
@@ -162,12 +205,15 @@ module _ {Heard : List (List PacketAt) → List (List Outcome) → Type 0} (requ
     → hearing.moment.nanos ≤ end.nanos)
     (rows shown : List Row) (lives : AreAllLives (counted (filter_of request.as_of) hears.outcomes) rows)
     (are : shown ≡ chosen request.which rows) (layout : Layout)
-    (fits : FitsForm request.form end.nanos (kept_rows request.about shown) layout) (head text : List ℕ)
+    (fits : FitsForm request.form end.nanos (kept_rows request.about shown) layout) (preface head text : List ℕ)
     (heads : Heads request.form readings head)
-    (is : text ≡ head ++ lives_head request.which request.form layout.count layout.width begin.nanos end.nanos)
+    (is : text ≡ (preface ++ head) ++ lives_head request.which request.form layout.count layout.width begin.nanos end.nanos)
     (out : Writing) where
   abbrev kept : List Row
   kept = kept_rows request.about (chosen request.which rows)
+
+  abbrev after : Writing
+  after = past preface out
 
   abbrev report : List ℕ
   report = lives_report request.which request.form begin.nanos end.nanos kept
@@ -177,8 +223,8 @@ module _ {Heard : List (List PacketAt) → List (List Outcome) → Type 0} (requ
 
   -- the text that stands before rows, and the text of some of them
   text-fits : (some : List Row) → text ++ flat_map (lives_text request.form layout.width end.nanos) some
-      ≡ head ++ (rows_head request.which request.form begin.nanos end.nanos (kept_rows request.about shown)
-      ++ flat_map (lives_text request.form (end_width end.nanos (kept_rows request.about shown)) end.nanos) some)
+      ≡ preface ++ (head ++ (rows_head request.which request.form begin.nanos end.nanos (kept_rows request.about shown)
+      ++ flat_map (lives_text request.form (end_width end.nanos (kept_rows request.about shown)) end.nanos) some))
   text-fits some = grind (arith, head-fits, append_assoc, lines-fit)
 
   -- the rows are the lives of all records of the captures
@@ -203,19 +249,19 @@ module _ {Heard : List (List PacketAt) → List (List Outcome) → Type 0} (requ
       → IsHead request.form captures (summaries_of readings) head
   is-head captures known = known-head request.form lefts hears.packets hears.outcomes readings head heads hears.read captures known
 
-  with-head : IsAnswer (asked_lives request) lefts (summaries_of readings) (head ++ report)
-  with-head = λ captures known. (head, (report, refl, is-head captures known, surveys-lives captures known))
+  with-head : IsAnswer (asked_after preface (asked_lives request)) lefts (summaries_of readings) (preface ++ (head ++ report))
+  with-head = λ captures known. (head ++ report, refl, (head, (report, refl, is-head captures known, surveys-lives captures known)))
 
   -- all rows were written
   pub writes-lives : Appends out.old out.new (text ++ flat_map (lives_text request.form layout.width end.nanos)
       (kept_rows request.about shown))
-      → WritesAnswer (asked_lives request) lefts (summaries_of readings) out
+      → WritesAnswer (asked_after preface (asked_lives request)) lefts (summaries_of readings) out
   writes-lives written = grind (arith, with-head, all_kept, text-fits)
 
   -- rows that aren't written whole are a refused survey
   pub stops-lives : (fault : SurveyFault)
       → StopsRows text (lives_text request.form layout.width end.nanos) (kept_rows request.about shown) out fault
-      → Refuses (asked_lives request) lefts out fault
+      → Refuses (asked_after preface (asked_lives request)) lefts out fault
   unfolding surveys-lives
   stops-lives (File index fault) stops = absurd stops
   stops-lives (Early newest) stops = absurd stops
@@ -227,20 +273,26 @@ module _ {Heard : List (List PacketAt) → List (List Outcome) → Type 0} (requ
     lives = report;
     surveys = surveys-lives captures known;
     written = subst
-        (λ n. WritesFirstRows head request.which request.form (captures_begin request.as_of (all_moments hears.packets)) n kept out)
+        (λ n. WritesFirstRows head request.which request.form (captures_begin request.as_of (all_moments hears.packets)) n kept after)
         ends
-        (subst (λ n. WritesFirstRows head request.which request.form n end.nanos kept out) begins
-        (subst (λ (xs : List Row). WritesFirstRows head request.which request.form begin.nanos end.nanos xs out) all_kept
-        (stops.0, (stops.1.0, stops.1.1, subst (Appends out.old out.new) (text-fits stops.0) stops.1.2))));
+        (subst (λ n. WritesFirstRows head request.which request.form n end.nanos kept after) begins
+        (subst (λ (xs : List Row). WritesFirstRows head request.which request.form begin.nanos end.nanos xs after) all_kept (
+          stops.0,
+          (
+            stops.1.0,
+            stops.1.1,
+            appends-past out.old out.new preface _ (subst (Appends out.old out.new) (text-fits stops.0) stops.1.2),
+          ),
+        )));
   })
   stops-lives Write stops = λ captures known. (
     summaries_of readings,
     (
-      head ++ report,
+      preface ++ (head ++ report),
       with-head captures known,
       subst
           (λ (xs : List Row). AppendsPrefix out.old out.new
-          (head ++ lives_report request.which request.form begin.nanos end.nanos xs))
+          (preface ++ (head ++ lives_report request.which request.form begin.nanos end.nanos xs)))
           all_kept (subst (AppendsPrefix out.old out.new) (text-fits (kept_rows request.about shown)) stops),
     ),
   )

@@ -1,5 +1,5 @@
 -- A question on captures: what answers it, and why it is refused.
-use Rattle.std.specs.Prelude.{◌≡◌, ◌⊎◌, ℕ, Bool, true, false, List, Option, Some, map}
+use Rattle.std.specs.Prelude.{◌≡◌, ◌⊎◌, ℕ, Bool, true, false, List, ◌++◌, Option, Some, map, option_map}
 use Rattle.std.specs.Io.KnownBytes.{Appends}
 use Rattle.mdns_capture.specs.declared.moment.Moment.{Moment}
 use Rattle.mdns_capture.specs.Output.{AppendsPrefix, Writing}
@@ -49,6 +49,26 @@ asked_report request = asked_at_once (λ captures. SurveysRequest captures reque
 abbrev pub asked_lives : LivesRequest → Asked
 asked_lives request =
     record { Answers = SurveysLivesWithHead request; as_of = request.as_of; at_once = false; Stops = WritesFirstRecords request }
+
+-- a writer, once a text was appended
+abbrev pub past : List ℕ → Writing → Writing
+past text out = record {
+  old = option_map (λ (written : List ℕ). written ++ text) out.old;
+  new = out.new;
+  failures = out.failures;
+  new_failures = out.new_failures;
+  steady = out.steady;
+}
+
+-- the same with a text before all else
+abbrev pub asked_after : List ℕ → Asked → Asked
+asked_after preface asked = record {
+  Answers = λ captures summaries text.
+      (rest : List ℕ) × (text ≡ preface ++ rest) × asked.Answers captures summaries rest;
+  as_of = asked.as_of;
+  at_once = asked.at_once;
+  Stops = λ captures out. asked.Stops captures (past preface out);
+}
 
 -- what a request asks for of captures with these names
 abbrev pub asked_of : Request → List (List ℕ) → Asked

@@ -4,7 +4,7 @@ ghost use Rattle.std.specs.Prelude.{◌≡◌, ◌++◌, ◌∷◌, [], List, If
 ghost use Rattle.mdns_capture.specs.Savefile.{PacketAt};
 ghost use Rattle.mdns_lives.specs.Chronicle.{Chronicles};
 ghost use Rattle.mdns_survey.specs.Outcomes.{Outcome, hearings_in};
-ghost use Rattle.mdns_survey.specs.Chronicling.{ChroniclesAll};
+ghost use Rattle.mdns_survey.specs.Chronicling.{ChroniclesAll, JoinsMore, all_of};
 ghost use Rattle.mdns_survey.specs.Filter.{selected};
 ghost use Rattle.mdns_survey.specs.declared.each_capture.EachChronicling.{EachChronicling};
 
@@ -17,13 +17,15 @@ use mdns_lives::{Chronicle, Lives, MessageChronicle};
 use mdns_message::Want;
 use std::alloc::Global;
 
-/// A collector that chronicles the hearings that count, of each capture and of all. It takes longer than chronicling all
-/// together, and about twice the memory.
+/// A collector that chronicles the hearings that count, of each capture and of all. With several captures it takes longer
+/// than chronicling all together, and about twice the memory.
 #[derive(Drop)]
 pub struct EachChronicling {
     pub captures: Vec<Lives>,
-    pub all: Lives,
-    filter: Filter,
+
+    // The hearings of all captures, unless there is only one.
+    joined: Lives,
+    pub filter: Filter,
 }
 
 impl EachChronicling {
@@ -34,22 +36,44 @@ impl EachChronicling {
     {
         Ok(EachChronicling {
             captures: Vec::new(alloc),
-            all: Chronicle::new(alloc).finish()?,
+            joined: Chronicle::new(alloc).finish()?,
             filter,
         })
     }
 
-    // Adds the chronicle of one more capture. After `Want` nothing is promised of the chronicles.
-    fn add(&mut self, capture: Lives) -> Result<(), Want>
+    /// Returns the hearings of all captures.
+    pub fn all(&self) -> &Lives
+        ensures { result.now ≡ all_of self.now }
+    {
+        match self.captures.as_slice() {
+            [capture] => capture,
+            _ => &self.joined,
+        }
+    }
+
+    /// Adds the chronicle of one more capture. After `Want` nothing is promised of the chronicles.
+    pub fn add(&mut self, capture: Lives) -> Result<(), Want>
         ensures { OnOk result ((begun : EachChronicling) (earlier : List (List PacketAt)) (before : List (List Outcome))
             (packets : List PacketAt) (outcomes : List Outcome)
             → Chronicles capture (selected begun.filter (hearings_in outcomes)) → ChroniclesAll begun self.old earlier before
             → ChroniclesAll begun self.new (earlier ++ packets ∷ []) (before ++ outcomes ∷ [])) }
     {
-        self.all.join_with(&capture)?;
+        join_more(&mut self.joined, self.captures.as_slice(), &capture)?;
         self.captures.push(capture)?;
         Ok(())
     }
+}
+
+// Joins one more capture after earlier ones. The first one is joined only when the second one comes.
+fn join_more(joined: &mut Lives, earlier: &[Lives], capture: &Lives) -> Result<(), Want>
+    ensures { OnOk result (JoinsMore earlier.now joined.old capture.now joined.new) }
+{
+    match earlier {
+        [] => return Ok(()),
+        [first] => joined.join_with(first)?,
+        _ => {}
+    }
+    joined.join_with(capture)
 }
 
 /// Each capture is heard by a `MessageChronicle` of its own, since a chronicle of all doesn't tell them apart.

@@ -31,8 +31,8 @@ impl Filter {
 /// not count.
 #[derive(Drop)]
 pub struct Filtered<H: Hearer> {
-    pub(crate) hearer: H,
-    pub(crate) filter: Filter,
+    pub hearer: H,
+    pub filter: Filter,
 }
 
 impl<H: Hearer> Hearer for Filtered<H> {

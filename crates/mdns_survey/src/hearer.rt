@@ -78,11 +78,11 @@ impl Hearer for MessageGathering {
     ghost Stands = { λ _ gathering. StandsWith gathering.contents gathering.memory };
 
     fn count(&mut self, message: &[u8]) -> Option<usize> {
-        self.count(message)
+        MessageGathering::count(self, message)
     }
 
     fn hear_again(&mut self, message: &[u8], moment: Moment) -> Option<usize> {
-        self.hear_again(message, moment)
+        MessageGathering::hear_again(self, message, moment)
     }
 
     fn hear_all(
@@ -91,7 +91,7 @@ impl Hearer for MessageGathering {
         moment: Moment,
         read: &MessageReader,
     ) -> Result<(), Want> {
-        self.hear(message, moment, read)
+        MessageGathering::hear(self, message, moment, read)
     }
 }
 
@@ -101,11 +101,11 @@ impl Hearer for MessageChronicle {
     ghost Stands = { λ _ chronicle. RecordsAll chronicle.contents chronicle.memory };
 
     fn count(&mut self, message: &[u8]) -> Option<usize> {
-        self.count(message)
+        MessageChronicle::count(self, message)
     }
 
     fn hear_again(&mut self, message: &[u8], moment: Moment) -> Option<usize> {
-        self.hear_again(message, moment)
+        MessageChronicle::hear_again(self, message, moment)
     }
 
     fn hear_all(
@@ -114,12 +114,12 @@ impl Hearer for MessageChronicle {
         moment: Moment,
         read: &MessageReader,
     ) -> Result<(), Want> {
-        self.hear(message, moment, read)
+        MessageChronicle::hear(self, message, moment, read)
     }
 }
 
 /// Makes the lives of the hearings that were recorded, sorted by record.
-pub(crate) fn lives_of_chronicle(chronicle: MessageChronicle) -> Result<Lives, Want>
+pub fn lives_of_chronicle(chronicle: MessageChronicle) -> Result<Lives, Want>
     ensures { IfOk result (λ lives. (heard : List Hearing)
         → RecordsAll chronicle.contents chronicle.memory heard → Chronicles lives heard) }
 {

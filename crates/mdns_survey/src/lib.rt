@@ -7,7 +7,7 @@ pub mod each_capture;
 pub mod error_lines;
 pub mod filter;
 mod head;
-mod hearer;
+pub mod hearer;
 pub mod laws;
 pub mod listen;
 pub mod lives_answer;

@@ -1,7 +1,7 @@
 //! The lives of all records of several captures.
 
-ghost use Rattle.std.specs.Prelude.{◌≡◌, ◌<◌, ◌≤◌, ◌++◌, ◌∷◌, [], ℕ, Contains, IfNone, IfOk, IfErr, IfSome, List, OnErr, OnOk, Some};
-ghost use Rattle.std.specs.Prelude.{is_ok, string_bytes};
+ghost use Rattle.std.specs.Prelude.{◌≡◌, ◌<◌, ◌≤◌, ◌++◌, ◌∷◌, [], ℕ, Contains, IfNone, IfOk, IfErr, IfSome, List, OnErr, OnOk, Option, Some};
+ghost use Rattle.std.specs.Prelude.{false, is_ok, string_bytes};
 ghost use Rattle.std.specs.List.{flat_map};
 ghost use Rattle.std.specs.Io.KnownBytes.{Appends};
 ghost use Rattle.mdns_capture.specs.Calls.{WritesWell};
@@ -13,10 +13,14 @@ ghost use Rattle.mdns_lives.specs.Chronicle.{Chronicles};
 ghost use Rattle.mdns_lives.specs.LentLives.{row_lent};
 ghost use Rattle.mdns_lives.specs.declared.life.Life.{Life};
 ghost use Rattle.mdns_browse.specs.LifeText.{IsLayout, lives_head, lives_text};
-ghost use Rattle.mdns_survey.specs.Chronicling.{FitsForm, IsTextOut, StopsRows};
+ghost use Rattle.mdns_survey.specs.Chronicling.{Chronicled, FitsForm, IsTextOut, StopsRows};
+ghost use Rattle.mdns_survey.specs.Filter.{filter_of};
 ghost use Rattle.mdns_survey.specs.Head.{Heads};
 ghost use Rattle.mdns_survey.specs.LivesAnswer.{kept_rows};
-ghost use Rattle.mdns_survey.specs.Refusals.{BlamesWriter};
+ghost use Rattle.mdns_survey.specs.ProgramLines.{IfFile};
+ghost use Rattle.mdns_survey.specs.Question.{HearsReaders, Refuses, WritesAnswer, asked_after, asked_lives};
+ghost use Rattle.mdns_survey.specs.Readings.{summaries_of};
+ghost use Rattle.mdns_survey.specs.Refusals.{BlamesWriter, Leaves};
 
 use crate::filter::Filtered;
 use crate::head::head_in;
@@ -73,34 +77,77 @@ impl Answer for LivesRequest {
         readings: &[Reading],
         out: &mut W,
     ) -> Result<(), SurveyFault> {
-        let lives = match lives_of_chronicle(collector.hearer) {
-            Ok(lives) => lives,
-            Err(Want) => return Err(SurveyFault::Memory),
+        let answer = LivesAnswer {
+            preface: String::new(alloc),
+            request: self,
+            collector,
         };
-        let begin = captures_begin(self.as_of, readings);
-        let end_of_captures = captures_end(self.as_of, readings);
-        if let Some(newest) = newest_after(&lives, end_of_captures) {
-            return Err(SurveyFault::Early { newest });
-        }
-        let about = self.about.as_slice();
-        let columns = lives.chosen(self.which);
-        let layout = match layout_of(alloc, columns, self.form, about, end_of_captures) {
-            Ok(layout) => layout,
-            Err(Want) => return Err(SurveyFault::Memory),
-        };
-        let text = match text_before(alloc, &self, readings, layout, begin, end_of_captures) {
-            Ok(text) => text,
-            Err(Want) => return Err(SurveyFault::Memory),
-        };
-        let rows = lives.chosen(self.which);
-        let lines = RowLines {
-            form: self.form,
-            about,
-            width: layout.width,
-            end_of_captures,
-        };
-        write_rows(text, rows, lines, out)
+        write_lives(alloc, answer, readings, out)
     }
+}
+
+/// The answer to a request for lives, and a text that is written before it, together with its first piece.
+#[derive(Drop)]
+pub struct LivesAnswer {
+    pub preface: String,
+    pub request: LivesRequest,
+    /// What was collected for the request.
+    pub collector: Filtered<MessageChronicle>,
+}
+
+/// Writes a preface, and then the lives that are asked for, as `LivesRequest` does. After `Memory` nothing was written, or the
+/// preface, the head, the heading and all lines of some first rows.
+pub fn write_lives<W: Sink>(
+    alloc: Global,
+    answer: LivesAnswer,
+    readings: &[Reading],
+    out: &mut W,
+) -> Result<(), SurveyFault>
+    ensures written { OnOk result ((lefts : List (Option (List ℕ)))
+        → HearsReaders (Chronicled (filter_of answer.request.as_of) answer.collector.hearer) lefts readings.now
+        → WritesAnswer (asked_after (string_bytes answer.preface) (asked_lives answer.request)) lefts
+        (summaries_of readings.now) (writing W.Sink out.old out.new)) }
+    ensures refused { IfErr result (λ fault. (lefts : List (Option (List ℕ)))
+        → HearsReaders (Chronicled (filter_of answer.request.as_of) answer.collector.hearer) lefts readings.now
+        → Refuses (asked_after (string_bytes answer.preface) (asked_lives answer.request)) lefts
+        (writing W.Sink out.old out.new) fault) }
+    ensures listened { IfErr result (λ fault. IfFile fault (λ _ _. ⊥)) }
+    ensures untouched { IfErr result (Leaves false out.old out.new) }
+    ensures writer { IfErr result (BlamesWriter (writing W.Sink out.old out.new)) }
+    ensures unfailed { OnOk result (W.failures out.new ≡ W.failures out.old) }
+{
+    let LivesAnswer {
+        preface,
+        request,
+        collector,
+    } = answer;
+    let lives = match lives_of_chronicle(collector.hearer) {
+        Ok(lives) => lives,
+        Err(Want) => return Err(SurveyFault::Memory),
+    };
+    let begin = captures_begin(request.as_of, readings);
+    let end_of_captures = captures_end(request.as_of, readings);
+    if let Some(newest) = newest_after(&lives, end_of_captures) {
+        return Err(SurveyFault::Early { newest });
+    }
+    let about = request.about.as_slice();
+    let columns = lives.chosen(request.which);
+    let layout = match layout_of(alloc, columns, request.form, about, end_of_captures) {
+        Ok(layout) => layout,
+        Err(Want) => return Err(SurveyFault::Memory),
+    };
+    let text = match text_before(preface, &request, readings, layout, begin, end_of_captures) {
+        Ok(text) => text,
+        Err(Want) => return Err(SurveyFault::Memory),
+    };
+    let rows = lives.chosen(request.which);
+    let lines = RowLines {
+        form: request.form,
+        about,
+        width: layout.width,
+        end_of_captures,
+    };
+    write_rows(text, rows, lines, out)
 }
 
 /// Returns the newest hearing's moment, where it is later than `end_of_captures`.
@@ -129,19 +176,22 @@ struct RowLines<'a> {
     end_of_captures: Moment,
 }
 
-// Returns what stands before the lives: the head of captures with these readings, and the heading.
+// Returns what stands before the lives: the preface, the head of captures with these readings, and the heading.
 fn text_before(
-    alloc: Global,
+    preface: String,
     request: &LivesRequest,
     readings: &[Reading],
     layout: Layout,
     begin: Moment,
     end_of_captures: Moment,
 ) -> Result<String, Want>
-    ensures { IfOk result (λ text. (head : List ℕ) × Heads request.now.form readings.now head × (string_bytes text
-        ≡ head ++ lives_head request.now.which request.now.form layout.count layout.width begin.nanos end_of_captures.nanos)) }
+    ensures { IfOk result (λ text. (head : List ℕ) × Heads request.now.form readings.now head
+        × (string_bytes text ≡ (string_bytes preface ++ head)
+        ++ lives_head request.now.which request.now.form layout.count layout.width begin.nanos end_of_captures.nanos)) }
 {
-    let mut text = head_in(alloc, request.form, readings)?;
+    let mut text = preface;
+    let head = head_in(*text.allocator(), request.form, readings)?;
+    text.push_str(head.as_str())?;
     push_lives_head(
         &mut text,
         request.which,
