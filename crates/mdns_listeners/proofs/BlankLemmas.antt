@@ -1,4 +1,5 @@
 -- How each different one of sorted messages gets a row.
+use Rattle.std.proofs.lemmas.Bool.Decides.{nat_tests}
 use Rattle.std.proofs.Common.{◌≡◌, ℕ, suc, ◌+◌, ◌-◌, ◌<◌, ◌≤◌, ◌⊎◌, inl, inr, false, Ordering, Less, Equal, Greater, append_assoc}
 use Rattle.std.proofs.Common.{List, [], ◌∷◌, ◌++◌, length, map, get_or, set, refl, sym, ap, ◌∙◌, subst, arith, true≢false}
 use Rattle.std.specs.Cmp.Lexicographic.{slice_cmp, nat_list_cmp_total}
@@ -6,7 +7,7 @@ use Rattle.std.specs.List.{All, AllByRecursion}
 use Rattle.std.specs.List.Sorted.{IsStrictlySortedBy}
 use Rattle.std.specs.Ordering.{nat_cmp, is_lt, ordering_reverse}
 use Rattle.std.proofs.lemmas.Bool.{cases_eq, cases_lt}
-use Rattle.std.proofs.lemmas.List.{append-nil, get_or_append_left, get_or-map, get_or_push, get_or-set_other}
+use Rattle.std.proofs.lemmas.List.{get_or_append_left, get_or-map, get_or_push, get_or-set_other}
 use Rattle.std.proofs.lemmas.List.{get_or-set_same, length-map, length_push, map_push}
 use Rattle.std.proofs.lemmas.List.Elements.{All-nil, All-push, recursion_from_All}
 use Rattle.std.proofs.lemmas.List.Sorted.{ranks_by, sorted_far}
@@ -52,10 +53,7 @@ last_read rows last some is =
     get_or-map (λ (r : HeardRow). r.message) rows (length rows - 1) last [] (omega arith) ∙ ap (λ r. r.message) (sym is)
 
 last-push : (rows : List HeardRow) (row : HeardRow) → last_message (rows ++ row ∷ []) ≡ row.message
-last-push rows row =
-    let place : length (rows ++ row ∷ []) - 1 ≡ length rows = omega (arith, length_push rows row) in
-    (λ i. get_or (map_push (λ (r : HeardRow). r.message) rows row i) (place i) [])
-    ∙ get_or_push (messages_of rows) row.message [] (length rows) (length-map rows (λ r. r.message))
+last-push rows row = grind (arith, nat_tests, get_or_push, length-map, length_push, map_push)
 
 below-last : (last m : List ℕ) → is_lt (slice_cmp nat_cmp m last) ≡ false → (last ≡ m → ⊥) → slice_cmp nat_cmp last m ≡ Less
 below-last last m h differs = by (slice_cmp nat_cmp last m) refl
@@ -69,17 +67,8 @@ ascend-next : (ms : List (List ℕ)) (m : List ℕ) (n : ℕ) → length ms ≡ 
     → (0 < n → slice_cmp nat_cmp (get_or ms (n - 1) []) m ≡ Less) → (k : ℕ) → k + 1 < length (ms ++ m ∷ [])
     → (k + 1 < length ms) ⊎ (length ms ≤ k + 1)
     → slice_cmp nat_cmp (get_or (ms ++ m ∷ []) k []) (get_or (ms ++ m ∷ []) (k + 1) []) ≡ Less
-ascend-next ms m n long s h k l (inl less) =
-    let here : k < length ms = omega arith in
-    rw (get_or_append_left ms (m ∷ []) [] k here, get_or_append_left ms (m ∷ []) [] (k + 1) less)
-    (Less-from_sorted (slice_cmp nat_cmp) ms k (k + 1) [] s (omega arith) less)
-ascend-next ms m n long s h k l (inr last) =
-    let whole = length_push ms m in
-    let end : length ms ≡ k + 1 = omega arith in
-    let here : k < length ms = omega arith in
-    let place : n - 1 ≡ k = omega arith in
-    rw (get_or_append_left ms (m ∷ []) [] k here, get_or_push ms m [] (k + 1) end)
-    (subst (λ j. slice_cmp nat_cmp (get_or ms j []) m ≡ Less) place (h (omega arith)))
+ascend-next ms m n long s h k l (inl less) = grind (arith, nat_tests, Less-from_sorted, get_or_append_left)
+ascend-next ms m n long s h k l (inr last) = grind (arith, nat_tests, get_or_append_left, get_or_push, length_push)
 
 ascend-push : (rows : List HeardRow) (row : HeardRow) → Ascend rows
     → (0 < length rows → slice_cmp nat_cmp (last_message rows) row.message ≡ Less) → Ascend (rows ++ row ∷ [])
@@ -189,11 +178,7 @@ numbered-own rows more numbers one number new last room =
 
 pub placed-next : (kept done rest new : List KeptMessage) (one : KeptMessage) (messages : List (List ℕ)) → ArePlaced messages kept
     → kept ≡ done ++ rest → rest ≡ one ∷ new → one.place < length kept
-placed-next kept done rest new one messages placed left first =
-    let whole : kept ≡ done ++ one ∷ new = left ∙ ap (λ l. done ++ l) first in
-    let within = all-middle (λ o. o.place < length messages) done new one
-    (subst (All (λ o. o.place < length messages)) whole placed.within) in
-    omega (arith, placed.long, within)
+placed-next kept done rest new one messages placed left first = grind (arith, nat_tests, all-middle, left)
 
 blank-step : (kept done rest new : List KeptMessage) (one : KeptMessage) (rows more : List HeardRow) (numbers : List ℕ) (number : ℕ)
     (messages : List (List ℕ)) → ArePlaced messages kept → BlankRows kept done rest rows numbers → rest ≡ one ∷ new
@@ -227,8 +212,3 @@ blank-more kept done rest new one message place rows more numbers number message
     subst (λ p. BlankRows kept (done ++ one ∷ []) new more (set numbers p number)) (sym at)
     (blank-step kept done rest new one rows more numbers number messages placed so_far first
     (subst (λ m. AddsRow rows m more) is adds) last room)
-
-pub blank-all : (kept done rest : List KeptMessage) (rows : List HeardRow) (numbers : List ℕ) → BlankRows kept done rest rows numbers
-    → rest ≡ [] → All (IsNumbered rows numbers) kept
-blank-all kept done rest rows numbers all none =
-    subst (All (IsNumbered rows numbers)) (sym (all.left ∙ ap (λ l. done ++ l) none ∙ append-nil done)) all.numbered

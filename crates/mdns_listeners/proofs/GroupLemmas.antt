@@ -1,13 +1,14 @@
 -- Lemmas on the listeners of files.
-use Rattle.std.proofs.Common.{◌≡◌, ◌∙◌, ◌<◌, ◌≤◌, ◌++◌, ◌∷◌, refl, sym, subst, ap, arith, cond, true, false, ℕ, Bool, List, [], Option, Some, None}
+use Rattle.std.proofs.lemmas.Bool.Decides.{nat_tests}
+use Rattle.std.proofs.Common.{◌≡◌, ◌∙◌, ◌<◌, ◌++◌, ◌∷◌, refl, sym, ap, arith, cond, true, false, ℕ, Bool, List, [], Option, Some, None}
 use Rattle.std.proofs.Common.{drop, get_or, length, map, replicate, take, set, string_bytes, Global, String, append-nil, append_assoc, length-append}
 use Rattle.std.specs.Prelude.{◌==◌}
-use Rattle.std.specs.List.{list_any, position, position_or_len, All}
+use Rattle.std.specs.List.{list_any, position, position_or_len}
 use Rattle.std.proofs.lemmas.Bool.{eq-eqb, eqb-true}
 use Rattle.std.proofs.lemmas.Grind.{get_or-set_at}
 use Rattle.std.proofs.lemmas.List.{get_or-map, get_or-replicate, get_or-set_other, length-map, length-replicate, length-set}
-use Rattle.std.proofs.lemmas.List.Elements.{All-cons, All-nil}
 use Rattle.std.proofs.lemmas.List.Quantifiers.{position-Some}
+use Rattle.std.proofs.lemmas.Option.{none-some, same_Some}
 use Rattle.std.proofs.Math.Seq.{take-append_seam}
 use Rattle.mdns_listeners.specs.Groups.{HasBegun, base_name, before_first, begun_by, fits, is_beside, is_same, is_slash, listener_names}
 use Rattle.mdns_listeners.specs.Groups.{listener_positions, name_by, names_after, position_of, positions_after, prefix_of, takes}
@@ -100,11 +101,7 @@ place len test xs = cond (list_any test xs) (Some (len (before_first test xs))) 
 
 place-kept : {X : Type 0} (len : List X → ℕ) (test : X → Bool) (xs : List X) (x : X) → test x ≡ false
     → place len test (xs ++ x ∷ []) ≡ place len test xs
-place-kept len test xs x not_it = go (list_any test xs) refl
-  where
-    go : (any : Bool) → any ≡ list_any test xs → place len test (xs ++ x ∷ []) ≡ place len test xs
-    go true any = rw (any-more test xs x, sym any, front-any test xs (x ∷ []) (sym any)) refl
-    go false any = rw (any-more test xs x, sym any, not_it) refl
+place-kept len test xs x not_it = grind (arith, nat_tests, any-more, front-any)
 
 place-again : {X : Type 0} (len : List X → ℕ) (test : X → Bool) (xs : List X) (x : X) → list_any test xs ≡ true
     → place len test (xs ++ x ∷ []) ≡ place len test xs
@@ -117,19 +114,10 @@ place-new len test xs x none it = rw (any-more test xs x, none, it, front-none t
 -- what the place says of the list
 place-some : {X : Type 0} (len : List X → ℕ) (test : X → Bool) (xs : List X) (at : ℕ) → place len test xs ≡ Some at
     → (list_any test xs ≡ true) × (at ≡ len (before_first test xs))
-place-some len test xs at is = go (list_any test xs) refl is
-  where
-    go : (any : Bool) → list_any test xs ≡ any → cond any (Some (len (before_first test xs))) None ≡ Some at
-        → (list_any test xs ≡ true) × (at ≡ len (before_first test xs))
-    go true any is = (any, cc)
-    go false any is = absurd cc
+place-some len test xs at is = grind (arith, nat_tests)
 
 place-none : {X : Type 0} (len : List X → ℕ) (test : X → Bool) (xs : List X) → place len test xs ≡ None → list_any test xs ≡ false
-place-none len test xs is = go (list_any test xs) refl is
-  where
-    go : (any : Bool) → list_any test xs ≡ any → cond any (Some (len (before_first test xs))) None ≡ None → list_any test xs ≡ false
-    go true any is = absurd cc
-    go false any is = any
+place-none len test xs is = grind (arith, nat_tests)
 
 -- before any file
 pub nothing_begun : (prefixes : List (List ℕ)) → HasBegun prefixes [] [] (replicate (length prefixes) None)
@@ -137,6 +125,7 @@ nothing_begun prefixes = record {
   named = refl;
   many = length-replicate (length prefixes) None;
   each = λ at inside. get_or-replicate (length prefixes) at None None inside;
+  inside = λ at listener inside is. absurd (none-some listener (sym (get_or-replicate (length prefixes) at None None inside) ∙ is));
 }
 
 module _ (prefixes earlier : List (List ℕ)) (file : List ℕ) (names : List (List ℕ)) (begun : List (Option ℕ))
@@ -176,12 +165,13 @@ module _ (prefixes earlier : List (List ℕ)) (file : List ℕ) (names : List (L
           many = has.many;
           each = λ at inside.
               has.each at inside ∙ sym (place-kept size (takes prefixes at) earlier file (ap (λ (own : Option ℕ). is_same (Some at) own) none));
+          inside = λ at listener inside is. omega (arith, has.inside at listener inside is, length-append names (file ∷ []));
         },
       )
 
   -- a file that takes a prefix whose listener has begun
   pub begun_again : (at listener : ℕ) → prefix_of prefixes file ≡ Some at → at < length prefixes → get_or begun at None ≡ Some listener
-      → (listener ≡ position_of prefixes earlier file) × HasBegun prefixes (earlier ++ file ∷ []) names begun
+      → (listener ≡ position_of prefixes earlier file) × HasBegun prefixes (earlier ++ file ∷ []) names begun × (listener < length names)
   begun_again at listener own inside held =
       let begun_before = place-some size (takes prefixes at) earlier listener (sym (has.each at inside) ∙ held) in (
         begun_before.1 ∙ sym (ap position_with own),
@@ -191,7 +181,9 @@ module _ (prefixes earlier : List (List ℕ)) (file : List ℕ) (names : List (L
               ∙ append-nil (listener_names prefixes earlier));
           many = has.many;
           each = λ other within. has.each other within ∙ sym (kept other begun_before.0 (takes prefixes other file) refl);
+          inside = has.inside;
         },
+        has.inside at listener inside held,
       )
     where
       kept : (other : ℕ) → list_any (takes prefixes at) earlier ≡ true → (b : Bool) → takes prefixes other file ≡ b
@@ -213,9 +205,19 @@ module _ (prefixes earlier : List (List ℕ)) (file : List ℕ) (names : List (L
           named = begin.1;
           many = length-set begun at (Some (length names)) ∙ has.many;
           each = λ other within. each_one none other within (other == at) refl;
+          inside = λ other listener within is. inside_one other listener within is (other == at) refl;
         },
       )
     where
+      inside_one : (other listener : ℕ) → other < length prefixes → get_or (set begun at (Some (length names))) other None ≡ Some listener
+          → (b : Bool) → (other == at) ≡ b → listener < length (names ++ get_or prefixes at [] ∷ [])
+      inside_one other listener within is true e =
+          let here = get_or-set_at begun at other (Some (length names)) None (eqb-true other at e) (rw has.many inside) in
+          omega (arith, same_Some (length names) listener (sym here ∙ is), length-append names (get_or prefixes at [] ∷ []))
+      inside_one other listener within is false e =
+          let there = get_or-set_other begun at other (Some (length names)) None (λ same. let yes = eq-eqb other at same in absurd cc) in
+          omega (arith, has.inside other listener within (sym there ∙ is), length-append names (get_or prefixes at [] ∷ []))
+
       each_one : list_any (takes prefixes at) earlier ≡ false → (other : ℕ) → other < length prefixes → (b : Bool) → (other == at) ≡ b
           → get_or (set begun at (Some (length names))) other None ≡ begun_by prefixes (earlier ++ file ∷ []) other
       each_one none other within true is =
@@ -228,91 +230,6 @@ module _ (prefixes earlier : List (List ℕ)) (file : List ℕ) (names : List (L
           get_or-set_other begun at other (Some (length names)) None (λ same. let yes = eq-eqb other at same in absurd cc)
           ∙ has.each other within
           ∙ sym (place-kept size (takes prefixes other) earlier file (ap (λ (o : Option ℕ). is_same (Some other) o) own ∙ is))
-
--- ---- each position is that of a name
-
--- the first element that passes
-found : {X : Type 0} (test : X → Bool) (xs : List X) → list_any test xs ≡ true
-    → (x : X) × (rest : List X) × (xs ≡ before_first test xs ++ x ∷ rest) × (test x ≡ true)
-found test [] any = absurd cc
-found {X} test (x ∷ xs) any = go (test x) refl (found test xs)
-  where
-    go : (b : Bool) → test x ≡ b
-        → (list_any test xs ≡ true → (y : X) × (rest : List X) × (xs ≡ before_first test xs ++ y ∷ rest) × (test y ≡ true))
-        → (y : X) × (rest : List X) × (x ∷ xs ≡ cond b [] (x ∷ before_first test xs) ++ y ∷ rest) × (test y ≡ true)
-    go true is more = (x, xs, refl, is)
-    go false is more =
-        let one = more (grind (arith, any, is)) in
-        (one.0, one.1, ap (λ (all : List X). x ∷ all) one.2, one.3)
-
-front-fails : {X : Type 0} (test : X → Bool) (xs : List X) → list_any test (before_first test xs) ≡ false
-front-fails test [] = refl
-front-fails test (x ∷ xs) = grind (arith, front-fails test xs)
-
--- more files have no fewer listeners
-names-grow : (prefixes files more : List (List ℕ)) → length (listener_names prefixes files) ≤ length (listener_names prefixes (files ++ more))
-names-grow prefixes files more = grind (arith, names-more prefixes [] files more, length-append)
-
--- files that take the same prefix are beside the same files
-same-beside : (prefixes : List (List ℕ)) (file other : List ℕ) → is_beside prefixes file other ≡ true
-    → prefix_of prefixes file ≡ prefix_of prefixes other
-same-beside prefixes file other = go (prefix_of prefixes file) (prefix_of prefixes other)
-  where
-    go : (one two : Option ℕ) → is_same one two ≡ true → one ≡ two
-    go (Some one) (Some two) is = ap Some (eqb-true one two is)
-    go (Some one) None is = absurd cc
-    go None two is = absurd cc
-
-begun-within : (prefixes front rest : List (List ℕ)) (file other : List ℕ) → is_beside prefixes file other ≡ true
-    → list_any (is_beside prefixes file) front ≡ false
-    → length (listener_names prefixes front) < length (listener_names prefixes (front ++ other ∷ rest))
-begun-within prefixes front rest file other beside fails =
-    let same = same-beside prefixes file other beside in
-    let none : list_any (is_beside prefixes other) front ≡ false =
-    subst (λ (own : Option ℕ). list_any (λ x. is_same own (prefix_of prefixes x)) front ≡ false) same fails in
-    let first = names_push prefixes front other in
-    let more = names-grow prefixes (front ++ other ∷ []) rest in
-    let all : (front ++ other ∷ []) ++ rest ≡ front ++ other ∷ rest = append_assoc front (other ∷ []) rest in
-    grind (arith, first, more, all, none, length-append)
-
-position-within : (prefixes earlier : List (List ℕ)) (file : List ℕ)
-    → position_of prefixes earlier file < length (listener_names prefixes (earlier ++ file ∷ []))
-position-within prefixes earlier file = go (list_any (is_beside prefixes file) earlier) refl
-  where
-    go : (any : Bool) → list_any (is_beside prefixes file) earlier ≡ any
-        → position_of prefixes earlier file < length (listener_names prefixes (earlier ++ file ∷ []))
-    go false none =
-        let whole = front-whole (is_beside prefixes file) earlier none in
-        let push = names_push prefixes earlier file in
-        grind (arith, whole, push, none, length-append)
-    go true any =
-        let one = found (is_beside prefixes file) earlier any in
-        let front = before_first (is_beside prefixes file) earlier in
-        let begins = begun-within prefixes front one.1 file one.0 one.3 (front-fails (is_beside prefixes file) earlier) in
-        let earlier_names = subst (λ (files : List (List ℕ)). length (listener_names prefixes front) < length (listener_names prefixes files))
-        (sym one.2) begins in
-        let more = names-grow prefixes earlier (file ∷ []) in
-        omega (arith, earlier_names, more)
-
-positions-within : (prefixes earlier files : List (List ℕ))
-    → All (λ at. at < length (listener_names prefixes (earlier ++ files))) (positions_after prefixes earlier files)
-positions-within prefixes earlier [] = All-nil _
-positions-within prefixes earlier (file ∷ files) =
-    let whole : (earlier ++ file ∷ []) ++ files ≡ earlier ++ file ∷ files = append_assoc earlier (file ∷ []) files in
-    let more = names-grow prefixes (earlier ++ file ∷ []) files in
-    let first = position-within prefixes earlier file in
-    let size = ap (λ (all : List (List ℕ)). length (listener_names prefixes all)) whole in
-    let rest = positions_after prefixes (earlier ++ file ∷ []) files in
-    All-cons (λ at. at < length (listener_names prefixes (earlier ++ file ∷ files))) (position_of prefixes earlier file) rest
-    (omega (arith, first, more, size))
-    (subst (λ (all : List (List ℕ)). All (λ at. at < length (listener_names prefixes all)) rest) whole
-    (positions-within prefixes (earlier ++ file ∷ []) files))
-
--- in the list that is made, too
-pub all_within : (prefixes files names : List (List ℕ)) (count : ℕ) (of : List ℕ) → names ≡ listener_names prefixes files
-    → count ≡ length names → of ≡ listener_positions prefixes files → All (λ at. at < count) of
-all_within prefixes files names count of named counted placed =
-    rw (counted, named, placed) (positions-within prefixes [] files)
 
 -- ---- what the code knows
 
@@ -327,6 +244,4 @@ prefix-inside prefixes file at own = (position-Some (λ prefix. fits prefix file
 pub take-back : (prefixes files more : List (List ℕ)) (count : ℕ) (begun after : List (Option ℕ)) (names all : List (List ℕ))
     → HasBegun prefixes files names begun → HasBegun prefixes more all after → count ≡ length begun
     → take count (after ++ drop (length after) begun) ≡ after
-take-back prefixes files more count begun after names all has then counted =
-    subst (λ (n : ℕ). take n (after ++ drop (length after) begun) ≡ after) (then.many ∙ sym has.many ∙ sym counted)
-    (take-append_seam after (drop (length after) begun))
+take-back prefixes files more count begun after names all has then counted = grind (arith, nat_tests, take-append_seam)

@@ -1,4 +1,5 @@
 -- Rows of heard messages as entries of a map from messages to times.
+use Rattle.std.proofs.lemmas.Bool.Decides.{nat_tests}
 use Rattle.std.proofs.Common.{◌≡◌, ℕ, zero, suc, ◌<◌, ◌⊎◌, inl, inr, Bool, true, false, cond, List, [], ◌∷◌, ◌++◌, length, map, get_or}
 use Rattle.std.proofs.Common.{Some, None, refl, sym, ap, ◌∙◌, subst, arith}
 use Rattle.std.specs.Cmp.{unsigned_ties}
@@ -29,9 +30,7 @@ same-ties m n = lists_ties nat_cmp unsigned_ties m n
 -- ---- times
 
 pub times_of-append : (m : List ℕ) (xs ys : List Told) → times_of m (xs ++ ys) ≡ times_of m xs ++ times_of m ys
-times_of-append m xs ys =
-    ap (map (λ told. told.at)) (filter-append (λ told. is_same m told.message) xs ys)
-    ∙ map-append (λ told. told.at) (filter (λ told. is_same m told.message) xs) (filter (λ told. is_same m told.message) ys)
+times_of-append m xs ys = grind (arith, nat_tests, filter-append, map-append)
 
 pub some_times-append : (xs ys : List HeardAt) → joined_at (λ a b. a ++ b) (some_times xs) (some_times ys) ≡ some_times (xs ++ ys)
 some_times-append [] [] = refl

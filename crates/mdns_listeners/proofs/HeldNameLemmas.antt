@@ -1,6 +1,7 @@
 -- Names that are held suffice for those that hearings tell: one more name, a lesser spelling, and sorted names of which each is
 -- kept once.
-use Rattle.std.proofs.Common.{◌≡◌, ◌≢◌, ℕ, suc, ◌<◌, ◌≤◌, ◌⊎◌, ⊎_elim, inl, inr, Bool, true, false, cond, List, [], ◌∷◌, ◌++◌}
+use Rattle.std.proofs.lemmas.Bool.Decides.{nat_tests}
+use Rattle.std.proofs.Common.{◌≡◌, ◌≢◌, ℕ, suc, ◌<◌, ◌≤◌, ◌⊎◌, ⊎_elim, Bool, true, false, cond, List, [], ◌∷◌, ◌++◌}
 use Rattle.std.proofs.Common.{length, get_or, set, Contains, Some, None, append-nil, append_assoc, refl, sym, ap, subst, ◌∙◌, arith}
 use Rattle.std.proofs.Common.{if◌then◌else◌}
 use Rattle.std.specs.List.{All, dedup, dedup_from, cons_option}
@@ -23,7 +24,8 @@ use Rattle.mdns_capture.specs.declared.source_address.SourceAddress.TheVariants.
 use Rattle.dns_name.specs.Name.{folded}
 use Rattle.mdns_message.specs.declared.hearing.Hearing.{Hearing}
 use Rattle.mdns_message.specs.laws.Resource.{bytes_cmp-exact, both_tie}
-use Rattle.mdns_cache.proofs.StandsPartLemmas.{Contains-nil, Contains-head, Contains-later, Contains-cases}
+use Rattle.mdns_browse.proofs.SearchLemmas.{eq_is}
+use Rattle.mdns_cache.proofs.StandsPartLemmas.{not_greater as never_greater, Contains-nil, Contains-head, Contains-later, Contains-cases}
 use Rattle.mdns_listeners.specs.declared.names.SenderAddressName.{SenderAddressName}
 use Rattle.mdns_listeners.specs.Names.{AddsNames, Covers, HoldsNames, IsAtMost, SufficeFor, named, named_in, told_in, respelled, address_in}
 use Rattle.mdns_listeners.specs.Names.{address_bytes, address_cmp, by_name, by_spelling}
@@ -54,20 +56,17 @@ not_greater Less n = refl
 not_greater Equal n = refl
 not_greater Greater n = absurd (n refl)
 
-from_not_greater : (o : Ordering) → is_gt o ≡ false → o ≢ Greater
-from_not_greater o n e = absurd (false≢true (sym n ∙ ap is_gt e))
-
 not_less : (a b : List ℕ) → is_lt (slice_cmp nat_cmp a b) ≡ false → slice_cmp nat_cmp b a ≢ Greater
 not_less a b n e = absurd (false≢true (sym n ∙ ap is_lt (nat_list_cmp_total.antisymm a b ∙ ap ordering_reverse e)))
 
 pub bytes_upto : (a b c : List ℕ) → slice_cmp nat_cmp a b ≢ Greater → slice_cmp nat_cmp b c ≢ Greater → slice_cmp nat_cmp a c ≢ Greater
-bytes_upto a b c p q = from_not_greater _ (upto nat_list_cmp_total a b c (not_greater _ p) (not_greater _ q))
+bytes_upto a b c p q = never_greater _ (upto nat_list_cmp_total a b c (not_greater _ p) (not_greater _ q))
 
 pub IsAtMost-itself : (one : SenderAddressName) → IsAtMost one one
 IsAtMost-itself one = record {
   source = refl;
   folded = refl;
-  name = from_not_greater _ (ap is_gt (tied_itself nat_list_cmp_total one.name));
+  name = never_greater _ (ap is_gt (tied_itself nat_list_cmp_total one.name));
 }
 
 pub IsAtMost-onward : (a b c : SenderAddressName) → IsAtMost a b → IsAtMost b c → IsAtMost a c
@@ -96,16 +95,10 @@ Covers-onward a b c p q = record {
 -- ---- a lesser spelling
 
 from_set : (xs : List SenderAddressName) (i : ℕ) (v x : SenderAddressName) → i < length xs → Contains (set xs i v) x → (v ≡ x) ⊎ Contains xs x
-from_set xs i v x within m = ⊎_elim
-    (λ same. inl (sym (get_or-set_same xs i v x within) ∙ ap (λ k. get_or (set xs i v) k x) (sym same) ∙ m.2))
-    (λ apart. inr (m.0, omega (arith, m.1, length-set xs i v), sym (get_or-set_other xs i m.0 v x apart) ∙ m.2))
-    (cases_eq m.0 i)
+from_set xs i v x within m = grind (arith, nat_tests, cases_eq, get_or-set_other, get_or-set_same, length-set)
 
 in_set : (xs : List SenderAddressName) (i : ℕ) (v x d : SenderAddressName) → i < length xs → Contains xs x → (get_or xs i d ≡ x) ⊎ Contains (set xs i v) x
-in_set xs i v x d within m = ⊎_elim
-    (λ same. inl (ap (λ k. get_or xs k d) (sym same) ∙ get_or_default xs m.0 d x m.1 ∙ m.2))
-    (λ apart. inr (m.0, omega (arith, m.1, length-set xs i v), get_or-set_other xs i m.0 v x apart ∙ m.2))
-    (cases_eq m.0 i)
+in_set xs i v x d within m = grind (arith, nat_tests, cases_eq, get_or-set_other, get_or_default, length-set)
 
 at_set : (xs : List SenderAddressName) (i : ℕ) (v : SenderAddressName) → i < length xs → Contains (set xs i v) v
 at_set xs i v within = (i, omega (arith, length-set xs i v), get_or-set_same xs i v v within)
@@ -148,7 +141,7 @@ Covers-respelled held told place d source owner within same_source same_folded c
           (less_spelling held told place d (named source owner) within (record {
             source = sym same_source;
             folded = sym same_folded;
-            name = from_not_greater _ (lt-not_gt _ less);
+            name = never_greater _ (lt-not_gt _ less);
           }) covers)
       | false ↦ λ not. subst (λ xs. Covers xs (told ++ named source owner ∷ [])) (sym (set-get_or held place d))
           (kept_spelling held told place d (named source owner) within (record {
@@ -180,15 +173,10 @@ Ascend-from_sorted (x ∷ xs) far = (
   Ascend-from_sorted xs (λ i j d le within. far (suc i) (suc j) d (omega (arith, le)) (omega (arith, within))),
 )
 
-pub is_Equal : (o : Ordering) → is_eq o ≡ true → o ≡ Equal
-is_Equal Less e = absurd (false≢true e)
-is_Equal Equal e = refl
-is_Equal Greater e = absurd (false≢true e)
-
 -- a name that isn't below another one of the same address and folded name
 later_spelling : (x k : SenderAddressName) → same_name x k ≡ true → is_lt (by_spelling x k) ≡ false → IsAtMost k x
 later_spelling x k same not =
-    let equal = is_Equal (by_name x k) same in
+    let equal = eq_is (by_name x k) same in
     let parts = both_tie _ _ equal in
     record {
       source = sym (address_cmp-exact x.source k.source parts.0);
@@ -267,17 +255,9 @@ pub adds-untold : (held : List SenderAddressName) (h : Hearing) → address_in h
 adds-untold held h none =
     subst (AddsNames held held) (ap (λ o. cons_option (option_map (λ s. named s h.heard.owner) o) []) (sym none)) (adds-none held)
 
--- the names of some hearings, and then of one more
-pub adds_first : (held : List SenderAddressName) → AddsNames held held (told_in [])
-adds_first held = adds-none held
-
 pub adds_next : (a b c : List SenderAddressName) (heard : List Hearing) (h : Hearing) → AddsNames a b (told_in heard)
     → AddsNames b c (told_in (h ∷ [])) → AddsNames a c (told_in (heard ++ h ∷ []))
-adds_next a b c heard h p q told covers =
-    subst (Covers c)
-    (append_assoc told (told_in heard) (told_in (h ∷ []))
-    ∙ ap (λ ns. told ++ ns) (sym (filter_map-append named_in heard (h ∷ []))))
-    (q (told ++ told_in heard) (p told covers))
+adds_next a b c heard h p q told covers = grind (arith, nat_tests, append_assoc, filter_map-append)
 
 -- names suffice for those that were held before, and for those that were added
 pub adds_keeps : (old new more : List SenderAddressName) → AddsNames old new more → SufficeFor new old

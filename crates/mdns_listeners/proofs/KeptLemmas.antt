@@ -1,12 +1,13 @@
 -- Messages that are kept, and what was told.
-use Rattle.std.proofs.Common.{◌≡◌, ℕ, ◌<◌, ◌==◌, if◌then◌else◌, inl, inr, List, [], ◌∷◌, ◌++◌, drop, length, get_or, map, Result, Ok}
+use Rattle.std.proofs.lemmas.Bool.Decides.{nat_tests}
+use Rattle.std.proofs.Common.{◌≡◌, ℕ, ◌<◌, ◌-◌, ◌==◌, if◌then◌else◌, inl, inr, List, [], ◌∷◌, ◌++◌, drop, length, get_or, map, take, Result, Ok}
 use Rattle.std.proofs.Common.{Err, OnOk, OnErr, refl, sym, ap, ◌∙◌, subst, arith, length-append}
 use Rattle.std.specs.List.{All, cons_option}
 use Rattle.std.specs.List.Sorted.{IsPermutation}
 use Rattle.std.proofs.Math.Seq.{drop-append_seam}
 use Rattle.std.proofs.lemmas.Bool.{cases_lt}
-use Rattle.std.proofs.lemmas.List.{get_or_append_left, get_or-map, get_or_push, length-map, length_push, map_push}
-use Rattle.std.proofs.lemmas.List.Elements.{All-map, All-push, Contains-get_or}
+use Rattle.std.proofs.lemmas.List.{get_or_append_left, get_or-map, get_or_push, length-map, length_push, map_push, take-map}
+use Rattle.std.proofs.lemmas.List.Elements.{All-map, All-push, All-take, Contains-get_or}
 use Rattle.std.proofs.lemmas.List.Sorted.{All-permutation as all_permuted, Contains-permutation, length_permutation}
 use Rattle.mdns_capture.specs.declared.moment.Moment.{Moment}
 use Rattle.mdns_message.specs.declared.hearing.Hearing.{Hearing}
@@ -94,6 +95,20 @@ module _ (names : List SenderAddressName) (one : KeptMessage) (payload : List �
 
 -- ---- what is kept and told after a message more
 
+-- one time less
+pub kept-less : (kept : List KeptMessage) (times less : List Noted) (names : List SenderAddressName) (n : ℕ) → AreKept kept times names
+    → less ≡ take n times → AreKept kept less names
+kept-less kept times less names n are is = subst (λ (ts : List Noted). AreKept kept ts names) (sym is) (record {
+  placed = are.placed;
+  addressed = are.addressed;
+  read = are.read;
+  within = All-take (λ (noted : Noted). noted.place < length kept) n times are.within;
+})
+
+pub told-less : (messages : List (List ℕ)) (times less : List Noted) → less ≡ take (length times - 1) times
+    → told_by messages less ≡ take (length (told_by messages times) - 1) (told_by messages times)
+told-less messages times less is = grind (arith, take-map, length-map)
+
 pub kept-names : (kept : List KeptMessage) (times : List Noted) (old new : List SenderAddressName) → AreKept kept times old → SufficeFor new old
     → AreKept kept times new
 kept-names kept times old new are keeps = record {
@@ -110,12 +125,7 @@ kept-names kept times old new are keeps = record {
 placed-push : (kept : List KeptMessage) (one : KeptMessage) → one.place ≡ length kept
     → ((k : ℕ) (d : KeptMessage) → k < length kept → (get_or kept k d).place ≡ k)
     → (k : ℕ) (d : KeptMessage) → k < length (kept ++ one ∷ []) → (get_or (kept ++ one ∷ []) k d).place ≡ k
-placed-push kept one is placed k d l = elim (cases_lt k (length kept)) [
-  | inl less ↦ ap (λ o. o.place) (get_or_append_left kept (one ∷ []) d k less) ∙ placed k d less
-  | inr last ↦
-      let end : length kept ≡ k = omega (arith, l, last, length_push kept one) in
-      ap (λ o. o.place) (get_or_push kept one d k end) ∙ is ∙ end
-]
+placed-push kept one is placed k d l = grind (arith, nat_tests, cases_lt, get_or_append_left, get_or_push, length_push)
 
 kept-push : (kept : List KeptMessage) (times : List Noted) (names : List SenderAddressName) (one : KeptMessage) → AreKept kept times names
     → one.place ≡ length kept → HasWholeAddress one.message → IsRead names one → AreKept (kept ++ one ∷ []) times names
@@ -168,9 +178,7 @@ told-noted messages times noted message is =
 
 pub message-push : (kept : List KeptMessage) (one : KeptMessage)
     → get_or (kept_messages (kept ++ one ∷ [])) (length kept) [] ≡ one.message
-message-push kept one =
-    ap (λ ms. get_or ms (length kept) []) (map_push (λ (o : KeptMessage). o.message) kept one)
-    ∙ get_or_push (kept_messages kept) one.message [] (length kept) (length-map kept (λ o. o.message))
+message-push kept one = grind (arith, nat_tests, get_or_push, length-map, map_push)
 
 -- what was told has whole addresses
 pub told-whole : (kept : List KeptMessage) (times : List Noted) (names : List SenderAddressName) → AreKept kept times names
@@ -203,7 +211,3 @@ placed-permuted kept others times names is moved =
             is.placed place none within,
           );
     }
-
-pub within-permuted : (kept others : List KeptMessage) (times : List Noted) (names : List SenderAddressName) → AreKept kept times names
-    → IsPermutation kept others → All (λ noted. noted.place < length others) times
-within-permuted kept others times names is moved = λ k d l. omega (arith, is.within k d l, length_permutation kept others moved)

@@ -1,4 +1,5 @@
 -- The laws of the rows of what listeners heard.
+use Rattle.std.proofs.lemmas.Bool.Decides.{nat_tests}
 use Rattle.std.proofs.Common.{◌≡◌, ℕ, ◌+◌, Bool, true, false, cond, List, [], ◌∷◌, ◌++◌, map, Option, Some}
 use Rattle.std.proofs.Common.{refl, sym, ap, ◌∙◌, subst, arith, zero-add}
 use Rattle.std.specs.Cmp.Lexicographic.{slice_cmp, nat_list_cmp_total}
@@ -75,10 +76,7 @@ told_sum f m (told ∷ all) =
 
 pub sums-permuted : (f : HeardAt → ℕ) (m : List ℕ) (all others : List Told) → IsPermutation all others
     → sum_by f (times_of m others) ≡ sum_by f (times_of m all)
-sums-permuted f m all others moved =
-    told_sum f m others
-    ∙ sum_by-IsPermutation (adds f m) all others moved
-    ∙ sym (told_sum f m all)
+sums-permuted f m all others moved = grind (arith, nat_tests, sum_by-IsPermutation, told_sum)
 
 abbrev no_times : List HeardAt → List HeardAt
 no_times times = []

@@ -1,13 +1,13 @@
+pub mod BesideLemmas
 pub mod BlankLemmas
 mod GroupLemmas
 pub mod HeardLemmas
 pub mod HeldNameLemmas
 pub mod KeptLemmas
-mod LaidRowLemmas
 pub mod LawLemmas
 mod ListLemmas
 pub mod ListedNameLemmas
-mod ListenersLemmas
+pub mod ListenersLemmas
 mod MarkLemmas
 mod MemberLemmas
 pub mod NameLawLemmas
@@ -16,8 +16,9 @@ mod PairLemmas
 pub mod RowLemmas
 mod SenderLemmas
 mod SortLemmas
+mod SheetLemmas
 mod TableLemmas
 mod TextLemmas
-mod WidthLemmas
+mod WarnedLemmas
 mod Worked
 mod WorkedRows

@@ -1,4 +1,5 @@
 -- The names of one sender: those beside its address among the names of all senders.
+use Rattle.std.proofs.lemmas.Bool.Decides.{nat_tests}
 use Rattle.std.proofs.Common.{◌≡◌, ◌≢◌, ℕ, zero, suc, ◌+◌, ◌-◌, ◌<◌, ◌≤◌, ◌⊎◌, ⊎_elim, inl, inr, Bool, true, false, cond}
 use Rattle.std.proofs.Common.{List, [], ◌∷◌, length, map, take, drop, get_or, None, Some, Contains, refl, sym, ap, subst}
 use Rattle.std.proofs.Common.{◌∙◌, arith}
@@ -12,7 +13,7 @@ use Rattle.std.specs.declared.cmp.Ordering.TheVariants.{Less, Equal, Greater}
 use Rattle.std.proofs.Math.ListN.{get_or-map}
 use Rattle.std.proofs.lemmas.Bool.{false≢true, cases_lt}
 use Rattle.std.proofs.lemmas.Cmp.{nat_list_cmp_total, tied_itself, tied_back}
-use Rattle.std.proofs.lemmas.List.{take-map, take_all, get_or-drop, length-drop, length-map}
+use Rattle.std.proofs.lemmas.List.{get_or_default, take-map, get_or-drop, length-drop, length-map}
 use Rattle.std.proofs.lemmas.List.Kept.{IsStrictlySortedBy-filter}
 use Rattle.std.proofs.lemmas.Map.Keys.{Less-from_sorted}
 use Rattle.std.proofs.lemmas.Option.{none-some, same_Some}
@@ -21,10 +22,12 @@ use Rattle.dns_name.specs.Name.{folded}
 use Rattle.mdns_message.specs.declared.hearing.Hearing.{Hearing}
 use Rattle.mdns_message.specs.laws.Resource.{bytes_cmp-exact}
 use Rattle.mdns_cache.proofs.StandsPartLemmas.{Contains-nil, Contains-head, Contains-later, Contains-cases, Contains-map, from_map}
+use Rattle.mdns_lives.proofs.FilterLemmas.{from-filter, to-filter}
+use Rattle.mdns_browse.proofs.SearchLemmas.{NotAbove, below-before, eq_is, not_above-before}
 use Rattle.mdns_listeners.specs.declared.names.SenderAddressName.{SenderAddressName}
 use Rattle.mdns_listeners.specs.Names.{IsNameOf, IsLeastName, AreNames, HoldsNames, address_in, by_folded}
 use Rattle.mdns_listeners.specs.Names.{named, named_in, told_in, address_cmp, by_name}
-use Rattle.mdns_listeners.proofs.HeldNameLemmas.{address_cmp-total, address_cmp-exact, by_name-total, is_Equal}
+use Rattle.mdns_listeners.proofs.HeldNameLemmas.{address_cmp-total, address_cmp-exact, by_name-total}
 
 -- ---- what hearings tell
 
@@ -84,33 +87,19 @@ told-name sender heard name is = told_of heard is.hearing (named sender name) is
 
 -- ---- elements of sorted and of filtered lists
 
-pub less-not_equal : (o : Ordering) → o ≡ Less → o ≡ Equal → ⊥
+less-not_equal : (o : Ordering) → o ≡ Less → o ≡ Equal → ⊥
 less-not_equal o less equal = absurd (let no : Less ≡ Equal = sym less ∙ equal in cc)
 
-pub all_contains : {X : Type 0} (P : X → Type 0) (xs : List X) (x : X) → AllByRecursion P xs → Contains xs x → P x
-all_contains P [] x all m = absurd (Contains-nil x m)
-all_contains P (y ∷ xs) x all m = elim (Contains-cases y xs x m) [
-  | inl same ↦ subst P same all.0
-  | inr rest ↦ all_contains P xs x all.1 rest
-]
-
-pub one_of_tied : (xs : List SenderAddressName) (a b : SenderAddressName) → IsStrictlySortedBy by_name xs → Contains xs a → Contains xs b
+one_of_tied : (xs : List SenderAddressName) (a b : SenderAddressName) → IsStrictlySortedBy by_name xs → Contains xs a → Contains xs b
     → by_name a b ≡ Equal → a ≡ b
-unfolding IsStrictlySortedBy
-one_of_tied [] a b sorted m n tied = absurd (Contains-nil a m)
-one_of_tied (x ∷ xs) a b sorted m n tied =
-    elim (Contains-cases x xs a m) [
-      | inl first ↦ elim (Contains-cases x xs b n) [
-        | inl other ↦ sym first ∙ other
-        | inr later ↦ absurd (less-not_equal (by_name a b)
-            (subst (λ y. by_name y b ≡ Less) first (all_contains _ xs b sorted.0 later)) tied)
-      ]
-      | inr rest ↦ elim (Contains-cases x xs b n) [
-        | inl other ↦ absurd (less-not_equal (by_name b a) (subst (λ y. by_name y a ≡ Less) other (all_contains _ xs a sorted.0 rest))
-            (tied_back by_name-total a b tied))
-        | inr later ↦ one_of_tied xs a b sorted.1 rest later tied
-      ]
-    ]
+one_of_tied xs a b sorted m n tied = ⊎_elim (λ before. absurd (less-not_equal _ (less a b m n before) tied))
+    (λ not. ⊎_elim (λ after. absurd (less-not_equal _ (less b a n m after) (tied_back by_name-total a b tied)))
+    (λ nor. (let same : m.0 ≡ n.0 = omega (arith, not, nor) in
+    sym m.2 ∙ ap (λ k. get_or xs k a) same ∙ get_or_default xs n.0 a b n.1 ∙ n.2)) (cases_lt n.0 m.0)) (cases_lt m.0 n.0)
+  where
+    less : (x y : SenderAddressName) (p : Contains xs x) (q : Contains xs y) → p.0 < q.0 → by_name x y ≡ Less
+    less x y p q before =
+        (λ k. by_name (sym p.2 k) ((sym q.2 ∙ get_or_default xs q.0 y x q.1) k)) ∙ Less-from_sorted by_name xs p.0 q.0 x sorted before q.1
 
 module _ {X : Type 0} (test : X → Bool) where
   filter-from : (xs : List X) (first : ℕ) → AllWithin (λ x. test x ≡ false) xs 0 first → filter test xs ≡ filter test (drop first xs)
@@ -134,30 +123,6 @@ module _ {X : Type 0} (test : X → Bool) where
       (filter-upto xs count (omega arith) (λ k d low high. all (suc k) d (omega arith) (omega arith))
       (λ k d low high. none (suc k) d (omega arith) (omega arith)))
 
-  in_filter : (xs : List X) (x : X) → Contains xs x → test x ≡ true → Contains (filter test xs) x
-  in_filter [] x m passes = absurd (Contains-nil x m)
-  in_filter (y ∷ xs) x m passes = elim (Contains-cases y xs x m) [
-    | inl same ↦ subst (λ b. Contains (cond b (y ∷ filter test xs) (filter test xs)) x) (sym (ap test same ∙ passes))
-        (subst (Contains (y ∷ filter test xs)) same (Contains-head y (filter test xs)))
-    | inr rest ↦ elim (test y) as (λ b. Contains (cond b (y ∷ filter test xs) (filter test xs)) x)
-        [ true ↦ Contains-later y (filter test xs) x (in_filter xs x rest passes) | false ↦ in_filter xs x rest passes ]
-  ]
-
-  from_filter : (xs : List X) (x : X) → Contains (filter test xs) x → Contains xs x × (test x ≡ true)
-  from_filter [] x m = absurd (Contains-nil x m)
-  from_filter (y ∷ xs) x m =
-      elim (test y) as (λ b. test y ≡ b → Contains (cond b (y ∷ filter test xs) (filter test xs)) x
-      → Contains (y ∷ xs) x × (test x ≡ true)) [
-        | true ↦ λ passes c. elim (Contains-cases y (filter test xs) x c) [
-          | inl same ↦ (subst (Contains (y ∷ xs)) same (Contains-head y xs), subst (λ z. test z ≡ true) same passes)
-          | inr rest ↦ later (from_filter xs x rest)
-        ]
-        | false ↦ λ fails c. later (from_filter xs x c)
-      ] refl m
-    where
-      later : Contains xs x × (test x ≡ true) → Contains (y ∷ xs) x × (test x ≡ true)
-      later w = (Contains-later y xs x w.0, w.1)
-
 -- ---- the names of one sender
 
 module _ (sender : SourceAddress) where
@@ -165,7 +130,7 @@ module _ (sender : SourceAddress) where
   is_of one = is_eq (address_cmp one.source sender)
 
   is_of-same : (one : SenderAddressName) → is_of one ≡ true → one.source ≡ sender
-  is_of-same one passes = address_cmp-exact one.source sender (is_Equal _ passes)
+  is_of-same one passes = address_cmp-exact one.source sender (eq_is _ passes)
 
   same-is_of : (one : SenderAddressName) → one.source ≡ sender → is_of one ≡ true
   same-is_of one same = ap (λ source. is_eq (address_cmp source sender)) same ∙ ap is_eq (tied_itself address_cmp-total sender)
@@ -175,12 +140,7 @@ module _ (sender : SourceAddress) where
   AreOf one = (one.source ≡ sender) × (one.folded ≡ folded one.name)
 
   folded_order : (x y : SenderAddressName) → AreOf x → AreOf y → by_name x y ≡ Less → by_folded x.name y.name ≡ Less
-  folded_order x y p q less =
-      let same : address_cmp x.source y.source ≡ Equal = ap (address_cmp x.source) (q.0 ∙ sym p.0)
-      ∙ tied_itself address_cmp-total x.source in
-      let after : slice_cmp nat_cmp x.folded y.folded ≡ Less =
-      subst (λ o. ordering_then o (slice_cmp nat_cmp x.folded y.folded) ≡ Less) same less in
-      ap (λ f. slice_cmp nat_cmp f (folded y.name)) (sym p.1) ∙ ap (slice_cmp nat_cmp x.folded) (sym q.1) ∙ after
+  folded_order x y p q less = grind (arith, nat_tests, address_cmp-total, less, tied_itself)
 
   below_all : (x : SenderAddressName) (xs : List SenderAddressName) → AreOf x → ((y : SenderAddressName) → Contains xs y → AreOf y)
       → AllByRecursion (λ y. by_name x y ≡ Less) xs
@@ -206,7 +166,7 @@ module _ (sender : SourceAddress) where
 
     of_own : (one : SenderAddressName) → Contains own one → AreOf one
     of_own one m =
-        let w = from_filter is_of held one m in
+        let w = from-filter is_of held one m in
         (is_of-same one w.1, (Tells-from_told heard one (holds.covers.among one w.0)).folded_is)
 
     name_own : (one : SenderAddressName) → Contains held one → one.source ≡ sender → IsNameOf sender heard one.name
@@ -215,7 +175,7 @@ module _ (sender : SourceAddress) where
 
     least_own : (one : SenderAddressName) → Contains own one → IsLeastName sender heard one.name
     least_own one m =
-        let w = from_filter is_of held one m in
+        let w = from-filter is_of held one m in
         let of = of_own one m in
         record {
           is_name = name_own one w.0 of.0;
@@ -241,7 +201,7 @@ module _ (sender : SourceAddress) where
         let tells = Tells-from_told heard v.0 (holds.covers.among v.0 v.1) in
         let back = least.least v.0.name (name_own v.0 v.1 v.2.source) (sym tells.folded_is ∙ v.2.folded) in
         subst (Contains (map (λ (one : SenderAddressName). one.name) own)) (both_least v.0.name name v.2.name back)
-        (Contains-map (λ (one : SenderAddressName). one.name) own v.0 (in_filter is_of held v.0 v.1 (same-is_of v.0 v.2.source)))
+        (Contains-map (λ (one : SenderAddressName). one.name) own v.0 (to-filter is_of held v.0 v.1 (same-is_of v.0 v.2.source)))
 
     pub own_names : AreNames sender heard (map (λ (one : SenderAddressName). one.name) own)
     own_names = record {
@@ -253,16 +213,6 @@ module _ (sender : SourceAddress) where
     }
 
 -- ---- where they are
-
-lt_is : (o : Ordering) → is_lt o ≡ true → o ≡ Less
-lt_is Less e = refl
-lt_is Equal e = absurd (false≢true e)
-lt_is Greater e = absurd (false≢true e)
-
-le_is : (o : Ordering) → is_le o ≡ true → (o ≡ Less) ⊎ (o ≡ Equal)
-le_is Less e = inl refl
-le_is Equal e = inr refl
-le_is Greater e = absurd (false≢true e)
 
 lt-not_eq : (o : Ordering) → is_lt o ≡ true → is_eq o ≡ false
 lt-not_eq Less e = refl
@@ -296,7 +246,7 @@ module _ (sender : SourceAddress) (sources : List SourceAddress) (held : List Se
   count_same = ap length are ∙ length-map held (λ (one : SenderAddressName). one.source)
 
   rising : (i j : ℕ) (d : SourceAddress) → i ≤ j → j < length sources
-      → (address_cmp (get_or sources i d) (get_or sources j d) ≡ Less) ⊎ (address_cmp (get_or sources i d) (get_or sources j d) ≡ Equal)
+      → NotAbove address_cmp address_cmp-total (get_or sources i d) (get_or sources j d)
   rising i j d le within = ⊎_elim
       (λ less. subst (λ a. (address_cmp a (get_or sources j d) ≡ Less) ⊎ (address_cmp a (get_or sources j d) ≡ Equal))
       (sym (source_at i (blank d)))
@@ -309,29 +259,16 @@ module _ (sender : SourceAddress) (sources : List SourceAddress) (held : List Se
       (cases_lt i j)
 
   pub parted_below : IsPartitionedBy (λ source. is_lt (address_cmp source sender)) sources
-  parted_below i j d le within below = ⊎_elim
-      (λ less. ap is_lt (address_cmp-total.trans (get_or sources i d) (get_or sources j d) sender less
-      (lt_is (address_cmp (get_or sources j d) sender) below)))
-      (λ same. ap is_lt (address_cmp-total.congr (get_or sources i d) (get_or sources j d) sender same) ∙ below) (rising i j d le within)
+  parted_below i j d le within below =
+      below-before address_cmp address_cmp-total (get_or sources i d) (get_or sources j d) sender (rising i j d le within) below
 
   parted_upto : IsPartitionedBy (λ source. is_le (address_cmp source sender)) sources
-  parted_upto i j d le within below = ⊎_elim
-      (λ less. ⊎_elim (λ lt. ap is_le (address_cmp-total.trans (get_or sources i d) (get_or sources j d) sender less lt))
-      (λ eq. ap is_le (tied-right (get_or sources i d) (get_or sources j d) less eq))
-      (le_is (address_cmp (get_or sources j d) sender) below))
-      (λ same. ap is_le (address_cmp-total.congr (get_or sources i d) (get_or sources j d) sender same) ∙ below) (rising i j d le within)
-    where
-      tied-right : (a b : SourceAddress) → address_cmp a b ≡ Less → address_cmp b sender ≡ Equal → address_cmp a sender ≡ Less
-      tied-right a b less eq = subst (λ s. address_cmp a s ≡ Less) (address_cmp-exact b sender eq) less
+  parted_upto i j d le within below =
+      not_above-before address_cmp address_cmp-total (get_or sources i d) (get_or sources j d) sender (rising i j d le within) below
 
   pub parted_after : (after : List SourceAddress) (first : ℕ) → after ≡ drop first sources
       → IsPartitionedBy (λ source. is_le (address_cmp source sender)) after
-  parted_after after first rest i j d le within below =
-      subst (λ xs. is_le (address_cmp (get_or xs i d) sender) ≡ true) (sym rest)
-      (subst (λ s. is_le (address_cmp s sender) ≡ true) (sym (get_or-drop first sources i d))
-      (parted_upto (first + i) (first + j) d (omega (arith, le)) (omega (arith, within, ap length rest, length-drop first sources))
-      (subst (λ s. is_le (address_cmp s sender) ≡ true) (get_or-drop first sources j d)
-      (subst (λ xs. is_le (address_cmp (get_or xs j d) sender) ≡ true) rest below))))
+  parted_after after first rest = grind (arith, length-drop, get_or-drop, parted_upto)
 
   pub own_are : (after : List SourceAddress) (first count : ℕ) → after ≡ drop first sources → count ≤ length after
       → IsPartitionPoint (λ source. is_lt (address_cmp source sender) ≡ true)
@@ -374,6 +311,3 @@ names_found sender heard held names first count up holds are own =
     (ap (map (λ (one : SenderAddressName). one.name)) own ∙ sym (take-map (λ (one : SenderAddressName). one.name) count (drop first held))
     ∙ ap (take count) (sym (drop-map (λ (one : SenderAddressName). one.name) first held)) ∙ ap (λ xs. take count (drop first xs)) (sym are))
     (own_names sender heard held up holds)
-
-pub after_whole : (xs : List SourceAddress) (first : ℕ) → take (length xs - first) (drop first xs) ≡ drop first xs
-after_whole xs first = take_all (length xs - first) (drop first xs) (omega (arith, length-drop first xs))

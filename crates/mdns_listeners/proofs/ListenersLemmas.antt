@@ -1,6 +1,7 @@
 -- What captures tell, one packet and one capture more at a time.
+use Rattle.std.proofs.lemmas.Bool.Decides.{nat_tests}
 use Rattle.std.proofs.Common.{◌≡◌, ◌∙◌, ℕ, ◌+◌, suc, refl, sym, ap, subst, List, [], ◌∷◌, ◌++◌, length, append_assoc, append-nil, arith}
-use Rattle.std.proofs.Common.{◌<◌, ◌≤◌, get_or, map, take, Option}
+use Rattle.std.proofs.Common.{◌<◌, ◌≤◌, ◌-◌, get_or, map, take, Option}
 use Rattle.std.proofs.lemmas.Grind.{flat_map-append}
 use Rattle.std.proofs.lemmas.List.{get_or_past, map-append, take_all, take_more}
 use Rattle.std.specs.Prelude.{min}
@@ -21,7 +22,7 @@ use Rattle.mdns_listeners.specs.declared.heard.HeardAt.{HeardAt}
 use Rattle.mdns_listeners.specs.Heard.{HeardRow, Told, message_bytes}
 use Rattle.mdns_listeners.specs.Numbers.{FileSpans, spans_of_listeners}
 use Rattle.mdns_listeners.specs.Kept.{HeardSoFar, HearsMessage}
-use Rattle.mdns_listeners.specs.Listeners.{AreNamed, CapturesTell, Gathered, Gathers, SaysFacts, TellAll, Tells, heard_at, listener_at}
+use Rattle.mdns_listeners.specs.Listeners.{AreNamed, CapturesTell, Gathered, Gathers, NotesTime, SaysFacts, TellAll, Tells, heard_at, listener_at}
 use Rattle.mdns_listeners.specs.declared.named.NamedSender.{NamedSender as LentSender}
 use Rattle.mdns_listeners.specs.Named.{NamedSender, sender_lent}
 use Rattle.mdns_listeners.specs.Names.{AreNames, HoldsNames}
@@ -143,9 +144,7 @@ pub gathers-untold : (begun now : MessageCollector) (packets : List PacketAt) (o
     (outcome none : Outcome) → Gathers begun now packets outcomes → outcome ≡ none
     → ((listener : ℕ) → Tells listener packet none []) → hearings_of_outcome none ≡ []
     → Gathers begun now (packets ++ packet ∷ []) (outcomes ++ outcome ∷ [])
-gathers-untold begun now packets outcomes packet outcome none took is tells untold =
-    subst (λ o. Gathers begun now (packets ++ packet ∷ []) (outcomes ++ o ∷ [])) (sym is)
-    (gathers-nothing begun now packets outcomes packet none took (tells (listener_at begun.of.items begun.place)) untold)
+gathers-untold begun now packets outcomes packet outcome none took is tells untold = grind (arith, nat_tests, gathers-nothing)
 
 -- a collector that took nothing
 pub gathers-none : (now : MessageCollector) → Gathers now now [] []
@@ -157,6 +156,29 @@ gathers-none now = record {
   messages = sym (append-nil now.messages.told);
   names = λ earlier held. subst (HoldsNames now.messages.names) (sym (append-nil earlier)) held;
 }
+
+-- the time that was noted last is forgotten
+front : {X : Type 0} (xs : List X) (x : X) → take (length xs) (xs ++ x ∷ []) ≡ xs
+front [] x = refl
+front (y ∷ ys) x = ap (λ l. y ∷ l) (front ys x)
+
+without-last : {X : Type 0} (xs : List X) (x : X) → take (length (xs ++ x ∷ []) - 1) (xs ++ x ∷ []) ≡ xs
+without-last xs x =
+    let size : length (xs ++ x ∷ []) - 1 ≡ length xs = omega (arith, length-snoc xs x) in
+    ap (λ n. take n (xs ++ x ∷ [])) size ∙ front xs x
+
+pub forgets : (earlier old : MessageCollector) (messages : HeardSoFar) → NotesTime earlier old
+    → messages.told ≡ take (length old.messages.told - 1) old.messages.told → messages.names ≡ old.messages.names
+    → record { of = old.of; place = old.place; messages = messages } ≡ earlier
+forgets earlier old messages notes told names =
+    let all : messages.told ≡ earlier.messages.told = told ∙ ap (λ (ts : List Told). take (length ts - 1) ts) notes.told
+    ∙ without-last earlier.messages.told notes.one in
+    let same : messages.names ≡ earlier.messages.names = names ∙ notes.names in
+    λ i. record {
+      of = notes.of i;
+      place = notes.place i;
+      messages = record { told = all i; names = same i };
+    }
 
 -- one capture more was read
 pub gathered-more : (of : List ℕ) (old now new : MessageCollector) (packets : List (List PacketAt)) (outcomes : List (List Outcome))
@@ -221,13 +243,9 @@ named-all hearings rows i senders past named = subst (λ (rs : List SenderRow). 
 pub says-as : (names : List (List ℕ)) (form : Form) (rows other_rows : List HeardRow) (spans other_spans : List FileSpans)
     (hearings : List Hearing) (text : List ℕ) → other_rows ≡ rows → other_spans ≡ spans
     → SaysFacts names form other_rows other_spans hearings text → SaysFacts names form rows spans hearings text
-says-as names form rows other_rows spans other_spans hearings text same_rows same_spans says =
-    subst (λ (rs : List HeardRow). SaysFacts names form rs spans hearings text) same_rows
-    (subst (λ (ss : List FileSpans). SaysFacts names form other_rows ss hearings text) same_spans says)
+says-as names form rows other_rows spans other_spans hearings text same_rows same_spans says = grind (arith, nat_tests)
 
 -- the time spans of listeners, by whatever expressions of the number of listeners, of their files and of the spans of these
 pub spans-as : (count other : ℕ) (of other_of : List ℕ) (files other_files : List (Option Span)) → other ≡ count → other_of ≡ of
     → other_files ≡ files → spans_of_listeners other other_of other_files ≡ spans_of_listeners count of files
-spans-as count other of other_of files other_files same_count same_of same_files =
-    ap (λ n. spans_of_listeners n other_of other_files) same_count ∙ ap (λ (l : List ℕ). spans_of_listeners count l other_files) same_of
-    ∙ ap (λ (l : List (Option Span)). spans_of_listeners count of l) same_files
+spans-as count other of other_of files other_files same_count same_of same_files = grind (arith, nat_tests)

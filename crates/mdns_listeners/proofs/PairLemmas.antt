@@ -1,7 +1,9 @@
 -- Rows of pairs, one pair after another.
-use Rattle.std.proofs.Common.{◌≡◌, ℕ, ◌+◌, ◌<◌, ◌≤◌, Bool, List, [], ◌∷◌, ◌++◌, length, drop, get_or}
-use Rattle.std.proofs.Common.{ap, sym, ◌∙◌, cond, append_assoc}
-use Rattle.std.proofs.lemmas.List.{drop_all, drop_more}
+use Rattle.std.proofs.Common.{arith}
+use Rattle.std.proofs.lemmas.Bool.Decides.{nat_tests}
+use Rattle.std.proofs.Common.{◌≡◌, ℕ, ◌+◌, ◌<◌, Bool, List, [], ◌∷◌, ◌++◌, length, drop, get_or}
+use Rattle.std.proofs.Common.{ap, cond, append_assoc}
+use Rattle.std.proofs.lemmas.List.{drop_more}
 use Rattle.std.specs.List.{enumerate_from}
 use Rattle.mdns_listeners.specs.Heard.{HeardRow}
 use Rattle.mdns_listeners.specs.Numbers.{FileSpans}
@@ -13,17 +15,10 @@ pub listeners_more : (spans : List FileSpans) (i : ℕ) (d : FileSpans) → i < 
     → enumerate_from i (drop i spans) ≡ (i, get_or spans i d) ∷ enumerate_from (i + 1) (drop (i + 1) spans)
 listeners_more spans i d short = ap (enumerate_from i) (drop_more spans i d short)
 
-pub listeners_end : (spans : List FileSpans) (i : ℕ) → length spans ≤ i → enumerate_from i (drop i spans) ≡ []
-listeners_end spans i past = ap (enumerate_from i) (drop_all i spans past)
-
 pub with_more : (rows : List HeardRow) (one : ℕ × FileSpans) (spans : List FileSpans) (i : ℕ) (d : FileSpans) → i < length spans
     → pair_rows_with rows one (enumerate_from i (drop i spans))
     ≡ pair_rows_at rows one (i, get_or spans i d) ++ pair_rows_with rows one (enumerate_from (i + 1) (drop (i + 1) spans))
 with_more rows one spans i d short = ap (pair_rows_with rows one) (listeners_more spans i d short)
-
-pub with_end : (rows : List HeardRow) (one : ℕ × FileSpans) (spans : List FileSpans) (i : ℕ) → length spans ≤ i
-    → pair_rows_with rows one (enumerate_from i (drop i spans)) ≡ []
-with_end rows one spans i past = ap (pair_rows_with rows one) (listeners_end spans i past)
 
 pub of_more : (rows : List HeardRow) (spans : List FileSpans) (i : ℕ) (d : FileSpans) → i < length spans
     → pair_rows_of rows (enumerate_from i (drop i spans))
@@ -31,31 +26,17 @@ pub of_more : (rows : List HeardRow) (spans : List FileSpans) (i : ℕ) (d : Fil
     ++ pair_rows_of rows (enumerate_from (i + 1) (drop (i + 1) spans))
 of_more rows spans i d short = ap (pair_rows_of rows) (listeners_more spans i d short)
 
-pub of_end : (rows : List HeardRow) (spans : List FileSpans) (i : ℕ) → length spans ≤ i
-    → pair_rows_of rows (enumerate_from i (drop i spans)) ≡ []
-of_end rows spans i past = ap (pair_rows_of rows) (listeners_end spans i past)
-
 -- the rows so far, and those with the listeners behind
 pub pair_more : (rows : List HeardRow) (one : ℕ × FileSpans) (spans : List FileSpans) (i : ℕ) (d : FileSpans) (b : Bool)
     (ys zs total : List PairRow) → i < length spans → b ≡ is_pair rows one (i, get_or spans i d)
     → zs ≡ ys ++ cond b (pair_row rows one.0 i ∷ []) []
     → ys ++ pair_rows_with rows one (enumerate_from i (drop i spans)) ≡ total
     → zs ++ pair_rows_with rows one (enumerate_from (i + 1) (drop (i + 1) spans)) ≡ total
-pair_more rows one spans i d b ys zs total short judged push before =
-    let rest = pair_rows_with rows one (enumerate_from (i + 1) (drop (i + 1) spans)) in
-    let row = pair_row rows one.0 i in
-    ap (λ xs. xs ++ rest) push
-    ∙ (append_assoc ys (cond b (row ∷ []) []) rest
-    ∙ (ap (λ (c : Bool). ys ++ (cond c (row ∷ []) [] ++ rest)) judged
-    ∙ (ap (λ xs. ys ++ xs) (sym (with_more rows one spans i d short)) ∙ before)))
+pair_more rows one spans i d b ys zs total short judged push before = grind (arith, nat_tests, append_assoc, with_more)
 
 pub listener_more : (rows : List HeardRow) (spans : List FileSpans) (i : ℕ) (d : FileSpans) (ys zs total : List PairRow)
     → i < length spans
     → zs ≡ ys ++ pair_rows_with rows (i, get_or spans i d) (enumerate_from (i + 1) (drop (i + 1) spans))
     → ys ++ pair_rows_of rows (enumerate_from i (drop i spans)) ≡ total
     → zs ++ pair_rows_of rows (enumerate_from (i + 1) (drop (i + 1) spans)) ≡ total
-listener_more rows spans i d ys zs total short push before =
-    let rest = pair_rows_of rows (enumerate_from (i + 1) (drop (i + 1) spans)) in
-    ap (λ xs. xs ++ rest) push
-    ∙ (append_assoc ys (pair_rows_with rows (i, get_or spans i d) (enumerate_from (i + 1) (drop (i + 1) spans))) rest
-    ∙ (ap (λ xs. ys ++ xs) (sym (of_more rows spans i d short)) ∙ before))
+listener_more rows spans i d ys zs total short push before = grind (arith, nat_tests, append_assoc, of_more)

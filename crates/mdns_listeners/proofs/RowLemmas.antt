@@ -1,4 +1,5 @@
 -- How sorted messages are made rows, and their times are added.
+use Rattle.std.proofs.lemmas.Bool.Decides.{nat_tests}
 use Rattle.std.proofs.Common.{◌≡◌, ℕ, zero, suc, ◌+◌, ◌<◌, Bool, true, false, cond, ◌||◌}
 use Rattle.std.proofs.Common.{List, [], ◌∷◌, ◌++◌, length, map, get_or, set, take, Option, Some, refl, sym, ap}
 use Rattle.std.proofs.Common.{◌∙◌, subst, arith, true≢false, length-append, Less, Equal}
@@ -10,15 +11,13 @@ use Rattle.std.specs.Ordering.{nat_cmp}
 use Rattle.std.proofs.lemmas.Bool.{cond_both}
 use Rattle.std.proofs.lemmas.List.{append-nil, get_or_append_left, get_or_at, length-map, map_more}
 use Rattle.std.proofs.lemmas.List.Elements.{All-contains, All-head, All-map, All-tail}
+use Rattle.std.proofs.lemmas.List.Folds.{list_any_at}
 use Rattle.std.proofs.lemmas.Map.Keys.{Less-from_sorted, sorted_head, sorted_tail}
 use Rattle.mdns_listeners.specs.declared.heard.HeardAt.{HeardAt}
 use Rattle.mdns_listeners.specs.declared.kept.Noted.{Noted}
 use Rattle.mdns_listeners.specs.Heard.{AreHeardIn, HeardRow, Told, has_times, is_same, messages_of, row_at, some_times, times_of}
 use Rattle.mdns_listeners.specs.Kept.{ArePlaced, IsNumbered, KeptMessage, filled, told_by, told_of_rows}
 use Rattle.mdns_listeners.proofs.HeardLemmas.{same-is, same-itself, times_of-append}
-
-abbrev Less' : List ℕ → List ℕ → Type 0
-Less' m n = slice_cmp nat_cmp m n ≡ Less
 
 abbrev Ascend : List HeardRow → Type 0
 Ascend rows = IsStrictlySortedBy (slice_cmp nat_cmp) (messages_of rows)
@@ -60,23 +59,10 @@ pub map-agree : {X Y : Type 0} (f g : X → Y) (xs : List X) → All (λ x. f x 
 map-agree f g [] h = refl
 map-agree f g (x ∷ xs) h = λ i. All-head (λ y. f y ≡ g y) x xs h i ∷ map-agree f g xs (All-tail (λ y. f y ≡ g y) x xs h) i
 
-any-at : {X : Type 0} (test : X → Bool) (xs : List X) (i : ℕ) (d : X) → i < length xs → test (get_or xs i d) ≡ true
-    → list_any test xs ≡ true
-any-at test [] i d l h = absurd (omega arith)
-any-at test (x ∷ xs) zero d l h = ap (λ b. b || list_any test xs) h
-any-at test (x ∷ xs) (suc i) d l h = ap (λ b. test x || b) (any-at test xs i d (omega arith) h) ∙ or-true (test x)
-  where
-    or-true : (b : Bool) → (b || true) ≡ true
-    or-true true = refl
-    or-true false = refl
-
 -- ---- times added to rows
 
 times-other : (m : List ℕ) (told : List Told) (t : Told) → is_same m t.message ≡ false → times_of m (told ++ t ∷ []) ≡ times_of m told
-times-other m told t e =
-    times_of-append m told (t ∷ [])
-    ∙ ap (λ b. times_of m told ++ map (λ u. u.at) (cond b (t ∷ []) [])) e
-    ∙ append-nil (times_of m told)
+times-other m told t e = grind (arith, nat_tests, append-nil, times_of-append)
 
 times-own : (m : List ℕ) (told : List Told) (t : Told) → is_same m t.message ≡ true
     → times_of m (told ++ t ∷ []) ≡ times_of m told ++ t.at ∷ []
@@ -193,9 +179,7 @@ row-step m told row rows others rest false e = rest
 row_at-heard : (m : List ℕ) (told : List Told) (rows : List HeardRow)
     → row_at m (filter has_times (map (filled told) rows)) ≡ some_times (cond (is_row m rows) (times_of m told) [])
 row_at-heard m told [] = refl
-row_at-heard m told (row ∷ rows) =
-    heard-step m row.message (times_of row.message told) (filter has_times (map (filled told) rows))
-    ∙ row-step m told row rows (filter has_times (map (filled told) rows)) (row_at-heard m told rows) (is_same m row.message) refl
+row_at-heard m told (row ∷ rows) = grind (arith, nat_tests, heard-step, row-step, row_at-heard m told rows)
 
 told-step : (m : List ℕ) (t : Told) (told : List Told) (rows : List HeardRow) → is_row t.message rows ≡ true → is_row m rows ≡ false
     → times_of m told ≡ [] → (b : Bool) → is_same m t.message ≡ b → times_of m (t ∷ told) ≡ []
@@ -253,7 +237,7 @@ rows-heard messages kept rows numbers times s placed numbered within =
     map-agree _ _ times (λ k d l. λ i. record { message = (row k d l).1 i; at = (get_or times k d).at }) in
     let found : All (λ t. is_row t.message rows ≡ true) (told_by messages times) =
     All-map (λ t. is_row t.message rows ≡ true) _ times (λ k d l.
-    any-at (is_same (get_or messages (get_or times k d).place [])) (messages_of rows) (get_or numbers (get_or times k d).place 0) []
+    list_any_at (is_same (get_or messages (get_or times k d).place [])) (messages_of rows) (get_or numbers (get_or times k d).place 0) []
     (omega (arith, (row k d l).0, length-map rows (λ y. y.message)))
     (ap (is_same (get_or messages (get_or times k d).place [])) (row k d l).1
     ∙ same-itself (get_or messages (get_or times k d).place []))) in

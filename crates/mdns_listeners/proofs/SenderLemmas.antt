@@ -46,20 +46,11 @@ first_octet n (x ∷ xs) = refl
 
 -- the first octet of the bytes of a sender is that of the message
 kind-kept : (xs : List ℕ) → get_or (sender_in xs) 0 0 ≡ get_or xs 0 0
-kind-kept xs =
-    elim (eqb (get_or xs 0 0) 4) as (λ b. get_or (take (cond b 5 17) xs) 0 0 ≡ get_or xs 0 0) [
-      | true ↦ first_octet 4 xs
-      | false ↦ first_octet 16 xs
-    ]
+kind-kept xs = grind (arith, nat_tests, first_octet)
 
 same_by_length : (n : ℕ) (xs ys zs : List ℕ) → slice_cmp nat_cmp xs ys ≡ Less → slice_cmp nat_cmp ys zs ≡ Less
     → sender_length xs ≡ suc n → take (suc n) xs ≡ take (suc n) zs → sender_in ys ≡ take (suc n) xs
-same_by_length n xs ys zs below above e f =
-    let front = between (suc n) xs ys zs below above f in
-    let kind : get_or ys 0 0 ≡ get_or xs 0 0 =
-    sym (first_octet n ys) ∙ (ap (λ (s : List ℕ). get_or s 0 0) front ∙ first_octet n xs) in
-    let count : sender_length ys ≡ suc n = ap (λ (k : ℕ). cond (eqb k 4) 5 17) kind ∙ e in
-    ap (λ (k : ℕ). take k ys) count ∙ front
+same_by_length n xs ys zs below above e f = grind (arith, nat_tests, between, first_octet)
 
 by_kind : (b : Bool) (xs ys zs : List ℕ) → slice_cmp nat_cmp xs ys ≡ Less → slice_cmp nat_cmp ys zs ≡ Less
     → eqb (get_or xs 0 0) 4 ≡ b → take (cond b 5 17) xs ≡ take (cond b 5 17) zs → sender_in ys ≡ take (cond b 5 17) xs
@@ -68,11 +59,7 @@ by_kind false xs ys zs below above e f = same_by_length 16 xs ys zs below above 
 
 same_sender : (xs ys zs : List ℕ) → slice_cmp nat_cmp xs ys ≡ Less → slice_cmp nat_cmp ys zs ≡ Less
     → sender_in xs ≡ sender_in zs → sender_in ys ≡ sender_in xs
-same_sender xs ys zs below above e =
-    let kind : get_or zs 0 0 ≡ get_or xs 0 0 =
-    sym (kind-kept zs) ∙ (ap (λ (s : List ℕ). get_or s 0 0) (sym e) ∙ kind-kept xs) in
-    by_kind (eqb (get_or xs 0 0) 4) xs ys zs below above refl
-    (e ∙ ap (λ (k : ℕ). take (cond (eqb k 4) 5 17) zs) kind)
+same_sender xs ys zs below above e = grind (arith, nat_tests, by_kind, kind-kept)
 
 -- ---- all messages of a list
 
@@ -167,35 +154,22 @@ own_count row rows = prefix_len (is_from (sender_in row.message)) (row ∷ rows)
 own_count-is : (row : HeardRow) (rows : List HeardRow)
     → own_count row rows ≡ suc (prefix_len (is_from (sender_in row.message)) rows)
 unfolding own_count
-own_count-is row rows =
-    let count = prefix_len (is_from (sender_in row.message)) rows in
-    let next : 1 + count ≡ suc count = omega arith in
-    ap (λ (b : Bool). cond b (1 + count) 0) (from_itself row) ∙ next
+own_count-is row rows = grind (arith, nat_tests, from_itself)
 
 -- ---- the senders
 
 all-senders : (sender : List ℕ) (rows : List HeardRow) → AllByRecursion (λ row. is_from sender row ≡ false) rows
     → AllByRecursion (λ other. bytes_eq other sender ≡ false) (senders rows)
 all-senders sender [] none = tt
-all-senders sender (row ∷ rows) none = (
-  none.0,
-  all-filter (λ other. bytes_eq other sender ≡ false) (λ other. not (bytes_eq other (sender_in row.message)))
-      (senders rows) (all-senders sender rows none.1),
-)
+all-senders sender (row ∷ rows) none = grind (arith, nat_tests, all-filter, all-senders sender rows none.1)
 
 kept-senders : (sender : List ℕ) (rows : List HeardRow) → AllByRecursion (λ row. is_from sender row ≡ false) rows
     → filter (λ other. not (bytes_eq other sender)) (senders rows) ≡ senders rows
-kept-senders sender rows none =
-    filter-all (λ other. not (bytes_eq other sender)) (senders rows)
-    (all-weaker (λ other. bytes_eq other sender ≡ false) (λ other. not (bytes_eq other sender) ≡ true) (λ other e. ap not e)
-    (senders rows) (all-senders sender rows none))
+kept-senders sender rows none = grind (arith, nat_tests, all-senders, all-weaker, filter-all)
 
 senders-with : (sender : List ℕ) (row : HeardRow) (rows others : List HeardRow) → is_from sender row ≡ true
     → filter (λ other. not (bytes_eq other sender)) (senders rows) ≡ senders others → senders (row ∷ rows) ≡ sender ∷ senders others
-senders-with sender row rows others e rest =
-    let named : sender_in row.message ≡ sender = (bytes_eq-Decides (sender_in row.message) sender).0 e in
-    ap (λ (s : List ℕ). s ∷ filter (λ other. not (bytes_eq other s)) (senders rows)) named
-    ∙ ap (λ (ss : List (List ℕ)). sender ∷ ss) rest
+senders-with sender row rows others e rest = grind (arith, nat_tests, bytes_eq-Decides)
 
 senders-group : (sender : List ℕ) (row : HeardRow) (own others : List HeardRow) → is_from sender row ≡ true
     → AllByRecursion (λ row. is_from sender row ≡ true) own → AllByRecursion (λ row. is_from sender row ≡ false) others
@@ -214,14 +188,7 @@ senders-group sender row (next ∷ own) others e from none =
 
 not_from : (sender other : List ℕ) (row : HeardRow) → bytes_eq other sender ≡ false → is_from sender row ≡ true
     → is_from other row ≡ false
-not_from sender other row differ e =
-    elim (is_from other row) as (λ t. is_from other row ≡ t → t ≡ false) [
-      | true ↦ λ f.
-          let same : other ≡ sender =
-          sym ((bytes_eq-Decides (sender_in row.message) other).0 f) ∙ (bytes_eq-Decides (sender_in row.message) sender).0 e in
-          sym ((bytes_eq-Decides other sender).1 same) ∙ differ
-      | false ↦ λ f. refl
-    ] refl
+not_from sender other row differ e = grind (arith, nat_tests, bytes_eq-Decides)
 
 rows_from-others : (sender other : List ℕ) (own others : List HeardRow) → bytes_eq other sender ≡ false
     → AllByRecursion (λ row. is_from sender row ≡ true) own → rows_from other (own ++ others) ≡ rows_from other others
@@ -290,14 +257,8 @@ up-drop (suc n) (row ∷ rows) up = up-drop n rows up.1
 
 -- the bytes of the sender have its address
 pub whole-sender : (message : List ℕ) → HasWholeAddress message → HasWholeAddress (sender_in message)
-whole-sender message (inl (kind, long)) =
-    let count : 5 ≡ sender_length message = sym (ap (λ k. cond (eqb k 4) 5 17) kind) in
-    let whole : 5 ≤ length (take 5 message) = omega (arith, length-take-le 5 message long) in
-    inl (kind-kept message ∙ kind, subst (λ n. 5 ≤ length (take n message)) count whole)
-whole-sender message (inr (kind, long)) =
-    let count : 17 ≡ sender_length message = sym (ap (λ k. cond (eqb k 4) 5 17) kind) in
-    let whole : 17 ≤ length (take 17 message) = omega (arith, length-take-le 17 message long) in
-    inr (kind-kept message ∙ kind, subst (λ n. 17 ≤ length (take n message)) count whole)
+whole-sender message (inl (kind, long)) = grind (arith, nat_tests, kind-kept, length-take-le)
+whole-sender message (inr (kind, long)) = grind (arith, nat_tests, kind-kept, length-take-le)
 
 -- ---- the step of the loop, with the names that the code has for the first message, its sender and how many it has
 
@@ -319,10 +280,7 @@ pub rest_some : (rest : List HeardRow) (first : HeardRow) (sender : List ℕ) (n
     → first ≡ get_or rest 0 first → sender ≡ sender_in first.message → n ≡ prefix_len (is_from sender) rest → 0 < n
 unfolding own_count
 rest_some [] first sender n some is named count = absurd (omega arith)
-rest_some (row ∷ rows) first sender n some is named count =
-    let own : sender ≡ sender_in row.message = named ∙ ap (λ (r : HeardRow). sender_in r.message) is in
-    let all : n ≡ own_count row rows = count ∙ ap (λ (s : List ℕ). prefix_len (is_from s) (row ∷ rows)) own in
-    subst (λ k. 0 < k) (sym all) (own_count-some row rows)
+rest_some (row ∷ rows) first sender n some is named count = grind (arith, nat_tests, own_count, own_count-some)
 
 pub rest_shorter : (rest back : List HeardRow) (n : ℕ) → 0 < length rest → 0 < n → back ≡ drop n rest → length back < length rest
 rest_shorter rest back n some own split =
@@ -343,8 +301,4 @@ pub sender_more : (spans : List FileSpans) (rest front back : List HeardRow) (fi
     → front ≡ take n rest → back ≡ drop n rest → zs ≡ ys ++ rows_of_sender spans sender front
     → ys ++ sender_rows rest spans ≡ total → zs ++ sender_rows back spans ≡ total
 sender_more spans rest front back first sender n ys zs total some is named count up own split push before =
-    let step = rest_step spans rest first sender n some is named count up in
-    ap (λ xs. xs ++ sender_rows back spans) push
-    ∙ (append_assoc ys (rows_of_sender spans sender front) (sender_rows back spans)
-    ∙ ((λ k. ys ++ (rows_of_sender spans sender (own k) ++ sender_rows (split k) spans))
-    ∙ (ap (λ xs. ys ++ xs) (sym step) ∙ before)))
+    grind (arith, nat_tests, append_assoc, own, rest_step)

@@ -1,6 +1,7 @@
 -- A sort leaves the numbers in ascending order, and there is one such order.
+use Rattle.std.proofs.lemmas.Bool.Decides.{nat_tests}
 use Rattle.std.proofs.Common.{◌≡◌, ℕ, suc, zero, ◌+◌, Bool, true, false, cond, List, [], ◌∷◌, length, get_or}
-use Rattle.std.proofs.Common.{ℤ, Less, Equal, Greater, arith, refl, ap, sym, ◌∙◌, subst}
+use Rattle.std.proofs.Common.{ℤ, arith, refl, ap, sym, ◌∙◌, subst}
 use Rattle.std.specs.Ordering.{int_cmp, is_lt}
 use Rattle.std.specs.Prelude.{int_lt}
 use Rattle.std.specs.List.{AllByRecursion, count_by}
@@ -36,11 +37,7 @@ IsUp (x ∷ xs) = AllByRecursion (λ y. int_lt y x ≡ false) xs × IsUp xs
 -- ---- the order that a sort promises
 
 is_lt-int : (x y : ℤ) → is_lt (int_cmp x y) ≡ int_lt x y
-is_lt-int x y =
-    elim (int_lt x y) as (λ b. is_lt (cond b Less (cond (int_lt y x) Greater Equal)) ≡ b) [
-      | true ↦ refl
-      | false ↦ elim (int_lt y x) as (λ d. is_lt (cond d Greater Equal) ≡ false) [ true ↦ refl | false ↦ refl ]
-    ]
+is_lt-int x y = grind (arith, nat_tests)
 
 tail-sorted : (x : ℤ) (xs : List ℤ) → IsSorted int_cmp (x ∷ xs) → IsSorted int_cmp xs
 tail-sorted x xs up k d low high =
@@ -157,11 +154,7 @@ ascending-is xs ys moved up =
 
 length-with : (x : ℤ) (xs : List ℤ) → length (with_number x xs) ≡ suc (length xs)
 length-with x [] = refl
-length-with x (y ∷ ys) =
-    elim (int_lt y x) as (λ b. length (cond b (y ∷ with_number x ys) (x ∷ y ∷ ys)) ≡ suc (suc (length ys))) [
-      | true ↦ ap suc (length-with x ys)
-      | false ↦ refl
-    ]
+length-with x (y ∷ ys) = grind (arith, nat_tests, length-with x ys)
 
 pub length-ascending : (xs : List ℤ) → length (ascending_of xs) ≡ length xs
 length-ascending [] = refl

@@ -1,23 +1,19 @@
--- Widths of columns, and rows of cells.
-use Rattle.std.proofs.Common.{◌≡◌, refl, sym, ap, ◌∙◌, ℕ, suc, ◌+◌, ◌<◌, ◌≤◌, List, [], ◌∷◌, ◌++◌, length, map, drop, get_or}
-use Rattle.std.proofs.Common.{append_assoc, append-nil, codes, arith}
-use Rattle.std.proofs.lemmas.List.{at_drop_more, drop-drop, drop_all, get_or-drop}
+-- Columns that grow row by row, and rows that are written in them.
+use Rattle.std.proofs.Common.{◌≡◌, refl, sym, ap, ◌∙◌, ℕ, zero, suc, ◌+◌, ◌-◌, ◌<◌, ◌≤◌, Bool, true, false, cond, leb, List, [], ◌∷◌, ◌++◌}
+use Rattle.std.proofs.Common.{length, map, max, drop, get_or, append_assoc, append-nil, codes, arith}
+use Rattle.std.proofs.lemmas.Bool.{leb-false, leb-true}
+use Rattle.std.proofs.lemmas.List.{at_drop_more, drop_all, length-drop}
 use Rattle.std.proofs.lemmas.Bool.Decides.{nat_tests}
-use Rattle.mdns_browse.specs.Columns.{padded}
-use Rattle.mdns_listeners.specs.TablePieces.{row_text, widened, widened_at}
+use Rattle.std.specs.List.{flat_map, fold}
+use Rattle.mdns_browse.specs.Columns.{padded, widest}
+use Rattle.mdns_listeners.specs.Fields.{Field, field_lent}
+use Rattle.mdns_listeners.specs.Sheet.{cells_of, columns_text, widened, widened_at}
+use Rattle.mdns_listeners.specs.Table.{cells_from, column_width, table_text}
+use Rattle.mdns_listeners.specs.Values.{cell_text, value_lent}
+use Rattle.mdns_listeners.specs.declared.fields.Field.{Field as LentField}
 
--- a cell that isn't the last of its row
-pub row_text-cons : (widths : List ℕ) (cell last : List ℕ) (cells : List (List ℕ))
-    → row_text widths (cell ∷ (cells ++ last ∷ []))
-    ≡ padded (get_or widths 0 0) cell ++ codes "  " ++ row_text (drop 1 widths) (cells ++ last ∷ [])
-unfolding row_text
-row_text-cons widths cell last [] = refl
-row_text-cons widths cell last (next ∷ cells) = refl
+-- ---- one cell more
 
-pub get_or-head : (xs : List ℕ) (i : ℕ) → get_or (drop i xs) 0 0 ≡ get_or xs i 0
-get_or-head xs i = grind (arith, get_or-drop)
-
--- one cell more
 widened_at-suc : (width : ℕ) (widths : List ℕ) (column len : ℕ)
     → widened_at (width ∷ widths) (suc column) len ≡ width ∷ widened_at widths column len
 widened_at-suc width widths column len = grind (arith, nat_tests)
@@ -29,35 +25,78 @@ widened-more (width ∷ widths) [] cell = grind (arith, nat_tests)
 widened-more [] (first ∷ cells) cell = grind (arith, widened-more [] cells cell, widened_at-suc)
 widened-more (width ∷ widths) (first ∷ cells) cell = grind (arith, widened-more widths cells cell, widened_at-suc)
 
--- a row without cells
-pub no_cells : {C : Type 0} (text : C → List ℕ) (widths : List ℕ) (cells : List C) (old : List ℕ) → length cells ≡ 0
-    → old ≡ old ++ row_text widths (map text cells)
-unfolding row_text
-no_cells text widths [] old none = sym (append-nil old)
-no_cells text widths (cell ∷ cells) old none = absurd (omega (arith, none))
+abbrev lent_cells : List LentField → List (List ℕ)
+lent_cells fields = cells_of (map field_lent fields)
 
--- the cells that were appended, and those that are left before the last one
-pub cells_left-more : {C : Type 0} (text : C → List ℕ) (widths : List ℕ) (cells : List C) (i : ℕ) (cell : C) (last old new total : List ℕ)
-    → i < length cells → cell ≡ get_or cells i cell → new ≡ old ++ (padded (get_or widths i 0) (text cell) ++ codes "  ")
-    → old ++ row_text (drop i widths) (map text (drop i cells) ++ last ∷ []) ≡ total
-    → new ++ row_text (drop (i + 1) widths) (map text (drop (i + 1) cells) ++ last ∷ []) ≡ total
-cells_left-more {C} text widths cells i cell last old new total within at written left =
-    let rest = drop (i + 1) cells in
-    let others = map text rest ++ last ∷ [] in
-    let ws = drop (i + 1) widths in
-    ap (λ (all : List ℕ). all ++ row_text ws others) written
-    ∙ append_assoc old (padded (get_or widths i 0) (text cell) ++ codes "  ") (row_text ws others)
-    ∙ ap (λ (width : ℕ). old ++ (padded width (text cell) ++ codes "  " ++ row_text ws others)) (sym (get_or-head widths i))
-    ∙ ap (λ (us : List ℕ). old ++ (padded (get_or (drop i widths) 0 0) (text cell) ++ codes "  " ++ row_text us others))
-    (sym (drop-drop 1 i widths))
-    ∙ ap (λ (all : List ℕ). old ++ all) (sym (row_text-cons (drop i widths) (text cell) last (map text rest)))
-    ∙ ap (λ (x : C). old ++ row_text (drop i widths) (text x ∷ others)) at
-    ∙ ap (λ (all : List ℕ). old ++ all)
-    (sym (at_drop_more (λ (xs : List C). row_text (drop i widths) (map text xs ++ last ∷ [])) cells i cell within))
+abbrev lent_cell : LentField → List ℕ
+lent_cell field = cell_text (value_lent field.value)
+
+-- a cell, and those behind it
+column_step : (width : ℕ → ℕ) (i count : ℕ) (x : LentField) (rest : List LentField) (b : Bool) → length rest ≡ count - (i + 1)
+    → b ≡ leb count (i + 1)
+    → cond b (lent_cell x) (padded (width i) (lent_cell x) ++ codes "  ") ++ cells_from width (i + 1) (lent_cells rest)
+    ≡ cells_from width i (lent_cells (x ∷ rest))
+unfolding cells_from
+column_step width i count x [] true long is = append-nil (lent_cell x)
+column_step width i count x [] false long is =
+    let none : 0 ≡ count - (i + 1) = long in let more = leb-false count (i + 1) (sym is) in absurd (omega (arith, none, more))
+column_step width i count x (y ∷ rest) true long is =
+    let some : suc (length rest) ≡ count - (i + 1) = long in let none = leb-true count (i + 1) (sym is) in absurd (omega (arith, some, none))
+column_step width i count x (y ∷ rest) false long is = refl
+
+pub columns_more : (width : ℕ → ℕ) (fields : List LentField) (i : ℕ) (x : LentField) (old new total : List ℕ) → i < length fields
+    → x ≡ get_or fields i x
+    → new ≡ old ++ cond (leb (length fields) (i + 1)) (lent_cell x) (padded (width i) (lent_cell x) ++ codes "  ")
+    → old ++ cells_from width i (lent_cells (drop i fields)) ≡ total
+    → new ++ cells_from width (i + 1) (lent_cells (drop (i + 1) fields)) ≡ total
+columns_more width fields i x old new total within is written left =
+    let rest = drop (i + 1) fields in
+    let last = leb (length fields) (i + 1) in
+    let one = cond last (lent_cell x) (padded (width i) (lent_cell x) ++ codes "  ") in
+    ap (λ (text : List ℕ). text ++ cells_from width (i + 1) (lent_cells rest)) written
+    ∙ append_assoc old one (cells_from width (i + 1) (lent_cells rest))
+    ∙ ap (λ (text : List ℕ). old ++ text) (column_step width i (length fields) x rest last (length-drop (i + 1) fields) refl)
+    ∙ ap (λ (y : LentField). old ++ cells_from width i (lent_cells (y ∷ rest))) is
+    ∙ ap (λ (text : List ℕ). old ++ text) (sym (at_drop_more (λ (fs : List LentField). cells_from width i (lent_cells fs)) fields i x within))
     ∙ left
 
-pub cells_left-end : {C : Type 0} (text : C → List ℕ) (widths : List ℕ) (cells : List C) (i : ℕ) (last old total : List ℕ)
-    → length cells ≤ i → old ++ row_text (drop i widths) (map text (drop i cells) ++ last ∷ []) ≡ total → old ++ last ≡ total
-unfolding row_text
-cells_left-end {C} text widths cells i last old total past left =
-    sym (ap (λ (xs : List C). old ++ row_text (drop i widths) (map text xs ++ last ∷ [])) (drop_all i cells past)) ∙ left
+pub columns_end : (width : ℕ → ℕ) (fields : List LentField) (i : ℕ) (old total : List ℕ) → length fields ≤ i
+    → old ++ cells_from width i (lent_cells (drop i fields)) ≡ total → old ≡ total
+unfolding cells_from
+columns_end width fields i old total past left = grind (arith, nat_tests, append-nil, drop_all)
+
+-- ---- the widths of all rows
+
+get_or-widened : (widths : List ℕ) (cells : List (List ℕ)) (column : ℕ)
+    → get_or (widened widths cells) column 0 ≡ max (get_or widths column 0) (length (get_or cells column []))
+get_or-widened widths [] column = omega arith
+get_or-widened [] (cell ∷ cells) zero = omega arith
+get_or-widened [] (cell ∷ cells) (suc column) = get_or-widened [] cells column
+get_or-widened (width ∷ widths) (cell ∷ cells) zero = refl
+get_or-widened (width ∷ widths) (cell ∷ cells) (suc column) = get_or-widened widths cells column
+
+get_or-fold : (widths : List ℕ) (rows : List (List (List ℕ))) (column : ℕ)
+    → get_or (fold widened widths rows) column 0 ≡ max (get_or widths column 0) (column_width rows column)
+unfolding widest
+get_or-fold widths [] column = omega arith
+get_or-fold widths (row ∷ rows) column =
+    let rest = get_or-fold (widened widths row) rows column in
+    let first = get_or-widened widths row column in
+    omega (arith, rest, first)
+
+width_is : (rows : List (List (List ℕ))) (column : ℕ) → get_or (fold widened [] rows) column 0 ≡ column_width rows column
+width_is rows column = let all = get_or-fold [] rows column in omega (arith, all)
+
+lines_of : (width : ℕ → ℕ) (rows : List (List Field))
+    → flat_map (λ (fields : List Field). cells_from width 0 (cells_of fields) ++ 10 ∷ []) rows
+    ≡ flat_map (λ (row : List (List ℕ)). cells_from width 0 row ++ 10 ∷ []) (map cells_of rows)
+lines_of width [] = refl
+lines_of width (fields ∷ rows) = ap (λ (text : List ℕ). (cells_from width 0 (cells_of fields) ++ 10 ∷ []) ++ text) (lines_of width rows)
+
+-- rows in columns that are as wide as all of them need are a table
+pub table_written : (rows : List (List Field))
+    → flat_map (columns_text (fold widened [] (map cells_of rows))) rows ≡ table_text (map cells_of rows)
+unfolding table_text columns_text
+table_written rows =
+    lines_of (λ column. get_or (fold widened [] (map cells_of rows)) column 0) rows
+    ∙ (λ i. flat_map (λ (row : List (List ℕ)). cells_from (λ column. width_is (map cells_of rows) column i) 0 row ++ 10 ∷ []) (map cells_of rows))

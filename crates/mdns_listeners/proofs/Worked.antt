@@ -7,10 +7,12 @@ use Rattle.mdns_capture.specs.Text.{moment_text}
 use Rattle.mdns_capture.specs.declared.source_address.SourceAddress.TheVariants.{V4, V6}
 use Rattle.mdns_listeners.specs.declared.pairs.PairRow.{PairRow}
 use Rattle.mdns_listeners.specs.declared.pairs.Quartiles.{Quartiles}
-use Rattle.mdns_listeners.specs.Clock.{ahead_words, by_words, clock_words, one_clock_words, shift_words, unsteady_words}
-use Rattle.mdns_listeners.specs.Lines.{groups_text, median_words, pair_line, source_text}
+use Rattle.mdns_listeners.specs.Clock.{ahead_words, by_words, clock_words, one_clock_words, shift_words, steady_words, unsteady_words}
+use Rattle.mdns_listeners.specs.Fields.{pair_fields}
 use Rattle.mdns_listeners.specs.Seconds.{signed_text}
+use Rattle.mdns_listeners.specs.Sheet.{line_text}
 use Rattle.mdns_listeners.specs.Table.{cells_from, table_text}
+use Rattle.mdns_listeners.specs.Values.{groups_text, source_text}
 
 -- ---- signed durations
 
@@ -66,23 +68,23 @@ no_message_once = refl
 
 same_clock : words 93 41 (three (negsuc 27999) (negsuc 50999) (pos 60000))
     ≡ codes "one clock: -0.000028000 s ahead, by 41 messages heard once in both"
-unfolding clock_words one_clock_words by_words signed_text moment_text digits
+unfolding clock_words one_clock_words steady_words by_words signed_text moment_text digits
 same_clock = refl
 
 -- the limit is still the same clock
 at_the_limit : words 1 1 (three (pos 100000000) (negsuc 99999999) (pos 100000000))
     ≡ codes "one clock: 0.100000000 s ahead, by 1 message heard once in both"
-unfolding clock_words one_clock_words by_words signed_text moment_text digits
+unfolding clock_words one_clock_words steady_words by_words signed_text moment_text digits
 at_the_limit = refl
 
 past_the_limit : words 1 1 (three (pos 100000001) (pos 100000001) (pos 100000001))
     ≡ codes "0.100000001 s ahead, by 1 message heard once in both: editcap -F nsecpcap -t -0.100000001 b.pcap shifted.pcap"
-unfolding clock_words ahead_words by_words shift_words signed_text moment_text digits
+unfolding clock_words ahead_words steady_words by_words shift_words signed_text moment_text digits
 past_the_limit = refl
 
 behind : words 7 5 (three (negsuc 4000047999) (negsuc 4000099999) (negsuc 3999999999))
     ≡ codes "-4.000048000 s ahead, by 5 messages heard once in both: editcap -F nsecpcap -t 4.000048000 b.pcap shifted.pcap"
-unfolding clock_words ahead_words by_words shift_words signed_text moment_text digits
+unfolding clock_words ahead_words steady_words by_words shift_words signed_text moment_text digits
 behind = refl
 
 drifting : words 7 5 (three (pos 0) (negsuc 199999999) (pos 50000000))
@@ -92,13 +94,14 @@ drifting = refl
 
 -- ---- lines
 
-common_line : pair_line (codes "west.pcap") (codes "east.pcap") (row 93 41 (three (negsuc 27999) (negsuc 50999) (pos 60000)))
+common_line : line_text (pair_fields (codes "west.pcap") (codes "east.pcap")
+    (row 93 41 (three (negsuc 27999) (negsuc 50999) (pos 60000))))
     ≡ codes "west.pcap east.pcap common 93 ahead -0.000028000 from -0.000051000 to 0.000060000 by 41\n"
-unfolding pair_line median_words signed_text moment_text digits
+unfolding line_text signed_text moment_text digits
 common_line = refl
 
-uncommon_line : pair_line (codes "a") (codes "b") (row 0 0 None) ≡ codes "a b common 0 ahead - from - to - by 0\n"
-unfolding pair_line median_words digits
+uncommon_line : line_text (pair_fields (codes "a") (codes "b") (row 0 0 None)) ≡ codes "a b common 0 ahead - from - to - by 0\n"
+unfolding line_text digits
 uncommon_line = refl
 
 -- ---- tables: a last cell isn't padded, and the columns are as wide as the widest cell

@@ -38,11 +38,14 @@ shift_words file ahead = codes ": editcap -F nsecpcap -t " ++ signed_text (neg_�
 
 -- ---- what is said of the clock where some messages were heard once in both files; `file` is the second one
 
+unfoldable pub steady_words : ℕ → ℤ → List ℕ
+steady_words by ahead = signed_text ahead ++ by_words by
+
 unfoldable pub one_clock_words : ℕ → ℤ → List ℕ
-one_clock_words by ahead = codes "one clock: " ++ signed_text ahead ++ by_words by
+one_clock_words by ahead = codes "one clock: " ++ steady_words by ahead
 
 unfoldable pub ahead_words : List ℕ → ℕ → ℤ → List ℕ
-ahead_words file by ahead = signed_text ahead ++ by_words by ++ shift_words file ahead
+ahead_words file by ahead = steady_words by ahead ++ shift_words file ahead
 
 unfoldable pub unsteady_words : ℕ → ℤ → ℤ → List ℕ
 unsteady_words by low high = codes "unsteady: " ++ signed_text low ++ codes " to " ++ signed_text high ++ by_words by
@@ -52,12 +55,18 @@ quartile_words file by quartiles =
     if is_one_clock quartiles then one_clock_words by quartiles.middle
     else (if is_steady quartiles then ahead_words file by quartiles.middle else unsteady_words by quartiles.low quartiles.high)
 
+-- ---- and where none were, or there are no messages in common
+
+abbrev pub unknown_words : List ℕ
+unknown_words = codes "can't tell: no message came once in both"
+
+abbrev pub nothing_words : List ℕ
+nothing_words = codes "nothing in common: another link, or another filter?"
+
 abbrev pub known_words : List ℕ → ℕ → Option Quartiles → List ℕ
-known_words file by None = codes "can't tell: no message came once in both"
+known_words file by None = unknown_words
 known_words file by (Some quartiles) = quartile_words file by quartiles
 
 -- what is said of the second listener's clock, whose name is written as given
 unfoldable pub clock_words : List ℕ → PairRow → List ℕ
-clock_words file row =
-    if row.common == 0 then codes "nothing in common: another link, or another filter?"
-    else known_words file row.by row.quartiles
+clock_words file row = if row.common == 0 then nothing_words else known_words file row.by row.quartiles

@@ -1,17 +1,19 @@
 -- All that is written of listeners, in a form.
-use Rattle.std.specs.Prelude.{ℕ, List, ◌++◌, map, string_bytes}
+use Rattle.std.specs.Prelude.{ℕ, List, ◌∷◌, ◌++◌, map, string_bytes}
 use Rattle.std.specs.List.{enumerate_from, flat_map}
 use Rattle.mdns_browse.specs.Columns.{unless_none}
 use Rattle.mdns_browse.specs.declared.report.Form.{Form}
 use Rattle.mdns_browse.specs.declared.report.Form.TheVariants.{Json, Lines, Pretty}
 use Rattle.mdns_message.specs.TextData.{string_text}
 use Rattle.mdns_listeners.specs.declared.facts.Facts.{Facts as LentFacts}
+use Rattle.mdns_listeners.specs.declared.fields.Kind.{Kind}
+use Rattle.mdns_listeners.specs.declared.fields.Kind.TheVariants.{Listeners, Pairs, Senders}
 use Rattle.mdns_listeners.specs.declared.numbers.ListenerRow.{ListenerRow}
 use Rattle.mdns_listeners.specs.declared.pairs.PairRow.{PairRow}
-use Rattle.mdns_listeners.specs.Columns.{listener_table, pair_table, sender_table}
-use Rattle.mdns_listeners.specs.Lines.{listener_line, pair_line, sender_line}
-use Rattle.mdns_listeners.specs.Objects.{listener_json, pair_json, sender_json}
+use Rattle.mdns_listeners.specs.Fields.{Field, heads_of, listener_fields, pair_row_in, sender_row_in}
 use Rattle.mdns_listeners.specs.Named.{NamedSender, listener_name_at, sender_lent}
+use Rattle.mdns_listeners.specs.Sheet.{cells_of, line_text, object_text}
+use Rattle.mdns_listeners.specs.Table.{table_text}
 
 -- the names of the listeners in their order, a row for each of them, and the rows of pairs and of senders
 pub record Facts : Type 0 where
@@ -30,50 +32,45 @@ facts_lent facts =
       senders = map sender_lent facts.senders.now;
     }
 
--- ---- a row as a line or as an object, among listeners whose names are written so; a listener's row with its position
+-- ---- rows, among listeners whose names are written so; a listener's row with its position
 
-abbrev pub line_of_listener : List (List ℕ) → ℕ × ListenerRow → List ℕ
-line_of_listener listener_names (listener, row) = listener_line (listener_name_at listener_names listener) row
+abbrev pub listener_at : List (List ℕ) → ℕ × ListenerRow → List Field
+listener_at listener_names (listener, row) = listener_fields (listener_name_at listener_names listener) row
 
-abbrev pub line_of_pair : List (List ℕ) → PairRow → List ℕ
-line_of_pair listener_names row = pair_line (listener_name_at listener_names row.one) (listener_name_at listener_names row.other) row
+abbrev pub pair_at : Form → List (List ℕ) → PairRow → List Field
+pair_at form listener_names row =
+    pair_row_in form (listener_name_at listener_names row.one) (listener_name_at listener_names row.other) row
 
-abbrev pub line_of_sender : List (List ℕ) → NamedSender → List ℕ
-line_of_sender listener_names sender = sender_line (listener_name_at listener_names sender.row.listener) sender.row sender.names
+abbrev pub sender_at : Form → List (List ℕ) → NamedSender → List Field
+sender_at form listener_names sender =
+    sender_row_in form (listener_name_at listener_names sender.row.listener) sender.row sender.names
 
-abbrev pub object_of_listener : List (List ℕ) → ℕ × ListenerRow → List ℕ
-object_of_listener listener_names (listener, row) = listener_json (listener_name_at listener_names listener) row
+abbrev pub rows_of : Form → Kind → List (List ℕ) → Facts → List (List Field)
+rows_of form Listeners listener_names facts = map (listener_at listener_names) (enumerate_from 0 facts.listeners)
+rows_of form Pairs listener_names facts = map (pair_at form listener_names) facts.pairs
+rows_of form Senders listener_names facts = map (sender_at form listener_names) facts.senders
 
-abbrev pub object_of_pair : List (List ℕ) → PairRow → List ℕ
-object_of_pair listener_names row = pair_json (listener_name_at listener_names row.one) (listener_name_at listener_names row.other) row
+-- ---- texts
 
-abbrev pub object_of_sender : List (List ℕ) → NamedSender → List ℕ
-object_of_sender listener_names sender = sender_json (listener_name_at listener_names sender.row.listener) sender.row sender.names
+-- the rows of listeners, then those of pairs, then those of senders
+abbrev pub all_rows : Form → List (List ℕ) → Facts → List (List Field)
+all_rows form listener_names facts =
+    rows_of form Listeners listener_names facts ++ rows_of form Pairs listener_names facts ++ rows_of form Senders listener_names facts
 
--- ---- all rows, among listeners whose names are written so
+-- a table of rows, with their heads
+abbrev pub table_of : Kind → List (List ℕ) → Facts → List ℕ
+table_of kind listener_names facts = table_text (map cells_of (heads_of kind ∷ rows_of Pretty kind listener_names facts))
 
--- the lines of listeners, then those of pairs, then those of senders
-unfoldable pub facts_lines : List (List ℕ) → Facts → List ℕ
-facts_lines listener_names facts =
-    flat_map (line_of_listener listener_names) (enumerate_from 0 facts.listeners) ++ flat_map (line_of_pair listener_names) facts.pairs
-    ++ flat_map (line_of_sender listener_names) facts.senders
-
--- the same as objects
-unfoldable pub facts_objects : List (List ℕ) → Facts → List ℕ
-facts_objects listener_names facts =
-    flat_map (object_of_listener listener_names) (enumerate_from 0 facts.listeners) ++ flat_map (object_of_pair listener_names) facts.pairs
-    ++ flat_map (object_of_sender listener_names) facts.senders
-
--- the same as tables with an empty line between; those of pairs and of senders only where there are any
-unfoldable pub facts_tables : List (List ℕ) → Facts → List ℕ
-facts_tables listener_names facts =
-    listener_table listener_names facts.listeners ++ unless_none facts.pairs (pair_table listener_names facts.pairs)
-    ++ unless_none facts.senders (sender_table listener_names facts.senders)
+-- the tables with an empty line between; those of pairs and of senders only where there are any
+unfoldable pub tables_text : List (List ℕ) → Facts → List ℕ
+tables_text listener_names facts =
+    table_of Listeners listener_names facts ++ unless_none facts.pairs (table_of Pairs listener_names facts)
+    ++ unless_none facts.senders (table_of Senders listener_names facts)
 
 abbrev pub text_in : Form → List (List ℕ) → Facts → List ℕ
-text_in Lines listener_names facts = facts_lines listener_names facts
-text_in Json listener_names facts = facts_objects listener_names facts
-text_in Pretty listener_names facts = facts_tables listener_names facts
+text_in Lines listener_names facts = flat_map line_text (all_rows Lines listener_names facts)
+text_in Json listener_names facts = flat_map object_text (all_rows Json listener_names facts)
+text_in Pretty listener_names facts = tables_text listener_names facts
 
 -- All that is written of listeners: of their names, each byte outside 0x21 to 0x7E as `\DDD` and a `\` as `\\`.
 abbrev pub listeners_text : Form → Facts → List ℕ

@@ -83,6 +83,7 @@ pub record HasBegun (prefixes files : List (List ℕ)) (names : List (List ℕ))
   pub named : names ≡ listener_names prefixes files
   pub many : length begun ≡ length prefixes
   pub each : (at : ℕ) → at < length prefixes → slice_index_or begun at None ≡ begun_by prefixes files at
+  pub inside : (at listener : ℕ) → at < length prefixes → slice_index_or begun at None ≡ Some listener → listener < length names
 
 -- the listeners' names, and the position of each file's listener
 pub record Grouped : Type 0 where

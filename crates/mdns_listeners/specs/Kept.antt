@@ -34,6 +34,13 @@ pub record HearsMessage (source : SourceAddress) (payload : List ℕ) (at : Hear
   pub told : new.told ≡ old.told ++ record { message = message_bytes source payload; at = at } ∷ []
   pub names : (earlier : List Hearing) → HoldsNames old.names earlier → HoldsNames new.names (earlier ++ hearings)
 
+-- one message more was told, whose names are held already
+abbrev pub told_again : SourceAddress → List ℕ → HeardAt → HeardSoFar → HeardSoFar
+told_again source payload at old = record {
+  told = old.told ++ record { message = message_bytes source payload; at = at } ∷ [];
+  names = old.names;
+}
+
 -- the payload of a message: what follows the version of IP and the address
 abbrev pub payload_in : List ℕ → List ℕ
 payload_in [] = []

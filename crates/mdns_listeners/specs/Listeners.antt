@@ -19,11 +19,12 @@ use Rattle.mdns_listeners.specs.Facts.{listeners_text}
 use Rattle.mdns_listeners.specs.Named.{NamedSender}
 use Rattle.mdns_listeners.specs.Groups.{Grouped}
 use Rattle.mdns_listeners.specs.Heard.{AreHeardIn, HeardRow, Told, message_bytes}
-use Rattle.mdns_listeners.specs.Names.{AreNames, HoldsNames}
+use Rattle.mdns_listeners.specs.Names.{AreNames, HoldsNames, ListsNames}
 use Rattle.mdns_listeners.specs.Numbers.{FileSpans, listener_rows, spans_of_listeners}
 use Rattle.mdns_listeners.specs.Pairs.{pair_rows}
 use Rattle.mdns_listeners.specs.Senders.{sender_rows}
 use Rattle.mdns_listeners.specs.declared.heard.HeardAt.{HeardAt}
+use Rattle.mdns_listeners.specs.declared.listeners.HeardByListeners.{HeardByListeners}
 use Rattle.mdns_listeners.specs.declared.listeners.MessageCollector.{MessageCollector}
 use Rattle.mdns_listeners.specs.declared.senders.SenderRow.{SenderRow}
 
@@ -84,15 +85,23 @@ pub record SaysFacts (names : List (List ℕ)) (form : Form) (rows : List HeardR
     senders = senders;
   })
 
+-- The rows are those of the messages that captures of these listeners, with these packets, which came to these outcomes, tell.
+pub record AreRowsOf (of : List ℕ) (packets : List (List PacketAt)) (outcomes : List (List Outcome)) (rows : List HeardRow)
+    : Type 0 where
+  pub told : List Told
+  pub tell : CapturesTell of 0 packets outcomes told
+  pub are_heard : AreHeardIn told rows
+
+-- the time spans of listeners whose captures have these packets
+abbrev pub spans_by : Grouped → List (List PacketAt) → List FileSpans
+spans_by groups packets = spans_of_listeners (length groups.names) groups.of (capture_spans packets)
+
 -- The text says this of captures that have these packets, which came to these outcomes.
 pub record IsTextOf (groups : Grouped) (form : Form) (packets : List (List PacketAt)) (outcomes : List (List Outcome))
     (text : List ℕ) : Type 0 where
-  pub told : List Told
-  pub tell : CapturesTell groups.of 0 packets outcomes told
   pub rows : List HeardRow
-  pub are_heard : AreHeardIn told rows
-  pub says : SaysFacts groups.names form rows (spans_of_listeners (length groups.names) groups.of (capture_spans packets))
-      (all_hearings outcomes) text
+  pub are_rows : AreRowsOf groups.of packets outcomes rows
+  pub says : SaysFacts groups.names form rows (spans_by groups packets) (all_hearings outcomes) text
 
 -- The text says this of captures.
 pub record AreListeners (groups : Grouped) (form : Form) (captures : List (List ℕ)) (summaries : List Summary) (text : List ℕ)
@@ -132,3 +141,20 @@ pub record Gathered (of : List ℕ) (now : MessageCollector) (packets : List (Li
 -- the same from a first state to a second
 abbrev pub GathersAll : MessageCollector → MessageCollector → List (List PacketAt) → List (List Outcome) → Type 0
 GathersAll begun now packets outcomes = Gathered begun.of.items now packets outcomes
+
+-- A collector noted one more time at which a message was heard, and nothing else.
+pub record NotesTime (old new : MessageCollector) : Type 0 where
+  pub of : new.of ≡ old.of
+  pub place : new.place ≡ old.place
+  pub one : Told
+  pub told : new.messages.told ≡ old.messages.told ++ one ∷ []
+  pub names : new.messages.names ≡ old.messages.names
+
+-- ---- once they were read
+
+-- What the listeners of captures heard that have these packets, which came to these outcomes.
+pub record IsHeardBy (groups : Grouped) (packets : List (List PacketAt)) (outcomes : List (List Outcome)) (heard_by : HeardByListeners)
+    : Type 0 where
+  pub are_rows : AreRowsOf groups.of packets outcomes heard_by.messages.items
+  pub spans : heard_by.spans.items ≡ spans_by groups packets
+  pub names : ListsNames heard_by.names (all_hearings outcomes)

@@ -29,9 +29,13 @@ has_another listener row = list_any (λ at. not (is_of listener at)) row.times
 abbrev pub heard : ℕ → List HeardRow → ℕ
 heard listener rows = sum_by (times_heard listener) rows
 
+-- whether the listener heard the message, and no other
+abbrev pub is_alone : ℕ → HeardRow → Bool
+is_alone listener row = has listener row && not (has_another listener row)
+
 -- how many different messages the listener heard, and no other
 abbrev pub alone : ℕ → List HeardRow → ℕ
-alone listener rows = count_by (λ row. has listener row && not (has_another listener row)) rows
+alone listener rows = count_by (is_alone listener) rows
 
 -- whether the moment is in the time span, ends included
 abbrev pub is_within : Moment → Span → Bool

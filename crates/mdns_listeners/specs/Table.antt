@@ -1,6 +1,6 @@
 -- Tables in readable columns: rows of cells, the first of which has the heads of the columns. Only a last cell may have more than
 -- ASCII, so that the columns are straight whatever the widths of other characters.
-use Rattle.std.specs.Prelude.{ℕ, suc, List, [], ◌∷◌, ◌++◌, map, slice_index_or, codes}
+use Rattle.std.specs.Prelude.{ℕ, ◌+◌, List, [], ◌∷◌, ◌++◌, map, slice_index_or, codes}
 use Rattle.std.specs.List.{flat_map}
 use Rattle.mdns_browse.specs.Columns.{padded, widest}
 
@@ -17,7 +17,7 @@ unfoldable pub cells_from : (ℕ → ℕ) → ℕ → List (List ℕ) → List �
 cells_from width column [] = []
 cells_from width column (cell ∷ []) = cell
 cells_from width column (cell ∷ next ∷ cells) =
-    padded (width column) cell ++ codes "  " ++ cells_from width (suc column) (next ∷ cells)
+    padded (width column) cell ++ codes "  " ++ cells_from width (column + 1) (next ∷ cells)
 
 -- the lines of the rows
 unfoldable pub table_text : List (List (List ℕ)) → List ℕ

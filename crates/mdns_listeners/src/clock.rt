@@ -2,7 +2,8 @@
 
 ghost use Rattle.std.specs.Prelude.{◌≡◌, ◌++◌, ◌∷◌, OnOk, codes, string_bytes};
 ghost use Rattle.mdns_listeners.specs.Clock.{ahead_words, by_words, clock_words, is_near, is_one_clock, is_steady, messages_text};
-ghost use Rattle.mdns_listeners.specs.Clock.{messages_word, one_clock_words, quartile_words, shift_words, unsteady_words};
+ghost use Rattle.mdns_listeners.specs.Clock.{messages_word, nothing_words, one_clock_words, quartile_words, shift_words, steady_words};
+ghost use Rattle.mdns_listeners.specs.Clock.{unknown_words, unsteady_words};
 
 use crate::pairs::{PairRow, Quartiles};
 use crate::seconds::{push_negated, push_signed};
@@ -18,16 +19,30 @@ pub fn push_clock_words(to: &mut String, file: &str, pair: &PairRow) -> Result<(
     ensures { OnOk result (string_bytes to.new ≡ string_bytes to.old ++ clock_words file.now pair.now) }
 {
     if pair.common == 0 {
-        to.push_str("nothing in common: another link, or another filter?")?;
-        return Ok(());
+        return push_nothing(to);
     }
     match pair.quartiles {
         Some(quartiles) => push_quartile_words(to, file, pair.by, quartiles),
-        None => push_words(to, "can't tell: no message came once in both"),
+        None => push_unknown(to),
     }
 }
 
-fn push_words(to: &mut String, words: &str) -> Result<(), Want>
+/// Appends that two listeners heard no message in common.
+pub(crate) fn push_nothing(to: &mut String) -> Result<(), Want>
+    ensures { OnOk result (string_bytes to.new ≡ string_bytes to.old ++ nothing_words) }
+{
+    push_words(to, "nothing in common: another link, or another filter?")
+}
+
+/// Appends that no message says how far two clocks are apart.
+pub(crate) fn push_unknown(to: &mut String) -> Result<(), Want>
+    ensures { OnOk result (string_bytes to.new ≡ string_bytes to.old ++ unknown_words) }
+{
+    push_words(to, "can't tell: no message came once in both")
+}
+
+/// Appends words.
+pub(crate) fn push_words(to: &mut String, words: &str) -> Result<(), Want>
     ensures { OnOk result (string_bytes to.new ≡ string_bytes to.old ++ words.now) }
 {
     to.push_str(words)?;
@@ -56,21 +71,29 @@ fn push_one_clock(to: &mut String, by: u64, ahead: i64) -> Result<(), Want>
     ensures { OnOk result (string_bytes to.new ≡ string_bytes to.old ++ one_clock_words by ahead) }
 {
     to.push_str("one clock: ")?;
-    push_signed(to, ahead)?;
-    push_by(to, by)
+    push_steady(to, by, ahead)
 }
 
 #[tactic(auto, unfolding(crate::specs::Clock::ahead_words))]
 fn push_ahead(to: &mut String, file: &str, by: u64, ahead: i64) -> Result<(), Want>
     ensures { OnOk result (string_bytes to.new ≡ string_bytes to.old ++ ahead_words file.now by ahead) }
 {
-    push_signed(to, ahead)?;
-    push_by(to, by)?;
+    push_steady(to, by, ahead)?;
     push_shift(to, file, ahead)
 }
 
+/// Appends how far a clock is ahead, and by how many messages that is known.
+#[tactic(auto, unfolding(crate::specs::Clock::steady_words))]
+pub(crate) fn push_steady(to: &mut String, by: u64, ahead: i64) -> Result<(), Want>
+    ensures { OnOk result (string_bytes to.new ≡ string_bytes to.old ++ steady_words by ahead) }
+{
+    push_signed(to, ahead)?;
+    push_by(to, by)
+}
+
+/// Appends between which two durations a clock is ahead, and by how many messages that is known.
 #[tactic(auto, unfolding(crate::specs::Clock::unsteady_words))]
-fn push_unsteady(to: &mut String, by: u64, low: i64, high: i64) -> Result<(), Want>
+pub(crate) fn push_unsteady(to: &mut String, by: u64, low: i64, high: i64) -> Result<(), Want>
     ensures { OnOk result (string_bytes to.new ≡ string_bytes to.old ++ unsteady_words by low high) }
 {
     to.push_str("unsteady: ")?;

@@ -1,21 +1,24 @@
-//! All that is written of listeners. After `Want` the contents of `to` are not specified.
+//! All that is written of listeners.
 
-ghost use Rattle.std.specs.Prelude.{◌≡◌, ◌++◌, map, IfOk, OnOk, string_bytes};
-ghost use Rattle.std.specs.List.{enumerate_from, flat_map};
+ghost use Rattle.std.specs.Prelude.{◌≡◌, ◌++◌, ◌∷◌, [], false, if◌then◌else◌, map, IfOk, OnOk, string_bytes};
+ghost use Rattle.std.specs.List.{enumerate_from, flat_map, fold};
 ghost use Rattle.mdns_message.specs.TextData.{string_text};
-ghost use Rattle.mdns_listeners.specs.Facts.{facts_lent, facts_lines, facts_objects, facts_tables, listeners_text};
-ghost use Rattle.mdns_listeners.specs.Facts.{line_of_listener, line_of_pair, line_of_sender};
-ghost use Rattle.mdns_listeners.specs.Facts.{object_of_listener, object_of_pair, object_of_sender};
-ghost use Rattle.mdns_listeners.specs.Named.{sender_lent};
 ghost use Rattle.mdns_browse.specs.Columns.{unless_none};
-ghost use Rattle.mdns_listeners.specs.Columns.{pair_table, sender_table};
+ghost use Rattle.mdns_browse.specs.declared.report.Form.TheVariants.{Pretty};
+ghost use Rattle.mdns_listeners.specs.Facts.{all_rows, facts_lent, listener_at, listeners_text, pair_at, rows_of, sender_at, table_of};
+ghost use Rattle.mdns_listeners.specs.Facts.{tables_text, text_in};
+ghost use Rattle.mdns_listeners.specs.Fields.{heads_of};
+ghost use Rattle.mdns_listeners.specs.Named.{sender_lent};
+ghost use Rattle.mdns_listeners.specs.Sheet.{row_text, taken};
 
-use crate::columns::{push_listener_table, push_pair_table, push_sender_table};
-use crate::lines::{push_listener_line, push_pair_line, push_sender_line};
+use crate::fields::{
+    Kind, listener_fields, listener_heads, pair_cells, pair_fields, pair_heads, sender_count,
+    sender_fields, sender_heads, sender_members,
+};
 use crate::named::{NamedSender, listener_name_at};
 use crate::numbers::ListenerRow;
-use crate::objects::{push_listener_json, push_pair_json, push_sender_json};
 use crate::pairs::PairRow;
+use crate::sheet::Sheet;
 use mdns_browse::report::Form;
 use mdns_message::Want;
 use mdns_message::text_data::push_string;
@@ -38,13 +41,10 @@ pub fn listeners_text(alloc: Global, form: Form, facts: &Facts<'_>) -> Result<St
     ensures { IfOk result (λ text. string_bytes text ≡ listeners_text form (facts_lent facts.now)) }
 {
     let listener_names = name_texts(alloc, facts.listener_names)?;
-    let mut text = String::new(alloc);
-    match form {
-        Form::Lines => push_lines(&mut text, listener_names.as_slice(), facts)?,
-        Form::Json => push_objects(alloc, &mut text, listener_names.as_slice(), facts)?,
-        Form::Pretty => push_tables(alloc, &mut text, listener_names.as_slice(), facts)?,
-    }
-    Ok(text)
+    let names = listener_names.as_slice();
+    let mut sheet = Sheet::new(alloc, form);
+    push_facts(&mut sheet, names, facts)?;
+    Ok(sheet.into_text())
 }
 
 fn name_texts(alloc: Global, listener_names: &[String]) -> Result<Vec<String>, Want>
@@ -65,172 +65,173 @@ fn name_text(alloc: Global, file: &str) -> Result<String, Want>
     Ok(text)
 }
 
-#[tactic(auto, unfolding(crate::specs::Facts::facts_lines))]
-fn push_lines(to: &mut String, listener_names: &[String], facts: &Facts<'_>) -> Result<(), Want>
-    ensures { OnOk result (string_bytes to.new
-        ≡ string_bytes to.old ++ facts_lines (map string_bytes listener_names.now) (facts_lent facts.now)) }
+fn push_facts(sheet: &mut Sheet, names: &[String], facts: &Facts<'_>) -> Result<(), Want>
+    requires { sheet.old.measures ≡ false }
+    ensures { OnOk result (sheet.new.text
+        ≡ sheet.old.text ++ text_in sheet.old.form (map string_bytes names.now) (facts_lent facts.now)) }
 {
-    push_listener_lines(to, listener_names, facts.listeners)?;
-    push_pair_lines(to, listener_names, facts.pairs)?;
-    push_sender_lines(to, listener_names, facts.senders)
+    match sheet.form() {
+        Form::Lines => take_all(sheet, names, facts),
+        Form::Json => take_all(sheet, names, facts),
+        Form::Pretty => push_tables(sheet, names, facts),
+    }
 }
 
-fn push_listener_lines(
-    to: &mut String,
-    listener_names: &[String],
-    rows: &[ListenerRow],
-) -> Result<(), Want>
-    ensures { OnOk result (string_bytes to.new ≡ string_bytes to.old
-        ++ flat_map (line_of_listener (map string_bytes listener_names.now)) (enumerate_from 0 rows.now)) }
+// Appends all rows.
+fn take_all(sheet: &mut Sheet, names: &[String], facts: &Facts<'_>) -> Result<(), Want>
+    requires { sheet.old.measures ≡ false }
+    ensures { OnOk result (sheet.new.text ≡ sheet.old.text ++ flat_map (row_text sheet.old.form sheet.old.widths)
+        (all_rows sheet.old.form (map string_bytes names.now) (facts_lent facts.now))) }
 {
-    for (index, row) in rows.iter().enumerate() {
-        push_listener_line(to, listener_name_at(listener_names, index), row)?;
-    }
+    take_rows(sheet, Kind::Listeners, names, facts)?;
+    take_rows(sheet, Kind::Pairs, names, facts)?;
+    take_rows(sheet, Kind::Senders, names, facts)?;
     Ok(())
 }
 
-fn push_pair_lines(to: &mut String, listener_names: &[String], rows: &[PairRow]) -> Result<(), Want>
-    ensures { OnOk result (string_bytes to.new
-        ≡ string_bytes to.old ++ flat_map (line_of_pair (map string_bytes listener_names.now)) rows.now) }
+// Appends all tables, with an empty line before each but the first.
+#[tactic(auto, unfolding(crate::specs::Facts::tables_text))]
+fn push_tables(sheet: &mut Sheet, names: &[String], facts: &Facts<'_>) -> Result<(), Want>
+    requires { sheet.old.form ≡ Pretty }
+    ensures { OnOk result (sheet.new.text ≡ sheet.old.text ++ tables_text (map string_bytes names.now) (facts_lent facts.now)) }
 {
-    for row in rows {
-        push_pair_line(
-            to,
-            listener_name_at(listener_names, row.one),
-            listener_name_at(listener_names, row.other),
-            row,
-        )?;
-    }
-    Ok(())
+    push_table(sheet, Kind::Listeners, names, facts)?;
+    push_further(sheet, Kind::Pairs, facts.pairs.is_empty(), names, facts)?;
+    push_further(sheet, Kind::Senders, facts.senders.is_empty(), names, facts)
 }
 
-fn push_sender_lines(
-    to: &mut String,
-    listener_names: &[String],
-    senders: &[NamedSender<'_>],
-) -> Result<(), Want>
-    ensures { OnOk result (string_bytes to.new ≡ string_bytes to.old
-        ++ flat_map (line_of_sender (map string_bytes listener_names.now)) (map sender_lent senders.now)) }
-{
-    for sender in senders {
-        let file = listener_name_at(listener_names, sender.row.listener);
-        push_sender_line(to, file, &sender.row, sender.names)?;
-    }
-    Ok(())
-}
-
-#[tactic(auto, unfolding(crate::specs::Facts::facts_objects))]
-fn push_objects(
-    alloc: Global,
-    to: &mut String,
-    listener_names: &[String],
+// Appends an empty line and a table, unless it is told that there are no rows.
+fn push_further(
+    sheet: &mut Sheet,
+    kind: Kind,
+    none: bool,
+    names: &[String],
     facts: &Facts<'_>,
 ) -> Result<(), Want>
-    ensures { OnOk result (string_bytes to.new
-        ≡ string_bytes to.old ++ facts_objects (map string_bytes listener_names.now) (facts_lent facts.now)) }
+    requires { sheet.old.form ≡ Pretty }
+    ensures text { OnOk result (sheet.new.text ≡ sheet.old.text
+        ++ (if none then [] else 10 ∷ table_of kind (map string_bytes names.now) (facts_lent facts.now))) }
+    ensures form { OnOk result (sheet.new.form ≡ Pretty) }
 {
-    push_listener_objects(alloc, to, listener_names, facts.listeners)?;
-    push_pair_objects(alloc, to, listener_names, facts.pairs)?;
-    push_sender_objects(alloc, to, listener_names, facts.senders)
-}
-
-fn push_listener_objects(
-    alloc: Global,
-    to: &mut String,
-    listener_names: &[String],
-    rows: &[ListenerRow],
-) -> Result<(), Want>
-    ensures { OnOk result (string_bytes to.new ≡ string_bytes to.old
-        ++ flat_map (object_of_listener (map string_bytes listener_names.now)) (enumerate_from 0 rows.now)) }
-{
-    for (index, row) in rows.iter().enumerate() {
-        push_listener_json(alloc, to, listener_name_at(listener_names, index), row)?;
+    if none {
+        return Ok(());
     }
-    Ok(())
+    sheet.end_line()?;
+    push_table(sheet, kind, names, facts)
 }
 
-fn push_pair_objects(
-    alloc: Global,
-    to: &mut String,
-    listener_names: &[String],
-    rows: &[PairRow],
-) -> Result<(), Want>
-    ensures { OnOk result (string_bytes to.new
-        ≡ string_bytes to.old ++ flat_map (object_of_pair (map string_bytes listener_names.now)) rows.now) }
-{
-    for row in rows {
-        push_pair_json(
-            alloc,
-            to,
-            listener_name_at(listener_names, row.one),
-            listener_name_at(listener_names, row.other),
-            row,
-        )?;
-    }
-    Ok(())
-}
-
-fn push_sender_objects(
-    alloc: Global,
-    to: &mut String,
-    listener_names: &[String],
-    senders: &[NamedSender<'_>],
-) -> Result<(), Want>
-    ensures { OnOk result (string_bytes to.new ≡ string_bytes to.old
-        ++ flat_map (object_of_sender (map string_bytes listener_names.now)) (map sender_lent senders.now)) }
-{
-    for sender in senders {
-        let file = listener_name_at(listener_names, sender.row.listener);
-        push_sender_json(alloc, to, file, &sender.row, sender.names)?;
-    }
-    Ok(())
-}
-
-#[tactic(auto, unfolding(crate::specs::Facts::facts_tables))]
-fn push_tables(
-    alloc: Global,
-    to: &mut String,
-    listener_names: &[String],
+fn push_table(
+    sheet: &mut Sheet,
+    kind: Kind,
+    names: &[String],
     facts: &Facts<'_>,
 ) -> Result<(), Want>
-    ensures { OnOk result (string_bytes to.new
-        ≡ string_bytes to.old ++ facts_tables (map string_bytes listener_names.now) (facts_lent facts.now)) }
+    requires { sheet.old.form ≡ Pretty }
+    ensures text { OnOk result (sheet.new.text
+        ≡ sheet.old.text ++ table_of kind (map string_bytes names.now) (facts_lent facts.now)) }
+    ensures form { OnOk result (sheet.new.form ≡ Pretty) }
 {
-    push_listener_table(alloc, to, listener_names, facts.listeners)?;
-    push_further_pairs(alloc, to, listener_names, facts.pairs)?;
-    push_further_senders(alloc, to, listener_names, facts.senders)
+    sheet.measure();
+    take_table(sheet, kind, names, facts)?;
+    sheet.write();
+    take_table(sheet, kind, names, facts)?;
+    Ok(())
 }
 
-// Appends an empty line and the table of pairs, unless there are none.
-fn push_further_pairs(
-    alloc: Global,
-    to: &mut String,
-    listener_names: &[String],
-    rows: &[PairRow],
+// Takes the heads of a table's columns, and its rows.
+fn take_table(
+    sheet: &mut Sheet,
+    kind: Kind,
+    names: &[String],
+    facts: &Facts<'_>,
 ) -> Result<(), Want>
-    ensures { OnOk result (string_bytes to.new ≡ string_bytes to.old
-        ++ unless_none rows.now (pair_table (map string_bytes listener_names.now) rows.now)) }
+    ensures { OnOk result (sheet.new ≡ fold taken sheet.old
+        (heads_of kind ∷ rows_of sheet.old.form kind (map string_bytes names.now) (facts_lent facts.now))) }
 {
-    if rows.is_empty() {
-        return Ok(());
-    }
-    to.push('\n')?;
-    push_pair_table(alloc, to, listener_names, rows)
+    take_heads(sheet, kind)?;
+    take_rows(sheet, kind, names, facts)
 }
 
-// Appends an empty line and the table of senders, unless there are none.
-fn push_further_senders(
-    alloc: Global,
-    to: &mut String,
-    listener_names: &[String],
+fn take_heads(sheet: &mut Sheet, kind: Kind) -> Result<(), Want>
+    ensures { OnOk result (sheet.new ≡ taken sheet.old (heads_of kind)) }
+{
+    match kind {
+        Kind::Listeners => sheet.take(&listener_heads()),
+        Kind::Pairs => sheet.take(&pair_heads()),
+        Kind::Senders => sheet.take(&sender_heads()),
+    }
+}
+
+// Takes all rows of a kind.
+fn take_rows(sheet: &mut Sheet, kind: Kind, names: &[String], facts: &Facts<'_>) -> Result<(), Want>
+    ensures { OnOk result (sheet.new
+        ≡ fold taken sheet.old (rows_of sheet.old.form kind (map string_bytes names.now) (facts_lent facts.now))) }
+{
+    match kind {
+        Kind::Listeners => take_listeners(sheet, names, facts.listeners),
+        Kind::Pairs => take_pairs(sheet, names, facts.pairs),
+        Kind::Senders => take_senders(sheet, names, facts.senders),
+    }
+}
+
+fn take_listeners(sheet: &mut Sheet, names: &[String], rows: &[ListenerRow]) -> Result<(), Want>
+    ensures { OnOk result (sheet.new
+        ≡ fold taken sheet.old (map (listener_at (map string_bytes names.now)) (enumerate_from 0 rows.now))) }
+{
+    for (index, row) in rows.iter().enumerate() {
+        sheet.take(&listener_fields(listener_name_at(names, index), row))?;
+    }
+    Ok(())
+}
+
+fn take_pairs(sheet: &mut Sheet, names: &[String], rows: &[PairRow]) -> Result<(), Want>
+    ensures { OnOk result (sheet.new
+        ≡ fold taken sheet.old (map (pair_at sheet.old.form (map string_bytes names.now)) rows.now)) }
+{
+    for row in rows {
+        take_pair(sheet, names, row)?;
+    }
+    Ok(())
+}
+
+fn take_pair(sheet: &mut Sheet, names: &[String], row: &PairRow) -> Result<(), Want>
+    ensures { OnOk result (sheet.new ≡ taken sheet.old (pair_at sheet.old.form (map string_bytes names.now) row.now)) }
+{
+    let file = listener_name_at(names, row.one);
+    let other = listener_name_at(names, row.other);
+    match sheet.form() {
+        Form::Lines => sheet.take(&pair_fields(file, other, row)),
+        Form::Json => sheet.take(&pair_fields(file, other, row)),
+        Form::Pretty => sheet.take(&pair_cells(file, other, row)),
+    }
+}
+
+fn take_senders(
+    sheet: &mut Sheet,
+    names: &[String],
     senders: &[NamedSender<'_>],
 ) -> Result<(), Want>
-    ensures { OnOk result (string_bytes to.new ≡ string_bytes to.old ++ unless_none (map sender_lent senders.now)
-        (sender_table (map string_bytes listener_names.now) (map sender_lent senders.now))) }
+    ensures { OnOk result (sheet.new ≡ fold taken sheet.old
+        (map (sender_at sheet.old.form (map string_bytes names.now)) (map sender_lent senders.now))) }
 {
-    if senders.is_empty() {
-        return Ok(());
+    for sender in senders {
+        take_sender(sheet, names, sender)?;
     }
-    to.push('\n')?;
-    push_sender_table(alloc, to, listener_names, senders)
+    Ok(())
+}
+
+fn take_sender(sheet: &mut Sheet, names: &[String], sender: &NamedSender<'_>) -> Result<(), Want>
+    ensures { OnOk result (sheet.new
+        ≡ taken sheet.old (sender_at sheet.old.form (map string_bytes names.now) (sender_lent sender.now))) }
+{
+    let file = listener_name_at(names, sender.row.listener);
+    match sheet.form() {
+        Form::Lines => sheet.take(&sender_fields(file, &sender.row, sender.names)),
+        Form::Json => sheet.take(&sender_members(file, &sender.row, sender.names)),
+        Form::Pretty => {
+            let fields = sender_fields(file, &sender.row, sender.names);
+            let (shown, _) = fields.split_at(sender_count(sender.names));
+            sheet.take(shown)
+        }
+    }
 }

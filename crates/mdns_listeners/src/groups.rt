@@ -1,6 +1,6 @@
 //! Which listener each file belongs to.
 
-ghost use Rattle.std.specs.Prelude.{◌≡◌, ◌<◌, ℕ, ◌∷◌, ◌++◌, [], IfOk, List, length, map, string_bytes};
+ghost use Rattle.std.specs.Prelude.{◌≡◌, ◌<◌, ◌≤◌, ℕ, ◌∷◌, ◌++◌, [], IfOk, List, OnOk, length, map, string_bytes};
 ghost use Rattle.std.specs.List.{All, list_any};
 ghost use Rattle.mdns_listeners.specs.Groups.{HasBegun, base_name, fits, grouped, position_of, prefix_of, unfit_prefix};
 
@@ -30,7 +30,7 @@ impl Model for Groups {
 impl Groups {
     /// Groups the files. A file belongs to the first prefix that its name, without folders, begins with; without one it is a
     /// listener by itself, also if another file has the same name. Listeners stand in the order of their first files.
-    #[tactic(auto, using(crate::proofs::GroupLemmas::positions_push, crate::proofs::GroupLemmas::all_within, crate::proofs::GroupLemmas::nothing_begun))]
+    #[tactic(auto, using(crate::proofs::GroupLemmas::positions_push, crate::proofs::GroupLemmas::nothing_begun))]
     pub fn new(alloc: Global, files: &[String], prefixes: &[String]) -> Result<Groups, Want>
         ensures groups { IfOk result (λ groups. groups ≡ grouped (map string_bytes prefixes.now) (map string_bytes files.now)) }
         ensures each { IfOk result (λ groups. length groups.of ≡ length files.now) }
@@ -89,10 +89,12 @@ fn listener_of(
     file: &str,
 ) -> Result<usize, Want>
     requires { length begun.now ≡ length prefixes.now }
-    ensures { IfOk result (λ at. (earlier : List (List ℕ))
+    ensures listener { IfOk result (λ at. (earlier : List (List ℕ))
         → HasBegun (map string_bytes prefixes.now) earlier (map string_bytes names.old.items) begun.old
         → (at ≡ position_of (map string_bytes prefixes.now) earlier file.now)
-        × HasBegun (map string_bytes prefixes.now) (earlier ++ file.now ∷ []) (map string_bytes names.new.items) begun.new) }
+        × HasBegun (map string_bytes prefixes.now) (earlier ++ file.now ∷ []) (map string_bytes names.new.items) begun.new
+        × (at < length names.new.items)) }
+    ensures grows { OnOk result (length names.old.items ≤ length names.new.items) }
 {
     let next = names.len();
     let Some(at) = prefix_of(prefixes, file) else {

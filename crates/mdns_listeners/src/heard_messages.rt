@@ -1,13 +1,13 @@
 //! The different messages that listeners heard, gathered from all messages in the order in which these were read, and the names
 //! of their senders. A message that comes again isn't read again.
 
-ghost use Rattle.std.specs.Prelude.{◌≡◌, ◌≢◌, ◌<◌, ◌++◌, ◌∷◌, [], List, length, slice_index_or, IfNone, IfOk, IfSome, OnErr, OnOk};
+ghost use Rattle.std.specs.Prelude.{◌≡◌, ◌≢◌, ◌<◌, ◌-◌, ◌++◌, ◌∷◌, [], List, length, slice_index_or, take, IfNone, IfOk, IfSome, OnErr, OnOk};
 ghost use Rattle.std.specs.List.{All};
 ghost use Rattle.mdns_message.specs.declared.hearing.Hearing.{Hearing};
 ghost use Rattle.mdns_message.specs.Message.{MessageReads};
 ghost use Rattle.mdns_cache.specs.Repeats.{ReadsAs};
 ghost use Rattle.mdns_listeners.specs.Heard.{message_bytes, AreHeardIn, HasWholeAddress};
-ghost use Rattle.mdns_listeners.specs.Kept.{HearsMessage, kept_messages, next_kept, payload_in};
+ghost use Rattle.mdns_listeners.specs.Kept.{HearsMessage, kept_messages, next_kept, payload_in, told_again};
 ghost use Rattle.mdns_listeners.specs.Names.{HoldsNames, ListsNames};
 
 use crate::heard::{HeardAt, HeardMessage};
@@ -81,6 +81,7 @@ impl HeardMessages {
         ensures reads { IfSome result (ReadsAs at.moment payload.now) }
         ensures hears { IfSome result (λ _. (hearings : List Hearing) → MessageReads at.moment payload.now hearings
             → (hearings ≢ []) × HearsMessage source.now payload.now at hearings self.old self.new) }
+        ensures adds { IfSome result (λ _. self.new ≡ told_again source.now payload.now at self.old) }
         ensures none { IfNone result (self.new ≡ self.old) }
     {
         write_message(&mut self.message, source, payload).ok()?;
@@ -88,6 +89,14 @@ impl HeardMessages {
         let hearings = self.kept[place].hearings();
         self.times.push(Noted { place, at }).ok()?;
         Some(hearings)
+    }
+
+    /// Forgets the time that was added last. Its message stays kept, and so do the names.
+    pub fn forget_last(&mut self)
+        ensures told { self.new.told ≡ take (length self.old.told - 1) self.old.told }
+        ensures names { self.new.names ≡ self.old.names }
+    {
+        drop_last(&mut self.times);
     }
 
     /// Adds a message that `hear_again` didn't find, and its names. After `Want` the messages are as before, and some of the
@@ -138,6 +147,14 @@ impl HeardMessages {
         let rows = rows_of(alloc, kept, times.as_slice())?;
         Ok((rows, names.finish()?))
     }
+}
+
+// Drops the last time, if there is one.
+fn drop_last(times: &mut Vec<Noted>)
+    ensures { times.new.items ≡ take (length times.old.items - 1) times.old.items }
+{
+    let len = times.len();
+    times.truncate(len.saturating_sub(1));
 }
 
 // Replaces the bytes in `message` by those of a message.

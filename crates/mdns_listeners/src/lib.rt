@@ -1,29 +1,32 @@
 //! Which listener heard which messages, and whether their clocks agree and their captures come from one link.
 #![tactic(auto)]
 
-mod cell;
+pub mod beside;
 pub mod clock;
-mod columns;
 pub mod facts;
+mod fields;
 pub mod groups;
 pub mod heard;
 pub mod heard_messages;
 mod kept;
 pub mod laws;
-mod layout;
-pub mod lines;
 pub mod listeners;
 mod marks;
 pub mod named;
 pub mod names;
 pub mod numbers;
-pub mod objects;
 mod order;
 pub mod pairs;
 mod rows;
 pub mod seconds;
 pub mod senders;
+mod sheet;
+pub mod together;
+mod values;
+pub mod warned_lives;
+pub mod warnings;
 
+pub use beside::Beside;
 pub use facts::{Facts, listeners_text};
 pub use groups::Groups;
 pub use heard::{HeardAt, HeardMessage};

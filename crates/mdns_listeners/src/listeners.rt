@@ -1,18 +1,23 @@
 //! The question which listener heard which messages.
 
-ghost use Rattle.std.specs.Prelude.{◌≡◌, ◌≤◌, [], suc, IfOk, List, length, map, min, string_bytes};
+ghost use Rattle.std.specs.Prelude.{◌≡◌, ℕ, suc, ◌++◌, ◌∷◌, [], IfNone, IfOk, IfSome, List, length, map, min, string_bytes};
 ghost use Rattle.std.specs.Cmp.Lexicographic.{slice_cmp};
 ghost use Rattle.std.specs.List.{All};
 ghost use Rattle.std.specs.List.Sorted.{IsStrictlySortedBy};
 ghost use Rattle.std.specs.Ordering.{nat_cmp};
+ghost use Rattle.mdns_capture.specs.Capture.{packet_lent};
+ghost use Rattle.mdns_capture.specs.Frame.{FrameCarries};
 ghost use Rattle.mdns_capture.specs.Savefile.{PacketAt};
 ghost use Rattle.mdns_message.specs.declared.hearing.Hearing.{Hearing};
-ghost use Rattle.mdns_survey.specs.Outcomes.{Outcome};
+ghost use Rattle.mdns_message.specs.Message.{MessageReads};
+ghost use Rattle.mdns_cache.specs.Repeats.{ReadsAs};
+ghost use Rattle.mdns_survey.specs.Outcomes.{Outcome, heard};
 ghost use Rattle.mdns_survey.specs.Readings.{HaveSpans};
 ghost use Rattle.mdns_listeners.specs.Heard.{HasWholeAddress, messages_of};
-ghost use Rattle.mdns_listeners.specs.Listeners.{AreNamed, Gathered, IsTextOf, SaysFacts, heard_at};
+ghost use Rattle.mdns_listeners.specs.Listeners.{AreNamed, Gathered, Gathers, IsHeardBy, IsTextOf, NotesTime, SaysFacts, heard_at};
 ghost use Rattle.mdns_listeners.specs.Named.{sender_lent};
 ghost use Rattle.mdns_listeners.specs.Names.{ListsNames};
+ghost use Rattle.mdns_listeners.specs.declared.listeners.MessageCollector.{MessageCollector};
 
 use crate::facts::{Facts, listeners_text};
 use crate::groups::Groups;
@@ -50,8 +55,8 @@ pub struct MessageCollector {
 }
 
 impl MessageCollector {
-    // Makes a collector of captures with these listeners, which has read none.
-    fn new(alloc: Global, of: &[usize]) -> Result<MessageCollector, Want>
+    /// Makes a collector of captures with these listeners, which has read none.
+    pub fn new(alloc: Global, of: &[usize]) -> Result<MessageCollector, Want>
         ensures { IfOk result (λ collector. Gathered of.now collector [] []) }
     {
         Ok(MessageCollector {
@@ -72,18 +77,50 @@ impl MessageCollector {
         HeardAt { listener, moment }
     }
 
-    // Goes on to the next capture, if there is one.
-    fn go_on(&mut self)
-        ensures of { self.new.of.items ≡ self.old.of.items }
-        ensures place { self.new.place ≡ min (suc self.old.place) (length self.old.of.items) }
-        ensures messages { self.new.messages ≡ self.old.messages }
+    /// Goes on to the next capture, if there is one.
+    pub fn go_on(&mut self)
+        ensures { (of : List ℕ) (begun : MessageCollector) (earlier : List (List PacketAt)) (before : List (List Outcome))
+            (packets : List PacketAt) (outcomes : List Outcome) → Gathered of begun earlier before
+            → Gathers begun self.old packets outcomes
+            → Gathered of self.new (earlier ++ packets ∷ []) (before ++ outcomes ∷ []) }
+    {
+        self.place = self.next_place();
+    }
+
+    // Returns the place of the next capture, or how many captures there are.
+    fn next_place(&self) -> usize
+        ensures { result ≡ min (suc self.now.place) (length self.now.of.items) }
     {
         let len = self.of.len();
-        self.place = if self.place < len {
+        if self.place < len {
             self.place + 1
         } else {
             len
-        };
+        }
+    }
+
+    /// Hears a packet with a message that came before, without reading it again, and returns the number of its hearings.
+    /// `None` if the message isn't found, and then nothing changes.
+    pub(crate) fn hear_again(&mut self, packet: &Packet<'_>, payload: &[u8]) -> Option<usize>
+        requires { FrameCarries packet.now.frame.now payload.now }
+        ensures reads { IfSome result (ReadsAs packet.now.moment payload.now) }
+        ensures took { IfSome result (λ _. (hearings : List Hearing) → MessageReads packet.now.moment payload.now hearings
+            → (begun : MessageCollector) (packets : List PacketAt) (outcomes : List Outcome)
+            → Gathers begun self.old packets outcomes
+            → Gathers begun self.new (packets ++ packet_lent packet.now ∷ []) (outcomes ++ heard hearings ∷ [])) }
+        ensures notes { IfSome result (λ _. NotesTime self.old self.new) }
+        ensures none { IfNone result (self.new ≡ self.old) }
+    {
+        let (_, source) = payload_and_source(packet.frame).ok()?;
+        let at = self.heard_at(packet.moment);
+        self.messages.hear_again(&source, payload, at)
+    }
+
+    /// Takes back the last `hear_again`.
+    pub(crate) fn forget_last(&mut self)
+        ensures { (earlier : MessageCollector) → NotesTime earlier self.old → self.new ≡ earlier }
+    {
+        self.messages.forget_last();
     }
 }
 
@@ -116,9 +153,7 @@ impl Consumer for MessageCollector {
     }
 
     fn take_again(&mut self, packet: &Packet<'_>, payload: &[u8]) -> Option<usize> {
-        let (_, source) = payload_and_source(packet.frame).ok()?;
-        let at = self.heard_at(packet.moment);
-        self.messages.hear_again(&source, payload, at)
+        self.hear_again(packet, payload)
     }
 }
 
@@ -185,19 +220,51 @@ fn text_of(
         → Gathered groups.now.of collector packets outcomes → HaveSpans packets readings.now
         → IsTextOf groups.now form packets outcomes (string_bytes text)) }
 {
-    let MessageCollector { messages, .. } = collector;
-    let (rows, names) = messages.finish()?;
-    let files = spans_in(alloc, readings)?;
-    let count = groups.names().len();
-    let spans = spans_of(alloc, count, groups.of(), files.as_slice())?;
+    let heard = heard_by(alloc, groups, collector, readings)?;
     facts_text(
         alloc,
         groups,
         form,
-        rows.as_slice(),
-        spans.as_slice(),
-        &names,
+        heard.messages.as_slice(),
+        heard.spans.as_slice(),
+        &heard.names,
     )
+}
+
+/// What listeners heard.
+#[derive(Drop)]
+pub struct HeardByListeners {
+    /// The different messages, ascending by their bytes.
+    pub messages: Vec<HeardMessage>,
+    /// The time spans of each listener's files.
+    pub spans: Vec<ListenerSpans>,
+    /// The names of the senders.
+    pub names: Names,
+}
+
+/// Returns what listeners heard, of which a collector gathered the messages while captures were read, with these readings.
+pub fn heard_by(
+    alloc: Global,
+    groups: &Groups,
+    collector: MessageCollector,
+    readings: &[Reading],
+) -> Result<HeardByListeners, Want>
+    ensures ascending { IfOk result (λ heard. IsStrictlySortedBy (slice_cmp nat_cmp) (messages_of heard.messages.items)) }
+    ensures addressed { IfOk result (λ heard. All (λ row. HasWholeAddress row.message) heard.messages.items) }
+    ensures heard { IfOk result (λ heard. (packets : List (List PacketAt)) (outcomes : List (List Outcome))
+        → Gathered groups.now.of collector packets outcomes → HaveSpans packets readings.now
+        → IsHeardBy groups.now packets outcomes heard) }
+{
+    let MessageCollector { messages, .. } = collector;
+    let (messages, names) = messages.finish()?;
+    let files = spans_in(alloc, readings)?;
+    let count = groups.names().len();
+    let spans = spans_of(alloc, count, groups.of(), files.as_slice())?;
+    Ok(HeardByListeners {
+        messages,
+        spans,
+        names,
+    })
 }
 
 // Returns the text about these messages, of listeners whose files have these time spans, and of senders with these names.

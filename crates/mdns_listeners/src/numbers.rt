@@ -1,11 +1,11 @@
 //! When each listener listened, and how much it heard, alone or not, and missed.
 
-ghost use Rattle.std.specs.Prelude.{◌≡◌, ◌*◌, ◌++◌, ◌∷◌, [], length, slice_index_or, IfOk, OnOk, Some, None};
+ghost use Rattle.std.specs.Prelude.{◌≡◌, ◌<◌, ◌^◌, ◌++◌, ◌&&◌, [], if◌then◌else◌, nat_eq, nat_lt, length, slice_index_or, IfOk, OnOk, None};
 ghost use Rattle.std.specs.List.{count_by, list_any};
 ghost use Rattle.std.specs.Option.{option_to_list};
 ghost use Rattle.mdns_survey.specs.Span.{joined_spans};
-ghost use Rattle.mdns_listeners.specs.Numbers.{alone, heard, is_of, is_within, listened, listener_rows, missed};
-ghost use Rattle.mdns_listeners.specs.Numbers.{span_of_file, spans_of_listener, spans_of_listeners};
+ghost use Rattle.mdns_listeners.specs.Numbers.{alone, heard, is_alone, is_missed, is_of, is_within, listened, listener_row, listener_rows};
+ghost use Rattle.mdns_listeners.specs.Numbers.{missed, span_of_file, spans_of_listener, spans_of_listeners, times_heard};
 
 use crate::heard::{HeardAt, HeardMessage};
 use mdns_capture::Moment;
@@ -63,13 +63,15 @@ impl ListenerSpans {
         }
     }
 
-    // Adds the span of one more file.
-    fn push(&mut self, span: Span) -> Result<(), Want>
-        ensures spans { OnOk result (self.new.spans ≡ self.old.spans ++ span ∷ []) }
-        ensures whole { OnOk result (self.new.whole ≡ joined_spans self.old.whole (Some span)) }
+    // Adds the span of one more file, if it has one.
+    fn push(&mut self, span: Option<Span>) -> Result<(), Want>
+        ensures spans { OnOk result (self.new.spans ≡ self.old.spans ++ option_to_list span) }
+        ensures whole { OnOk result (self.new.whole ≡ joined_spans self.old.whole span) }
     {
-        self.spans.push(span)?;
-        self.whole = Span::both(self.whole, Some(span));
+        self.whole = Span::both(self.whole, span);
+        if let Some(span) = span {
+            self.spans.push(span)?;
+        }
         Ok(())
     }
 
@@ -117,9 +119,7 @@ fn spans_of_one(
 {
     let mut spans = ListenerSpans::new(alloc);
     for (file, of_file) in of.iter().enumerate() {
-        if let Some(span) = span_of_file(listener, *of_file, span_at(spans_by_file, file)) {
-            spans.push(span)?;
-        }
+        spans.push(span_of_file(listener, *of_file, span_at(spans_by_file, file)))?;
     }
     Ok(spans)
 }
@@ -152,15 +152,21 @@ pub fn listener_rows(
 {
     let mut all = Vec::with_capacity(alloc, spans.len())?;
     for (listener, of_listener) in spans.iter().enumerate() {
-        let numbers = numbers_of(listener, of_listener.spans(), rows);
-        all.push(ListenerRow {
-            heard: numbers.heard,
-            alone: numbers.alone,
-            missed: numbers.missed,
-            span: of_listener.whole(),
-        })?;
+        all.push(listener_row(listener, of_listener, rows))?;
     }
     Ok(all)
+}
+
+fn listener_row(listener: usize, spans: &ListenerSpans, rows: &[HeardMessage]) -> ListenerRow
+    ensures { result ≡ listener_row rows.now (listener, spans.now) }
+{
+    let numbers = numbers_of(listener, spans.spans(), rows);
+    ListenerRow {
+        heard: numbers.heard,
+        alone: numbers.alone,
+        missed: numbers.missed,
+        span: spans.whole(),
+    }
 }
 
 // Returns the numbers of a listener whose files have these time spans. It looks at each time of a message once, and once
@@ -176,18 +182,41 @@ pub(crate) fn numbers_of(listener: usize, spans: &[Span], rows: &[HeardMessage])
         missed: 0,
     };
     for row in rows {
-        let times = row.times();
-        let count = times_of(listener, times);
-        numbers.heard += count as u128;
-        if count == 0 {
-            if has_listened(spans, times) {
-                numbers.missed += 1;
-            }
-        } else if count == times.len() {
-            numbers.alone += 1;
-        }
+        let own = numbers_in(listener, spans, row);
+        numbers.heard += own.heard;
+        numbers.alone += own.alone;
+        numbers.missed += own.missed;
     }
     numbers
+}
+
+// Returns the numbers of one message.
+#[tactic(auto, using(crate::proofs::NumberLemmas::missed_by_count))]
+fn numbers_in(listener: usize, spans: &[Span], row: &HeardMessage) -> Numbers
+    ensures heard { result.heard ≡ times_heard listener row.now }
+    ensures alone { result.alone ≡ (if is_alone listener row.now then 1 else 0) }
+    ensures missed { result.missed ≡ (if is_missed listener spans.now row.now then 1 else 0) }
+    ensures fits { result.heard < 2 ^ 64 }
+{
+    let times = row.times();
+    let count = times_of(listener, times);
+    Numbers {
+        heard: count as u128,
+        alone: one_if(is_some_and_all(count, times.len())),
+        missed: one_if(count == 0 && has_listened(spans, times)),
+    }
+}
+
+fn is_some_and_all(count: usize, all: usize) -> bool
+    ensures { result ≡ (nat_lt 0 count && nat_eq count all) }
+{
+    count > 0 && count == all
+}
+
+fn one_if(test: bool) -> u64
+    ensures { result ≡ (if test then 1 else 0) }
+{
+    if test { 1 } else { 0 }
 }
 
 // Returns how many of the times are the listener's.

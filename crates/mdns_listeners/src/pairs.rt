@@ -203,8 +203,8 @@ fn is_pair(common: u64, one: Option<Span>, other: Option<Span>) -> bool
     common > 0 || meet(one, other)
 }
 
-// Checks that two time spans have a moment in common.
-fn meet(one: Option<Span>, other: Option<Span>) -> bool
+/// Checks that two time spans have a moment in common.
+pub(crate) fn meet(one: Option<Span>, other: Option<Span>) -> bool
     ensures { result ≡ meet one other }
 {
     let Some(one) = one else {

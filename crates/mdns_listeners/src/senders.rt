@@ -7,7 +7,8 @@ ghost use Rattle.std.specs.List.Sorted.{IsStrictlySortedBy};
 ghost use Rattle.std.specs.Ordering.{nat_cmp};
 ghost use Rattle.mdns_listeners.specs.Heard.{HasWholeAddress, messages_of};
 ghost use Rattle.mdns_listeners.specs.Numbers.{is_of};
-ghost use Rattle.mdns_listeners.specs.Senders.{heard_span, is_from, rows_of_sender, sender_in, sender_rows, source_of, with_time};
+ghost use Rattle.mdns_listeners.specs.Senders.{heard_span, is_from, rows_of_sender, sender_in, sender_row, sender_rows};
+ghost use Rattle.mdns_listeners.specs.Senders.{source_of, with_time};
 
 use crate::heard::{HeardAt, HeardMessage};
 use crate::numbers::{ListenerSpans, numbers_of};
@@ -67,18 +68,30 @@ fn push_sender(
     requires { HasWholeAddress sender.now }
     ensures { OnOk result (all.new.items ≡ all.old.items ++ rows_of_sender spans.now sender.now own.now) }
 {
-    let source = source_of(sender);
     for (listener, of_listener) in spans.iter().enumerate() {
-        let numbers = numbers_of(listener, of_listener.spans(), own);
-        all.push(SenderRow {
-            source,
-            listener,
-            heard: numbers.heard,
-            missed: numbers.missed,
-            span: heard_span(listener, own),
-        })?;
+        all.push(sender_row(listener, of_listener, sender, own))?;
     }
     Ok(())
+}
+
+// Returns the row of a sender, whose messages these are, and a listener.
+fn sender_row(
+    listener: usize,
+    spans: &ListenerSpans,
+    sender: &[u8],
+    own: &[HeardMessage],
+) -> SenderRow
+    requires { HasWholeAddress sender.now }
+    ensures { result ≡ sender_row sender.now own.now (listener, spans.now) }
+{
+    let numbers = numbers_of(listener, spans.spans(), own);
+    SenderRow {
+        source: source_of(sender),
+        listener,
+        heard: numbers.heard,
+        missed: numbers.missed,
+        span: heard_span(listener, own),
+    }
 }
 
 // Returns how many messages at the front are from the sender.

@@ -5,8 +5,8 @@ use Rattle.mdns_listeners.specs.Groups.{HasBegun, prefix_of}
 use Rattle.mdns_listeners.proofs.GroupLemmas.{begun_again, begun_alone, begun_first, get_or-named, prefix-inside}
 use Rattle.mdns_listeners.proofs.groups.listener_of.Goals as goal
 
-pub returns-in_default : goal.returns-in_default
-returns-in_default c earlier has =
+pub returns-in_default-clause-listener : goal.returns-in_default-clause-listener
+returns-in_default-clause-listener c earlier has =
     let prefixes = map string_bytes c.args.prefixes.now in
     let names = map string_bytes c.args.names.now.items in
     let file = c.args.file.now in
@@ -16,20 +16,22 @@ returns-in_default c earlier has =
     let made = begun_alone prefixes earlier file names c.args.begun.now has none in (
       size ∙ sym (length-map c.args.names.now.items string_bytes) ∙ made.0,
       subst (λ (all : List (List ℕ)). HasBegun prefixes (earlier ++ file ∷ []) all c.args.begun.now) (sym named) made.1,
+      grind (arith, common_steps),
     )
 
-pub returns-in-Some-begun : goal.returns-in-Some-begun
-returns-in-Some-begun c earlier has =
+pub returns-in-Some-begun-clause-listener : goal.returns-in-Some-begun-clause-listener
+returns-in-Some-begun-clause-listener c earlier has =
     let prefixes = map string_bytes c.args.prefixes.now in
     let file = c.args.file.now in
     let own : prefix_of prefixes file ≡ Some c.in-Some.at = search rules in
     let inside = prefix-inside prefixes file c.in-Some.at own in
     let held : get_or c.args.begun.now c.in-Some.at None ≡ Some c.in-Some-begun.listener = search rules in
-    begun_again prefixes earlier file (map string_bytes c.args.names.now.items) c.args.begun.now has c.in-Some.at c.in-Some-begun.listener
-    own inside held
+    let made = begun_again prefixes earlier file (map string_bytes c.args.names.now.items) c.args.begun.now has c.in-Some.at
+    c.in-Some-begun.listener own inside held in
+    (made.0, made.1, omega (arith, made.2, length-map c.args.names.now.items string_bytes))
 
-pub returns : goal.returns
-returns c earlier has =
+pub returns-clause-listener : goal.returns-clause-listener
+returns-clause-listener c earlier has =
     let prefixes = map string_bytes c.args.prefixes.now in
     let names = map string_bytes c.args.names.now.items in
     let file = c.args.file.now in
@@ -49,4 +51,5 @@ returns c earlier has =
           (sym named)
           (subst (λ (n : ℕ). HasBegun prefixes (earlier ++ file ∷ []) (names ++ get_or prefixes at [] ∷ []) (set c.args.begun.now at (Some n)))
           (sym size) made.1),
+      grind (arith, common_steps),
     )

@@ -1,4 +1,5 @@
-use Rattle.std.proofs.Common.{◌≡◌, map, string_bytes, take}
+use Rattle.std.proofs.Common.{◌≡◌, ◌<◌, length, map, string_bytes, take}
+use Rattle.std.specs.List.{All}
 use Rattle.mdns_listeners.specs.Groups.{HasBegun, listener_positions}
 use Rattle.mdns_listeners.proofs.groups.Groups.new.Given as goal
 
@@ -8,3 +9,4 @@ invariant-loop-file l =
     let prefixes = map string_bytes l.prefixes in
     let files = map string_bytes (take l.file-index l.files) in
     HasBegun prefixes files (map string_bytes l.names.items) l.begun.items × (l.of.items ≡ listener_positions prefixes files)
+    × All (λ listener. listener < length l.names.items) l.of.items

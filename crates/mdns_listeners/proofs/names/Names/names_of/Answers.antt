@@ -1,9 +1,10 @@
 use Rattle.std.proofs.Common.{ap, ◌∙◌, subst, rules, List, length, take, drop, ◌-◌, ℕ, ◌+◌, ◌≡◌, arith}
 use Rattle.std.specs.Ordering.{is_lt, is_le}
 use Rattle.std.proofs.lemmas.List.Sorted.{IsPartitionPoint-from_clause}
+use Rattle.mdns_browse.proofs.SearchLemmas.{after_whole}
 use Rattle.mdns_capture.specs.declared.source_address.SourceAddress.{SourceAddress}
 use Rattle.mdns_listeners.specs.Names.{AreNames, address_cmp}
-use Rattle.mdns_listeners.proofs.ListedNameLemmas.{parted_below, parted_after, own_are, names_found, after_whole}
+use Rattle.mdns_listeners.proofs.ListedNameLemmas.{parted_below, parted_after, own_are, names_found}
 use Rattle.mdns_listeners.proofs.names.Names.names_of.Goals as goal
 
 pub returns : goal.returns

@@ -1,0 +1,19 @@
+use Rattle.mdns_listeners.proofs.BesideLemmas.{hears-capture, hears-nothing}
+use Rattle.mdns_listeners.proofs.ListenersLemmas.{gathers-none}
+use Rattle.mdns_listeners.proofs.beside.BesideCollector.collect_from.Goals as goal
+
+pub returns-in-Ok-clause-heard : goal.returns-in-Ok-clause-heard
+returns-in-Ok-clause-heard g c =
+    let taken = c.in-Ok.ensures.taken in
+    let old = c.args.self.now in
+    let Stands = g.H.Hearer.Stands in
+    let took = taken.took old (hears-nothing Stands old.hearer, gathers-none old.messages) in
+    record {
+      packets = taken.packets;
+      outcomes = taken.outcomes;
+      is_reading = taken.is_reading;
+      hears = λ begun earlier before both. (
+        hears-capture Stands begun.hearer old.hearer c.listen_with.new.consumer.hearer before taken.packets taken.outcomes took.0 both.0,
+        c.go_on.ensures begun.messages.of.items old.messages earlier before taken.packets taken.outcomes both.1 took.1,
+      );
+    }

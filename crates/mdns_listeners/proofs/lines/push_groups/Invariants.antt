@@ -1,8 +1,0 @@
-use Rattle.std.proofs.Common.{◌≡◌, ◌++◌, ◌∷◌, take, string_bytes}
-use Rattle.std.specs.List.{flat_map}
-use Rattle.mdns_listeners.specs.Lines.{hex_text}
-use Rattle.mdns_listeners.proofs.lines.push_groups.Given as goal
-
-abbrev pub invariant-loop-other : goal.invariant-loop-other
-invariant-loop-other l =
-    string_bytes l.to ≡ string_bytes l.initial.to ++ flat_map (λ next. 58 ∷ hex_text next) (take l.other-index l.others)

@@ -1,0 +1,38 @@
+-- The lives of records after warnings of listeners whose clocks don't agree.
+use Rattle.std.specs.Prelude.{◌≡◌, ℕ, false, List}
+use Rattle.mdns_capture.specs.Savefile.{PacketAt}
+use Rattle.mdns_survey.specs.declared.request.LivesRequest.{LivesRequest}
+use Rattle.mdns_survey.specs.declared.summary.Summary.{Summary}
+use Rattle.mdns_survey.specs.Outcomes.{AllRead, Outcome}
+use Rattle.mdns_survey.specs.Question.{Asked, asked_after, asked_lives}
+use Rattle.mdns_listeners.specs.Groups.{Grouped}
+use Rattle.mdns_listeners.specs.Heard.{HeardRow}
+use Rattle.mdns_listeners.specs.Listeners.{AreRowsOf, spans_by}
+use Rattle.mdns_listeners.specs.Together.{pairs_together}
+use Rattle.mdns_listeners.specs.Warnings.{warnings_text}
+
+-- The text warns of the listeners that recorded together, by captures that have these packets, which came to these outcomes: all
+-- packets count.
+pub record WarnsOf (groups : Grouped) (packets : List (List PacketAt)) (outcomes : List (List Outcome)) (text : List ℕ) : Type 0 where
+  pub rows : List HeardRow
+  pub are_rows : AreRowsOf groups.of packets outcomes rows
+  pub lines : text ≡ warnings_text groups.names (pairs_together rows (spans_by groups packets))
+
+-- The text warns of the listeners of captures.
+pub record AreWarnings (groups : Grouped) (captures : List (List ℕ)) (text : List ℕ) : Type 0 where
+  pub packets : List (List PacketAt)
+  pub outcomes : List (List Outcome)
+  pub summaries : List Summary
+  pub read : AllRead captures packets outcomes summaries
+  pub warns : WarnsOf groups packets outcomes text
+
+-- Lives are asked for, after the warnings. When an allocation failed, none of the warnings were written, or all.
+abbrev pub asked_warned : Grouped → LivesRequest → Asked
+asked_warned groups lives = record {
+  Answers = λ captures summaries text. (warnings : List ℕ) × AreWarnings groups captures warnings
+      × (asked_after warnings (asked_lives lives)).Answers captures summaries text;
+  as_of = lives.as_of;
+  at_once = false;
+  Stops = λ captures out. (warnings : List ℕ) × AreWarnings groups captures warnings
+      × (asked_after warnings (asked_lives lives)).Stops captures out;
+}

@@ -1,0 +1,47 @@
+-- Lines that warn that two listeners' clocks don't agree, or that nothing shows whether they do.
+use Rattle.std.specs.Prelude.{ℕ, ◌==◌, ◌||◌, Bool, false, not, if◌then◌else◌, List, ◌∷◌, [], ◌++◌, Option, Some, None, codes}
+use Rattle.std.specs.List.{filter, flat_map}
+use Rattle.mdns_message.specs.TextData.{string_text}
+use Rattle.mdns_listeners.specs.Clock.{is_one_clock, is_steady, nothing_words, steady_words, unknown_words, unsteady_words}
+use Rattle.mdns_listeners.specs.Named.{listener_name_at}
+use Rattle.mdns_listeners.specs.declared.pairs.PairRow.{PairRow}
+use Rattle.mdns_listeners.specs.declared.pairs.Quartiles.{Quartiles}
+
+-- the clocks agree by messages that were heard once in both
+abbrev pub agree : Option Quartiles → Bool
+agree None = false
+agree (Some quartiles) = is_one_clock quartiles
+
+-- two listeners are warned of, unless they heard messages in common and their clocks agree
+abbrev pub warns : PairRow → Bool
+warns row = row.common == 0 || not (agree row.quartiles)
+
+-- ---- what a warning says of the second listener's clock
+
+abbrev pub apart_words : ℕ → Quartiles → List ℕ
+apart_words by quartiles =
+    if is_steady quartiles then steady_words by quartiles.middle else unsteady_words by quartiles.low quartiles.high
+
+abbrev pub known_warning : ℕ → Option Quartiles → List ℕ
+known_warning by None = unknown_words
+known_warning by (Some quartiles) = apart_words by quartiles ++ codes ": mdnswhy listeners FILE... says more"
+
+unfoldable pub warning_words : PairRow → List ℕ
+warning_words row = if row.common == 0 then nothing_words else known_warning row.by row.quartiles
+
+-- ---- lines, among listeners of these names: of a name, each byte outside 0x21 to 0x7E is written as `\DDD` and a `\` as `\\`
+
+abbrev pub name_text : List (List ℕ) → ℕ → List ℕ
+name_text listener_names listener = string_text (listener_name_at listener_names listener)
+
+unfoldable pub warning_line : List (List ℕ) → PairRow → List ℕ
+warning_line listener_names row =
+    name_text listener_names row.other ++ codes " beside " ++ name_text listener_names row.one ++ codes ": " ++ warning_words row ++ 10 ∷ []
+
+-- the line of two listeners, if they are warned of
+abbrev pub line_of_warned : List (List ℕ) → PairRow → List ℕ
+line_of_warned listener_names row = if warns row then warning_line listener_names row else []
+
+-- the lines of all pairs that are warned of
+abbrev pub warnings_text : List (List ℕ) → List PairRow → List ℕ
+warnings_text listener_names pairs = flat_map (line_of_warned listener_names) pairs

@@ -1,0 +1,199 @@
+//! The fields of rows, in the order in which each form writes them. The names of listeners are written as given.
+
+ghost use Rattle.std.specs.Prelude.{◌≡◌, ◌≤◌, [], map, take};
+ghost use Rattle.mdns_browse.specs.declared.report.Form.TheVariants.{Json, Lines, Pretty};
+ghost use Rattle.mdns_listeners.specs.declared.fields.Kind.TheVariants.{Listeners, Pairs, Senders};
+ghost use Rattle.mdns_listeners.specs.Fields.{field_lent, first_of, high_of, last_of, listener_fields, low_of, middle_of};
+ghost use Rattle.mdns_listeners.specs.Fields.{head, heads_of, labelled, pair_cells, pair_fields, sender_count, sender_row_in};
+ghost use Rattle.mdns_listeners.specs.Values.{value_lent};
+
+use crate::numbers::ListenerRow;
+use crate::pairs::{PairRow, Quartiles};
+use crate::senders::SenderRow;
+use crate::values::Value;
+use mdns_capture::Moment;
+use mdns_message::Name;
+use mdns_survey::reading::Span;
+
+/// What rows are of.
+#[derive(Clone, Copy)]
+pub(crate) enum Kind {
+    Listeners,
+    Pairs,
+    Senders,
+}
+
+/// A value of a row.
+#[derive(Clone, Copy)]
+pub(crate) struct Field<'a> {
+    /// The words before it in a line.
+    pub(crate) words: &'static str,
+    /// Its name in an object.
+    pub(crate) name: &'static str,
+    pub(crate) value: Value<'a>,
+}
+
+/// Returns the fields of a listener.
+pub(crate) fn listener_fields<'a>(file: &'a str, row: &ListenerRow) -> [Field<'a>; 6]
+    ensures { map field_lent result ≡ listener_fields file.now row.now }
+{
+    [
+        labelled("", "file", Value::Words(file)),
+        labelled(" heard ", "heard", Value::Count(row.heard)),
+        labelled(" alone ", "alone", Value::Count(u128::from(row.alone))),
+        labelled(" missed ", "missed", Value::Count(u128::from(row.missed))),
+        labelled(" from ", "from", Value::Time(first_of(row.span))),
+        labelled(" until ", "until", Value::Time(last_of(row.span))),
+    ]
+}
+
+/// Returns the fields of two listeners in a line or an object.
+pub(crate) fn pair_fields<'a>(file: &'a str, other: &'a str, row: &PairRow) -> [Field<'a>; 7]
+    ensures { map field_lent result ≡ pair_fields file.now other.now row.now }
+{
+    [
+        labelled("", "file", Value::Words(file)),
+        labelled(" ", "other", Value::Words(other)),
+        labelled(" common ", "common", Value::Count(u128::from(row.common))),
+        labelled(" ahead ", "ahead", Value::Ahead(middle_of(row.quartiles))),
+        labelled(" from ", "low", Value::Ahead(low_of(row.quartiles))),
+        labelled(" to ", "high", Value::Ahead(high_of(row.quartiles))),
+        labelled(" by ", "by", Value::Count(u128::from(row.by))),
+    ]
+}
+
+/// Returns the fields of two listeners in a table.
+pub(crate) fn pair_cells<'a>(file: &'a str, other: &'a str, row: &'a PairRow) -> [Field<'a>; 4]
+    ensures { map field_lent result ≡ pair_cells file.now other.now row.now }
+{
+    [
+        labelled("", "", Value::Words(file)),
+        labelled("", "", Value::Words(other)),
+        labelled("", "", Value::Count(u128::from(row.common))),
+        labelled("", "", Value::Clock(other, row)),
+    ]
+}
+
+/// Returns the fields of a sender that goes by `names`, in a line. In a table, which has no field of no names, they are the
+/// first `sender_count`.
+pub(crate) fn sender_fields<'a>(
+    file: &'a str,
+    row: &'a SenderRow,
+    names: &'a [Name],
+) -> [Field<'a>; 7]
+    ensures line { map field_lent result ≡ sender_row_in Lines file.now row.now names.now }
+    ensures cells { map field_lent (take (sender_count names.now) result) ≡ sender_row_in Pretty file.now row.now names.now }
+{
+    [
+        labelled("", "source", Value::Address(&row.source)),
+        labelled(" ", "file", Value::Words(file)),
+        labelled(" heard ", "heard", Value::Count(row.heard)),
+        labelled(" missed ", "missed", Value::Count(u128::from(row.missed))),
+        labelled(" from ", "from", Value::Time(first_of(row.span))),
+        labelled(" until ", "until", Value::Time(last_of(row.span))),
+        labelled("", "names", Value::Names(names)),
+    ]
+}
+
+/// Returns the fields of a sender that goes by `names`, in an object.
+pub(crate) fn sender_members<'a>(
+    file: &'a str,
+    row: &'a SenderRow,
+    names: &'a [Name],
+) -> [Field<'a>; 7]
+    ensures { map field_lent result ≡ sender_row_in Json file.now row.now names.now }
+{
+    let [source, listener, heard, missed, first, last, names] = sender_fields(file, row, names);
+    [source, names, listener, heard, missed, first, last]
+}
+
+/// Returns how many fields a sender has in a table.
+pub(crate) fn sender_count(names: &[Name]) -> usize
+    ensures count { result ≡ sender_count names.now }
+    ensures within { result ≤ 7 }
+{
+    if names.is_empty() { 6 } else { 7 }
+}
+
+/// Returns the heads of a table of listeners.
+pub(crate) fn listener_heads() -> [Field<'static>; 6]
+    ensures { map field_lent result ≡ heads_of Listeners }
+{
+    [
+        head("LISTENER"),
+        head("HEARD"),
+        head("ALONE"),
+        head("MISSED"),
+        head("FROM"),
+        head("UNTIL"),
+    ]
+}
+
+/// Returns the heads of a table of pairs.
+pub(crate) fn pair_heads() -> [Field<'static>; 4]
+    ensures { map field_lent result ≡ heads_of Pairs }
+{
+    [
+        head("LISTENER"),
+        head("OTHER"),
+        head("COMMON"),
+        head("THE OTHER'S CLOCK"),
+    ]
+}
+
+/// Returns the heads of a table of senders.
+pub(crate) fn sender_heads() -> [Field<'static>; 7]
+    ensures { map field_lent result ≡ heads_of Senders }
+{
+    [
+        head("SENDER"),
+        head("LISTENER"),
+        head("HEARD"),
+        head("MISSED"),
+        head("FROM"),
+        head("UNTIL"),
+        head("NAMES"),
+    ]
+}
+
+fn head(word: &'static str) -> Field<'static>
+    ensures { field_lent result ≡ head word.now }
+{
+    labelled("", "", Value::Words(word))
+}
+
+fn labelled<'a>(words: &'static str, name: &'static str, value: Value<'a>) -> Field<'a>
+    ensures { field_lent result ≡ labelled words.now name.now (value_lent value.entry) }
+{
+    Field { words, name, value }
+}
+
+fn first_of(span: Option<Span>) -> Option<Moment>
+    ensures { result ≡ first_of span }
+{
+    Some(span?.first)
+}
+
+fn last_of(span: Option<Span>) -> Option<Moment>
+    ensures { result ≡ last_of span }
+{
+    Some(span?.last)
+}
+
+fn middle_of(quartiles: Option<Quartiles>) -> Option<i64>
+    ensures { result ≡ middle_of quartiles }
+{
+    Some(quartiles?.middle)
+}
+
+fn low_of(quartiles: Option<Quartiles>) -> Option<i64>
+    ensures { result ≡ low_of quartiles }
+{
+    Some(quartiles?.low)
+}
+
+fn high_of(quartiles: Option<Quartiles>) -> Option<i64>
+    ensures { result ≡ high_of quartiles }
+{
+    Some(quartiles?.high)
+}

@@ -1,0 +1,109 @@
+//! Lines that warn that two listeners' clocks don't agree, or that nothing shows whether they do. After `Want` the contents of
+//! `to` are not specified.
+
+ghost use Rattle.std.specs.Prelude.{◌≡◌, ◌++◌, map, OnOk, codes, string_bytes};
+ghost use Rattle.mdns_listeners.specs.Warnings.{agree, apart_words, line_of_warned, name_text, warning_line, warning_words};
+ghost use Rattle.mdns_listeners.specs.Warnings.{warnings_text, warns};
+
+use crate::clock::{
+    is_one_clock, is_steady, push_nothing, push_steady, push_unknown, push_unsteady, push_words,
+};
+use crate::named::listener_name_at;
+use crate::pairs::{PairRow, Quartiles};
+use mdns_message::Want;
+use mdns_message::text_data::push_string;
+
+/// Checks that two listeners are to be warned of: that they heard no message in common, or that their clocks aren't known to
+/// agree.
+pub fn warns(pair: &PairRow) -> bool
+    ensures { result ≡ warns pair.now }
+{
+    pair.common == 0 || !agree(pair.quartiles)
+}
+
+fn agree(quartiles: Option<Quartiles>) -> bool
+    ensures { result ≡ agree quartiles }
+{
+    match quartiles {
+        Some(quartiles) => is_one_clock(quartiles),
+        None => false,
+    }
+}
+
+/// Appends what a warning of two listeners says of the second one's clock.
+#[tactic(auto, unfolding(crate::specs::Warnings::warning_words))]
+pub fn push_warning_words(to: &mut String, pair: &PairRow) -> Result<(), Want>
+    ensures { OnOk result (string_bytes to.new ≡ string_bytes to.old ++ warning_words pair.now) }
+{
+    if pair.common == 0 {
+        return push_nothing(to);
+    }
+    match pair.quartiles {
+        Some(quartiles) => push_known(to, pair.by, quartiles),
+        None => push_unknown(to),
+    }
+}
+
+fn push_known(to: &mut String, by: u64, quartiles: Quartiles) -> Result<(), Want>
+    ensures { OnOk result (string_bytes to.new
+        ≡ string_bytes to.old ++ (apart_words by quartiles ++ codes ": mdnswhy listeners FILE... says more")) }
+{
+    push_apart(to, by, quartiles)?;
+    push_words(to, ": mdnswhy listeners FILE... says more")
+}
+
+fn push_apart(to: &mut String, by: u64, quartiles: Quartiles) -> Result<(), Want>
+    ensures { OnOk result (string_bytes to.new ≡ string_bytes to.old ++ apart_words by quartiles) }
+{
+    if is_steady(quartiles) {
+        return push_steady(to, by, quartiles.middle);
+    }
+    push_unsteady(to, by, quartiles.low, quartiles.high)
+}
+
+/// Appends a line for each two listeners that are to be warned of, in order. A byte of a listener's name outside 0x21 to 0x7E
+/// is written as `\DDD`, and a `\` as `\\`.
+pub fn push_warnings(
+    to: &mut String,
+    listener_names: &[String],
+    pairs: &[PairRow],
+) -> Result<(), Want>
+    ensures { OnOk result (string_bytes to.new
+        ≡ string_bytes to.old ++ warnings_text (map string_bytes listener_names.now) pairs.now) }
+{
+    for pair in pairs {
+        push_if_warned(to, listener_names, pair)?;
+    }
+    Ok(())
+}
+
+fn push_if_warned(to: &mut String, listener_names: &[String], pair: &PairRow) -> Result<(), Want>
+    ensures { OnOk result (string_bytes to.new
+        ≡ string_bytes to.old ++ line_of_warned (map string_bytes listener_names.now) pair.now) }
+{
+    if !warns(pair) {
+        return Ok(());
+    }
+    push_warning(to, listener_names, pair)
+}
+
+#[tactic(auto, unfolding(crate::specs::Warnings::warning_line))]
+fn push_warning(to: &mut String, listener_names: &[String], pair: &PairRow) -> Result<(), Want>
+    ensures { OnOk result (string_bytes to.new
+        ≡ string_bytes to.old ++ warning_line (map string_bytes listener_names.now) pair.now) }
+{
+    push_name(to, listener_names, pair.other)?;
+    to.push_str(" beside ")?;
+    push_name(to, listener_names, pair.one)?;
+    to.push_str(": ")?;
+    push_warning_words(to, pair)?;
+    to.push('\n')?;
+    Ok(())
+}
+
+fn push_name(to: &mut String, listener_names: &[String], listener: usize) -> Result<(), Want>
+    ensures { OnOk result (string_bytes to.new
+        ≡ string_bytes to.old ++ name_text (map string_bytes listener_names.now) listener) }
+{
+    push_string(listener_name_at(listener_names, listener).as_bytes(), to)
+}
