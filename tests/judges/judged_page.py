@@ -12,12 +12,14 @@ from itertools import groupby
 from typing import NamedTuple
 
 from tests.captures.wire import AAAA, PTR, SECOND, SRV, A
+from tests.judges import json_forms
 from tests.judges.axis import Axis, day
 from tests.judges.causes import DAMAGED, LOSSES, causes_of
-from tests.judges.pretty import date_of, duration, millis, shown_label, words_below, words_of
+from tests.judges.pretty import clock_words, date_of, duration, millis, shown_label, warned_words, words_below, words_of
 from tests.judges.hearings import hearings_of
 from tests.judges.lanes import SIGNED, bases_of, counts_of, height_of, lane_count, seconds_of, ticks_of
 from tests.judges.lines import addresses_of, gives_instance, is_service, line_of, sets_of, wire_of
+from tests.judges.listeners import are_compared, compared_of, listeners_of, pair_line
 from tests.judges.lives import accounts
 from tests.judges.meanings import table_of
 from tests.judges.read_page import HAS_TABLE, Lead, Page, Ticks
@@ -83,6 +85,9 @@ class Judge(Axis):
         self.hearings = [list(hearings_of(capture)) for _, capture in files]
         self.heard = [[hearing for hearing in hearings if asked.before is None or hearing.moment < asked.before]
                       for hearings in self.hearings]
+        # Each capture is a listener by itself.
+        self.listeners = listeners_of(files, ()) if are_compared(files) else []
+        self.pairs = compared_of(self.listeners)
         every = [moment for moments in self.moments for moment in moments]
         given = asked.before if asked.at is None else asked.at
         super().__init__(max(every, default=0) if given is None else given, self.moments)
@@ -207,18 +212,35 @@ class Judge(Axis):
         ended = Counter(life.reason for life in lasts if life.until <= self.end)
         said = sum(life.until > self.end and life.reason == "goodbye" for life in lasts)
         cut = [(shown(name.encode()), ending) for name, ending in zip(self.names, self.endings) if ending != "whole"]
+        warned = ((pair, warned_words(row_of(pair))) for pair in self.pairs)
+        apart = [(shown(pair.other.name.encode()), shown(pair.one.name.encode()), words) for pair, words in warned if words]
         lost = sum(causes[cause] for causes in self.causes for cause in (*LOSSES, DAMAGED))
         return Lead(len(lasts) - sum(ended.values()), millis(self.end), said, *(ended[how] for how in ENDS),
-                    [shown(word.encode()) for word in self.asked.about], cut, lost)
+                    [shown(word.encode()) for word in self.asked.about], cut, apart, lost)
 
     def captures(self):
         for place, (name, moments, ending, causes) in enumerate(zip(self.names, self.moments, self.endings, self.causes)):
-            sign = chr(0x2460 + place) if len(self.names) <= SIGNED else str(place + 1)
             bar, title, span = self.recorded(moments)
             places = sorted({self.place(hearing.moment) for hearing in self.heard[place]})
             silent, refused = sum(causes.values()), causes[DAMAGED]
-            yield CaptureRow(sign, shown(name.encode()), len(moments), len(self.hearings[place]), bar, title, places, span,
-                             ending, len(moments) - silent, silent - refused, refused)
+            yield CaptureRow(self.sign(place), shown(name.encode()), len(moments), len(self.hearings[place]), bar, title, places, span,
+                             ending, len(moments) - silent, silent - refused, refused, *self.compared(place))
+
+    def sign(self, place):
+        return chr(0x2460 + place) if len(self.names) <= SIGNED else str(place + 1)
+
+    def compared(self, place):
+        """What a capture heard alone and missed, and its clock beside that of the first capture that shares a message with it."""
+        if not self.listeners:
+            return None, None, None
+        listener = self.listeners[place]
+        messages = {message for other in self.listeners for message in other.heard}
+        pair = next((pair for pair in self.pairs if pair.other is listener and pair.common), None)
+        return listener.alone(self.listeners), listener.missed(self.listeners, messages), pair and self.beside(pair)
+
+    def beside(self, pair):
+        row, one = row_of(pair), next(place for place, listener in enumerate(self.listeners) if listener is pair.one)
+        return self.sign(one), shown(pair.one.name.encode()), warned_words(row) or clock_words(row)
 
     def recorded(self, moments):
         """The bar of a capture, its title, and its words. One that began after the end has words alone."""
@@ -274,6 +296,11 @@ def lives_of(hearings):
     """What was heard of each record, and its lives, by its key."""
     heard = {account.hearings[-1].key: account for account in accounts(hearings)}
     return heard, {key: list(account.lives()) for key, account in heard.items()}
+
+
+def row_of(pair):
+    """The words of the line of two listeners."""
+    return json_forms.APART.fullmatch(pair_line(pair)).groupdict()
 
 
 def points_apart(line):

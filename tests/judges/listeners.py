@@ -10,8 +10,8 @@ from typing import NamedTuple, Optional
 
 from tests.captures.wire import A, AAAA
 from tests.judges.hearings import number_at, payload_of, source_of, told_by
-from tests.judges.json_forms import json_text
-from tests.judges.pretty import listeners_columns
+from tests.judges.json_forms import APART, json_text
+from tests.judges.pretty import listeners_columns, warning
 from tests.judges.traced import frames_of
 from tests.judges.words import bytes_text, moment_text, name_text
 
@@ -19,6 +19,9 @@ COMMAND = "listeners"
 
 # How many bytes an address of IPv4 has.
 OF_IPV4 = 4
+
+# The most files that are compared for warnings.
+MOST_COMPARED = 64
 
 # The words that ask for each form, and what it must be by the lines of words.
 FORMS = {
@@ -44,6 +47,11 @@ class Span(NamedTuple):
 
     def meets(self, other):
         return self.has(other.first) or other.has(self.first)
+
+    def is_together_with(self, other):
+        """Whether both last together for half of the shorter one."""
+        together = min(self.last, other.last) - max(self.first, other.first)
+        return self.meets(other) and 2 * together >= min(span.last - span.first for span in (self, other))
 
 
 def span_of(moments):
@@ -112,6 +120,11 @@ class Apart(NamedTuple):
         return self.common > 0 or all(spans) and spans[0].meets(spans[1])
 
     @property
+    def recorded_together(self):
+        spans = self.one.span, self.other.span
+        return all(spans) and spans[0].is_together_with(spans[1])
+
+    @property
     def quartiles(self):
         """The median, the lesser of two, and the two quartiles."""
         last = len(self.ahead) - 1
@@ -172,6 +185,22 @@ def lines_text(captures, prefixes):
         for listener in listeners:
             lines.append(" ".join([sender_line(source, listener, listeners, of_sender), *owners]))
     return "".join(f"{line}\n" for line in lines)
+
+
+def are_compared(captures):
+    """Whether so many captures are compared for warnings."""
+    return 1 < len(captures) <= MOST_COMPARED
+
+
+def compared_of(listeners):
+    """Each two that recorded together, of captures that are compared."""
+    return [pair for pair in pairs_of(listeners) if pair.recorded_together] if are_compared(listeners) else []
+
+
+def warnings_text(captures):
+    """The lines before the columns of lives, of captures, each with its name: those of each two that don't have one clock."""
+    pairs = compared_of(listeners_of(captures, ()))
+    return "".join(warning(APART.fullmatch(pair_line(pair)).groupdict()) for pair in pairs)
 
 
 def listener_line(listener, listeners, messages):

@@ -46,7 +46,7 @@ SPELLINGS = {name.lower(): name for attributes in ELEMENTS.values() for name in 
 ESCAPES = {"amp": "&", "lt": "<", "gt": ">", "quot": '"', "#39": "'"}
 SIGNS = {f"#{code}": chr(code) for code in (160, 215, 8211, *range(9312, 9316))}
 
-OWN_TEXT = re.compile(r"[\n !#-%(-;=?-~]*")
+OWN_TEXT = re.compile(r"[\n !#-%'-;=?-~]*")
 OTHER_TEXT = re.compile(r"[^<>&\"']*")
 BLANK = re.compile(r"\s*")
 

@@ -202,5 +202,20 @@ def clock_words(row):
     return f"unsteady: {row['low']} to {row['high']} s ahead, {by}"
 
 
+def warned_words(row):
+    """What a warning says of the clock of the other of two listeners; None where they have one clock."""
+    words = clock_words(row)
+    if words.startswith("one clock: "):
+        return None
+    more = "" if row["by"] == "0" else ": mdnswhy listeners FILE... says more"
+    return words.partition(": editcap")[0] + more
+
+
+def warning(row):
+    """The line that warns of two listeners, unless they have one clock."""
+    words = warned_words(row)
+    return f"{row['other']} beside {row['file']}: {words}\n" if words else ""
+
+
 def signed_nanos(text):
     return -moment_of(text[1:]) if text.startswith("-") else moment_of(text)

@@ -18,6 +18,7 @@ LEAD = re.compile(rf"{NUMBER} service (instances were|instance was) live at <tim
 ENDED = re.compile(rf"{NUMBER} (by goodbye|by flush|expired)")
 ABOUT = re.compile(r"Only what is about <bdi>(?:, <bdi>)*\.")
 CUT = re.compile(rf"<bdi>: ({ENDING})\. What came later is missing, goodbyes too\.")
+TWO = re.compile(r"<bdi> beside <bdi>: ([^<]+)")
 LOST = re.compile(rf"{NUMBER} (packets?) could not be used: "
                   r'(?:(<a href="#nothing">why</a>)|mdnswhy files FILE\.\.\. says why)\.')
 MEANING = re.compile(r'(normal)|<b class="warn">([^<]+)</b>')
@@ -39,6 +40,8 @@ class Lead(NamedTuple):
     about: list
     # Of each capture that isn't whole, its name and how it ends.
     cut: list
+    # Of each two captures without one clock, the names, the later one first, and what is said of its clock.
+    apart: list
     lost: int
 
 
@@ -168,17 +171,19 @@ def read_lead(main):
     ended = read_ended(found[7]) if found[7] else [0, 0, 0]
     expect(not found[7] or counted(found[5], found[6], "other", "others") == sum(ended), "the counts", found[0])
     about = read_about(main.take("p", class_="note")) if main.next_is("p", class_="note") else []
-    cut, lost = [], 0
+    cut, apart, lost = [], [], 0
     for warning in main.take_all("p", class_="warn"):
-        if warning.told:
-            expect(not lost, "a warning of a capture after that of packets")
+        expect(not lost, "a warning after that of packets")
+        if len(warning.told) == 1:
+            expect(not apart, "a warning of a capture after one of two")
             cut.append((*warning.told, matched(CUT, warning.spelled)[1]))
+        elif warning.told:
+            apart.append((*warning.told, matched(TWO, warning.spelled)[1]))
         else:
             count = matched(LOST, warning.spelled)
-            expect(not lost, "lost packets twice")
             lost = counted(count[1], count[2], "packet", "packets")
             expect(lost and bool(count[3]) == HAS_TABLE, "a warning of no packets, or one that leads elsewhere:", count[0])
-    return Lead(live, found[3], number(found[4] or "0"), *ended, about, cut, lost)
+    return Lead(live, found[3], number(found[4] or "0"), *ended, about, cut, apart, lost)
 
 
 def read_about(note):

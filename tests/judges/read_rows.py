@@ -21,7 +21,9 @@ SIGN = "([\u2460-\u2463]|\\d+)"
 
 CAPTURE = re.compile(rf"{SIGN}\xa0<bdi><small>{NUMBER} (packets?), {NUMBER} (hearings?)</small>")
 CAPTURE_END = re.compile(rf'<p>(no packets|{SHORT} – {SHORT}) (?:whole|<b class="warn">({ENDING})</b>)</p>'
-                         rf"<small>{NUMBER} heard, {NUMBER} skipped, {NUMBER} refused</small>")
+                         rf"<small>{NUMBER} heard, {NUMBER} skipped, {NUMBER} refused</small>"
+                         rf"(?:<small>{NUMBER} (messages?) alone, {NUMBER} missed</small>)?"
+                         rf"(?:<small>clock beside {SIGN}\xa0<bdi>: ([^<]+)</small>)?")
 RECORDED = re.compile(rf"recorded {MILLIS} to {MILLIS}")
 ROW = re.compile(r"<bdi>(?: <code>([0-9a-f.:]+)</code>)?(?:<small>heard (.*)</small>)?")
 TIMES = rf"{NUMBER}×(?: \({NUMBER}\xa0(goodbyes?)\))?"
@@ -61,6 +63,11 @@ class CaptureRow(NamedTuple):
     heard: int
     skipped: int
     refused: int
+    # How many messages it heard alone, and how many it missed; None of a single capture.
+    alone: int
+    missed: int
+    # The sign and the name of the capture beside which its clock is, and what is said of the clock; None without one.
+    beside: tuple
 
 
 class Row(NamedTuple):
@@ -214,8 +221,10 @@ def read_capture(item):
     drawn.end()
     end = matched(CAPTURE_END, last.spelled)
     expect(len(head.told) == 1, "one name of a capture")
+    alone = counted(end[6], end[7], "message", "messages") if end[6] else None
     return CaptureRow(name[1], head.told[0], packets, hearings, bar, title, hearing_places, end[1], end[2] or "whole",
-                      *map(number, end.groups()[2:]))
+                      *map(number, end.groups()[2:5]), alone, number(end[8]) if end[8] else None,
+                      (end[9], *last.told, end[10]) if end[9] else None)
 
 
 def read_rows(details, height):

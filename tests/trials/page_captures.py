@@ -25,7 +25,7 @@ NIGHT = 1_700_006_370 * SECOND
 
 def cases(folder):
     """All cases. Bytes of captures are made in the folder."""
-    for make in (examples, few, hostile, damaged, causes, ended, spans, lanes, many, services, names, servers, asked,
+    for make in (examples, few, hostile, damaged, causes, ended, spans, lanes, compared, many, services, names, servers, asked,
                  generated):
         yield from make(folder)
 
@@ -216,6 +216,39 @@ def later():
     yield Case("before all captures of a later day", [("a.pcap", packets), ("b.pcap", packets[1:])], Asked(before=START - DAY))
     yield Case("captures that end a day later, as of the moment of a hearing",
                [("a.pcap", [*packets, nothing(START + DAY)])], Asked(at=at(20)))
+
+
+def compared(_):
+    """Captures that share a clock and a link or not, and what each heard alone and missed."""
+    heard = [full(at(second), b"heard-%d" % second) for second in range(9)]
+    other = [full(at(second), b"other-%d" % second) for second in range(9)]
+
+    def ahead(packets, *nanos):
+        """Packets by a clock that is ahead, by these nanoseconds in turn."""
+        return [(moment + nanos[place % len(nanos)], frame) for place, (moment, frame) in enumerate(packets)]
+
+    clocks = {"4 s ahead": [4 * SECOND], "4 s behind": [-4 * SECOND], "a tenth of a second ahead": [SECOND // 10],
+              "1 ns more ahead": [SECOND // 10 + 1], "unsteady": [0, SECOND, 2 * SECOND]}
+    for what, nanos in clocks.items():
+        yield Case(f"a clock {what}", [("a.pcap", heard), ("b.pcap", ahead(heard, *nanos))])
+    yield Case("a clock 4 s ahead, and other messages",
+               [("a.pcap", heard + other[:3]), ("b.pcap", ahead(heard[1:] + other[5:], 4 * SECOND))])
+    yield Case("one message in common", [("a.pcap", heard[:5]), ("b.pcap", heard[4:])])
+    yield Case("nothing in common", [("a.pcap", heard), ("b.pcap", other)])
+    yield Case("nothing in common, at other times", [("a.pcap", heard), ("b.pcap", ahead(other, DAY))])
+    yield Case("no message once in both", [("a.pcap", heard + heard), ("b.pcap", heard)])
+    yield Case("two links, and a clock 4 s ahead on each",
+               [("a.pcap", heard), ("b.pcap", other), ("c.pcap", ahead(heard, 4 * SECOND)), ("d.pcap", ahead(other, 4 * SECOND))])
+    yield Case("three captures, of which the second is 4 s ahead",
+               [("a.pcap", heard), ("b.pcap", ahead(heard, 4 * SECOND)), ("c.pcap", heard)])
+    yield Case("three captures, of which the third has nothing in common with the first",
+               [("a.pcap", heard[:4]), ("b.pcap", heard), ("c.pcap", heard[4:])])
+    yield Case("six captures, each with a clock of its own",
+               [(f"{place}.pcap", ahead(heard, place * SECOND)) for place in range(6)])
+    yield Case("hostile file names, and a clock 4 s ahead",
+               [("<b>&\"'.pcap", heard), ("\u202egnp.pcap", ahead(heard, 4 * SECOND)), ("c.pcap", [])])
+    yield Case("before a moment, and a clock 4 s ahead by later messages",
+               [("a.pcap", heard), ("b.pcap", ahead(heard, 4 * SECOND))], Asked(before=at(2)))
 
 
 def lanes(_):

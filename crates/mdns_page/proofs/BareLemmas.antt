@@ -2,7 +2,7 @@
 use Rattle.std.proofs.Common.{◌≡◌, refl, sym, ◌∙◌, ap, ℕ, ◌+◌, ◌==◌, nat_le, Bool, true, false, if◌then◌else◌, Option, None, Some}
 use Rattle.std.proofs.Common.{List, [], ◌∷◌, ◌++◌, ◌-◌, codes, length, map, arith}
 use Rattle.std.specs.Prelude.{◌&&◌, nat_lt, not, option_map, slice_get, string_bytes, unwrap_or}
-use Rattle.std.specs.List.{filter_map, flat_map, join_by}
+use Rattle.std.specs.List.{filter_map, find, flat_map, join_by}
 use Rattle.mdns_message.specs.Resource.{Body}
 use Rattle.mdns_message.specs.TextData.{strings_of}
 use Rattle.mdns_message.specs.Parts.{address_of, content_of}
@@ -11,6 +11,7 @@ use Rattle.mdns_message.specs.declared.parts.Address.{Address}
 use Rattle.mdns_lives.specs.declared.life.Life.{Life}
 use Rattle.mdns_lives.specs.declared.life.EndReason.TheVariants.{Expired, Goodbye, Flushed}
 use Rattle.mdns_browse.specs.declared.about.Subject.{Subject}
+use Rattle.mdns_listeners.specs.declared.pairs.PairRow.{PairRow}
 use Rattle.mdns_browse.specs.declared.instance.Server.{Server}
 use Rattle.mdns_join.specs.declared.latest.Latest.{Latest}
 use Rattle.mdns_browse.specs.Services.{GivenRow, InstanceRow, instance_row_in}
@@ -20,12 +21,13 @@ use Rattle.mdns_browse.specs.RecordShown.{shown_address, shown_string, shown_str
 use Rattle.mdns_page.specs.declared.axis.Axis.{Axis}
 use Rattle.mdns_page.specs.Bare.{BareLive, BareRow, bare_capture, bare_end, bare_group, bare_groups, bare_instances, bare_live}
 use Rattle.mdns_page.specs.Bare.{bare_row, bare_server, bare_text, is_some_filled, unsaid}
-use Rattle.mdns_page.specs.Captures.{Facts, capture_text, captures_text, each_from}
+use Rattle.mdns_page.specs.Captures.{Comparison, Facts, alone_text, capture_text, captures_text, clock_text, compared_text, each_from}
+use Rattle.mdns_page.specs.Captures.{is_shared_by}
 use Rattle.mdns_page.specs.Axis.{drawn_if, short_text}
 use Rattle.mdns_page.specs.Group.{grouped, item}
 use Rattle.mdns_page.specs.OtherRows.{is_large}
 use Rattle.mdns_page.specs.Lanes.{base_line, base_text, bases_text, lane_top}
-use Rattle.mdns_page.specs.Lead.{about_line, ending_warning, is_ended, live_line}
+use Rattle.mdns_page.specs.Lead.{about_line, ending_warning, is_ended, live_line, pair_warning}
 use Rattle.mdns_page.specs.Picture.{goes_on, is_for}
 use Rattle.mdns_page.specs.LiveSection.{address_html, live_group, live_row, live_text, server_html, text_html, type_of}
 use Rattle.mdns_page.specs.Document.{Shown, head, page}
@@ -46,32 +48,53 @@ summary-same capture file same = ap (λ bare. bare.0) same
 span-same : (capture file : Facts) → bare_capture capture ≡ bare_capture file → capture.span ≡ file.span
 span-same capture file same = ap (λ bare. bare.1) same
 
-capture-same : (axis : Axis) (many : Bool) (index : ℕ) (capture file : Facts) → bare_capture capture ≡ bare_capture file
-    → capture_text unsaid axis many index capture ≡ capture_text unsaid axis many index file
-unfolding capture_text
-capture-same axis many index capture file same =
-    rw (summary-same capture file same, span-same capture file same) refl
+clock-same : (captures files : List Facts) → length captures ≡ length files → (pair : PairRow)
+    → clock_text unsaid captures pair ≡ clock_text unsaid files pair
+unfolding clock_text
+clock-same captures files many pair = rw many refl
 
-each-same : (text : ℕ → Facts → List ℕ)
-    → ((index : ℕ) (capture file : Facts) → bare_capture capture ≡ bare_capture file → text index capture ≡ text index file)
+compared-same : (captures files : List Facts) (comparison : Comparison) (index : ℕ) → length captures ≡ length files
+    → compared_text unsaid captures comparison index ≡ compared_text unsaid files comparison index
+unfolding compared_text
+compared-same captures files comparison index many =
+    λ i. unwrap_or (option_map alone_text (slice_get comparison.listeners index)) []
+    ++ unwrap_or (option_map (λ (pair : PairRow). clock-same captures files many pair i) (find (is_shared_by index) comparison.pairs)) []
+
+capture-same : (axis : Axis) (captures files : List Facts) (comparison : Comparison) → length captures ≡ length files → (index : ℕ)
+    (capture file : Facts) → bare_capture capture ≡ bare_capture file
+    → capture_text unsaid axis captures comparison index capture ≡ capture_text unsaid axis files comparison index file
+unfolding capture_text
+capture-same axis captures files comparison many index capture file same =
+    rw (
+      many,
+      compared-same captures files comparison index many,
+      summary-same capture file same,
+      span-same capture file same,
+    ) refl
+
+each-same : (text other : ℕ → Facts → List ℕ)
+    → ((index : ℕ) (capture file : Facts) → bare_capture capture ≡ bare_capture file → text index capture ≡ other index file)
     → (index : ℕ) (captures files : List Facts) → map bare_capture captures ≡ map bare_capture files
-    → each_from text index captures ≡ each_from text index files
-each-same text each index [] [] same = refl
-each-same text each index [] (file ∷ files) same = cc
-each-same text each index (capture ∷ captures) [] same = cc
-each-same text each index (capture ∷ captures) (file ∷ files) same =
+    → each_from text index captures ≡ each_from other index files
+each-same text other each index [] [] same = refl
+each-same text other each index [] (file ∷ files) same = cc
+each-same text other each index (capture ∷ captures) [] same = cc
+each-same text other each index (capture ∷ captures) (file ∷ files) same =
     let first : bare_capture capture ≡ bare_capture file = cc in
     let rest : map bare_capture captures ≡ map bare_capture files = cc in
     let here = each index capture file first in
-    let others = each-same text each (index + 1) captures files rest in cc
+    let others = each-same text other each (index + 1) captures files rest in cc
 
-captures-same : (axis : Axis) (captures files : List Facts) → map bare_capture captures ≡ map bare_capture files
-    → captures_text unsaid axis captures ≡ captures_text unsaid axis files
+captures-same : (axis : Axis) (captures files : List Facts) (comparison : Comparison)
+    → map bare_capture captures ≡ map bare_capture files
+    → captures_text unsaid axis captures comparison ≡ captures_text unsaid axis files comparison
 unfolding captures_text
-captures-same axis captures files same =
+captures-same axis captures files comparison same =
+    let many = length-same bare_capture captures files same in
     rw (
-      length-same bare_capture captures files same,
-      each-same (capture_text unsaid axis (nat_lt 4 (length files))) (capture-same axis (nat_lt 4 (length files))) 0 captures files same,
+      many,
+      each-same (capture_text unsaid axis captures comparison) (capture_text unsaid axis files comparison)
+          (capture-same axis captures files comparison many) 0 captures files same,
     ) refl
 
 -- ---- the head
@@ -81,7 +104,7 @@ bases-same : (axis : Axis) (lanes : ℕ) (captures files : List Facts) → map b
 unfolding bases_text
 bases-same axis lanes captures files same =
     ap (λ (lines : List ℕ). if lanes == 0 then [] else codes "<path class=\"n\" d=\"" ++ lines ++ codes "\"/>")
-    (each-same (base_text axis lanes)
+    (each-same (base_text axis lanes) (base_text axis lanes)
     (λ index capture file same. ap (drawn_if axis (base_line axis (lane_top lanes index))) (span-same capture file same)) 0 captures files
     same)
 
@@ -124,6 +147,10 @@ warning-same : (capture file : Facts) → bare_capture capture ≡ bare_capture 
     → ending_warning unsaid capture ≡ ending_warning unsaid file
 unfolding ending_warning
 warning-same capture file same = rw (summary-same capture file same) refl
+
+pair-same : (captures files : List Facts) (pair : PairRow) → pair_warning unsaid captures pair ≡ pair_warning unsaid files pair
+unfolding pair_warning
+pair-same captures files pair = refl
 
 -- ---- rows
 
@@ -301,26 +328,31 @@ live-same axis opened lasts others given more same =
 -- ---- the whole
 
 pub page-same : (a b : Shown) (opened : Bool) (lasts others : List Latest) (live now : List GivenRow) → a.axis ≡ b.axis → a.lost ≡ b.lost
-    → a.skipped ≡ b.skipped → a.live ≡ live_text unsaid a.axis opened lasts live → b.live ≡ live_text unsaid b.axis opened others now
+    → a.skipped ≡ b.skipped → a.comparison ≡ b.comparison → a.live ≡ live_text unsaid a.axis opened lasts live → b.live ≡ live_text unsaid b.axis opened others now
     → length a.about ≡ length b.about → map bare_capture a.captures ≡ map bare_capture b.captures
     → bare_groups a.rows ≡ bare_groups b.rows → map bare_row a.addresses ≡ map bare_row b.addresses
     → map bare_row a.names ≡ map bare_row b.names → bare_instances lasts live ≡ bare_instances others now → page unsaid a ≡ page unsaid b
-page-same a b opened lasts others live now same_axis same_lost same_skipped
+page-same a b opened lasts others live now same_axis same_lost same_skipped same_comparison
     written written_too same_about same_captures same_rows same_addresses
     same_names same_live =
     let lanes = if is_large (length a.rows) then 0 else (if nat_lt 4 (length a.captures) then 1 else length a.captures) in
     let rows = rows-same a.rows b.rows same_rows in
+    let warnings : flat_map (pair_warning unsaid a.captures) b.comparison.pairs
+    ≡ flat_map (pair_warning unsaid b.captures) b.comparison.pairs =
+    λ i. flat_map (λ (pair : PairRow). pair-same a.captures b.captures pair i) b.comparison.pairs in
     rw (
       written,
       written_too,
       same_axis,
       same_lost,
       same_skipped,
+      same_comparison,
       head-same b.axis lanes a.captures b.captures same_captures,
       live_line-same b.axis a.rows b.rows rows,
       about-same a.about b.about same_about,
       flat_map-same bare_capture (ending_warning unsaid) warning-same a.captures b.captures same_captures,
-      captures-same b.axis a.captures b.captures same_captures,
+      warnings,
+      captures-same b.axis a.captures b.captures b.comparison same_captures,
       timeline-same b.axis lanes a.rows b.rows a.addresses b.addresses a.names b.names same_rows same_addresses same_names,
       live-same b.axis opened lasts others live now same_live,
       length-same bare_row a.rows b.rows rows,

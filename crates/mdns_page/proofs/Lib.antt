@@ -1,4 +1,5 @@
 mod BareLemmas
+mod ComparedLemmas
 pub mod CountLemmas
 mod CountedLemmas
 mod GroupLemmas

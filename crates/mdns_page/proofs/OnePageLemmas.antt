@@ -37,6 +37,8 @@ use Rattle.mdns_survey.proofs.LossLemmas.{NeverBoth, SkipsByCause}
 use Rattle.mdns_survey.proofs.OneSurveyLemmas.{one-read}
 use Rattle.mdns_survey.proofs.OutcomeLemmas.{OnePayload, OneReading, OneTelling}
 use Rattle.mdns_page.specs.Axis.{dates_of}
+use Rattle.mdns_page.specs.Captures.{Comparison}
+use Rattle.mdns_page.specs.Collected.{Compares}
 use Rattle.mdns_page.specs.declared.axis.Axis.{Axis}
 use Rattle.mdns_page.specs.declared.kept_records.TimelinePart.{TimelinePart}
 use Rattle.mdns_page.specs.declared.kept_records.TimelinePart.TheVariants.{Addresses, Instances, Names}
@@ -48,6 +50,7 @@ use Rattle.mdns_page.specs.Servers.{servers_of}
 use Rattle.mdns_page.specs.KeptRecords.{AreRows, kept_of}
 use Rattle.mdns_page.specs.Page.{SurveysPage, WritesPage, live_at_end}
 use Rattle.mdns_page.specs.Timeline.{Row, is_open}
+use Rattle.mdns_page.proofs.ComparedLemmas.{OneListOfRows, one-comparison}
 use Rattle.mdns_page.proofs.CountedLemmas.{record_in, shown_seconds}
 use Rattle.mdns_page.proofs.OneCaptureLemmas.{IsAlike, are-alike, facts-alike, lost-alike, section-alike, one-each}
 
@@ -162,10 +165,11 @@ one-rows part large each kept xs ys are too =
 -- ---- the page by the hearings
 
 module _ (one_lives : OneLives) where
-  one-written : (about : List Subject) (names : List (List ℕ)) (readings more : List Reading) (each : List (List Hearing))
-      (heard : List Hearing) (axis : Axis) (text other : List ℕ) → AreEach IsAlike readings more
-      → WritesPage about names readings each heard axis text → WritesPage about names more each heard axis other → text ≡ other
-  one-written about names readings more each heard axis text other alike first second =
+  one-written : (about : List Subject) (names : List (List ℕ)) (readings more : List Reading) (comparison : Comparison)
+      (each : List (List Hearing)) (heard : List Hearing) (axis : Axis) (text other : List ℕ) → AreEach IsAlike readings more
+      → WritesPage about names readings comparison each heard axis text → WritesPage about names more comparison each heard axis other
+      → text ≡ other
+  one-written about names readings more comparison each heard axis text other alike first second =
       let rows : second.rows ≡ first.rows = one_lives heard heard second.rows first.rows (same_itself heard) second.lives first.lives in
       let own = λ (part : TimelinePart) (large was : Bool) (xs ys : List Row) (same : was ≡ large)
       (are : AreRows part large each (kept_of about first.rows) xs) (too : AreRows part was each (kept_of about second.rows) ys).
@@ -184,6 +188,7 @@ module _ (one_lives : OneLives) where
         axis = axis;
         about = about;
         captures = facts-alike names readings more alike i;
+        comparison = comparison;
         lost = lost-alike readings more alike i;
         rows = instances i;
         addresses = addresses i;
@@ -196,7 +201,7 @@ module _ (one_lives : OneLives) where
 -- ---- the page on captures
 
 module _ (one : OneReading) (telling : OneTelling) (payload : OnePayload) (never : NeverBoth) (by_cause : SkipsByCause)
-    (one_lives : OneLives) where
+    (one_rows : OneListOfRows) (one_lives : OneLives) where
   pub one_page : (names : List (List ℕ)) (about : List Subject) (as_of : AsOf) (captures : List (List ℕ)) (summaries more : List Summary)
       (text other : List ℕ) → SurveysPage names about as_of captures summaries text
       → SurveysPage names about as_of captures more other → (summaries ≡ more) × (text ≡ other)
@@ -219,12 +224,18 @@ module _ (one : OneReading) (telling : OneTelling) (payload : OnePayload) (never
       ≡ dates_of first.axis.start.nanos (max first.axis.end.nanos (latest_nanos (all_moments first.packets))) =
       λ i. dates_of (start i).nanos (max (end i).nanos (latest_nanos (all_moments (packets i)))) in
       let dates = second.is_axis.dates ∙ lasts ∙ sym first.is_axis.dates in
-      let axis : second.axis ≡ first.axis = λ i. record { start = start i; end = end i; dates = dates i } in (
+      let axis : second.axis ≡ first.axis = λ i. record { start = start i; end = end i; dates = dates i } in
+      let comparison : second.comparison ≡ first.comparison =
+      one-comparison payload one_rows names first.packets first.outcomes second.comparison first.comparison
+      (subst (λ (ps : List (List PacketAt)). Compares names ps first.outcomes second.comparison) packets
+      (subst (λ (os : List (List Outcome)). Compares names second.packets os second.comparison) outcomes second.compares)) first.compares in (
         first.summed ∙ same ∙ sym second.summed,
-        one-written one_lives about names first.readings second.readings (counted_each (filter_of as_of) first.outcomes)
+        one-written one_lives about names first.readings second.readings first.comparison (counted_each (filter_of as_of) first.outcomes)
             (counted (filter_of as_of) first.outcomes) first.axis text other alike first.writes
-            (subst (λ (a : Axis). WritesPage about names second.readings (counted_each (filter_of as_of) first.outcomes)
+            (subst (λ (c : Comparison). WritesPage about names second.readings c (counted_each (filter_of as_of) first.outcomes)
+            (counted (filter_of as_of) first.outcomes) first.axis other) comparison
+            (subst (λ (a : Axis). WritesPage about names second.readings second.comparison (counted_each (filter_of as_of) first.outcomes)
             (counted (filter_of as_of) first.outcomes) a other) axis
-            (subst (λ (os : List (List Outcome)). WritesPage about names second.readings (counted_each (filter_of as_of) os)
-            (counted (filter_of as_of) os) second.axis other) outcomes second.writes)),
+            (subst (λ (os : List (List Outcome)). WritesPage about names second.readings second.comparison (counted_each (filter_of as_of) os)
+            (counted (filter_of as_of) os) second.axis other) outcomes second.writes))),
       )

@@ -1,5 +1,15 @@
 -- A text by the parts that were written of it, one after another.
-use Rattle.std.proofs.Common.{◌≡◌, ℕ, List, ◌++◌, append_assoc}
+use Rattle.std.proofs.Common.{◌≡◌, ℕ, zero, suc, refl, List, [], ◌∷◌, ◌++◌, append_assoc, map, option_map}
+use Rattle.std.specs.Prelude.{slice_get}
+use Rattle.mdns_page.specs.Captures.{facts_lent}
+use Rattle.mdns_page.specs.declared.captures.CaptureFacts.{CaptureFacts}
+
+-- the facts of the capture with an index
+pub get_lent : (captures : List CaptureFacts) (index : ℕ)
+    → slice_get (map facts_lent captures) index ≡ option_map facts_lent (slice_get captures index)
+get_lent [] index = refl
+get_lent (capture ∷ captures) zero = refl
+get_lent (capture ∷ captures) (suc index) = get_lent captures index
 
 pub parts2 : (old p1 p2 s1 new : List ℕ)
     → s1 ≡ old ++ p1 → new ≡ s1 ++ p2

@@ -17,13 +17,15 @@ use Rattle.mdns_survey.specs.declared.each_capture.EachChronicling.{EachChronicl
 use Rattle.mdns_survey.specs.declared.reading.Reading.{Reading}
 use Rattle.mdns_survey.specs.declared.request.AsOf.{AsOf}
 use Rattle.mdns_survey.specs.Outcomes.{Outcome}
-use Rattle.mdns_survey.specs.Chronicling.{EachChronicled}
+use Rattle.mdns_survey.specs.Chronicling.{EachChronicled, all_of}
 use Rattle.mdns_survey.specs.Filter.{counted, counted_each, filter_of}
 use Rattle.mdns_survey.specs.Question.{HearsReaders, IsAnswer}
 use Rattle.mdns_survey.specs.Readings.{all_moments, summaries_of}
 use Rattle.mdns_survey.specs.Surveys.{AllLeft}
 use Rattle.mdns_cache.proofs.StandsPartLemmas.{Contains-cases, Contains-head, Contains-later}
 use Rattle.mdns_page.specs.Axis.{IsAxis}
+use Rattle.mdns_page.specs.Captures.{Comparison}
+use Rattle.mdns_page.specs.Collected.{Compares}
 use Rattle.mdns_page.specs.declared.axis.Axis.{Axis}
 use Rattle.mdns_page.specs.Page.{AreLiveGiven, IsSinceKnown, WritesPage, asked_page, given_of_since, live_given, record_given}
 
@@ -60,14 +62,15 @@ module _ (heard : List Hearing) (axis : Axis) (rows : List (Latest × List Life)
 -- ---- the page on captures
 
 module _ {Heard : List (List PacketAt) → List (List Outcome) → Type 0} (names : List (List ℕ)) (about : List Subject) (as_of : AsOf)
-    (lefts : List (Option (List ℕ))) (readings : List Reading) (each : EachChronicling) (axis : Axis) (text : List ℕ)
+    (lefts : List (Option (List ℕ))) (readings : List Reading) (each : EachChronicling) (comparison : Comparison) (axis : Axis)
+    (text : List ℕ)
     (hears : HearsReaders Heard lefts readings) (chronicled : EachChronicled (filter_of as_of) each hears.packets hears.outcomes)
-    (is_axis : IsAxis as_of (all_moments hears.packets) axis)
-    (none_later : (heard : List Hearing) → Chronicles each.all heard
+    (compares : Compares names hears.packets hears.outcomes comparison) (is_axis : IsAxis as_of (all_moments hears.packets) axis)
+    (none_later : (heard : List Hearing) → Chronicles (all_of each) heard
     → (hearing : Hearing) → Contains heard hearing → hearing.moment.nanos ≤ axis.end.nanos)
     (written : (each_heard : List (List Hearing)) (heard : List Hearing) → AreEach Chronicles each.captures.items each_heard
-    → Chronicles each.all heard → ((hearing : Hearing) → Contains heard hearing → hearing.moment.nanos ≤ axis.end.nanos)
-    → WritesPage about names readings each_heard heard axis text) where
+    → Chronicles (all_of each) heard → ((hearing : Hearing) → Contains heard hearing → hearing.moment.nanos ≤ axis.end.nanos)
+    → WritesPage about names readings comparison each_heard heard axis text) where
   pub surveys-page : IsAnswer (asked_page names about as_of) lefts (summaries_of readings) text
   surveys-page captures known =
       let which = filter_of as_of in
@@ -79,6 +82,8 @@ module _ {Heard : List (List PacketAt) → List (List Outcome) → Type 0} (name
         summed = refl;
         axis = axis;
         is_axis = is_axis;
+        comparison = comparison;
+        compares = compares;
         writes = written (counted_each which hears.outcomes) (counted which hears.outcomes) chronicled.0 chronicled.1
             (none_later (counted which hears.outcomes) chronicled.1);
       }

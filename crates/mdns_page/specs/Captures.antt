@@ -1,11 +1,17 @@
 -- The captures of a page.
-use Rattle.std.specs.Prelude.{ℕ, ◌+◌, Bool, true, if◌then◌else◌, nat_lt, Option, None, Some, List, [], ◌∷◌, ◌++◌, codes, length}
+use Rattle.std.specs.Prelude.{ℕ, ◌+◌, ◌==◌, ◌&&◌, Bool, true, if◌then◌else◌, nat_lt, Option, None, Some, option_map, unwrap_or}
+use Rattle.std.specs.Prelude.{List, [], ◌∷◌, ◌++◌, codes, length, slice_get}
 use Rattle.std.specs.Fmt.{decimal}
+use Rattle.std.specs.List.{find}
 use Rattle.mdns_capture.specs.Text.{ending_text}
 use Rattle.mdns_survey.specs.ProgramLines.{is_whole}
 use Rattle.mdns_survey.specs.declared.reading.Span.{Span}
 use Rattle.mdns_survey.specs.declared.summary.Summary.{Summary}
 use Rattle.mdns_survey.specs.declared.summary.Tally.{Tally}
+use Rattle.mdns_listeners.specs.declared.numbers.ListenerRow.{ListenerRow}
+use Rattle.mdns_listeners.specs.declared.pairs.PairRow.{PairRow}
+use Rattle.mdns_listeners.specs.Clock.{clock_words}
+use Rattle.mdns_listeners.specs.Warnings.{warning_words, warns}
 use Rattle.people_text.specs.MomentText.{millis_text}
 use Rattle.people_text.specs.Shown.{shown}
 use Rattle.mdns_page.specs.Axis.{drawn_if, place, place_end, short_text}
@@ -14,6 +20,7 @@ use Rattle.mdns_page.specs.Group.{axis_picture, group, item}
 use Rattle.mdns_page.specs.declared.axis.Axis.{Axis}
 use Rattle.mdns_page.specs.declared.axis.Dates.{Dates}
 use Rattle.mdns_page.specs.declared.captures.CaptureFacts.{CaptureFacts}
+use Rattle.mdns_page.specs.declared.captures.Comparison.{Comparison as LentComparison}
 
 -- what is known of a capture: the name of its file, its summary, and the span of its packets, if there are any
 pub record Facts : Type 0 where
@@ -23,6 +30,19 @@ pub record Facts : Type 0 where
 
 abbrev pub facts_lent : CaptureFacts → Facts
 facts_lent capture = record { name = capture.name.now; summary = capture.summary; span = capture.span }
+
+-- how captures compare: what each heard alone and missed, and what each two that recorded together have in common; nothing where
+-- they aren't compared
+pub record Comparison : Type 0 where
+  pub listeners : List ListenerRow
+  pub pairs : List PairRow
+
+abbrev pub comparison_lent : LentComparison → Comparison
+comparison_lent comparison = record { listeners = comparison.listeners.now; pairs = comparison.pairs.now }
+
+-- the name of the capture with an index; empty if there is no such capture
+abbrev pub name_at : List Facts → ℕ → List ℕ
+name_at captures index = unwrap_or (option_map (λ (capture : Facts). capture.name) (slice_get captures index)) []
 
 -- a text for each capture, in order, by its index, from this one on
 abbrev pub each_from : {C : Type 0} → (ℕ → C → List ℕ) → (index : ℕ) → List C → List ℕ
@@ -64,24 +84,51 @@ outcomes_text tally =
     codes "<small>" ++ commas tally.messages ++ codes " heard, " ++ commas tally.skipped ++ codes " skipped, "
     ++ commas tally.refused ++ codes " refused</small>"
 
+-- how many messages only this capture has, and how many it missed
+unfoldable pub alone_text : ListenerRow → List ℕ
+alone_text row =
+    codes "<small>" ++ count_text row.alone (codes "message") (codes "messages") ++ codes " alone, " ++ commas row.missed
+    ++ codes " missed</small>"
+
+-- the pair is of an earlier capture that has messages in common with this one
+abbrev pub is_shared_by : (index : ℕ) → PairRow → Bool
+is_shared_by index pair = (pair.other == index) && nat_lt 0 pair.common
+
+-- whether the clocks of two captures agree
+abbrev pub agreement_words : PairRow → List ℕ
+agreement_words pair = if warns pair then warning_words pair else clock_words [] pair
+
+-- how a capture's clock compares with that of an earlier one
+unfoldable pub clock_text : (List ℕ → List ℕ) → List Facts → PairRow → List ℕ
+clock_text say captures pair =
+    codes "<small>clock beside " ++ number_text (nat_lt 4 (length captures)) pair.one ++ codes "&#160;"
+    ++ say (shown (name_at captures pair.one)) ++ codes ": " ++ agreement_words pair ++ codes "</small>"
+
+-- how a capture compares: what it heard alone and missed, and its clock beside that of the first capture that shares a message with it
+unfoldable pub compared_text : (List ℕ → List ℕ) → List Facts → Comparison → (index : ℕ) → List ℕ
+compared_text say captures comparison index =
+    unwrap_or (option_map alone_text (slice_get comparison.listeners index)) []
+    ++ unwrap_or (option_map (clock_text say captures) (find (is_shared_by index) comparison.pairs)) []
+
 -- ---- rows
 
--- a capture: its number, file and sizes, when it recorded, how it ends, and what its packets were; `say` writes text of the network
-unfoldable pub capture_text : (List ℕ → List ℕ) → Axis → (many : Bool) → (index : ℕ) → Facts → List ℕ
-capture_text say axis many index capture =
-    item (number_text many index ++ codes "&#160;" ++ say (shown capture.name) ++ sizes_text capture.summary.tally)
+-- one of the captures: its number, file and sizes, when it recorded, how it ends, what its packets were, and how it compares; `say`
+-- writes text of the network
+unfoldable pub capture_text : (List ℕ → List ℕ) → Axis → List Facts → Comparison → (index : ℕ) → Facts → List ℕ
+capture_text say axis captures comparison index capture =
+    item (number_text (nat_lt 4 (length captures)) index ++ codes "&#160;" ++ say (shown capture.name) ++ sizes_text capture.summary.tally)
     (recorded_picture axis capture.span)
     (codes "<p>" ++ recorded_words axis.dates capture.span
     ++ 32 ∷ (if is_whole capture.summary.ending then codes "whole"
     else codes "<b class=\"warn\">" ++ ending_text capture.summary.ending ++ codes "</b>")
-    ++ codes "</p>" ++ outcomes_text capture.summary.tally)
+    ++ codes "</p>" ++ outcomes_text capture.summary.tally ++ compared_text say captures comparison index)
 
 -- ---- the whole
 
 -- the captures, and how many there are; where they are many, their numbers are plain ones
-unfoldable pub captures_text : (List ℕ → List ℕ) → Axis → List Facts → List ℕ
-captures_text say axis captures =
+unfoldable pub captures_text : (List ℕ → List ℕ) → Axis → List Facts → Comparison → List ℕ
+captures_text say axis captures comparison =
     codes "<h2 id=\"captures\">Captures</h2>\n<div class=\"g\">\n"
     ++ group true (codes "<bdi>" ++ count_text (length captures) (codes "capture") (codes "captures") ++ codes "</bdi>") axis_picture
-    (codes "recorded, and how the file ends") (each_from (capture_text say axis (nat_lt 4 (length captures))) 0 captures)
+    (codes "recorded, and how the file ends") (each_from (capture_text say axis captures comparison) 0 captures)
     ++ codes "</div>\n"

@@ -5,10 +5,10 @@ use Rattle.std.specs.List.{flat_map}
 use Rattle.people_text.specs.MomentText.{date_text}
 use Rattle.mdns_browse.specs.declared.about.Subject.{Subject}
 use Rattle.mdns_page.specs.Axis.{is_same_date}
-use Rattle.mdns_page.specs.Captures.{Facts, captures_text, facts_lent}
+use Rattle.mdns_page.specs.Captures.{Comparison, Facts, captures_text, comparison_lent, facts_lent}
 use Rattle.mdns_page.specs.OtherRows.{is_large}
 use Rattle.mdns_page.specs.Lanes.{height}
-use Rattle.mdns_page.specs.Lead.{about_line, ending_warning, live_line, lost_warning}
+use Rattle.mdns_page.specs.Lead.{about_line, ending_warning, live_line, lost_warning, pair_warning}
 use Rattle.mdns_page.specs.Ticks.{symbols_text}
 use Rattle.mdns_page.specs.Timeline.{Row, counted_lent, timeline}
 use Rattle.mdns_page.specs.declared.axis.Axis.{Axis}
@@ -35,12 +35,13 @@ head axis lanes captures =
 
 -- ---- the whole
 
--- what a page shows: captures, of whose packets `lost` lost what they said, the rows of all instances heard that are about the
+-- what a page shows: captures, how they compare, of whose packets `lost` lost what they said, the rows of all instances heard that are about the
 -- subjects, those of addresses and of names that aren't one label and the type, what was live at the end, and the packets that told nothing
 pub record Shown : Type 0 where
   pub axis : Axis
   pub about : List Subject
   pub captures : List Facts
+  pub comparison : Comparison
   pub lost : ℕ
   pub rows : List Row
   pub addresses : List Row
@@ -53,6 +54,7 @@ parts_lent parts = record {
   axis = parts.axis;
   about = parts.about.now;
   captures = map facts_lent parts.captures.now;
+  comparison = comparison_lent parts.comparison;
   lost = parts.lost;
   rows = map counted_lent parts.rows.now;
   addresses = map counted_lent parts.addresses.now;
@@ -68,8 +70,9 @@ page say shown =
     let axis = shown.axis in let count = length shown.captures in
     let lanes = if is_large (length shown.rows) then 0 else (if nat_lt 4 count then 1 else count) in
     head axis lanes shown.captures ++ (live_line axis shown.rows ++ about_line say shown.about
-    ++ flat_map (ending_warning say) shown.captures ++ lost_warning shown.lost)
+    ++ flat_map (ending_warning say) shown.captures ++ flat_map (pair_warning say shown.captures) shown.comparison.pairs
+    ++ lost_warning shown.lost)
     ++ (codes "<nav><a href=\"#captures\">Captures</a><a href=\"#timeline\">Timeline</a>"
     ++ codes "<a href=\"#live\">What was live</a><a href=\"#nothing\">Skipped packets</a></nav>\n")
-    ++ captures_text say axis shown.captures ++ timeline say axis lanes shown.rows shown.addresses shown.names ++ shown.live
+    ++ captures_text say axis shown.captures shown.comparison ++ timeline say axis lanes shown.rows shown.addresses shown.names ++ shown.live
     ++ shown.skipped ++ codes "</main></body></html>\n"

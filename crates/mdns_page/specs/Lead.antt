@@ -7,9 +7,11 @@ use Rattle.mdns_lives.specs.declared.life.EndReason.{EndReason}
 use Rattle.mdns_lives.specs.declared.life.EndReason.TheVariants.{Expired, Goodbye, Flushed}
 use Rattle.mdns_browse.specs.declared.about.Subject.{Subject}
 use Rattle.mdns_survey.specs.ProgramLines.{is_whole}
+use Rattle.mdns_listeners.specs.declared.pairs.PairRow.{PairRow}
+use Rattle.mdns_listeners.specs.Warnings.{warning_words, warns}
 use Rattle.people_text.specs.MomentText.{millis_text}
 use Rattle.people_text.specs.Shown.{shown}
-use Rattle.mdns_page.specs.Captures.{Facts}
+use Rattle.mdns_page.specs.Captures.{Facts, name_at}
 use Rattle.mdns_page.specs.Counts.{commas, count_text}
 use Rattle.mdns_page.specs.Picture.{goes_on, is_for}
 use Rattle.mdns_page.specs.Timeline.{Row, count_last}
@@ -67,6 +69,13 @@ ending_warning say capture =
     if is_whole capture.summary.ending then []
     else codes "<p class=\"warn\">" ++ say (shown capture.name) ++ codes ": " ++ ending_text capture.summary.ending
     ++ codes ". What came later is missing, goodbyes too.</p>\n"
+
+-- that the clocks of two captures don't agree, or that the captures may come from two links; nothing where the clocks agree
+unfoldable pub pair_warning : (List ℕ → List ℕ) → List Facts → PairRow → List ℕ
+pair_warning say captures pair =
+    if warns pair then codes "<p class=\"warn\">" ++ say (shown (name_at captures pair.other)) ++ codes " beside "
+    ++ say (shown (name_at captures pair.one)) ++ codes ": " ++ warning_words pair ++ codes "</p>\n"
+    else []
 
 -- that packets lost what they said; nothing where there are none
 unfoldable pub lost_warning : ℕ → List ℕ

@@ -1,6 +1,7 @@
 pub mod Axis
 pub mod Bare
 pub mod Captures
+pub mod Collected
 pub mod TimelineRows
 pub mod Counts
 pub mod Group

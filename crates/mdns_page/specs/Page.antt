@@ -21,7 +21,8 @@ use Rattle.mdns_survey.specs.Surveys.{AllLeft}
 use Rattle.mdns_page.specs.declared.axis.Axis.{Axis}
 use Rattle.mdns_page.specs.declared.kept_records.TimelinePart.TheVariants.{Addresses, Instances, Names}
 use Rattle.mdns_page.specs.Axis.{IsAxis}
-use Rattle.mdns_page.specs.Captures.{Facts}
+use Rattle.mdns_page.specs.Captures.{Comparison, Facts}
+use Rattle.mdns_page.specs.Collected.{Compares}
 use Rattle.mdns_page.specs.OtherRows.{is_large}
 use Rattle.mdns_page.specs.Html.{isolated}
 use Rattle.mdns_page.specs.KeptRecords.{AreRows, is_drawn, kept_of, looked_up}
@@ -67,10 +68,10 @@ facts_of (name ∷ names) (reading ∷ readings) =
     record { name = name; summary = reading.summary; span = reading.span } ∷ facts_of names readings
 facts_of _ _ = []
 
--- The text is the page on captures with these names and readings, by hearings none of which is later than the end of the
--- axis: but for the seconds in which each capture heard a record, all that it shows is a function of the lives of all records.
-pub record WritesPage (about : List Subject) (names : List (List ℕ)) (readings : List Reading) (each : List (List Hearing))
-    (heard : List Hearing) (axis : Axis) (text : List ℕ) : Type 0 where
+-- The text is the page on captures with these names and readings, which compare so, by hearings none of which is later than the
+-- end of the axis: but for the seconds in which each capture heard a record, all that it shows is a function of the lives of all records.
+pub record WritesPage (about : List Subject) (names : List (List ℕ)) (readings : List Reading) (comparison : Comparison)
+    (each : List (List Hearing)) (heard : List Hearing) (axis : Axis) (text : List ℕ) : Type 0 where
   pub latest : (hearing : Hearing) → Contains heard hearing → hearing.moment.nanos ≤ axis.end.nanos
   pub rows : List (Latest × List Life)
   pub lives : AreAllLives heard rows
@@ -84,6 +85,7 @@ pub record WritesPage (about : List Subject) (names : List (List ℕ)) (readings
     axis = axis;
     about = about;
     captures = facts_of names readings;
+    comparison = comparison;
     lost = lost_in readings;
     rows = instances;
     addresses = addresses;
@@ -102,7 +104,10 @@ pub record SurveysPage (names : List (List ℕ)) (about : List Subject) (as_of :
   pub summed : summaries ≡ summaries_of readings
   pub axis : Axis
   pub is_axis : IsAxis as_of (all_moments packets) axis
-  pub writes : WritesPage about names readings (counted_each (filter_of as_of) outcomes) (counted (filter_of as_of) outcomes) axis text
+  pub comparison : Comparison
+  pub compares : Compares names packets outcomes comparison
+  pub writes : WritesPage about names readings comparison (counted_each (filter_of as_of) outcomes) (counted (filter_of as_of) outcomes)
+      axis text
 
 -- a page on captures with these names
 abbrev pub asked_page : List (List ℕ) → List Subject → AsOf → Asked

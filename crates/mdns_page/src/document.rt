@@ -9,7 +9,7 @@ ghost use Rattle.mdns_page.specs.Html.{isolated};
 ghost use Rattle.mdns_page.specs.Document.{head, page, parts_lent, title};
 
 use crate::axis::{Axis, is_same_date};
-use crate::captures::{CaptureFacts, push_captures};
+use crate::captures::{CaptureFacts, Comparison, push_captures};
 use crate::lanes::{lanes_for, push_height};
 use crate::lead::push_lead;
 use crate::other_rows::is_large;
@@ -29,6 +29,7 @@ pub(crate) struct PageParts<'a> {
     pub(crate) about: &'a [Subject],
     /// The captures that were read.
     pub(crate) captures: &'a [CaptureFacts<'a>],
+    pub(crate) comparison: Comparison<'a>,
     /// How many of their packets lost what they said.
     pub(crate) lost: u128,
     /// The rows of PTR records that give an instance about the subjects, in key order.
@@ -56,13 +57,14 @@ pub(crate) fn push_page(to: &mut String, parts: &PageParts<'_>) -> Result<(), Wa
         parts.about,
         parts.rows,
         parts.captures,
+        parts.comparison,
         parts.lost,
     )?;
     to.push_str(
         "<nav><a href=\"#captures\">Captures</a><a href=\"#timeline\">Timeline</a>\
          <a href=\"#live\">What was live</a><a href=\"#nothing\">Skipped packets</a></nav>\n",
     )?;
-    push_captures(to, axis, parts.captures)?;
+    push_captures(to, axis, parts.captures, parts.comparison)?;
     push_timeline(to, axis, lanes, parts.rows, parts.addresses, parts.names)?;
     to.push_str(parts.live)?;
     to.push_str(parts.skipped)?;

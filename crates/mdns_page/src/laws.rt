@@ -36,6 +36,7 @@ ghost use Rattle.mdns_page.specs.Ticks.{step_of, ticks};
 ghost use Rattle.mdns_page.specs.Timeline.{Row, owner_of};
 
 use mdns_capture::laws::{one_payload, one_reading, payload_or_skip, skip_is_of_the_cause};
+use mdns_listeners::laws::one_list_of_rows;
 use mdns_lives::laws::{live_lives_are_since, one_all};
 use mdns_survey::laws::one_telling;
 
@@ -50,6 +51,7 @@ pub fn one_page()
     one_payload();
     payload_or_skip();
     skip_is_of_the_cause();
+    one_list_of_rows();
     one_telling();
     one_all();
 }
@@ -108,7 +110,7 @@ pub fn counts()
 /// nothing, two pages are equal that have equally many subjects, and captures, rows and live instances that agree in all else.
 pub fn names()
     ensures { (a b : Shown) (opened : Bool) (lasts others : List Latest) (live now : List GivenRow) → a.axis ≡ b.axis → a.lost ≡ b.lost
-        → a.skipped ≡ b.skipped → a.live ≡ live_text unsaid a.axis opened lasts live
+        → a.skipped ≡ b.skipped → a.comparison ≡ b.comparison → a.live ≡ live_text unsaid a.axis opened lasts live
         → b.live ≡ live_text unsaid b.axis opened others now → length a.about ≡ length b.about
         → map bare_capture a.captures ≡ map bare_capture b.captures → bare_groups a.rows ≡ bare_groups b.rows
         → map bare_row a.addresses ≡ map bare_row b.addresses → map bare_row a.names ≡ map bare_row b.names

@@ -7,21 +7,23 @@ ghost use Rattle.std.specs.String.{string_bytes};
 ghost use Rattle.mdns_capture.specs.Text.{ending_text};
 ghost use Rattle.mdns_lives.specs.declared.life.EndReason.TheVariants.{Goodbye};
 ghost use Rattle.people_text.specs.Shown.{shown};
-ghost use Rattle.mdns_page.specs.Captures.{facts_lent};
+ghost use Rattle.mdns_page.specs.Captures.{comparison_lent, facts_lent};
 ghost use Rattle.mdns_page.specs.Html.{isolated};
 ghost use Rattle.mdns_page.specs.Lead.{about_line, ended_text, ending_warning, is_ended, live_line, lost_warning};
-ghost use Rattle.mdns_page.specs.Lead.{others_text, said_text};
+ghost use Rattle.mdns_page.specs.Lead.{others_text, pair_warning, said_text};
 ghost use Rattle.mdns_page.specs.Picture.{goes_on, is_for};
 ghost use Rattle.mdns_page.specs.Timeline.{count_last, counted_lent};
 
 use crate::axis::Axis;
-use crate::captures::{CaptureFacts, push_shown_word};
+use crate::captures::{CaptureFacts, Comparison, name_at, push_shown_word};
 use crate::counts::{push_commas, push_count};
 use crate::picture::{goes_on, is_for};
 use crate::row_text::live_rows;
 use crate::timeline_rows::CountedRow;
 use mdns_browse::Subject;
 use mdns_capture::Ending;
+use mdns_listeners::PairRow;
+use mdns_listeners::warnings::{push_warning_words, warns};
 use mdns_lives::{EndReason, Life};
 use mdns_message::Want;
 use mdns_survey::status::is_whole;
@@ -29,22 +31,25 @@ use people_text::moment_text::push_millis;
 
 /// Appends what a page begins with: how many instances were live at the end of the captures, how many of them have
 /// said goodbye, and how many had ended before; the subjects, if there are any; a warning for each capture that isn't
-/// whole, and one of `lost` packets, if any lost what they said.
+/// whole, one for each two whose clocks don't agree, and one of `lost` packets, if any lost what they said.
 pub(crate) fn push_lead(
     to: &mut String,
     axis: Axis,
     about: &[Subject],
     rows: &[CountedRow<'_>],
     captures: &[CaptureFacts<'_>],
+    comparison: Comparison<'_>,
     lost: u128,
 ) -> Result<(), Want>
     ensures { OnOk result (string_bytes to.new ≡ string_bytes to.old
         ++ (live_line axis (map counted_lent rows.now) ++ about_line isolated about.now
-        ++ flat_map (ending_warning isolated) (map facts_lent captures.now) ++ lost_warning lost)) }
+        ++ flat_map (ending_warning isolated) (map facts_lent captures.now)
+        ++ flat_map (pair_warning isolated (map facts_lent captures.now)) (comparison_lent comparison.entry).pairs ++ lost_warning lost)) }
 {
     push_live_line(to, axis, rows)?;
     push_about_line(to, about)?;
     push_ending_warnings(to, captures)?;
+    push_pair_warnings(to, captures, comparison.pairs)?;
     push_lost_warning(to, lost)
 }
 
@@ -244,6 +249,43 @@ fn push_ending_text(to: &mut String, ending: Ending) -> Result<(), Want>
     ensures { OnOk result (string_bytes to.new ≡ string_bytes to.old ++ ending_text ending) }
 {
     write!(to, "{ending}")?;
+    Ok(())
+}
+
+fn push_pair_warnings(
+    to: &mut String,
+    captures: &[CaptureFacts<'_>],
+    pairs: &[PairRow],
+) -> Result<(), Want>
+    ensures { OnOk result (string_bytes to.new
+        ≡ string_bytes to.old ++ flat_map (pair_warning isolated (map facts_lent captures.now)) pairs.now) }
+{
+    for pair in pairs {
+        push_pair_warning(to, captures, pair)?;
+    }
+    Ok(())
+}
+
+// Appends that the clocks of two captures don't agree, or that nothing shows whether they do; nothing if they agree.
+#[tactic(auto, unfolding(crate::specs::Lead::pair_warning))]
+fn push_pair_warning(
+    to: &mut String,
+    captures: &[CaptureFacts<'_>],
+    pair: &PairRow,
+) -> Result<(), Want>
+    ensures { OnOk result (string_bytes to.new
+        ≡ string_bytes to.old ++ pair_warning isolated (map facts_lent captures.now) pair.now) }
+{
+    if !warns(pair) {
+        return Ok(());
+    }
+    to.push_str("<p class=\"warn\">")?;
+    push_shown_word(to, name_at(captures, pair.other))?;
+    to.push_str(" beside ")?;
+    push_shown_word(to, name_at(captures, pair.one))?;
+    to.push_str(": ")?;
+    push_warning_words(to, pair)?;
+    to.push_str("</p>\n")?;
     Ok(())
 }
 

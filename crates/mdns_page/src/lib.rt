@@ -7,6 +7,7 @@ mod about_heard;
 mod axis;
 mod bar_titles;
 mod captures;
+mod collector;
 mod counts;
 mod document;
 mod group;

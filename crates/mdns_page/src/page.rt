@@ -9,13 +9,16 @@ ghost use Rattle.mdns_lives.specs.Chronicle.{Chronicles, rows_of};
 ghost use Rattle.mdns_lives.specs.Since.{live_since_lent};
 ghost use Rattle.mdns_browse.specs.Given.{given_lent};
 ghost use Rattle.mdns_browse.specs.Services.{AreAscending, AreEach};
+ghost use Rattle.mdns_survey.specs.Chronicling.{all_of};
 ghost use Rattle.mdns_page.specs.Captures.{facts_lent};
+ghost use Rattle.mdns_page.specs.Collected.{rows_lent};
 ghost use Rattle.mdns_page.specs.KeptRecords.{is_drawn, looked_up};
 ghost use Rattle.mdns_page.specs.Page.{WritesPage, facts_of, given_of_since, live_at_end};
 
 use crate::about_heard::heard_rows;
 use crate::axis::{Axis, axis_of};
 use crate::captures::CaptureFacts;
+use crate::collector::{ComparisonRows, PageCollector, compared};
 use crate::document::{PageParts, push_page};
 use crate::kept_records::{TimelinePart, is_drawn, kept_rows, unless_large};
 use crate::live_section::push_live;
@@ -53,19 +56,21 @@ pub struct PageRequest<'a> {
 impl<'a> Question for PageRequest<'a> {
     ghost use Rattle.mdns_survey.specs.Chronicling.{EachChronicled};
     ghost use Rattle.mdns_survey.specs.Filter.{filter_of};
+    ghost use Rattle.mdns_page.specs.Collected.{AreGathered};
     ghost use Rattle.mdns_page.specs.Page.{asked_page};
 
-    type Collector = EachChronicling;
+    type Collector = PageCollector;
 
     ghost asked = { λ page. asked_page (map string_bytes page.names.now) page.about page.as_of };
 
     // A name for each capture.
     ghost Fits = { λ page count. length page.names.now ≡ count };
 
-    ghost Heard = { λ page. EachChronicled (filter_of page.as_of) };
+    ghost Heard = { λ page now packets outcomes. EachChronicled (filter_of page.as_of) now.lives packets outcomes
+        × AreGathered (map string_bytes page.names.now) now.messages packets outcomes };
 
-    fn collector(&self, alloc: Global) -> Result<EachChronicling, Want> {
-        EachChronicling::new(alloc, self.as_of.filter())
+    fn collector(&self, alloc: Global) -> Result<PageCollector, Want> {
+        PageCollector::new(alloc, self.as_of.filter(), self.names)
     }
 }
 
@@ -73,15 +78,19 @@ impl<'a> TextAnswer for PageRequest<'a> {
     fn text(
         self,
         alloc: Global,
-        collector: EachChronicling,
+        collector: PageCollector,
         readings: &[Reading],
     ) -> Result<String, ReportFault> {
+        let PageCollector { lives, messages } = collector;
         let axis = axis_of(self.as_of, readings);
-        if let Some(newest) = newest_after(&collector.all, axis.end) {
+        if let Some(newest) = newest_after(lives.all(), axis.end) {
             return Err(ReportFault::Early { newest });
         }
-        let about = self.about.as_slice();
-        match page_of(alloc, self.names, &collector, readings, axis, about) {
+        let rows = match compared(alloc, self.names, messages, readings) {
+            Ok(rows) => rows,
+            Err(Want) => return Err(ReportFault::Memory),
+        };
+        match page_of(alloc, &self, &lives, &rows, readings, axis) {
             Ok(text) => Ok(text),
             Err(Want) => Err(ReportFault::Memory),
         }
@@ -91,20 +100,23 @@ impl<'a> TextAnswer for PageRequest<'a> {
 // Writes the page by hearings none of which is later than the end of the axis.
 fn page_of(
     alloc: Global,
-    names: &[String],
+    page: &PageRequest<'_>,
     chronicled: &EachChronicling,
+    comparison: &ComparisonRows,
     readings: &[Reading],
     axis: Axis,
-    about: &[Subject],
 ) -> Result<String, Want>
-    requires { NoneLater chronicled.now.all.newest axis.end }
+    requires { NoneLater (all_of chronicled.now).newest axis.end }
     ensures { IfOk result (λ text. (each : List (List Hearing)) (heard : List Hearing)
-        → AreEach Chronicles chronicled.now.captures.items each → Chronicles chronicled.now.all heard
+        → AreEach Chronicles chronicled.now.captures.items each → Chronicles (all_of chronicled.now) heard
         → ((hearing : Hearing) → Contains heard hearing → hearing.moment.nanos ≤ axis.end.nanos)
-        → WritesPage about.now (map string_bytes names.now) readings.now each heard axis (string_bytes text)) }
+        → WritesPage page.now.about (map string_bytes page.now.names.now) readings.now (rows_lent comparison.now) each heard axis
+        (string_bytes text)) }
 {
-    let heard = heard_rows(alloc, chronicled.all.walk(), about)?;
-    let kept = kept_rows(alloc, chronicled.all.walk(), heard.as_slice(), about)?;
+    let about = page.about.as_slice();
+    let all = chronicled.all();
+    let heard = heard_rows(alloc, all.walk(), about)?;
+    let kept = kept_rows(alloc, all.walk(), heard.as_slice(), about)?;
     let records = kept.as_slice();
     let chronicles = chronicled.captures.as_slice();
     let rows = counted_rows(alloc, TimelinePart::Instances, records, records, chronicles)?;
@@ -112,22 +124,16 @@ fn page_of(
     let addresses = counted_rows(alloc, TimelinePart::Addresses, few, records, chronicles)?;
     let others = counted_rows(alloc, TimelinePart::Names, few, records, chronicles)?;
     let opened = is_open(rows.len(), addresses.len(), others.len());
-    let live = live_of(
-        alloc,
-        &chronicled.all,
-        heard.as_slice(),
-        axis,
-        opened,
-        about,
-    )?;
+    let live = live_of(alloc, all, heard.as_slice(), axis, opened, about)?;
     let mut skipped = String::new(alloc);
     push_skipped(&mut skipped, readings)?;
     let mut text = String::new(alloc);
-    let captures = facts_of(alloc, names, readings)?;
+    let captures = facts_of(alloc, page.names, readings)?;
     let parts = PageParts {
         axis,
         about,
         captures: captures.as_slice(),
+        comparison: comparison.lent(),
         lost: lost_packets(readings),
         rows: rows.as_slice(),
         addresses: addresses.as_slice(),

@@ -20,7 +20,7 @@ returns c =
     c.lanes_for-lanes.ensures ∙ ap (λ (large : Bool). lanes_for large (length parts.captures.now)) c.is_large.ensures
     ∙ ap (λ (n : ℕ). lanes_for (is_large n) (length parts.captures.now)) (sym (length-map parts.rows.now counted_lent))
     ∙ ap (λ (n : ℕ). lanes_for (is_large (length shown.rows)) n) (sym (length-map parts.captures.now facts_lent)) in
-    parts8 (string_bytes c.args.to.now) (head axis lanes shown.captures) _ _ (captures_text isolated axis shown.captures)
+    parts8 (string_bytes c.args.to.now) (head axis lanes shown.captures) _ _ (captures_text isolated axis shown.captures shown.comparison)
     (timeline isolated axis lanes shown.rows shown.addresses shown.names) shown.live shown.skipped (codes "</main></body></html>\n") _ _ _ _ _ _ _ _
     (c.in_ok-push_head.ensures ∙ ap (λ (n : ℕ). string_bytes c.args.to.now ++ head axis n shown.captures) is)
     c.in_ok-push_lead.ensures c.in_ok-push_str.ensures.bytes c.in_ok-push_captures.ensures

@@ -9,14 +9,16 @@ use Rattle.mdns_join.specs.declared.latest.Latest.{Latest}
 use Rattle.mdns_lives.specs.Chronicle.{Accounts, Chronicles}
 use Rattle.mdns_lives.specs.LentLives.{row_lent}
 use Rattle.mdns_lives.specs.declared.life.Life.{Life}
+use Rattle.mdns_browse.specs.declared.about.Subject.{Subject}
 use Rattle.mdns_browse.specs.Services.{AreEach}
-use Rattle.mdns_page.specs.Captures.{facts_lent}
+use Rattle.mdns_page.specs.Captures.{comparison_lent, facts_lent}
+use Rattle.mdns_page.specs.Collected.{rows_lent}
 use Rattle.mdns_page.specs.OtherRows.{is_large}
 use Rattle.mdns_page.specs.Html.{isolated}
 use Rattle.mdns_page.specs.KeptRecords.{AreRows, is_kept, is_of, kept_of, looked_up}
 use Rattle.mdns_page.specs.SkippedSection.{skipped_text}
 use Rattle.mdns_page.specs.Document.{Shown, page}
-use Rattle.mdns_page.specs.Page.{live_at_end}
+use Rattle.mdns_page.specs.Page.{WritesPage, live_at_end}
 use Rattle.mdns_page.specs.Timeline.{Row, counted_lent, is_open}
 use Rattle.mdns_page.specs.declared.kept_records.TimelinePart.{TimelinePart}
 use Rattle.mdns_page.specs.declared.kept_records.TimelinePart.TheVariants.{Addresses, Instances, Names}
@@ -24,9 +26,10 @@ use Rattle.mdns_page.proofs.KeptLemmas.{few-sorted, looked_up-sorted, some-sorte
 use Rattle.mdns_page.proofs.page.page_of.Goals as goal
 
 pub returns : goal.returns
-returns c = λ each heard chronicled all latest.
+returns c = λ each heard chronicled held latest.
+    let all = subst (λ (all : Accounts). Chronicles all heard) (sym c.all-all.ensures) held in
     let axis = c.args.axis in
-    let about = c.args.about.now in
+    let about = c.as_slice-about.result.now in
     let walk = c.walk-2.result in
     let lives = c.walk-2.ensures.all heard all in
     let rows = map counted_lent c.in_ok-rows.rows.items in
@@ -75,6 +78,7 @@ returns c = λ each heard chronicled all latest.
       axis = axis;
       about = about;
       captures = map facts_lent c.as_slice-3.result.now;
+      comparison = comparison_lent c.lent.result;
       lost = c.lost_packets.result;
       rows = map counted_lent c.as_slice-4.result.now;
       addresses = map counted_lent c.as_slice-5.result.now;
@@ -82,7 +86,8 @@ returns c = λ each heard chronicled all latest.
       live = c.as_str.result.now;
       skipped = c.as_str-2.result.now;
     } in
-    record {
+    subst (λ (subjects : List Subject). WritesPage subjects (map string_bytes c.args.page.now.names.now) c.args.readings.now
+    (rows_lent c.args.comparison.now) each heard axis (string_bytes c.push_page.new.to)) c.as_slice-about.ensures (record {
       latest = latest;
       rows = walk;
       lives = lives;
@@ -109,6 +114,7 @@ returns c = λ each heard chronicled all latest.
             axis = axis;
             about = about;
             captures = (ap (map facts_lent) c.as_slice-3.ensures.value ∙ c.in_ok-captures.ensures) i;
+            comparison = c.lent.ensures i;
             lost = c.lost_packets.ensures.value i;
             rows = ap (map counted_lent) c.as_slice-4.ensures.value i;
             addresses = ap (map counted_lent) c.as_slice-5.ensures.value i;
@@ -117,4 +123,4 @@ returns c = λ each heard chronicled all latest.
             skipped = (c.as_str-2.ensures.value ∙ c.in_ok-push_skipped.ensures
                 ∙ ap (λ (none : List ℕ). none ++ skipped_text c.args.readings.now) c.new-skipped.ensures.bytes) i;
           });
-    }
+    })

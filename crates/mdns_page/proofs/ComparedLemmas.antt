@@ -1,0 +1,139 @@
+-- Captures compare in one way, and what a collector gathers of them.
+use Rattle.std.proofs.Common.{◌≡◌, ◌∙◌, ℕ, suc, subst, sym, inl, inr, List, [], ◌∷◌, ◌++◌, ap, Option, None, Some}
+use Rattle.mdns_capture.specs.Savefile.{PacketAt}
+use Rattle.mdns_capture.proofs.SourceLemmas.{source_is_there}
+use Rattle.mdns_survey.proofs.OutcomeLemmas.{OnePayload}
+use Rattle.mdns_survey.specs.Outcomes.{Outcome, heard, refused, skipped}
+use Rattle.mdns_listeners.specs.Heard.{AreHeardIn, HeardRow, Told, message_bytes}
+use Rattle.mdns_listeners.specs.Listeners.{AreRowsOf, CapturesTell, Gathered, Gathers, IsHeardBy, TellAll, Tells, listener_at, spans_by}
+use Rattle.mdns_listeners.specs.Numbers.{listener_rows}
+use Rattle.mdns_listeners.specs.Together.{pairs_together}
+use Rattle.mdns_listeners.specs.declared.listeners.MessageCollector.{MessageCollector}
+use Rattle.mdns_page.specs.Captures.{Comparison}
+use Rattle.std.specs.declared.result.Result.{Result}
+use Rattle.std.specs.declared.result.Result.TheVariants.{Ok, Err}
+use Rattle.std.specs.Prelude.{IfOk}
+use Rattle.mdns_listeners.specs.Groups.{Grouped}
+use Rattle.mdns_listeners.specs.Numbers.{FileSpans}
+use Rattle.mdns_listeners.specs.declared.listeners.HeardByListeners.{HeardByListeners}
+use Rattle.mdns_listeners.specs.declared.numbers.ListenerRow.{ListenerRow}
+use Rattle.mdns_listeners.specs.declared.pairs.PairRow.{PairRow}
+use Rattle.mdns_page.specs.Collected.{AreCompared, AreGathered, Compares, GathersIf, GoesOn, each_apart}
+
+-- ---- one comparison
+
+abbrev pub OneListOfRows : Type 0
+OneListOfRows = (all : List Told) (rows others : List HeardRow) → AreHeardIn all rows → AreHeardIn all others → rows ≡ others
+
+module _ (payload : OnePayload) where
+  one-tells : (listener : ℕ) (packet : PacketAt) (outcome : Outcome) (told other : List Told) → Tells listener packet outcome told
+      → Tells listener packet outcome other → told ≡ other
+  one-tells listener packet skipped told other tells too = tells ∙ sym too
+  one-tells listener packet refused told other tells too = tells ∙ sym too
+  one-tells listener packet (heard []) told other tells too = tells ∙ sym too
+  one-tells listener packet (heard (hearing ∷ hearings)) told other (source, (bytes, sent, carries, is))
+      (origin, (again, sent_too, carries_too, is_too)) =
+      let one_source = sym (source_is_there packet.frame source sent) ∙ source_is_there packet.frame origin sent_too in
+      let one_payload = payload packet.frame bytes again carries carries_too in
+      is ∙ (λ i. record {
+        message = message_bytes (one_source i) (one_payload i);
+        at = record { listener = listener; moment = packet.moment };
+      } ∷ []) ∙ sym is_too
+
+  one-tell_all : (listener : ℕ) (packets : List PacketAt) (outcomes : List Outcome) (told other : List Told)
+      → TellAll listener packets outcomes told → TellAll listener packets outcomes other → told ≡ other
+  one-tell_all listener [] [] told other tell too = tell ∙ sym too
+  one-tell_all listener [] (o ∷ os) told other tell too = absurd tell
+  one-tell_all listener (p ∷ ps) [] told other tell too = absurd tell
+  one-tell_all listener (p ∷ ps) (o ∷ os) told other (one, (rest, is, here, after)) (first, (others, is_too, here_too, after_too)) =
+      let head = one-tells listener p o one first here here_too in
+      let tail = one-tell_all listener ps os rest others after after_too in
+      is ∙ (λ i. head i ++ tail i) ∙ sym is_too
+
+  one-captures_tell : (of : List ℕ) (place : ℕ) (packets : List (List PacketAt)) (outcomes : List (List Outcome))
+      (told other : List Told) → CapturesTell of place packets outcomes told → CapturesTell of place packets outcomes other
+      → told ≡ other
+  one-captures_tell of place [] [] told other tell too = tell ∙ sym too
+  one-captures_tell of place [] (o ∷ os) told other tell too = absurd tell
+  one-captures_tell of place (p ∷ ps) [] told other tell too = absurd tell
+  one-captures_tell of place (p ∷ ps) (o ∷ os) told other (one, (rest, is, here, after))
+      (first, (others, is_too, here_too, after_too)) =
+      let head = one-tell_all (listener_at of place) p o one first here here_too in
+      let tail = one-captures_tell of (suc place) ps os rest others after after_too in
+      is ∙ (λ i. head i ++ tail i) ∙ sym is_too
+
+  pub one-comparison : OneListOfRows → (names : List (List ℕ)) (packets : List (List PacketAt)) (outcomes : List (List Outcome))
+      (a b : Comparison) → Compares names packets outcomes a → Compares names packets outcomes b → a ≡ b
+  one-comparison one names packets outcomes a b (inl none) (inl too) =
+      λ i. record { listeners = (none.1 ∙ sym too.1) i; pairs = (none.2 ∙ sym too.2) i }
+  one-comparison one names packets outcomes a b (inl (off, listeners, pairs)) (inr (on, some)) = absurd (cc)
+  one-comparison one names packets outcomes a b (inr (on, some)) (inl (off, listeners, pairs)) = absurd (cc)
+  one-comparison one names packets outcomes a b (inr some) (inr too) =
+      let groups = each_apart names in
+      let told = one-captures_tell groups.of 0 packets outcomes some.1.are_rows.told too.1.are_rows.told some.1.are_rows.tell
+      too.1.are_rows.tell in
+      let rows = one too.1.are_rows.told some.1.rows too.1.rows
+      (subst (λ (all : List Told). AreHeardIn all some.1.rows) told some.1.are_rows.are_heard) too.1.are_rows.are_heard in
+      λ i. record {
+        listeners = (some.1.listeners ∙ ap (λ rs. listener_rows rs (spans_by groups packets)) rows ∙ sym too.1.listeners) i;
+        pairs = (some.1.pairs ∙ ap (λ rs. pairs_together rs (spans_by groups packets)) rows ∙ sym too.1.pairs) i;
+      }
+
+-- the rows of what listeners heard
+pub compared-by : (names : List (List ℕ)) (groups : Grouped) (packets : List (List PacketAt)) (outcomes : List (List Outcome))
+    (heard_by : HeardByListeners) (messages : List HeardRow) (spans : List FileSpans) (listeners : List ListenerRow) (pairs : List PairRow)
+    → groups ≡ each_apart names → IsHeardBy groups packets outcomes heard_by → messages ≡ heard_by.messages.items
+    → spans ≡ heard_by.spans.items → listeners ≡ listener_rows messages spans → pairs ≡ pairs_together messages spans
+    → AreCompared names packets outcomes (record { listeners = listeners; pairs = pairs })
+compared-by names groups packets outcomes heard_by messages spans listeners pairs apart are same_messages same_spans listed paired =
+    let all_spans : spans ≡ spans_by (each_apart names) packets =
+    same_spans ∙ are.spans ∙ ap (λ (g : Grouped). spans_by g packets) apart in
+    record {
+      rows = heard_by.messages.items;
+      are_rows = subst (λ (g : Grouped). AreRowsOf g.of packets outcomes heard_by.messages.items) apart are.are_rows;
+      listeners = listed ∙ (λ i. listener_rows (same_messages i) (all_spans i));
+      pairs = paired ∙ (λ i. pairs_together (same_messages i) (all_spans i));
+    }
+
+-- ---- while captures are read
+
+-- two facts of a value that was returned
+pub ok-and : {T E : Type 0} (r : Result T E) (P Q R : T → Type 0) → ((x : T) → P x → Q x → R x) → IfOk r P → IfOk r Q → IfOk r R
+ok-and (Ok x) P Q R both one other = both x one other
+ok-and (Err fault) P Q R both one other = tt
+
+pub gathers-nothing : (names : List (List ℕ)) (messages : Option MessageCollector) → AreGathered names messages [] []
+    → GathersIf messages messages [] []
+gathers-nothing names None gathered = tt
+gathers-nothing names (Some messages) gathered =
+    subst (λ (of : List ℕ). Gathered of messages [] []) (sym gathered.1.listeners) gathered.1
+
+pub gathered-now : (names : List (List ℕ)) (begun now : Option MessageCollector) (packets : List (List PacketAt))
+    (outcomes : List (List Outcome)) → AreGathered names begun [] [] → GathersIf begun now packets outcomes
+    → AreGathered names now packets outcomes
+gathered-now names None None packets outcomes begins gathers = begins
+gathered-now names None (Some now) packets outcomes begins gathers = absurd gathers
+gathered-now names (Some begun) None packets outcomes begins gathers = absurd gathers
+gathered-now names (Some begun) (Some now) packets outcomes begins gathers =
+    (begins.0, subst (λ (of : List ℕ). Gathered of now packets outcomes) begins.1.listeners gathers)
+
+-- of a capture more, where none are gathered
+pub gathers-no_more : (begun old new : Option MessageCollector) (packets : List (List PacketAt)) (outcomes : List (List Outcome))
+    (next : List PacketAt) (come : List Outcome) → old ≡ None → new ≡ None → GathersIf begun old packets outcomes
+    → GathersIf begun new (packets ++ next ∷ []) (outcomes ++ come ∷ [])
+gathers-no_more None old new packets outcomes next come was is gathers =
+    subst (λ (m : Option MessageCollector). GathersIf None m (packets ++ next ∷ []) (outcomes ++ come ∷ [])) (sym is) tt
+gathers-no_more (Some begun) old new packets outcomes next come was is gathers =
+    absurd (subst (λ (m : Option MessageCollector). GathersIf (Some begun) m packets outcomes) was gathers)
+
+-- and where they are
+pub gathers-more : (begun old new : Option MessageCollector) (was heard_by now : MessageCollector) (packets : List (List PacketAt))
+    (outcomes : List (List Outcome)) (next : List PacketAt) (come : List Outcome) → old ≡ Some was → new ≡ Some now
+    → Gathers was heard_by next come → GoesOn heard_by now → GathersIf begun old packets outcomes
+    → GathersIf begun new (packets ++ next ∷ []) (outcomes ++ come ∷ [])
+gathers-more None old new was heard_by now packets outcomes next come before after took goes_on gathers =
+    absurd (subst (λ (m : Option MessageCollector). GathersIf None m packets outcomes) before gathers)
+gathers-more (Some begun) old new was heard_by now packets outcomes next come before after took goes_on gathers =
+    subst (λ (m : Option MessageCollector). GathersIf (Some begun) m (packets ++ next ∷ []) (outcomes ++ come ∷ [])) (sym after)
+    (goes_on begun.of.items was packets outcomes next come
+    (subst (λ (m : Option MessageCollector). GathersIf (Some begun) m packets outcomes) before gathers) took)
