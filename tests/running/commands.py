@@ -8,13 +8,13 @@ from tests import TOP
 PAGES = TOP / "trials/help"
 
 # A line of a flag: its name, what it takes, and its help.
-FLAG = re.compile(r"(?m)^      (--[a-z]+)( <[A-Z]+>)?  +(.*)$")
+FLAG = re.compile(r"(?m)^      (--[a-z-]+)( <[A-Z]+>)?  +(.*)$")
 
 # What each flag takes, and its help.
 FLAGS = {flag: (takes, text) for flag, takes, text in FLAG.findall((PAGES / "flags.txt").read_text())}
 
 # The flags that ask for a form, and each two of them.
-FORMS = tuple(flag for flag, (takes, _) in FLAGS.items() if not takes)
+FORMS = ("--json", "--pretty")
 TWO_FORMS = tuple(combinations(FORMS, 2))
 
 # What all pages say at their end.

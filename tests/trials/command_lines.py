@@ -140,6 +140,8 @@ REFUSALS = (
             "to pass '-x' as a value, use '-- -x'"),
     misused(["lives", "one.pcap", "--about"],
             "a value is required for '--about <WORD>' but none was supplied"),
+    *(misused(["records", *words, "one.pcap"], "a value is required for '--about <WORD>' but none was supplied")
+      for words in (["--about="], ["--about", ""], ["--about", "elm", "--about", "", "--printers"])),
     *(said([command, *words, "one.pcap"], f"{one} and {other} can't be given together")
       for command in ASKS for one, other in TWO_FORMS for words in ([one, other], [other, "--about=a", one])),
     misused(["records", "--version", "one.pcap"], "unexpected argument '--version' found", REPORT,
@@ -150,7 +152,7 @@ REFUSALS = (
             "to pass '-x' as a value, use '-- -x'"),
     *(said([command, "--at", "5", "--before", "5", "one.pcap"], "--at and --before can't be given together")
       for command in ANSWERS),
-    misused(["check", "-x.pcap"], "unexpected argument '-x' found", "check <FILE>...",
+    misused(["check", "-x.pcap"], "unexpected argument '-x' found", "check [OPTIONS] <FILE>...",
             "to pass '-x' as a value, use '-- -x'"),
     said(["records", b"\xff.pcap"], "an argument is not UTF-8 text"),
     said([b"\xff"], "an argument is not UTF-8 text"),

@@ -3,10 +3,11 @@
 What must come of each is known from README.md, the man page and docs/DECISIONS.md."""
 
 import shutil
+import subprocess
 
 from tests.captures.built import lay_out_small
 from tests.captures.vectors import lines
-from tests.running.runs import DAMAGED, REFUSED, WHOLE, Case, agrees, can_drop, refused, said
+from tests.running.runs import DAMAGED, PATIENCE, REFUSED, WHOLE, Case, agrees, can_drop, refused, said
 
 LINE = lines()["AT_100"] + "\n"
 LIFE = "a.local A 192.0.2.1 from 100.000000000 ttl 120 heard 100.000000000 until 220.000000000 live\n"
@@ -16,6 +17,27 @@ WRITE_FAILED = "mdnsmerge: write failed\n"
 
 def unwritten(words, out_to):
     return refused(words, WRITE_FAILED, out_to=out_to)
+
+
+# What `mdnswhy files` says of the files that can't be used.
+UNUSABLE = {
+    "missing.pcap": "cannot be opened: missing, not readable, or too many open (ulimit -n)",
+    "locked.pcap": "cannot be opened: missing, not readable, or too many open (ulimit -n)",
+    "text.pcap": "unknown format: not a capture of tcpdump",
+    "empty.pcap": "empty file: nothing was recorded",
+    "/dev/null": "empty file: nothing was recorded",
+}
+
+
+def left_out(*names):
+    """The error lines of files that are left out."""
+    return "".join(f"mdnsmerge: {name}: unusable {UNUSABLE[name]}\n" for name in names)
+
+
+def skipping(words, names, out="", err="", status=DAMAGED, **how):
+    """A run with `--skip-unusable` over files, of which those that can't be used are left out."""
+    without = [name for name in names if name in UNUSABLE]
+    return Case((*words, "--skip-unusable", *names), status, out, left_out(*without) + err, **how)
 
 
 FILES = (
@@ -65,6 +87,27 @@ FILES = (
          "mdnsmerge: cut.pcap: cut at 117\n" * 2),
 )
 
+# What can't be used is left out, with a line for each in the order of the words, and the answer is over the others.
+SKIPS = (
+    skipping(["records"], ["one.pcap"], LINE, status=WHOLE),
+    skipping(["records"], ["missing.pcap", "one.pcap", "text.pcap", "empty.pcap"], LINE),
+    skipping(["lives"], ["text.pcap", "cut.pcap", "/dev/null", "one.pcap"], LIFE, "mdnsmerge: cut.pcap: cut at 117\n"),
+    skipping(["check"], ["text.pcap", "cut.pcap", "missing.pcap", "one.pcap", "text.pcap"],
+             f"cut.pcap: {COUNTS} cut at 117\none.pcap: {COUNTS} whole\n"),
+    skipping(["records"], ["locked.pcap", "one.pcap"], LINE, is_nobody=True),
+    # The bytes that a pipe gave before are read, too.
+    skipping(["records"], ["/dev/stdin", "text.pcap"], LINE, standard_input="one.pcap"),
+    # Without any file nothing was heard.
+    *(skipping([command], ["missing.pcap", "text.pcap"]) for command in ("records", "types", "instances", "lives", "changes", "check")),
+    # What is a refusal otherwise stays one.
+    said(["records", "--skip-unusable", "text.pcap", "folder", "one.pcap"], "folder: read failed"),
+    skipping(["records", "--at", "99"], ["text.pcap", "one.pcap"], status=REFUSED,
+             err="mdnsmerge: the moment is earlier than the newest hearing, 100.000000000\n"),
+    *(skipping(["records"], ["text.pcap", "one.pcap"], err=WRITE_FAILED, status=REFUSED, out_to=to)
+      for to in ("closed", "full", "gone")),
+    *(Case(("records", "--skip-unusable", "text.pcap", "one.pcap"), DAMAGED, LINE, err_to=to) for to in ("closed", "full", "gone")),
+)
+
 STREAMS = (
     *(unwritten(words, to) for to in ("closed", "full", "gone")
       for words in (["records", "one.pcap"], ["lives", "one.pcap"], ["page", "one.pcap"], ["check", "one.pcap"],
@@ -75,7 +118,7 @@ STREAMS = (
     *(Case((), REFUSED, err_to=to) for to in ("closed", "full", "gone")),
 )
 
-CASES = (*FILES, *STREAMS)
+CASES = (*FILES, *SKIPS, *STREAMS)
 
 
 def lay_out(folder):
@@ -88,12 +131,23 @@ def lay_out(folder):
     (folder / "locked.pcap").chmod(0)
 
 
+def is_page_otherwise(program, folder):
+    """Whether a page of a capture and files that are left out is another than that of the capture alone."""
+    def page(*words):
+        return subprocess.run([program, "page", *words], cwd=folder, capture_output=True, timeout=PATIENCE).stdout
+
+    return page("--skip-unusable", "text.pcap", "one.pcap", "missing.pcap") != page("one.pcap")
+
+
 def try_refusals(program, folder):
     """Tries all cases on a program; answers how many failed."""
     lay_out(folder)
     is_droppable = can_drop(folder)
     tried = [case for case in CASES if is_droppable or not case.is_nobody]
     failed = sum(not agrees(case, program, folder) for case in tried)
+    if is_page_otherwise(program, folder):
+        failed += 1
+        print("mdnsmerge page --skip-unusable: the files that are left out change the page")
     skipped = f", {len(CASES) - len(tried)} skipped (no run as nobody)" if len(tried) < len(CASES) else ""
     print(f"{len(tried)} runs over files and streams, {failed} failed{skipped}")
     return failed

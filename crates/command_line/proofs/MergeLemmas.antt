@@ -1,7 +1,7 @@
 -- Lemmas on what the subcommands of `mdnsmerge` ask for.
 use Rattle.std.proofs.Common.{◌≡◌, ◌∙◌, ◌⊎◌, ap, ap₂, sym, subst, refl, inl, inr, codes, string_bytes, List, [], Option, Some, None}
 use Rattle.std.specs.Prelude.{IsSomeAnd}
-use Rattle.clap.specs.Words.{App, Row, Text, fault_of, first_of, subcommand_of}
+use Rattle.clap.specs.Words.{App, Row, Text, fault_of, first_of, one_of, subcommand_of}
 use Rattle.mdns_browse.specs.declared.report.Ask.{Ask}
 use Rattle.mdns_survey.specs.declared.request.AsOf.{AsOf}
 use Rattle.command_line.specs.declared.lists.Lists.{Lists}
@@ -13,10 +13,11 @@ use Rattle.command_line.specs.declared.option_fault.OptionFault.TheVariants as o
 use Rattle.command_line.specs.declared.words.WordsFault.{WordsFault}
 use Rattle.command_line.specs.declared.words.WordsFault.TheVariants.{Memory, Help, Refused}
 use Rattle.command_line.specs.declared.words.AskFault.TheVariants.{Words}
-use Rattle.command_line.specs.Line.{AsksWithLists, Flags, HasLists, HasOneForm, HasOptions, Matches}
+use Rattle.command_line.specs.Line.{AsksWithLists, Flags, HasLists, HasOneForm, HasOptions, IsFlag, Matches}
 use Rattle.command_line.specs.Faults.{IsRefusal, IsUnasked}
-use Rattle.command_line.specs.CommandLine.{AsksTask, AsksWhat, GivesAsOf, GivesBoth, GivesNoMoment, GivesTwo, IsRefusedFor, MakesTask}
-use Rattle.command_line.specs.CommandLine.{MakesWhat, at_flag, before_flag, both_given, form_flags, no_moment, task_of, tasks, what_of, whats}
+use Rattle.command_line.specs.CommandLine.{AsksJob, AsksWhat, GivesAsOf, GivesBoth, GivesNoMoment, GivesTwo, IsRefusedFor, MakesJob}
+use Rattle.command_line.specs.CommandLine.{MakesWhat, at_flag, before_flag, both_given, form_flags, job_of, no_moment, tasks, what_of}
+use Rattle.command_line.specs.CommandLine.{whats}
 use Rattle.command_line.specs.OptionFault.{MakesNone, MakesScope, option_fault_text, text_of}
 use Rattle.command_line.proofs.TableLemmas.{IsOneOf, Known, all-known, gives-two, one-asked}
 
@@ -43,21 +44,22 @@ as-of-asked rows flags options as_of has gives =
     subst (λ (at : Option Text). GivesAsOf at (first_of (codes "before") rows) as_of) has.1
     (subst (λ (before : Option Text). GivesAsOf (text_of options.at) before as_of) has.2 gives)
 
-pub task-asked : (asked : (Asks × Options) × Lists) (scope : Scope) → MakesScope asked.0.1 asked.1 scope
-    → (name : Text) (rows : List Row) → AsksAsked name rows asked → AsksTask name rows (task_of asked.0.0 scope)
-task-asked asked scope gives name rows is_asked =
-    one-asked MakesTask (task_of asked.0.0 scope) tasks name rows asked.0 makes is_asked.0
+pub job-asked : (asked : (Asks × Options) × Lists) (scope : Scope) → MakesScope asked.0.1 asked.1 scope
+    → (name : Text) (rows : List Row) → AsksAsked name rows asked → AsksJob name rows (job_of asked.0.0 scope)
+job-asked asked scope gives name rows is_asked =
+    one-asked MakesJob (job_of asked.0.0 scope) tasks name rows asked.0 makes is_asked.0
   where
     makes : (flags : Flags) (own : Asks) → asked.0.0 ≡ own → HasOptions flags rows asked.0.1
-        → MakesTask flags rows own (task_of asked.0.0 scope)
+        → MakesJob flags rows own (job_of asked.0.0 scope)
     makes flags own same has = (
       scope,
       (
         subst (HasOneForm flags rows) gives.0 has.3,
         as-of-asked rows flags asked.0.1 scope.as_of has gives.1,
         subst (HasLists rows) (sym gives.2) is_asked.1,
+        subst (IsFlag (one_of (codes "skip-unusable") rows)) (sym gives.3) has.4,
       ),
-      ap (λ (asks : Asks). task_of asks scope) same,
+      ap (λ (asks : Asks). job_of asks scope) same,
     )
 
 -- why options make no task

@@ -52,7 +52,7 @@ unread-told G only (Some t) e none value (Some moment) is =
 -- ---- what the values give
 
 -- a flag is given or it isn't
-flag-given : (flag : Option Text) → ((given : Bool) → IsFlag flag given → ⊥) → ⊥
+pub flag-given : (flag : Option Text) → ((given : Bool) → IsFlag flag given → ⊥) → ⊥
 flag-given None nothing = nothing false (λ same. absurd cc)
 flag-given (Some text) nothing = go (bytes_eq text (codes "true")) refl
   where
@@ -69,6 +69,7 @@ form-asked (takes.Nothing own) value nothing = flag-given value go
     go : (given : Bool) → IsFlag value given → ⊥
     go true is = nothing (Some own) (is, refl)
     go false is = nothing None is
+form-asked takes.Switch value nothing = nothing None tt
 form-asked takes.Seconds value nothing = nothing None tt
 form-asked takes.Moment value nothing = nothing None tt
 form-asked takes.Words value nothing = nothing None tt

@@ -33,7 +33,7 @@ use Rattle.command_line.specs.declared.line.Subcommand.{Subcommand}
 use Rattle.command_line.specs.declared.line.Takes.{Takes}
 use Rattle.command_line.specs.declared.line.Takes.TheVariants as takes
 use Rattle.command_line.specs.declared.options.Options.{Options}
-use Rattle.command_line.proofs.OptionLemmas.{form-told, lent}
+use Rattle.command_line.proofs.OptionLemmas.{flag-given, form-told, lent}
 use Rattle.command_line.proofs.WalkKeepsLemmas.{Each, each-find, in-level, split}
 use Rattle.command_line.proofs.SoundLemmas.{AreCounted, AreSound, all-counted, file-other, flags-keep, number}
 
@@ -114,6 +114,7 @@ seconds-told counted (flag ∷ flags) rows are sound nothing =
         → ((at : Option Moment) → SecondsBy takes (IsMomentOf (one_of flag.0 rows) at) (HasSeconds flags rows at) → ⊥) → ⊥
     go takes.Seconds is rest none = rows-told counted flag.0 (is refl) rows sound none
     go (takes.Nothing form) is rest none = rest none
+    go takes.Switch is rest none = rest none
     go takes.Moment is rest none = rest none
     go takes.Words is rest none = rest none
 
@@ -131,12 +132,14 @@ options-told : (counted : Text → Bool) (flags : Flags) (rows : List Row) → A
     → ((options : Options) → HasOptions flags rows options → ⊥) → ⊥
 options-told counted flags rows are sound nothing =
     seconds-told counted flags rows are sound (λ seconds seconds_are.
+    flag-given (one_of (codes "skip-unusable") rows) (λ skips skips_are.
     form-told flags rows (λ form form_is. nothing (record {
       seconds = seconds;
       at = lent_option (first_of (codes "at") rows);
       before = lent_option (first_of (codes "before") rows);
       form = form;
-    }) (seconds_are, lent-text (first_of (codes "at") rows), lent-text (first_of (codes "before") rows), form_is)))
+      skip_unusable = skips;
+    }) (seconds_are, lent-text (first_of (codes "at") rows), lent-text (first_of (codes "before") rows), form_is, skips_are))))
 
 -- ---- the subcommand that words without a fault reach
 

@@ -105,6 +105,7 @@ KeepsSound counted a = Keeps (AreSound counted) false a × KeepsDefault (AreSoun
 flag-keeps : (counted : Text → Bool) (name : Text) (takes : Takes) → is_sound counted name takes ≡ true
     → KeepsSound counted (flag_built name takes)
 flag-keeps counted name (takes.Nothing form) sound = grind (arith, values-keep, others-add, without-keeps)
+flag-keeps counted name takes.Switch sound = grind (arith, values-keep, others-add, without-keeps)
 flag-keeps counted name takes.Moment sound = grind (arith, values-keep, others-add, without-keeps, undefaulted)
 flag-keeps counted name takes.Words sound = grind (arith, values-keep, others-add, undefaulted)
 flag-keeps counted name takes.Seconds sound = grind (arith, split, accepted, values-keep, no, each-append, without-keeps, undefaulted)
@@ -126,6 +127,7 @@ flags-keep counted other (flag ∷ flags) sound =
     with-flag : (name : Text) (takes : Takes) (rest : List Rule) → is_sound counted name takes ≡ true
         → Each (KeepsSound counted) (filled_from 1 rest) → Each (KeepsSound counted) (filled_from 1 (flag_rule name takes ∷ rest))
     with-flag name (takes.Nothing form) rest sound keep = (flag-keeps counted name (takes.Nothing form) sound, keep)
+    with-flag name takes.Switch rest sound keep = (flag-keeps counted name takes.Switch sound, keep)
     with-flag name takes.Seconds rest sound keep = (flag-keeps counted name takes.Seconds sound, keep)
     with-flag name takes.Moment rest sound keep = (flag-keeps counted name takes.Moment sound, keep)
     with-flag name takes.Words rest sound keep = (flag-keeps counted name takes.Words sound, keep)
@@ -146,6 +148,7 @@ file-other all (flag ∷ flags) sound =
         → ((takes_seconds takes && bytes_eq name (codes "FILE")) || is_counted flags (codes "FILE")) ≡ false
     go name takes.Seconds is rest = rw (unnamed _ is, rest) refl
     go name (takes.Nothing form) is rest = rest
+    go name takes.Switch is rest = rest
     go name takes.Moment is rest = rest
     go name takes.Words is rest = rest
 

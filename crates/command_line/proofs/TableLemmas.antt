@@ -47,6 +47,7 @@ forms-more (flag ∷ flags) more rows both (inr gives) = inr (forms-more flags m
 
 is-given : (own : Takes) (name : Text) (rows : List Row) (form : Form) → AsksForm own (one_of name rows) (Some form) → IsGiven own name rows
 is-given (takes.Nothing own) name rows form asks = asks.0
+is-given takes.Switch name rows form asks = absurd asks
 is-given takes.Seconds name rows form asks = absurd asks
 is-given takes.Moment name rows form asks = absurd asks
 is-given takes.Words name rows form asks = absurd asks
@@ -95,6 +96,8 @@ from-forms (flag ∷ flags) rows both gives = go flag.1 gives (from-forms flags 
         → (GivesForms flags rows both → GivesForms (from_forms flags) rows both)
         → GivesForms (unless_form own ((flag.0, own) ∷ flags) (from_forms flags)) rows both
     go (takes.Nothing form) here rest = here
+    go takes.Switch (inl here) rest = absurd here.1.1
+    go takes.Switch (inr more) rest = rest more
     go takes.Seconds (inl here) rest = absurd here.1.1
     go takes.Seconds (inr more) rest = rest more
     go takes.Moment (inl here) rest = absurd here.1.1

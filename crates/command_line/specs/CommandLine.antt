@@ -2,7 +2,7 @@
 use Rattle.std.specs.Prelude.{◌≡◌, ◌⊎◌, ◌&&◌, ◌++◌, ◌∷◌, Bool, List, Option, Some, None, IsSomeAnd, codes, map}
 use Rattle.std.specs.Prelude.{ℕ, if◌then◌else◌, nat_le, slice_index_or, string_bytes, true, false, []}
 use Rattle.std.specs.List.{list_all}
-use Rattle.clap.specs.Words.{App, Row, Text, fault_of, first_of, subcommand_of}
+use Rattle.clap.specs.Words.{App, Row, Text, fault_of, first_of, one_of, subcommand_of}
 use Rattle.mdns_capture.specs.declared.moment.Moment.{Moment}
 use Rattle.mdns_lives.specs.declared.life.Which.TheVariants as which
 use Rattle.mdns_browse.specs.declared.report.Ask.{Ask}
@@ -26,9 +26,10 @@ use Rattle.command_line.specs.declared.mdnsmerge.Scope.{Scope}
 use Rattle.command_line.specs.declared.words.WordsFault.TheVariants.{Refused}
 use Rattle.command_line.specs.declared.words.AskFault.{AskFault}
 use Rattle.command_line.specs.declared.words.AskFault.TheVariants.{Words}
+use Rattle.command_line.specs.declared.words.Job.{Job}
 use Rattle.command_line.specs.declared.words.Task.{Task}
 use Rattle.command_line.specs.declared.words.Task.TheVariants.{Survey, Page}
-use Rattle.command_line.specs.Line.{AsksOneOf, Flags, HasForm, HasLists, HasSeconds, IsGiven, Table, line_with, words_of}
+use Rattle.command_line.specs.Line.{AsksOneOf, Flags, HasForm, HasLists, HasSeconds, IsFlag, IsGiven, Table, line_with, words_of}
 use Rattle.command_line.specs.Moments.{IsMomentText}
 
 -- ---- the flags
@@ -42,12 +43,19 @@ before_flag = (codes "before", takes.Moment)
 abbrev pub about_flag : Text × Takes
 about_flag = (codes "about", takes.Words)
 
+abbrev pub printers_flag : Text × Takes
+printers_flag = (codes "printers", takes.Switch)
+
 abbrev pub listener_flag : Text × Takes
 listener_flag = (codes "listener", takes.Words)
 
+-- the flag that leaves out files that can't be used
+abbrev pub skip_flag : Text × Takes
+skip_flag = (codes "skip-unusable", takes.Switch)
+
 -- the flags of the words that an answer is about
 abbrev pub word_flags : Flags
-word_flags = about_flag ∷ []
+word_flags = about_flag ∷ printers_flag ∷ []
 
 -- the flags that ask for the forms that every output has
 abbrev pub common_forms : Flags
@@ -66,11 +74,11 @@ told_flags = (codes "at", takes.Seconds) ∷ []
 
 -- the flags of what is written in a form, as of a moment
 abbrev pub report_flags : Flags
-report_flags = at_flag ∷ before_flag ∷ (word_flags ++ form_flags)
+report_flags = at_flag ∷ before_flag ∷ (word_flags ++ skip_flag ∷ form_flags)
 
 -- the flags of what has one form, as of a moment
 abbrev pub page_flags : Flags
-page_flags = at_flag ∷ before_flag ∷ word_flags
+page_flags = at_flag ∷ before_flag ∷ (word_flags ++ skip_flag ∷ [])
 
 -- the flags of the hearings; those of the other traces are `form_flags`, and those of the files `common_forms`
 abbrev pub hearings_flags : Flags
@@ -100,7 +108,7 @@ tasks = map (λ row. (row.0, report_flags, asks.Report row.1)) reports
     ++ (codes "lives", report_flags, asks.Lives which.All)
     ∷ (codes "changes", report_flags, asks.Lives which.Changes)
     ∷ (codes "page", page_flags, asks.Page)
-    ∷ (codes "check", [], asks.Check) ∷ []
+    ∷ (codes "check", skip_flag ∷ [], asks.Check) ∷ []
 
 -- the whole command line of `mdnsmerge`
 abbrev pub command_line_with_past : App
@@ -129,11 +137,12 @@ GivesAsOf at before Newest = (at ≡ None) × (before ≡ None)
 GivesAsOf at before (At moment) = Names at moment × (before ≡ None)
 GivesAsOf at before (Before moment) = (at ≡ None) × Names before moment
 
--- the form, the moment and the words that these flags give
+-- the form, the moment and the words that these flags give, and whether files that can't be used are left out
 abbrev pub GivesScope : Flags → List Row → Scope → Type 0
 GivesScope flags rows scope = HasForm flags rows scope.form
     × GivesAsOf (first_of (codes "at") rows) (first_of (codes "before") rows) scope.as_of
     × HasLists rows scope.lists
+    × IsFlag (one_of (codes "skip-unusable") rows) scope.skip_unusable
 
 -- what a subcommand asks for, as the options say
 abbrev pub task_of : Asks → Scope → Task
@@ -144,13 +153,16 @@ task_of (asks.Lives which) scope =
 task_of asks.Page scope = Page scope.as_of scope.lists.about
 task_of asks.Check scope = Survey request.Check
 
--- what a subcommand asks for and what its flags give make the task
-abbrev pub MakesTask : Flags → List Row → Asks → Task → Type 0
-MakesTask flags rows own task = (scope : Scope) × GivesScope flags rows scope × (task ≡ task_of own scope)
+abbrev pub job_of : Asks → Scope → Job
+job_of own scope = record { task = task_of own scope; skip_unusable = scope.skip_unusable }
+
+-- what a subcommand asks for and what its flags give make the job
+abbrev pub MakesJob : Flags → List Row → Asks → Job → Type 0
+MakesJob flags rows own job = (scope : Scope) × GivesScope flags rows scope × (job ≡ job_of own scope)
 
 -- a subcommand with these matches asks for this
-abbrev pub AsksTask : Text → List Row → Task → Type 0
-AsksTask = AsksOneOf MakesTask tasks
+abbrev pub AsksJob : Text → List Row → Job → Type 0
+AsksJob = AsksOneOf MakesJob tasks
 
 -- clap finds no fault in the words, but they are refused with this line, since the matches are such
 abbrev pub IsRefusedFor : (List Row → Text → Type 0) → App → List Text → AskFault → Type 0

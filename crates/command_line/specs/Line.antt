@@ -26,9 +26,13 @@ use Rattle.command_line.specs.declared.lists.Lists.{Lists}
 use Rattle.mdns_browse.specs.declared.about.Subject.{Subject}
 use Rattle.command_line.specs.declared.words.Asked.{Asked}
 
--- `--NAME`; or `--NAME SECONDS`, a number of 32 bits; or `--NAME MOMENT`, any text; or `--NAME WORD`, any text, repeatedly
+-- `--NAME`; or `--NAME SECONDS`, a number of 32 bits; or `--NAME MOMENT`, any text; or `--NAME WORD`, any but the empty one, repeatedly
 abbrev pub flag_rule : Text → Takes → Rule
 flag_rule name (takes.Nothing form) = record (new_rule name) {
+  long = Some name;
+  action = Some action.SetTrue;
+}
+flag_rule name takes.Switch = record (new_rule name) {
   long = Some name;
   action = Some action.SetTrue;
 }
@@ -45,6 +49,7 @@ flag_rule name takes.Words = record (new_rule name) {
   long = Some name;
   action = Some action.Append;
   value_names = 1;
+  parser = Some parser.NonEmptyString;
 }
 
 -- `FILE...`, one or more
@@ -158,6 +163,7 @@ IsFlag flag false = flag ≢ Some (codes "true")
 
 abbrev pub IsGiven : Takes → Text → List Row → Type 0
 IsGiven (takes.Nothing form) name rows = IsFlag (one_of name rows) true
+IsGiven takes.Switch name rows = IsFlag (one_of name rows) true
 IsGiven other name rows = first_of name rows ≢ None
 
 -- the form that a flag with this value asks for; none where it isn't given, or takes a value
@@ -202,6 +208,7 @@ HasOptions flags rows options = HasSeconds flags rows options.seconds
     × HasText (codes "at") rows options.at
     × HasText (codes "before") rows options.before
     × HasOneForm flags rows options.form
+    × IsFlag (one_of (codes "skip-unusable") rows) options.skip_unusable
 
 -- a subcommand of the table has this name and asks for this, with these options
 abbrev pub AsksIn : {T : Type 0} → List (Subcommand T) → Text → List Row → T × Options → Type 0
@@ -223,9 +230,20 @@ words_of name rows = unwrap_or (all_of name rows) []
 abbrev pub texts_of : List Subject → List Text
 texts_of = map (λ subject. string_bytes subject.text)
 
--- The words of the options that can be repeated.
+-- the service types of printers: IPP, IPP over TLS, LPD, and raw data to port 9100
+abbrev pub printer_types : List Text
+printer_types = codes "_ipp._tcp" ∷ codes "_ipps._tcp" ∷ codes "_printer._tcp" ∷ codes "_pdl-datastream._tcp" ∷ []
+
+-- these words, where `--printers` is given, and else none
+abbrev pub HasPrinters : List Row → List Text → Type 0
+HasPrinters rows words = (IsFlag (one_of (codes "printers") rows) true × (words ≡ printer_types))
+    ⊎ (IsFlag (one_of (codes "printers") rows) false × (words ≡ []))
+
+-- The words of the options that can be repeated. Those of `--printers` are added to those of `--about`.
 pub record HasLists (rows : List Row) (lists : Lists) : Type 0 where
-  pub about : texts_of lists.about ≡ words_of (codes "about") rows
+  pub printers : List Text
+  pub printers_are : HasPrinters rows printers
+  pub about : texts_of lists.about ≡ words_of (codes "about") rows ++ printers
   pub listeners : map string_bytes lists.listeners.items ≡ words_of (codes "listener") rows
 
 -- a subcommand with these matches asks for the first of two; the second is the matches, or the words of such options

@@ -21,6 +21,7 @@ text_of = option_map (λ t. t.now)
 abbrev pub MakesScope : Options → Lists → Scope → Type 0
 MakesScope options lists scope = (options.form ≡ Ok scope.form)
     × GivesAsOf (text_of options.at) (text_of options.before) scope.as_of × (scope.lists ≡ lists)
+    × (scope.skip_unusable ≡ options.skip_unusable)
 
 -- this text is given by the option of this name, and by no other
 abbrev pub IsAlone : Text → Text → Options → Type 0

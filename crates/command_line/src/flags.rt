@@ -32,12 +32,36 @@ pub(crate) const ABOUT: Flag = Flag {
     help: "Only what is about a name, word or address; repeatable",
 };
 
+/// The same as `--about` with each of `PRINTER_TYPES`.
+pub(crate) const PRINTERS: Flag = Flag {
+    name: "printers",
+    takes: Takes::Switch,
+    value: "",
+    help: "Only what is about printers, by IPP, LPD or port 9100",
+};
+
+/// The service types of printers: IPP, IPP over TLS, LPD, and raw data to port 9100.
+pub(crate) const PRINTER_TYPES: &[&str] = &[
+    "_ipp._tcp",
+    "_ipps._tcp",
+    "_printer._tcp",
+    "_pdl-datastream._tcp",
+];
+
 /// The files whose names begin so are of one listener.
 pub(crate) const LISTENER: Flag = Flag {
     name: "listener",
     takes: Takes::Words,
     value: "PREFIX",
     help: "Files named PREFIX... are one listener; repeatable",
+};
+
+/// Without it one file that can't be used is a refusal.
+pub(crate) const SKIP_UNUSABLE: Flag = Flag {
+    name: "skip-unusable",
+    takes: Takes::Switch,
+    value: "",
+    help: "Leave out files that can't be used, and say why",
 };
 
 /// A list of flags: the first ones, `--json`, and the last ones.
@@ -56,13 +80,6 @@ macro_rules! with_forms {
     };
 }
 
-/// The same with `--about` behind the first ones.
-macro_rules! with_words {
-    ([$($first:expr),*], [$($last:expr),*]) => {
-        with_forms!([$($first,)* ABOUT], [$($last),*])
-    };
-}
-
 const PRETTY: Flag = Flag {
     name: "pretty",
     takes: Takes::Nothing(Form::Pretty),
@@ -71,13 +88,19 @@ const PRETTY: Flag = Flag {
 };
 
 /// The flags of what is written in a form, as of a moment.
-pub(crate) const REPORT_FLAGS: &[Flag] = with_words!([AT, BEFORE], [PRETTY]);
+pub(crate) const REPORT_FLAGS: &[Flag] = with_forms!(
+    [AT, BEFORE, ABOUT, PRINTERS, SKIP_UNUSABLE],
+    [PRETTY]
+);
 
 /// The flags of what has one form, as of a moment.
-pub(crate) const PAGE_FLAGS: &[Flag] = &[AT, BEFORE, ABOUT];
+pub(crate) const PAGE_FLAGS: &[Flag] = &[AT, BEFORE, ABOUT, PRINTERS, SKIP_UNUSABLE];
+
+/// The flags of `check`.
+pub(crate) const CHECK_FLAGS: &[Flag] = &[SKIP_UNUSABLE];
 
 /// The flags of `hearings`.
-pub(crate) const HEARINGS_FLAGS: &[Flag] = with_words!([], [PRETTY]);
+pub(crate) const HEARINGS_FLAGS: &[Flag] = with_forms!([ABOUT, PRINTERS], [PRETTY]);
 
 /// The flags of the other traces.
 pub(crate) const TRACE_FLAGS: &[Flag] = with_forms!([], [PRETTY]);

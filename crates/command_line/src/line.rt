@@ -6,6 +6,7 @@ ghost use Rattle.command_line.specs.Line.{app_of_shape, flag_rule, line_of, subc
 
 use crate::files::files;
 use crate::help::HelpText;
+use clap::builder::ValueParser;
 use clap::{Arg, ArgAction, Command, value_parser};
 use mdns_browse::report::Form;
 use std::alloc::{AllocError, Global};
@@ -44,11 +45,13 @@ pub struct Flag {
 pub enum Takes {
     /// Nothing; the flag asks for a report in this form.
     Nothing(Form),
+    /// Nothing; the flag asks for something else.
+    Switch,
     /// Whole seconds since 1970, as `clap` reads a `u32`.
     Seconds,
     /// Any text; it is to name a moment.
     Moment,
-    /// Any text, as often as the flag is given.
+    /// Any text but the empty one, as often as the flag is given.
     Words,
 }
 
@@ -106,9 +109,12 @@ fn arg_of<'a>(alloc: Global, flag: Flag) -> Arg<'a>
 {
     let arg = Arg::new(alloc, flag.name).long(flag.name).help(flag.help);
     match flag.takes {
-        Takes::Nothing(_) => arg.action(ArgAction::SetTrue),
+        Takes::Nothing(_) | Takes::Switch => arg.action(ArgAction::SetTrue),
         Takes::Seconds => arg.value_name(flag.value).value_parser(value_parser!(u32)),
         Takes::Moment => arg.value_name(flag.value),
-        Takes::Words => arg.action(ArgAction::Append).value_name(flag.value),
+        Takes::Words => arg
+            .action(ArgAction::Append)
+            .value_name(flag.value)
+            .value_parser(ValueParser::NonEmptyString),
     }
 }

@@ -1,11 +1,12 @@
 //! The words of options that can be given more than once.
 
-ghost use Rattle.std.specs.Prelude.{◌≡◌, IfOk, map};
+ghost use Rattle.std.specs.Prelude.{◌≡◌, ◌++◌, IfOk, OnOk, map};
 ghost use Rattle.clap.specs.Words.{found_of, rows_of};
-ghost use Rattle.command_line.specs.Line.{HasLists, texts_of};
+ghost use Rattle.command_line.specs.Line.{HasLists, HasPrinters, texts_of};
 
 use crate::files::names_of;
-use crate::flags::{ABOUT, LISTENER};
+use crate::flags::{ABOUT, LISTENER, PRINTER_TYPES, PRINTERS};
+use crate::options::is_given;
 use clap::ArgMatches;
 use mdns_browse::about::Subject;
 use mdns_message::Want;
@@ -15,7 +16,7 @@ use std::alloc::Global;
 /// The words of each such option, in the order of its uses; none of one that a subcommand doesn't have.
 #[derive(Drop)]
 pub struct Lists {
-    /// The words of `--about`, as what is asked about.
+    /// The words of `--about`, and with `--printers` the types of printers, as what is asked about.
     pub about: Subjects,
     /// The words of `--listener`: with which the names of one listener's files begin.
     pub listeners: Vec<String>,
@@ -28,18 +29,39 @@ pub(crate) fn lists_of(alloc: Global, given: &ArgMatches<'_>) -> Result<Lists, W
     let about = given.get_strs(ABOUT.name).unwrap_or(&[]);
     let listeners = given.get_strs(LISTENER.name).unwrap_or(&[]);
     Ok(Lists {
-        about: subjects_of(alloc, about)?,
+        about: subjects_of(alloc, about, printers_of(given))?,
         listeners: names_of(alloc, listeners)?,
     })
 }
 
-// Copies of words, as what is asked about.
-fn subjects_of(alloc: Global, words: &[&str]) -> Result<Subjects, Want>
-    ensures { IfOk result (λ about. texts_of about ≡ map (λ word. word.now) words.now) }
+// Returns the types of printers, where they are asked for, and else no words.
+fn printers_of(given: &ArgMatches<'_>) -> &'static [&'static str]
+    ensures { HasPrinters (rows_of (found_of given.now)) (map (λ word. word.now) result.now) }
+{
+    if is_given(PRINTERS.name, given) {
+        PRINTER_TYPES
+    } else {
+        &[]
+    }
+}
+
+// Copies of words and of more words, as what is asked about.
+fn subjects_of(alloc: Global, words: &[&str], more: &[&str]) -> Result<Subjects, Want>
+    ensures { IfOk result (λ about.
+        texts_of about ≡ map (λ word. word.now) words.now ++ map (λ word. word.now) more.now) }
 {
     let mut about = Vec::new(alloc);
+    push_subjects(alloc, &mut about, words)?;
+    push_subjects(alloc, &mut about, more)?;
+    Ok(Subjects::new(about))
+}
+
+// Appends copies of words, as what is asked about.
+fn push_subjects(alloc: Global, about: &mut Vec<Subject>, words: &[&str]) -> Result<(), Want>
+    ensures { OnOk result (texts_of about.new.items ≡ texts_of about.old.items ++ map (λ word. word.now) words.now) }
+{
     for word in words {
         about.push(Subject::new(String::from_str(alloc, word)?))?;
     }
-    Ok(Subjects::new(about))
+    Ok(())
 }

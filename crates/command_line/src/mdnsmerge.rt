@@ -4,12 +4,12 @@ ghost use Rattle.std.specs.Prelude.{◌≡◌, ◌≢◌, ◌⊎◌, [], IfErr, 
 ghost use Rattle.clap.specs.Words.{fault_of};
 ghost use Rattle.command_line.specs.Line.{IsAsked};
 ghost use Rattle.command_line.specs.Faults.{IsUnasked, IsUntold};
-ghost use Rattle.command_line.specs.CommandLine.{AsksTask, AsksWhat, GivesAsOf, GivesBoth, GivesNoMoment, GivesTwo};
+ghost use Rattle.command_line.specs.CommandLine.{AsksJob, AsksWhat, GivesAsOf, GivesBoth, GivesNoMoment, GivesTwo};
 ghost use Rattle.command_line.specs.CommandLine.{IsRefusedFor, at_flag, before_flag, command_line};
-ghost use Rattle.command_line.specs.CommandLine.{command_line_with_past, form_flags, task_of, what_of};
+ghost use Rattle.command_line.specs.CommandLine.{command_line_with_past, form_flags, job_of, task_of, what_of};
 ghost use Rattle.command_line.specs.OptionFault.{MakesNone, MakesScope, text_of};
 
-use crate::flags::{AT, AT_SECONDS, BEFORE, PAGE_FLAGS, REPORT_FLAGS};
+use crate::flags::{AT, AT_SECONDS, BEFORE, CHECK_FLAGS, PAGE_FLAGS, REPORT_FLAGS};
 use crate::help;
 use crate::line::{CommandTable, Subcommand};
 use crate::lists::Lists;
@@ -17,7 +17,7 @@ use crate::moments::moment_of_text;
 use crate::option_fault::{OptionFault, refusal_of};
 use crate::options::{ConflictingFlags, Options};
 use crate::read::read;
-use crate::words::{AskFault, Asked, Task, Told, WordsFault};
+use crate::words::{AskFault, Asked, Job, Task, Told, WordsFault};
 use mdns_browse::report::{Ask, Form};
 use mdns_capture::Moment;
 use mdns_survey::request::{AsOf, LivesRequest, ReportRequest, Request, What, Which};
@@ -38,12 +38,13 @@ struct Scope {
     form: Form,
     as_of: AsOf,
     lists: Lists,
+    skip_unusable: bool,
 }
 
-/// The subcommands: the reports, which take `$flags`, the `$other` ones, and `check`. `$report` turns an `Ask` into what the
-/// subcommand asks for.
+/// The subcommands: the reports, which take `$flags`, the `$other` ones, and `check`, which takes `$check_flags`. `$report` turns
+/// an `Ask` into what the subcommand asks for.
 macro_rules! subcommands {
-    ($flags:expr, $report:path, [$($other:expr),*], $check:expr) => {
+    ($flags:expr, $report:path, [$($other:expr),*], $check_flags:expr, $check:expr) => {
         &[
             Subcommand {
                 name: "records",
@@ -67,7 +68,7 @@ macro_rules! subcommands {
             Subcommand {
                 name: "check",
                 page: help::CHECK,
-                flags: &[],
+                flags: $check_flags,
                 asks: $check,
             },
         ]
@@ -79,7 +80,7 @@ const TOLD: CommandTable<Option<Ask>> = CommandTable {
     name: "mdnsmerge",
     page: help::PROGRAM,
     has_version: false,
-    subcommands: subcommands!(&[AT_SECONDS], Some, [], None),
+    subcommands: subcommands!(&[AT_SECONDS], Some, [], &[], None),
 };
 
 /// The command line of `asked`.
@@ -110,6 +111,7 @@ const ASKED: CommandTable<Asks> = CommandTable {
                 asks: Asks::Page,
             }
         ],
+        CHECK_FLAGS,
         Asks::Check
     ),
 };
@@ -162,18 +164,18 @@ fn what_of(ask: Option<Ask>, at: Option<Moment>) -> What
 
 /// Reads the words of a command line of `mdnsmerge`, of which the first is the program's name.
 ///
-/// It is a subcommand and its flags, and then one or more files. A subcommand whose answer depends on a moment takes `--at`
-/// or `--before`, and `--about WORD`, any number of times; one that has several forms also the flag of a form. `--version`
-/// asks for the version. `--at MOMENT` and `--before MOMENT` take seconds since 1970, with up to nine digits of a fraction, or
-/// a date and time of RFC 3339 with its zone; a space may be in place of the `T`, and the second may be left out. A leap
-/// second, `23:59:60`, names no moment.
+/// It is a subcommand and its flags, and then one or more files. Each subcommand takes `--skip-unusable`. One whose answer
+/// depends on a moment takes `--at` or `--before`, `--about WORD`, any number of times, and `--printers`; one that has several
+/// forms also the flag of a form. `--version` asks for the version. `--at MOMENT` and `--before MOMENT` take seconds since 1970,
+/// with up to nine digits of a fraction, or a date and time of RFC 3339 with its zone; a space may be in place of the `T`, and
+/// the second may be left out. A leap second, `23:59:60`, names no moment.
 ///
 /// # Errors
 ///
 /// `Help` where help was asked for, `Version` where the version was, `Refused` where the words are no such command
 /// line, give both moments or two forms, or give a text that names no moment, and `Memory` where an allocation failed.
-pub fn asked(alloc: Global, words: Vec<String>) -> Result<Asked<Task>, AskFault>
-    ensures asked { IfOk result (IsAsked AsksTask command_line_with_past (map string_bytes words.items)) }
+pub fn asked(alloc: Global, words: Vec<String>) -> Result<Asked<Job>, AskFault>
+    ensures asked { IfOk result (IsAsked AsksJob command_line_with_past (map string_bytes words.items)) }
     ensures files { IfOk result (λ asked. asked.names.items ≢ []) }
     ensures unasked { IfErr result (λ fault.
         IsUnasked (fault_of command_line_with_past (map string_bytes words.items)) fault
@@ -184,8 +186,8 @@ pub fn asked(alloc: Global, words: Vec<String>) -> Result<Asked<Task>, AskFault>
     read_asked(alloc, words.as_slice())
 }
 
-fn read_asked(alloc: Global, words: &[String]) -> Result<Asked<Task>, AskFault>
-    ensures asked { IfOk result (IsAsked AsksTask command_line_with_past (map string_bytes words.now)) }
+fn read_asked(alloc: Global, words: &[String]) -> Result<Asked<Job>, AskFault>
+    ensures asked { IfOk result (IsAsked AsksJob command_line_with_past (map string_bytes words.now)) }
     ensures files { IfOk result (λ asked. asked.names.items ≢ []) }
     ensures unasked { IfErr result (λ fault.
         IsUnasked (fault_of command_line_with_past (map string_bytes words.now)) fault
@@ -197,7 +199,7 @@ fn read_asked(alloc: Global, words: &[String]) -> Result<Asked<Task>, AskFault>
     let ((asks, options), lists) = asked.what;
     match scope_of(options, lists) {
         Ok(scope) => Ok(Asked {
-            what: task_of(asks, scope),
+            what: job_of(asks, scope),
             names: asked.names,
         }),
         Err(option_fault) => Err(AskFault::Words(refusal_of(alloc, "mdnsmerge", option_fault))),
@@ -213,14 +215,31 @@ fn scope_of(options: Options<'_>, lists: Lists) -> Result<Scope, OptionFault<'_>
         form: options.form?,
         as_of: as_of(options)?,
         lists,
+        skip_unusable: options.skip_unusable,
     })
+}
+
+// Returns what is to be done.
+fn job_of(asks: Asks, scope: Scope) -> Job
+    ensures { result ≡ job_of asks scope }
+{
+    let skip_unusable = scope.skip_unusable;
+    Job {
+        task: task_of(asks, scope),
+        skip_unusable,
+    }
 }
 
 // Returns the task.
 fn task_of(asks: Asks, scope: Scope) -> Task
     ensures { result ≡ task_of asks scope }
 {
-    let Scope { form, as_of, lists } = scope;
+    let Scope {
+        form,
+        as_of,
+        lists,
+        ..
+    } = scope;
     let Lists { about, .. } = lists;
     match asks {
         Asks::Report(ask) => Task::Survey(Request::Report(ReportRequest {

@@ -63,8 +63,8 @@ const WHY_ASKED: CommandTable<Inquiry> = CommandTable {
 /// Reads the words of a command line of `mdnswhy`, of which the first is the program's name.
 ///
 /// It is a subcommand, and then one or more files. All take `--json`, and all but `files` also `--pretty`. `hearings` also
-/// takes `--about WORD`, and `listeners` also `--listener PREFIX`, any number of times. `--help` asks for help, and `--version`
-/// for the version.
+/// takes `--printers` and `--about WORD`, and `listeners` also `--listener PREFIX`, these two any number of times. `--help`
+/// asks for help, and `--version` for the version.
 ///
 /// # Errors
 ///

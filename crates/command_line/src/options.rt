@@ -2,9 +2,10 @@
 
 ghost use Rattle.std.specs.Prelude.{◌≡◌, None, Option, IfSome};
 ghost use Rattle.clap.specs.Words.{found_of, one_of, rows_of};
-ghost use Rattle.command_line.specs.Line.{AsksForm, HasOneForm, HasOptions, HasSeconds, IsMomentOf, flags_of};
+ghost use Rattle.command_line.specs.Line.{AsksForm, HasOneForm, HasOptions, HasSeconds, IsFlag, IsMomentOf, flags_of};
 ghost use Rattle.mdns_capture.specs.declared.moment.Moment.{Moment};
 
+use crate::flags::SKIP_UNUSABLE;
 use crate::line::{Flag, Takes};
 use clap::ArgMatches;
 use mdns_browse::report::Form;
@@ -28,6 +29,8 @@ pub struct Options<'a> {
     pub before: Option<&'a str>,
     /// The form of the report, or two given flags that ask for one each.
     pub form: Result<Form, ConflictingFlags>,
+    /// Whether `--skip-unusable` is given.
+    pub skip_unusable: bool,
 }
 
 /// Returns the options that are given. `None` where seconds can't be read.
@@ -43,6 +46,7 @@ pub(crate) fn options_of<'a>(flags: &[Flag], given: &ArgMatches<'a>) -> Option<O
         at: given.get_str("at"),
         before: given.get_str("before"),
         form,
+        skip_unusable: is_given(SKIP_UNUSABLE.name, given),
     })
 }
 
@@ -91,9 +95,16 @@ fn form_asked(flag: Flag, given: &ArgMatches<'_>) -> Option<Form>
     ensures { AsksForm flag.takes (one_of flag.name.now (rows_of (found_of given.now))) result }
 {
     match flag.takes {
-        Takes::Nothing(form) if given.get_flag(flag.name) => Some(form),
-        Takes::Nothing(_) | Takes::Seconds | Takes::Moment | Takes::Words => None,
+        Takes::Nothing(form) if is_given(flag.name, given) => Some(form),
+        Takes::Nothing(_) | Takes::Switch | Takes::Seconds | Takes::Moment | Takes::Words => None,
     }
+}
+
+/// Checks whether the flag `name`, which takes nothing, is given.
+pub(crate) fn is_given(name: &str, given: &ArgMatches<'_>) -> bool
+    ensures { IsFlag (one_of name.now (rows_of (found_of given.now))) result }
+{
+    given.get_flag(name)
 }
 
 // Returns the moment of the option `name`, if it is given. `None` where its value can't be read.

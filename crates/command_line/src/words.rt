@@ -10,7 +10,7 @@ use mdns_survey::request::{AsOf, Request, Subjects, What};
 use std::error::Error;
 use std::fmt;
 
-/// What a command line asks for: a `What`, a `Task` or an `Inquiry`.
+/// What a command line asks for: a `What`, a `Job` or an `Inquiry`.
 #[derive(Drop)]
 pub struct Asked<T> {
     /// The subcommand with its options.
@@ -20,6 +20,14 @@ pub struct Asked<T> {
 }
 
 /// What a command line of `mdnsmerge` asks for.
+#[derive(Drop)]
+pub struct Job {
+    pub task: Task,
+    /// Whether files that can't be used are left out, and no refusal.
+    pub skip_unusable: bool,
+}
+
+/// What is asked of captures.
 #[derive(Drop)]
 pub enum Task {
     /// What is asked of all captures together, or of each.

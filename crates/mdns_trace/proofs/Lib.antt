@@ -1,5 +1,7 @@
 mod FilesLemmas
+mod FlawLemmas
 mod MemberLemmas
 mod SpanLemmas
 mod TraceLemmas
+mod UsableLemmas
 mod VerdictLemmas

@@ -1,5 +1,5 @@
 -- What a file is that isn't a capture, by its first bytes, and what to do about it.
-use Rattle.std.specs.Prelude.{ℕ, ◌%◌, ◌==◌, ◌&&◌, ◌||◌, nat_eq, nat_lt, if◌then◌else◌}
+use Rattle.std.specs.Prelude.{ℕ, Bool, false, ◌%◌, ◌==◌, ◌&&◌, ◌||◌, nat_eq, nat_lt, if◌then◌else◌}
 use Rattle.std.specs.Prelude.{List, [], ◌∷◌, ◌++◌, length, take, Option, Some, None, codes, decimal}
 use Rattle.std.specs.List.{starts_with}
 use Rattle.mdns_capture.specs.declared.savefile.Format.{Format}
@@ -37,6 +37,11 @@ flaw_in head (Some format) =
     if (number_at format.order 2 4 head == 2) && (number_at format.order 2 6 head == 4)
     then flaw.Link (number_at format.order 4 20 head % 65536)
     else flaw.Version
+
+-- the kind of the file header of a capture of Ethernet
+abbrev pub is_ethernet : Flaw → Bool
+is_ethernet (flaw.Link number) = number == 1
+is_ethernet other = false
 
 -- the kind of a head that ends after its magic, under the format that this names
 abbrev pub flaw_short : Option Format → Flaw

@@ -15,6 +15,7 @@ pub mod TraceLines
 pub mod SpanLine
 pub mod SpanWritten
 pub mod Trace
+pub mod Usable
 pub mod Verdict
 pub mod VerdictJson
 pub mod Verdicts

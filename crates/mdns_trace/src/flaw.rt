@@ -1,10 +1,13 @@
 //! What a file is that isn't a capture, and what to do about it.
 
-ghost use Rattle.std.specs.Prelude.{◌≡◌, ◌≤◌, ◌++◌, OnOk, Some, length, string_bytes};
+ghost use Rattle.std.specs.Prelude.{◌≡◌, ◌≤◌, ◌++◌, IfSome, None, OnOk, Some, length, string_bytes};
+ghost use Rattle.std.specs.Bool.{OnFalse, OnTrue};
 ghost use Rattle.mdns_capture.specs.Limits.{file_header_size};
-ghost use Rattle.mdns_capture.specs.Savefile.{format_of, number_at};
+ghost use Rattle.mdns_capture.specs.Savefile.{format_of, header_fault, number_at};
 ghost use Rattle.mdns_capture.specs.declared.savefile.Order.TheVariants.{Big};
-ghost use Rattle.mdns_trace.specs.Flaw.{cure_text, flaw_in, flaw_of, flaw_short, link_cure, link_name, link_text, named, what_text};
+ghost use Rattle.mdns_trace.specs.Verdict.{IsNoCapture};
+ghost use Rattle.mdns_trace.specs.Flaw.{cure_text, flaw_in, flaw_of, flaw_short, is_ethernet, link_cure, link_name, link_text, named};
+ghost use Rattle.mdns_trace.specs.Flaw.{what_text};
 
 use byteorder::{BigEndian, ByteOrder, LittleEndian};
 use mdns_capture::savefile::FILE_HEADER;
@@ -33,6 +36,9 @@ pub enum Flaw {
 
 // How many bytes the magic of a capture has.
 const MAGIC: usize = 4;
+
+// The link type of Ethernet.
+const ETHERNET: u16 = 1;
 
 // The first bytes of a pcapng file: the type of its section header block.
 const PCAPNG: &[u8] = &[0x0a, 0x0d, 0x0d, 0x0a];
@@ -65,6 +71,42 @@ pub(crate) fn flaw_of(head: &[u8]) -> Flaw
         flaw_short(head)
     } else {
         flaw_in(head)
+    }
+}
+
+/// Returns what a file is that begins with these bytes, its first 24 or all of them; `None` for a capture.
+pub(crate) fn flaw_by(head: &[u8]) -> Option<Flaw>
+    requires { length head.now ≤ file_header_size }
+    ensures none { result ≡ None → (length head.now ≡ file_header_size) × (header_fault head.now ≡ None) }
+    ensures some { IfSome result (λ flaw. IsNoCapture head.now × (flaw ≡ flaw_of head.now)) }
+{
+    if is_file_header(head) {
+        None
+    } else {
+        Some(flaw_of(head))
+    }
+}
+
+// Checks that the bytes are the file header of a capture.
+#[tactic(auto, using(crate::proofs::FlawLemmas::is_header, crate::proofs::FlawLemmas::no_header, crate::proofs::FlawLemmas::short_header))]
+fn is_file_header(head: &[u8]) -> bool
+    requires { length head.now ≤ file_header_size }
+    ensures whole { OnTrue result ((length head.now ≡ file_header_size) × (header_fault head.now ≡ None)) }
+    ensures flawed { OnFalse result (IsNoCapture head.now) }
+{
+    if head.len() < FILE_HEADER {
+        return false;
+    }
+    is_ethernet(flaw_in(head))
+}
+
+// Checks that frames are of Ethernet.
+fn is_ethernet(flaw: Flaw) -> bool
+    ensures { result ≡ is_ethernet flaw }
+{
+    match flaw {
+        Flaw::Link { number } => number == ETHERNET,
+        _ => false,
     }
 }
 

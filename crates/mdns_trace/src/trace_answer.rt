@@ -43,8 +43,8 @@ pub fn answer_traces<R: Source + Drop, O: Sink, E: Sink>(
     }
 }
 
-// Returns the fault of a survey that has the same error line.
-fn survey_fault(fault: FilesFault) -> SurveyFault
+/// Returns the fault of a survey that has the same error line.
+pub(crate) fn survey_fault(fault: FilesFault) -> SurveyFault
     ensures { result ≡ survey_fault fault }
 {
     match fault {

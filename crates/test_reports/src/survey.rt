@@ -129,7 +129,7 @@ fn task_fault(
 fn task_of(alloc: Global, line: &[&str]) -> Option<Task> {
     let words = words_of(alloc, line).ok()?;
     match asked(alloc, words) {
-        Ok(asked) => Some(asked.what),
+        Ok(asked) => Some(asked.what.task),
         Err(_) => None,
     }
 }

@@ -1,7 +1,0 @@
-use Rattle.std.proofs.Common.{◌≡◌, map, take}
-use Rattle.command_line.specs.Line.{texts_of}
-use Rattle.command_line.proofs.lists.subjects_of.Given as goal
-
--- the words so far
-abbrev pub invariant-loop-word : goal.invariant-loop-word
-invariant-loop-word l = texts_of l.about.items ≡ map (λ word. word.now) (take l.word-index l.words)

@@ -1,0 +1,175 @@
+//! The files that can be used, of some that were given, and the error lines of the others.
+
+ghost use Rattle.std.specs.Prelude.{◌≡◌, ◌<◌, ◌++◌, IfErr, IfOk, IsTrue, OnOk, false, length, map, string_bytes};
+ghost use Rattle.mdns_capture.specs.Output.{writing};
+ghost use Rattle.mdns_survey.specs.ProgramLines.{IfFile};
+ghost use Rattle.mdns_trace.specs.Usable.{IsFatal, IsSorted, IsUnsorted, IsUsable, Keeps, SaysText, is_left_out, least_status};
+ghost use Rattle.mdns_trace.specs.Usable.{left_out_line};
+ghost use Rattle.mdns_trace.specs.Verdict.{IsVerdict};
+ghost use Rattle.mdns_trace.specs.Verdicts.{is_usable};
+
+use crate::each_file::{Scribe, write_each};
+use crate::peeked::{Begun, begin};
+use crate::trace::TraceFault;
+use crate::trace_answer::survey_fault;
+use crate::verdict::{Verdict, push_verdict};
+use mdns_capture::{BeginFault, Broken, Sink, Source, write_whole};
+use mdns_message::Want;
+use mdns_survey::listen::ListenFault;
+use mdns_survey::status::{DAMAGED, WHOLE};
+use mdns_survey::survey::SurveyFault;
+use std::alloc::Global;
+
+/// The files that can be used, and the error lines of those that were left out.
+#[derive(Drop)]
+pub struct Usable<R> {
+    /// The names of the files that can be used, in their order.
+    pub names: Vec<String>,
+    /// A reader for each name.
+    pub readers: Vec<Begun<R>>,
+    /// A line for each file that was left out: what it is, and what to do about it.
+    pub lines: String,
+}
+
+impl<R: Source + Drop> Usable<R> {
+    // Keeps a file.
+    fn keep(&mut self, alloc: Global, name: &str, begun: Begun<R>) -> Result<(), Want>
+        ensures { OnOk result (Keeps name.now begun self.old self.new) }
+    {
+        let name = String::from_str(alloc, name)?;
+        self.names.push(name)?;
+        match self.readers.push(begun) {
+            Ok(()) => Ok(()),
+            Err(_) => Err(Want),
+        }
+    }
+
+    /// Writes the lines of the files that were left out, or where the write fails a prefix of them. Returns the least exit
+    /// status of an answer over the others: `DAMAGED`, or `WHOLE` where no file was left out.
+    pub fn say_left_out<E: Sink>(&self, err: &mut E) -> u8
+        ensures status { result ≡ least_status (string_bytes self.now.lines) }
+        ensures says { SaysText (string_bytes self.now.lines) (writing E.Sink err.old err.new) }
+    {
+        if self.lines.is_empty() {
+            return WHOLE;
+        }
+        match write_whole(err, self.lines.as_bytes()) {
+            Ok(()) | Err(Broken) => DAMAGED,
+        }
+    }
+}
+
+// Sorts files: keeps those that can be used, and leaves out the others, with a line that begins with the program's name.
+#[derive(Clone, Copy)]
+struct Sorter<'a> {
+    program: &'a str,
+}
+
+impl<R: Source + Drop> Scribe<Option<R>, Usable<R>> for Sorter<'_> {
+    ghost use Rattle.mdns_trace.specs.Usable.{SortsFile, StopsSorting};
+
+    /// Whether the file is kept.
+    type Finding = bool;
+
+    ghost Writes = { λ sorter. SortsFile R.Source sorter.program.now };
+
+    ghost Stops = { λ sorter. StopsSorting R.Source };
+
+    fn write(
+        &self,
+        alloc: Global,
+        name: &str,
+        reader: Option<R>,
+        out: &mut Usable<R>,
+    ) -> Result<bool, TraceFault> {
+        match begun_of(reader) {
+            Ok(begun) => match out.keep(alloc, name, begun) {
+                Ok(()) => Ok(true),
+                Err(Want) => Err(TraceFault::Listen(ListenFault::Memory)),
+            },
+            Err(verdict) => leave_out(alloc, self.program, name, &verdict, &mut out.lines),
+        }
+    }
+}
+
+// Begins the capture of a reader. `Err` is what the file is where it is no capture, where there is no reader, since it can't be
+// opened, or where a read failed.
+fn begun_of<R: Source + Drop>(reader: Option<R>) -> Result<Begun<R>, Verdict>
+    ensures begun { IfOk result (IsUsable R.Source reader) }
+    ensures verdict { IfErr result (IsVerdict R.Source reader) }
+    ensures kind { IfErr result (λ verdict. is_usable verdict ≡ false) }
+{
+    match reader {
+        Some(reader) => begin(reader),
+        None => Err(Verdict::Unopened),
+    }
+}
+
+// Appends the line of a file that is left out. A failed read isn't left out, but refused.
+fn leave_out(
+    alloc: Global,
+    program: &str,
+    name: &str,
+    verdict: &Verdict,
+    lines: &mut String,
+) -> Result<bool, TraceFault>
+    requires { is_usable verdict.now ≡ false }
+    ensures ok { IfOk result (λ kept. (kept ≡ false) × IsTrue (is_left_out verdict.now)
+        × (string_bytes lines.new ≡ string_bytes lines.old ++ left_out_line program.now name.now verdict.now)) }
+    ensures err { IfErr result (IsFatal verdict.now) }
+{
+    match *verdict {
+        Verdict::Unread | Verdict::Capture(_) => {
+            return Err(TraceFault::Listen(ListenFault::Begin(BeginFault::Read)));
+        }
+        Verdict::Unopened | Verdict::Other(_) => {}
+    }
+    match push_left_out(alloc, program, name, verdict, lines) {
+        Ok(()) => Ok(false),
+        Err(Want) => Err(TraceFault::Listen(ListenFault::Memory)),
+    }
+}
+
+fn push_left_out(
+    alloc: Global,
+    program: &str,
+    name: &str,
+    verdict: &Verdict,
+    to: &mut String,
+) -> Result<(), Want>
+    ensures { OnOk result (string_bytes to.new
+        ≡ string_bytes to.old ++ left_out_line program.now name.now verdict.now) }
+{
+    let file = format!(in alloc; "{program}: {name}:")?;
+    push_verdict(to, file.as_str(), verdict)
+}
+
+/// Sorts files, of which `readers` are the readers, `None` for one that can't be opened: those that can be used, captures by their
+/// file headers, and a line that begins with `program` for each of the others. Of each file the file header is read, and
+/// nothing after it.
+///
+/// # Errors
+///
+/// `File` carries the index of the first file of which a read failed. The only other fault is `Memory`.
+pub fn sort_files<R: Source + Drop>(
+    alloc: Global,
+    program: &str,
+    names: &[String],
+    readers: Vec<Option<R>>,
+) -> Result<Usable<R>, SurveyFault>
+    requires { length names.now ≡ length readers.items }
+    ensures sorted { IfOk result (IsSorted R.Source program.now (map string_bytes names.now) readers.items) }
+    ensures paired { IfOk result (λ usable. length usable.names.items ≡ length usable.readers.items) }
+    ensures refused { IfErr result (IsUnsorted R.Source program.now (map string_bytes names.now) readers.items) }
+    ensures within { IfErr result (λ fault. IfFile fault (λ index _. index < length names.now)) }
+{
+    let mut usable = Usable {
+        names: Vec::new(alloc),
+        readers: Vec::new(alloc),
+        lines: String::new(alloc),
+    };
+    match write_each(alloc, &Sorter { program }, names, readers, &mut usable) {
+        Ok(_) => Ok(usable),
+        Err(fault) => Err(survey_fault(fault)),
+    }
+}
