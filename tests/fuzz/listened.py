@@ -5,7 +5,7 @@ import struct
 
 from tests.captures.wire import LAST_MOMENT, SECOND
 from tests.judges.json_forms import APART
-from tests.judges.listeners import COMMAND, FORMS, listeners_text
+from tests.judges.listeners import COMMAND, FORMS, listeners_text, warnings_text
 from tests.judges.pretty import clock_words
 from tests.judges.savefile import FILE_HEADER, LAYOUTS, moment_of
 from tests.running.program import Answer, expect_same
@@ -38,6 +38,7 @@ class Listened:
         again = [*case.names, self.by_another_clock(rng.choice(case.names))]
         for names in (again, rng.choice(case.variants)):
             self.expect_answer(rng.choice(list(FORMS)), rng.sample(names, len(names)), self.prefixes(names))
+        self.expect_warnings(again)
 
     def expect_answer(self, form, names, prefixes):
         """An answer that must be that of the separate reader."""
@@ -47,6 +48,12 @@ class Listened:
         if form == ():
             found = filter(None, map(APART.fullmatch, text.splitlines()))
             self.case.seen.clocks.update(kind_of(clock_words(pair.groupdict())) for pair in found)
+
+    def expect_warnings(self, names):
+        """The columns of lives begin with the warnings that the separate reader gives."""
+        warnings = warnings_text([(name, self.case.captures[name]) for name in names])
+        text = self.case.report(["lives", "--pretty"], names)
+        expect_same(text[:len(warnings)], warnings, "lives --pretty", *names)
 
     def prefixes(self, names):
         """Beginnings of some names, as often of none."""

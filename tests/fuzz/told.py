@@ -7,6 +7,7 @@ from typing import NamedTuple
 
 from tests.captures.wire import LAST_MOMENT
 from tests.fuzz.lived import lives_in
+from tests.judges.listeners import warnings_text
 from tests.judges.lives import CHOICES
 from tests.judges.pretty import (instances_columns, instances_in, lives_columns, others_in, records_columns,
                                   types_columns)
@@ -72,6 +73,9 @@ class Records:
     def columns(self, basis, words, some):
         return records_columns(some, basis.now)
 
+    def warnings(self, basis):
+        return ""
+
 
 class Types(Records):
     """The same of `types`."""
@@ -120,6 +124,10 @@ class Lives(Records):
 
     def columns(self, basis, words, some):
         return lives_columns(some, basis.begin, basis.end, self.which)
+
+    def warnings(self, basis):
+        """All packets count, whatever the moment."""
+        return warnings_text([(name, basis.case.captures[name]) for name in basis.case.names])
 
 
 KINDS = {
@@ -172,7 +180,7 @@ class Told:
         if form == LINES:
             return kind.lines_text(basis, some)
         if form == PRETTY:
-            return self.head() + kind.columns(basis, words, some)
+            return kind.warnings(basis) + self.head() + kind.columns(basis, words, some)
         objects = basis.report(ask, *form).splitlines(keepends=True)
         expect(len(objects) == len(listed), ask, *basis.moments, "has", len(listed), "and with", *form, len(objects))
         return "".join(compress(objects, kept))

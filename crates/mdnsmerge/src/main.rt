@@ -1,16 +1,16 @@
 //! Prints which Multicast DNS records were live, from captures of one link by several listeners.
 #![tactic(auto)]
 
-ghost use Rattle.std.specs.Prelude.{◌≡◌, ◌≢◌, ◌≤◌, ℕ, List, length, map, string_bytes, Some};
-ghost use Rattle.mdns_capture.specs.Output.{writing};
-ghost use Rattle.mdnsmerge.specs.Task.{AnswersTask, IsTaskRefused};
+mod task;
 
-use command_line::program::{MDNSMERGE, arguments, open_or_refuse, print_fault, refuse};
-use command_line::{Asked, Task, asked};
+ghost use Rattle.std.specs.Prelude.{◌≡◌, ◌≤◌, length};
+
+use crate::task::answer_task;
+use command_line::program::{MDNSMERGE, arguments, open_each, open_or_refuse, print_fault, refuse};
+use command_line::{Asked, Job, Task, asked};
 use mdns_capture::{Sink, Source, Through};
-use mdns_page::page::PageRequest;
-use mdns_survey::answers::{NamedProgram, answer_request, answer_with};
-use mdns_survey::status::REFUSED;
+use mdns_survey::error_lines;
+use mdns_trace::usable::{Usable, sort_files};
 use std::alloc::Global;
 use std::process::ExitCode;
 
@@ -36,14 +36,27 @@ fn run(rt: &HostRuntime) -> u8 {
 }
 
 // Opens the files, and does what is asked.
-fn answer(rt: &HostRuntime, asked: Asked<Task>) -> u8 {
+fn answer(rt: &HostRuntime, asked: Asked<Job>) -> u8 {
     let Asked { what, names } = asked;
+    let Job {
+        task,
+        skip_unusable,
+    } = what;
+    if skip_unusable {
+        answer_usable(rt, task, names.as_slice())
+    } else {
+        answer_all(rt, task, names.as_slice())
+    }
+}
+
+// Opens the files, and does the task over all of them.
+fn answer_all(rt: &HostRuntime, task: Task, names: &[String]) -> u8 {
     let mut err = Through(rt.stderr());
-    match open_or_refuse(rt, MDNSMERGE, names.as_slice(), &mut err) {
+    match open_or_refuse(rt, MDNSMERGE, names, &mut err) {
         Ok(readers) => answer_task(
             rt.alloc(),
-            what,
-            names.as_slice(),
+            task,
+            names,
             readers,
             &mut Through(rt.stdout()),
             &mut err,
@@ -52,41 +65,36 @@ fn answer(rt: &HostRuntime, asked: Asked<Task>) -> u8 {
     }
 }
 
-// Answers a task over files of these names, and returns the exit status. The error lines and the status of a page are those of
-// a report.
-fn answer_task<R: Source + Drop, O: Sink, E: Sink>(
+// Opens the files, and does the task over those that can be used.
+fn answer_usable(rt: &HostRuntime, task: Task, names: &[String]) -> u8 {
+    let mut err = Through(rt.stderr());
+    let Ok(readers) = open_each(rt, names) else {
+        return refuse(MDNSMERGE.out_of_memory, &mut err);
+    };
+    match sort_files(rt.alloc(), MDNSMERGE.program, names, readers) {
+        Ok(usable) => answer_sorted(
+            rt.alloc(),
+            task,
+            usable,
+            &mut Through(rt.stdout()),
+            &mut err,
+        ),
+        Err(fault) => error_lines::refuse(rt.alloc(), MDNSMERGE.program, names, &fault, &mut err),
+    }
+}
+
+// Writes the lines of the files that were left out, does the task over the others, and returns the exit status.
+fn answer_sorted<R: Source + Drop, O: Sink, E: Sink>(
     alloc: Global,
     task: Task,
-    names: &[String],
-    readers: Vec<R>,
+    usable: Usable<R>,
     out: &mut O,
     err: &mut E,
 ) -> u8
-    requires { length names.now ≡ length readers.items }
+    requires { length usable.names.items ≡ length usable.readers.items }
     ensures status { result ≤ 2 }
-    // Over readers whose bytes are known, exactly what is asked for was written on `out`, and nothing else; on `err`
-    // what went wrong, or where it failed a prefix of that.
-    ensures answers { result ≢ REFUSED → (captures : List (List ℕ))
-        → map R.remaining readers.items ≡ map Some captures
-        → AnswersTask task (map string_bytes names.now) captures
-        (writing O.Sink out.old out.new) (writing E.Sink err.old err.new) result }
-    ensures refused { result ≡ REFUSED → IsTaskRefused R.Source task (map string_bytes names.now) readers.items
-        (writing O.Sink out.old out.new) (writing E.Sink err.old err.new) }
-    ensures unfailed { result ≢ REFUSED → O.failures out.new ≡ O.failures out.old }
 {
-    match task {
-        Task::Survey(request) => answer_request(alloc, request, names, readers, out, err),
-        Task::Page { as_of, about } => {
-            let page = PageRequest {
-                names,
-                as_of,
-                about,
-            };
-            let named = NamedProgram {
-                program: "mdnsmerge",
-                files: names,
-            };
-            answer_with(page, true, named, readers, out, err)
-        }
-    }
+    let least = usable.say_left_out(err);
+    let Usable { names, readers, .. } = usable;
+    answer_task(alloc, task, names.as_slice(), readers, out, err).max(least)
 }

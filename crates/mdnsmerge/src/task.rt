@@ -1,0 +1,170 @@
+//! Which question a task asks of the files.
+
+ghost use Rattle.std.specs.Prelude.{◌≡◌, ◌≢◌, ◌≤◌, ℕ, [], List, codes, length, map, string_bytes, true, Some};
+ghost use Rattle.mdns_capture.specs.Output.{writing};
+ghost use Rattle.mdns_survey.specs.Answer.{IsRefusedOf, Reports};
+ghost use Rattle.mdns_listeners.specs.Groups.{grouped};
+ghost use Rattle.mdns_listeners.specs.WarnedLives.{asked_warned};
+ghost use Rattle.mdnsmerge.specs.Task.{AnswersSurvey, AnswersTask, IsSurveyRefused, IsTaskRefused, asked_lives_of, is_warned};
+
+use command_line::Task;
+use mdns_browse::report::Form;
+use mdns_capture::{Sink, Source};
+use mdns_listeners::Groups;
+use mdns_listeners::together::are_compared;
+use mdns_listeners::warned_lives::WarnedLives;
+use mdns_message::Want;
+use mdns_page::page::PageRequest;
+use mdns_survey::answers::{NamedProgram, answer_request, answer_with};
+use mdns_survey::status::REFUSED;
+use mdns_survey::{LivesRequest, Request, SurveyFault, error_lines};
+use std::alloc::Global;
+
+/// Answers a task over files of these names, and returns the exit status. The error lines and the status of a page are those of
+/// a report.
+pub(crate) fn answer_task<R: Source + Drop, O: Sink, E: Sink>(
+    alloc: Global,
+    task: Task,
+    names: &[String],
+    readers: Vec<R>,
+    out: &mut O,
+    err: &mut E,
+) -> u8
+    requires { length names.now ≡ length readers.items }
+    ensures status { result ≤ 2 }
+    // Over readers whose bytes are known, exactly what is asked for was written on `out`, and nothing else; on `err`
+    // what went wrong, or where it failed a prefix of that.
+    ensures answers { result ≢ REFUSED → (captures : List (List ℕ))
+        → map R.remaining readers.items ≡ map Some captures
+        → AnswersTask task (map string_bytes names.now) captures
+        (writing O.Sink out.old out.new) (writing E.Sink err.old err.new) result }
+    ensures refused { result ≡ REFUSED → IsTaskRefused R.Source task (map string_bytes names.now) readers.items
+        (writing O.Sink out.old out.new) (writing E.Sink err.old err.new) }
+    ensures unfailed { result ≢ REFUSED → O.failures out.new ≡ O.failures out.old }
+{
+    match task {
+        Task::Survey(request) => answer_survey(alloc, request, names, readers, out, err),
+        Task::Page { as_of, about } => {
+            let page = PageRequest {
+                names,
+                as_of,
+                about,
+            };
+            answer_with(page, true, named(names), readers, out, err)
+        }
+    }
+}
+
+// Answers a request over files of these names, and returns the exit status.
+fn answer_survey<R: Source + Drop, O: Sink, E: Sink>(
+    alloc: Global,
+    request: Request,
+    names: &[String],
+    readers: Vec<R>,
+    out: &mut O,
+    err: &mut E,
+) -> u8
+    requires { length names.now ≡ length readers.items }
+    ensures status { result ≤ 2 }
+    ensures answers { result ≢ REFUSED → (captures : List (List ℕ))
+        → map R.remaining readers.items ≡ map Some captures
+        → AnswersSurvey request (map string_bytes names.now) captures
+        (writing O.Sink out.old out.new) (writing E.Sink err.old err.new) result }
+    ensures refused { result ≡ REFUSED → IsSurveyRefused R.Source request (map string_bytes names.now) readers.items
+        (writing O.Sink out.old out.new) (writing E.Sink err.old err.new) }
+    ensures unfailed { result ≢ REFUSED → O.failures out.new ≡ O.failures out.old }
+{
+    match request {
+        Request::Lives(lives) => answer_lives(alloc, lives, names, readers, out, err),
+        Request::Report(report) => answer_request(
+            alloc,
+            Request::Report(report),
+            names,
+            readers,
+            out,
+            err,
+        ),
+        Request::Check => answer_request(alloc, Request::Check, names, readers, out, err),
+    }
+}
+
+// Answers a request for lives: for people, those of a few files come after warnings of these, each of which is a listener by
+// itself.
+fn answer_lives<R: Source + Drop, O: Sink, E: Sink>(
+    alloc: Global,
+    lives: LivesRequest,
+    names: &[String],
+    readers: Vec<R>,
+    out: &mut O,
+    err: &mut E,
+) -> u8
+    requires { length names.now ≡ length readers.items }
+    ensures status { result ≤ 2 }
+    ensures answers { result ≢ REFUSED → (captures : List (List ℕ))
+        → map R.remaining readers.items ≡ map Some captures
+        → Reports (asked_lives_of lives (map string_bytes names.now)).Answers true (codes "mdnsmerge")
+        (map string_bytes names.now) captures (writing O.Sink out.old out.new) (writing E.Sink err.old err.new) result }
+    ensures refused { result ≡ REFUSED → IsRefusedOf R.Source (asked_lives_of lives (map string_bytes names.now))
+        (codes "mdnsmerge") (map string_bytes names.now) readers.items
+        (writing O.Sink out.old out.new) (writing E.Sink err.old err.new) }
+    ensures unfailed { result ≢ REFUSED → O.failures out.new ≡ O.failures out.old }
+{
+    if is_warned(lives.form, names.len()) {
+        warn_and_answer(alloc, lives, names, readers, out, err)
+    } else {
+        answer_with(lives, true, named(names), readers, out, err)
+    }
+}
+
+// Checks that lives in a form, of so many files, come after warnings.
+fn is_warned(form: Form, count: usize) -> bool
+    ensures { result ≡ is_warned form count }
+{
+    match form {
+        Form::Pretty => are_compared(count),
+        Form::Lines | Form::Json => false,
+    }
+}
+
+// Answers a request for lives after warnings.
+fn warn_and_answer<R: Source + Drop, O: Sink, E: Sink>(
+    alloc: Global,
+    lives: LivesRequest,
+    names: &[String],
+    readers: Vec<R>,
+    out: &mut O,
+    err: &mut E,
+) -> u8
+    requires { length names.now ≡ length readers.items }
+    ensures status { result ≤ 2 }
+    ensures answers { result ≢ REFUSED → (captures : List (List ℕ))
+        → map R.remaining readers.items ≡ map Some captures
+        → Reports (asked_warned (grouped [] (map string_bytes names.now)) lives).Answers true (codes "mdnsmerge")
+        (map string_bytes names.now) captures (writing O.Sink out.old out.new) (writing E.Sink err.old err.new) result }
+    ensures refused { result ≡ REFUSED → IsRefusedOf R.Source (asked_warned (grouped [] (map string_bytes names.now)) lives)
+        (codes "mdnsmerge") (map string_bytes names.now) readers.items
+        (writing O.Sink out.old out.new) (writing E.Sink err.old err.new) }
+    ensures unfailed { result ≢ REFUSED → O.failures out.new ≡ O.failures out.old }
+{
+    match Groups::new(alloc, names, &[]) {
+        Ok(groups) => {
+            let warned = WarnedLives {
+                lives,
+                groups: &groups,
+            };
+            answer_with(warned, true, named(names), readers, out, err)
+        }
+        Err(Want) => error_lines::refuse(alloc, "mdnsmerge", names, &SurveyFault::Memory, err),
+    }
+}
+
+// The program, over files of these names.
+fn named(files: &[String]) -> NamedProgram<'_>
+    ensures program { result.program.now ≡ codes "mdnsmerge" }
+    ensures files { result.files.now ≡ files.now }
+{
+    NamedProgram {
+        program: "mdnsmerge",
+        files,
+    }
+}
