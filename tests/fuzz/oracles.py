@@ -1,261 +1,288 @@
-"""What must hold of the programs' answers over some captures, whatever is in them.
+"""What both programs must answer over some captures, whatever is in them: each answer is that of the judges, who read the captures by
+themselves (`answers.py`, `judged_page.py`), and captures that hold the same have the same answers.
 
-What is expected comes from a reading of the packet headers, from a separate reader of frames and messages with the definition of
-lives, and from the programs' other answers. Each oracle is a function that raises a finding."""
+What is asked is drawn from a random source, and from what was heard."""
 
 import re
+import struct
 from collections import Counter
 
-from tests.captures.wire import SECOND
-from tests.fuzz.explained import Explained
-from tests.fuzz.listened import Listened
-from tests.fuzz.lived import Lived
-from tests.fuzz.pages import Paged
-from tests.fuzz.told import Told
-from tests.judges import savefile
-from tests.judges.lines import Unreadable, instances_text, lines_of, types_text
+from tests.captures.wire import LAST_MOMENT, SECOND
+from tests.judges.answers import answer_to, counts_of, held_in, lives_in
+from tests.judges.json_forms import APART
+from tests.judges.judged_page import Asked, Judge, differences
+from tests.judges.lines import lines_of
+from tests.judges.listeners import COMMAND
+from tests.judges.listeners import FORMS as FORMS_OF_LISTENERS
+from tests.judges.lives import CHOICES
+from tests.judges.markup import Unreadable
+from tests.judges.pretty import clock_words, pretty_text
+from tests.judges.read_page import read_page
+from tests.judges.savefile import FILE_HEADER, LAYOUTS, moment_of, reading_of, split_at
+from tests.judges.subjects import some_word
 from tests.judges.words import moment_text
-from tests.judges.json_forms import json_text
-from tests.running.commands import ANSWERS, ASKS
-from tests.running.program import Answer, Finding, expect, expect_same
-
-CHECK = re.compile(r"(\S+): packets (\d+) skipped (\d+) refused (\d+) messages (\d+) hearings (\d+) (.*)\n")
+from tests.running.commands import ANSWERS, ASKS, FORMS, TRACES
+from tests.running.program import Finding, expect, expect_same
 
 LAST_SECOND = 4_294_967_295
 
 # What is asked for as JSON, too.
 AS_JSON = ("records", "types", "instances", "lives")
 
+# Of a damaged message the program says more than the judge: what is wrong with it, and where.
+DAMAGE = re.compile(r"(?m)(?<= refused) [a-z ]+ at \d+$")
 
-def try_case(program, why, rng, captures, second_opinion, seen):
-    """Tries all oracles on some captures, and adds to what was seen."""
-    case = Case(program, rng, captures, seen)
-    explained, lived = Explained(why, case), Lived(case)
-    listened = Listened(case, explained)
-    checks = [case.checked(name) for name in case.names]
-    case.checked_together(checks)
-    if case.fault:
-        case.refusals()
-        explained.refusals()
-        listened.refusals()
-        return
-    case.reports()
-    case.as_json()
-    explained.agree()
-    case.same_text()
-    case.past()
-    listened.agree()
-    lived.agree()
-    Told(case, explained, lived).agree()
-    Paged(case, lived).agree()
-    if second_opinion:
-        case.compare(second_opinion)
-        lived.compare(second_opinion)
+# How much later than the newest hearing a moment is that is asked for, besides each end of a life.
+LATER = (0, 1, SECOND, 120 * SECOND)
+
+# How far another clock is ahead: about the tenth of a second within which clocks are one, and far from it.
+TENTH = SECOND // 10
+AHEAD = (1000, TENTH, TENTH + 1, TENTH + 1000, -TENTH, -TENTH - 1, 4 * SECOND, -86_400 * SECOND)
+
+# What is said of clocks, by the first words of it; else the one is ahead.
+CLOCKS = ("one clock", "unsteady", "can't tell", "nothing in common")
 
 
 class Seen:
     """What the cases had, to tell whether they reach what they are for."""
 
     def __init__(self):
-        self.endings = Counter()
-        self.counts = Counter()
-        self.lines = Counter()
-        self.ends = Counter()
-        self.pages = Counter()
-        self.clocks = Counter()
+        self.endings, self.counts, self.lines, self.ends, self.pages, self.clocks = (Counter() for _ in range(6))
+
+
+def try_case(merge, why, rng, captures, second_opinion, seen):
+    """Tries all oracles on some captures, and adds to what was seen."""
+    case = Case({"mdnsmerge": merge, "mdnswhy": why}, rng, captures, seen)
+    case.checks()
+    if case.is_refused:
+        case.refusals()
+        return
+    case.reports()
+    case.traces()
+    case.same_text()
+    case.past()
+    case.listeners()
+    case.lives()
+    case.abouts()
+    case.pages()
+    if second_opinion:
+        for words, text in ((), case.records), (("--lives",), case.texts["lives"]):
+            expect_same(second_opinion.run(*words, *case.names).out, text, "the other program", *words)
 
 
 class Case:
-    def __init__(self, program, rng, captures, seen):
-        self.program = program
-        self.seen = seen
-        self.rng = rng
-        self.captures = {}
-        self.readings = {}
-        self.counts = {}
-        self.lines = []
-        # Other captures that must have the same text.
-        self.variants = []
-        for index, capture in enumerate(captures):
-            self.add(f"{'abc'[index]}.pcap", capture)
-        self.names = list(self.captures)
-        self.fault = self.fault_line(self.names)
+    """Captures in the folder of the programs, and questions on them, each of which is tried when it is asked."""
+
+    def __init__(self, programs, rng, captures, seen):
+        self.programs, self.rng, self.seen, self.captures = programs, rng, seen, {}
+        self.names = [self.add(name, capture) for name, capture in zip(("a.pcap", "b.pcap", "c.pcap"), captures)]
+        self.is_refused = any(reading_of(capture).fault for capture in captures)
+        held = [held_in(capture) for capture in self.captures.values()]
+        self.moments = [moment for moments, _ in held for moment in moments]
+        self.hearings = [hearing for _, hearings in held for hearing in hearings]
+        self.newest = max((hearing.moment for hearing in self.hearings), default=0)
+        self.end = max(self.moments, default=0)
 
     def add(self, name, capture):
-        (self.program.folder / name).write_bytes(capture)
+        (self.programs["mdnsmerge"].folder / name).write_bytes(capture)
         self.captures[name] = capture
-        self.readings[name] = savefile.reading_of(capture)
+        return name
 
-    def fault_line(self, names):
-        """The line of the first capture that is refused, if one is."""
-        faults = (f"mdnsmerge: {name}: {self.readings[name].fault}\n" for name in names if self.readings[name].fault)
-        return next(faults, None)
+    def packets_of(self, name):
+        return reading_of(self.captures[name]).packets
 
-    def status(self, names):
-        return 0 if all(self.readings[name].is_whole for name in names) else 1
-
-    def ending_lines(self, names):
-        """What standard error must say after a report."""
-        cut = (name for name in names if not self.readings[name].is_whole)
-        return "".join(f"mdnsmerge: {name}: {self.readings[name].ending}\n" for name in cut)
-
-    def answered(self, words, status, err, out=None):
-        """What is printed for words, with this status and these error lines; it must be `out`, if that is known."""
-        answer = self.program.run(*words)
-        expect_same(answer, Answer(status, answer.out if out is None else out, err), *words)
+    def ask(self, *words, names=None, program="mdnsmerge", out=None):
+        """The text of an answer over files, all by default. It must be the judge's, or `out`."""
+        names = self.names if names is None else names
+        must = answer_to(program, words, [(name, self.captures[name]) for name in names])
+        answer = was = self.programs[program].run(*words, *names)
+        if words == ("packets",):
+            was = was._replace(out=DAMAGE.sub("", was.out))
+        elif out is not None or must.out is None:
+            must = must._replace(out=answer.out if out is None else out)
+        expect_same(was, must, program, *words, *names)
         return answer.out
 
-    def report(self, words, names):
-        """The text of a report that must be printed; its status and its endings are as they must be."""
-        return self.answered((*words, *names), self.status(names), self.ending_lines(names))
-
-    def checked(self, name):
-        """What `check` prints of a capture, its counts being right."""
-        reading = self.readings[name]
-        self.seen.endings[reading.fault or reading.ending.partition(" at ")[0]] += 1
-        if reading.fault:
-            return self.answered(("check", name), 2, self.fault_line([name]), "")
-        out = self.answered(("check", name), self.status([name]), "")
-        self.counts[name] = self.counted(out, name)
-        self.seen.counts.update(self.counts[name])
-        return out
-
-    def counted(self, out, name):
-        """The counts in a line of a check. The packets are as many as there are, and each is counted once."""
-        match = CHECK.fullmatch(out)
-        expect(match, "no line of a check:", out)
-        packets, skipped, refused, messages, hearings = (int(number) for number in match.groups()[1:6])
-        expect(match[1] == name and match[7] == self.readings[name].ending, "another name or ending:", out)
-        expect(packets == len(self.readings[name].packets), "another number of packets:", out)
-        expect(packets == skipped + refused + messages, "the counts don't add up:", out)
-        expect(messages > 0 or hearings == 0, "hearings without a message:", out)
-        return Counter(skipped=skipped, refused=refused, messages=messages, hearings=hearings)
-
-    def checked_together(self, checks):
-        """The check of all captures is the checks of each, or the first one's refusal."""
-        status, err, out = (2, self.fault, "") if self.fault else (self.status(self.names), "", "".join(checks))
-        self.answered(("check", *self.names), status, err, out)
+    def checks(self):
+        """The check of each capture, and of all together."""
+        for name in self.names:
+            self.ask("check", names=[name])
+            reading = reading_of(self.captures[name])
+            self.seen.endings[reading.fault or reading.ending.partition(" at ")[0]] += 1
+            if not reading.fault:
+                self.seen.counts.update({what: count for what, count in counts_of(self.captures[name]).items() if what != "packets"})
+        self.ask("check")
 
     def refusals(self):
-        """Where a capture is refused, each report is, whatever else is asked."""
+        """Where a capture is refused, each answer is, whatever else is asked; but mdnswhy has printed the lines of those before it."""
         for words in (*((ask,) for ask in ANSWERS), ("records", "--at", "0"), ("types", "--before", "0"),
                       ("lives", "--at", "0"), ("page", "--at", "0")):
-            self.answered((*words, *self.names), 2, self.fault, "")
+            self.ask(*words)
+        self.traces()
+        self.ask(COMMAND, *self.rng.choice(list(FORMS_OF_LISTENERS)), program="mdnswhy")
 
     def reports(self):
-        """All reports, as of the newest hearing and later."""
-        self.records = self.report(["records"], self.names)
-        self.lines = lines = read_back(self.records)
+        """Reports as of the newest hearing, earlier, which is refused, and later; and one as JSON."""
+        self.records = self.ask("records")
+        self.ask("types")
+        self.ask("instances")
+        lines = lines_of(self.records)
         self.seen.lines.update(line.kind for line in lines)
-        newest = max((line.heard for line in lines), default=0)
-        self.services(lines, [])
-        if lines:
-            self.early(newest)
-        self.later(lines, newest)
-
-    def services(self, lines, at):
-        """The types and the instances follow from the records that are live."""
-        for ask, expected in (("types", types_text(lines)), ("instances", instances_text(lines))):
-            text = self.report([ask, *at], self.names)
-            expect_same(text, expected, ask, *at)
-
-    def as_json(self):
-        """A report as JSON follows from the lines of the report."""
-        ask = self.rng.choice(AS_JSON)
-        text, words = self.report([ask, "--json"], self.names), self.report([ask], self.names)
-        expect_same(text, json_text(ask, words, lambda other: self.report([other], self.names)), ask, "--json")
-
-    def early(self, newest):
-        """A moment before the newest hearing is refused."""
-        if newest == 0:
-            return
-        fault = f"mdnsmerge: the moment is earlier than the newest hearing, {moment_text(newest)}\n"
-        self.answered((self.rng.choice(ANSWERS), "--at", str((newest - 1) // SECOND), *self.names), 2, fault, "")
-
-    def later(self, lines, newest):
-        """At a later moment stands what ends after it."""
-        first = -(-newest // SECOND)
+        if lines and self.newest:
+            self.ask(self.rng.choice(ANSWERS), "--at", str((self.newest - 1) // SECOND))
+        first = -(-self.newest // SECOND)
         ends = [line.until // SECOND + self.rng.randint(-1, 1) for line in lines]
         for second in (first, self.rng.choice(ends or [first]), self.rng.choice((first + 1, LAST_SECOND))):
             if first <= second <= LAST_SECOND:
-                self.stand_at(lines, second)
+                self.ask("records", "--at", str(second))
+                for ask in ("types", "instances") if self.rng.random() < 0.3 else ():
+                    self.ask(ask, "--at", str(second))
+        ask = self.rng.choice(AS_JSON)
+        self.ask(ask, "--json")
+        self.ask(ask)
 
-    def stand_at(self, lines, second):
-        at = ["--at", str(second)]
-        live = [line for line in lines if line.until > second * SECOND]
-        text = self.report(["records", *at], self.names)
-        expected = "".join(f"{line.text}\n" for line in live)
-        expect_same(text, expected, "records", *at)
-        if self.rng.random() < 0.3:
-            self.services(live, at)
+    def traces(self):
+        """The lines of mdnswhy, of each capture and of all, and what it prints for people, which follows from them."""
+        for names in (*([name] for name in self.names), self.names):
+            for trace in TRACES:
+                text = self.ask(trace, names=names, program="mdnswhy")
+                if len(names) == 1:
+                    self.ask(trace, "--pretty", names=names, program="mdnswhy", out=pretty_text(trace, text))
 
     def same_text(self):
-        """Captures without what stands after their whole packets, shuffled and repeated, or cut where a packet header
-        begins, have the same report."""
-        wholes = [self.add_part(f"whole-{name}", self.readings[name].whole_part) for name in self.names]
-        again = shuffled(self.rng, self.names + self.rng.choices(self.names, k=2))
+        """Captures without what stands after their whole packets, shuffled and repeated, or cut where a packet header begins, have the
+        same report."""
+        wholes = [self.add(f"whole-{name}", reading_of(self.captures[name]).whole_part) for name in self.names]
+        again = self.names + self.rng.choices(self.names, k=2)
+        again = self.rng.sample(again, len(again))
         self.variants = [wholes, again, [part for name in self.names for part in self.parts(name)]]
         for names in self.variants:
-            self.expect_same(names)
-
-    def add_part(self, name, capture):
-        self.add(name, capture)
-        return name
+            expect_same(self.ask("records", names=names), self.records, "records", *names)
 
     def parts(self, name):
-        capture, packets = self.captures[name], self.readings[name].packets
+        packets = self.packets_of(name)
         if not packets:
             return [name]
-        front, rest = savefile.split_at(capture, self.rng.choice(packets).at)
-        parts = [self.add_part(f"front-{name}", front), self.add_part(f"rest-{name}", rest)]
-        self.parts_add_up(name, parts)
+        cut = split_at(self.captures[name], self.rng.choice(packets).at)
+        parts = [self.add(f"{which}-{name}", part) for which, part in zip(("front", "rest"), cut)]
+        self.ask("check", names=[*parts, name])
         return parts
-
-    def parts_add_up(self, name, parts):
-        """What is counted in the parts of a capture is together what is counted in it."""
-        out = self.answered(("check", *parts, name), self.status([*parts, name]), "")
-        lines = out.splitlines(keepends=True)
-        expect(len(lines) == 3, "not a line for each file:", out)
-        front, rest, whole = (self.counted(line, each) for line, each in zip(lines, [*parts, name]))
-        # A sum of counters leaves out zeros, and so does the sign before one.
-        expect(front + rest == +whole, "the parts don't add up:", out)
-
-    def expect_same(self, names):
-        text = self.report(["records"], names)
-        expect_same(text, self.records, "records", *names)
 
     def past(self):
         """What was heard before a moment is what the packets before it tell, as of it. All packets are read for it."""
-        moments = [savefile.moment_of(self.captures[name], packet)
-                   for name in self.names for packet in self.readings[name].packets]
-        second = self.rng.choice(moments or [0]) // SECOND + self.rng.randint(-1, 2)
-        if not 0 <= second <= LAST_SECOND:
-            return
-        ask = self.rng.choice(ASKS)
-        text = self.report([ask, "--before", str(second)], self.names)
-        before = [self.add_part(f"before-{name}", self.packets_before(name, second)) for name in self.names]
-        expected = self.report([ask, "--at", str(second)], before)
-        expect_same(text, expected, ask, "--before", second)
+        second = self.rng.choice(self.moments or [0]) // SECOND + self.rng.randint(-1, 2)
+        if 0 <= second <= LAST_SECOND:
+            ask = self.rng.choice(ASKS)
+            before = [self.add(f"before-{name}", self.packets_before(name, second * SECOND)) for name in self.names]
+            texts = self.ask(ask, "--before", str(second)), self.ask(ask, "--at", str(second), names=before)
+            expect_same(*texts, ask, "--before", second)
 
-    def packets_before(self, name, second):
+    def packets_before(self, name, moment):
         """A capture without what follows its whole packets, and of these the ones that are earlier."""
         capture = self.captures[name]
-        return capture[:savefile.FILE_HEADER] + b"".join(
-            packet.wire for packet in self.readings[name].packets
-            if savefile.moment_of(capture, packet) < second * SECOND)
+        return capture[:FILE_HEADER] + b"".join(packet.wire for packet in self.packets_of(name) if moment_of(capture, packet) < moment)
 
-    def compare(self, other):
-        """Another program that does the same prints the same records."""
-        answer = other.run(*self.names)
-        expect_same(answer.out, self.records, "the other program")
+    def listeners(self):
+        """All forms over the captures, and one over others that are made of them."""
+        rng = self.rng
+        for form in FORMS_OF_LISTENERS:
+            self.ask_listeners(form, self.names, [])
+        again = [*self.names, self.by_another_clock(rng.choice(self.names))]
+        for names in (again, rng.choice(self.variants)):
+            form, order = rng.choice(list(FORMS_OF_LISTENERS)), rng.sample(names, len(names))
+            chosen = [rng.choice(names) for _ in range(rng.choice((0, 1, 2)))]
+            self.ask_listeners(form, order, [name[:rng.randint(1, len(name))] for name in chosen])
+        self.ask("lives", "--pretty", names=again)
 
+    def ask_listeners(self, form, names, prefixes):
+        text = self.ask(COMMAND, *form, *(f"--listener={prefix}" for prefix in prefixes), names=names, program="mdnswhy")
+        for pair in filter(None, map(APART.fullmatch, text.splitlines() if form == () else ())):
+            words = clock_words(pair.groupdict())
+            self.seen.clocks[next((kind for kind in CLOCKS if words.startswith(kind)), "ahead")] += 1
 
-def read_back(report):
-    try:
-        return lines_of(report)
-    except Unreadable as fault:
-        raise Finding(fault) from None
+    def by_another_clock(self, name):
+        """A capture whose packets are those of another one, all later or earlier by as much."""
+        ahead, capture = self.rng.choice(AHEAD), self.captures[name]
+        order, unit = LAYOUTS[capture[:4]]
+        made = capture[:FILE_HEADER]
+        for packet in self.packets_of(name):
+            seconds, nanos = divmod(min(max(moment_of(capture, packet) + ahead, 0), LAST_MOMENT), SECOND)
+            made += struct.pack(order + "II", seconds, nanos // unit) + packet.wire[8:]
+        return self.add(f"late-{name}", made)
 
+    def lives(self):
+        """Lives and records by all that was heard, as of a later moment, and before one; captures that hold the same have the same."""
+        rng = self.rng
+        self.texts = self.ask_lives()
+        lives = list(lives_in(self.texts["lives"]))
+        self.seen.ends.update(life.how for life in lives)
+        self.seen.ends.update({ask: text.count("\n") for ask, text in self.texts.items()})
+        self.ask("records", "--at", moment_text(self.end))
+        moment = rng.choice(self.moments or [0]) + rng.choice((-1, 1, SECOND, SECOND + 1))
+        if 0 <= moment <= LAST_MOMENT and all(hearing.moment != moment for hearing in self.hearings):
+            self.ask("records", "--before", moment_text(moment))
+        ends = [life.until + step for life in lives for step in (-1, 0)]
+        moment = rng.choice([self.newest + gap for gap in LATER] + [end for end in ends if end >= self.newest])
+        if moment <= LAST_MOMENT:
+            self.ask_lives("--at", moment_text(moment))
+        moment = self.about_packet()
+        if moment <= LAST_MOMENT:
+            self.ask_lives("--before", moment_text(moment))
+        names = rng.choice(self.variants)
+        for ask, text in self.texts.items():
+            expect_same(self.ask(ask, names=names), text, ask, *names)
 
-def shuffled(rng, names):
-    return rng.sample(names, len(names))
+    def ask_lives(self, *moment):
+        """The text of each command that lists lives, some also as JSON."""
+        texts = {}
+        for ask in CHOICES:
+            if self.rng.random() < 0.3:
+                self.ask(ask, *moment, "--json")
+            texts[ask] = self.ask(ask, *moment)
+        return texts
+
+    def about_packet(self):
+        """The moment of a packet, or one soon after it."""
+        return self.rng.choice(self.moments or [0]) + self.rng.choice((0, 0, 1, SECOND))
+
+    def abouts(self):
+        """By all that was heard and before a moment: an answer in columns, and of each command one about words, in some form."""
+        rng, moment = self.rng, self.about_packet()
+        for words in ([], ["--before", moment_text(moment)]) if moment <= LAST_MOMENT else ([],):
+            self.ask(rng.choice(ASKS), *words, "--pretty")
+            lines = [life.record for life in lives_in(self.ask("lives", *words))]
+            for ask in ASKS:
+                about = [f"--about={some_word(rng, lines)}" for _ in range(rng.choice((1, 1, 1, 2, 3)))]
+                form = rng.choice(((), *((form,) for form in FORMS)))
+                for options in dict.fromkeys(((), form, (*about, *form))):
+                    self.ask(ask, *words, *options)
+
+    def pages(self):
+        """Pages without options for a moment, and pages as of a later moment or before one."""
+        self.ask_pages(Asked())
+        flag, moment = self.rng.choice((("at", self.newest + self.rng.choice(LATER)), ("before", self.about_packet())))
+        if moment <= LAST_MOMENT:
+            self.ask_pages(Asked(**{flag: moment}), f"--{flag}", moment_text(moment))
+
+    def ask_pages(self, asked, *options):
+        """The page with options for a moment that is about everything, and one about one or two words of what was heard."""
+        judge = self.ask_page(asked, *options)
+        lines = list(map(judge.line, judge.accounts))
+        about = tuple(some_word(self.rng, lines) for _ in range(self.rng.choice((1, 2))))
+        self.ask_page(asked._replace(about=about), *options, *(f"--about={word}" for word in about))
+
+    def ask_page(self, asked, *options):
+        """The judge of a page with options, which must say what the judge takes for right."""
+        judge, text = Judge([(name, self.captures[name]) for name in self.names], asked), self.ask("page", *options)
+        try:
+            page = read_page(text)
+            found = list(differences(page, judge.page(page.style)))
+        except Unreadable as fault:
+            found = [str(fault)]
+        expect(not found, "page", *options, "\nprinted", text, "\nand", *found)
+        rows = [row for group in page.timeline for row in group.rows]
+        self.seen.pages.update({"pages": 1, "rows": len(rows), "lives": sum(row.earlier + len(row.words) for row in rows),
+                                "names of several labels": len(page.apart.rows) if page.apart else 0})
+        if asked.about:
+            self.seen.pages.update({"pages about words": 1, "rows about words": len(rows)})
+        return judge

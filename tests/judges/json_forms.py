@@ -1,20 +1,14 @@
 """What `--json` must print, made of the lines of words that the same question gives, and of nothing else where these say all.
 
-The expected output of each JSON form in `examples/expected` must be what follows from the expected words beside it, or, of
-mdnswhy, from those that `traced.py` makes of the captures. Whether an instance said goodbye follows from the records of the same
-captures, and what `files` counts beyond its line from `check`."""
+Whether an instance said goodbye follows from the records of the same captures, and what `files` counts beyond its line from
+`check`."""
 
 import json
 import re
 
-from tests import EXAMPLES
 from tests.captures.wire import NAMED
 from tests.judges.lives import CHOICES
 from tests.judges.shown import LABEL, shown_name, shown_of
-from tests.judges.traced import TEXTS, traced_text
-from tests.running.runs import report_difference
-
-EXPECTED = EXAMPLES / "expected"
 
 RECORD = rf"(?P<owner>\S+) (?P<type>{'|'.join(NAMED)})(?P<data>(?: \S+)*)"
 END = r"ttl (?P<ttl>\d+) heard (?P<heard>\S+) until (?P<until>\S+)"
@@ -144,26 +138,3 @@ def json_text(command, text, other):
     if command in BLOCKS:
         return "".join(map(text_of, BLOCKS[command](text, other)))
     return "".join(text_of(object_of(MEMBERS[command], line)) for line in text.splitlines())
-
-
-def expected(captures, command):
-    """What a command of mdnsmerge prints of captures; of mdnswhy it is made from their bytes."""
-    if command in TEXTS:
-        names = [f"{name}.pcap" for name in captures.split("-")]
-        return traced_text(command, [(name, (EXAMPLES / name).read_bytes()) for name in names])
-    return (EXPECTED / f"{captures}.{command}.txt").read_text("utf-8")
-
-
-def try_json_forms():
-    """Compares the expected JSON with what follows from the expected words; answers how many texts differ."""
-    failed = count = 0
-    for path in sorted(EXPECTED.glob("*-json.txt")):
-        captures, _, command = path.stem.removesuffix("-json").partition(".")
-        must = json_text(command, expected(captures, command), lambda other, captures=captures: expected(captures, other))
-        count += 1
-        if path.read_text("utf-8") != must:
-            failed += 1
-            report_difference(f"examples/expected/{path.name}, beside what follows from the words of {command}", must,
-                              path.read_text("utf-8"))
-    print(f"{count} expected texts of JSON beside those of words, {failed} failed")
-    return failed

@@ -32,14 +32,13 @@ def hearings_text(name, capture):
 
 
 def packets_text(name, capture):
-    """A line for each packet that tells nothing. Where a fault is in a damaged message isn't known here."""
+    """A line for each packet that tells nothing. What is wrong with a damaged message, and where, isn't known here."""
     lines = []
     for at, moment, frame in frames_of(capture):
         cause = cause_of(frame)
-        if cause == DAMAGED:
-            raise ValueError(f"{name}: a damaged message at {at}")
+        said = "heard no listed record" if cause is None else "refused" if cause == DAMAGED else f"skipped {cause}"
         if cause or not told_by(frame):
-            lines.append(f"{moment_text(moment)} {name} {at} {f'skipped {cause}' if cause else 'heard no listed record'}\n")
+            lines.append(f"{moment_text(moment)} {name} {at} {said}\n")
     return "".join(lines)
 
 

@@ -12,11 +12,11 @@ from pathlib import Path
 from random import Random
 from typing import NamedTuple
 
-from tests import EXAMPLES
 from tests.captures.built import lay_out_small
 from tests.captures.listening import listenings
-from tests.judges.json_forms import APART, EXPECTED
-from tests.judges.listeners import COMMAND, FORMS, listeners_text
+from tests.judges.answers import answer_to
+from tests.judges.json_forms import APART
+from tests.judges.listeners import COMMAND, FORMS
 from tests.judges.pretty import signed_nanos
 from tests.judges.savefile import reading_of, split_at
 from tests.running import runs
@@ -98,14 +98,10 @@ class Trial:
 
     def answer(self, form, names, prefixes):
         """What must come of what is asked of files, which is tried."""
-        words = (COMMAND, *form, *(word for prefix in prefixes for word in ("--listener", prefix)), *names)
-        readings = {name: reading_of(self.files[name]) for name in names}
-        fault = next((f"mdnswhy: {name}: {readings[name].fault}\n" for name in names if readings[name].fault), None)
-        endings = "".join(f"mdnswhy: {name}: {readings[name].ending}\n" for name in names if not readings[name].is_whole)
-        text = "" if fault else listeners_text([(name, self.files[name]) for name in names], prefixes, form)
-        case = Case(words, REFUSED if fault else DAMAGED if endings else WHOLE, text, fault or endings)
-        self.failed += not agrees(case, self.program, self.folder, self.what, is_long=True)
-        return text
+        words = (COMMAND, *form, *(word for prefix in prefixes for word in ("--listener", prefix)))
+        must = answer_to("mdnswhy", words, [(name, self.files[name]) for name in names])
+        self.failed += not agrees(Case((*words, *names), *must), self.program, self.folder, self.what, is_long=True)
+        return must.out
 
     def run(self):
         names = list(self.files)
@@ -196,23 +192,11 @@ def try_sets(why, folder):
     return failed
 
 
-def try_expected():
-    """Answers how many expected outputs of the examples aren't those of the judge."""
-    captures = [(name, (EXAMPLES / name).read_bytes()) for name in ("west.pcap", "east.pcap")]
-    failed = 0
-    for form in FORMS:
-        path, must = EXPECTED / f"west-east.{COMMAND}{''.join(form).replace('--', '-')}.txt", listeners_text(captures, form=form)
-        if path.read_text("utf-8") != must:
-            failed += 1
-            report_difference(f"examples/expected/{path.name}, beside what the captures give", must, path.read_text("utf-8"))
-    return failed
-
-
 def try_listeners(merge, folder):
     """Tries the mdnswhy that lies beside mdnsmerge; answers how many runs or sets of captures failed."""
     why = merge.with_name("mdnswhy")
     lay_out(folder)
     failed = sum(not agrees(case, why, folder) for case in CASES)
-    failed += try_sets(why, folder) + try_expected()
+    failed += try_sets(why, folder)
     print(f"{len(CASES)} runs of mdnswhy listeners, and over {SETS} sets of captures, {failed} failed")
     return failed

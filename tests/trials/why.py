@@ -12,9 +12,8 @@ from tests import EXAMPLES
 from tests.captures.built import frame_of, labels, lay_out_small, write_capture
 from tests.captures.wire import A, AAAA, PTR, SECOND, SRV, TXT, ipv6_frame
 from tests.fuzz.oracles import Seen, try_case
-from tests.judges.json_forms import expected, json_text
-from tests.judges.pretty import pretty_text
-from tests.judges.traced import TEXTS, traced_text
+from tests.judges.answers import answer_to
+from tests.judges.traced import TEXTS
 from tests.running import runs
 from tests.running.commands import STRICT, TRACES, TWO_FORMS, WHYS, flags_of, page
 from tests.running.program import Finding, Program
@@ -229,12 +228,9 @@ EXAMPLE_SETS = tuple(Case(names, WHOLE) for names in (
 def traced_cases():
     """What is printed of the example captures, made of their bytes in each form."""
     for names in (case.words for case in EXAMPLE_SETS):
-        for trace in TEXTS:
-            text = traced_text(trace, [(name, (EXAMPLES / name).read_bytes()) for name in names])
-            yield Case((trace, *names), WHOLE, text)
-            yield Case((trace, "--json", *names), WHOLE, json_text(trace, text, lambda command: expected("west-east", command)))
-            if trace in TRACES:
-                yield Case((trace, "--pretty", *names), WHOLE, pretty_text(trace, text))
+        files = [(name, (EXAMPLES / name).read_bytes()) for name in names]
+        for words in ((trace, *form) for trace in TEXTS for form in ((), ("--json",), ("--pretty",)) if trace in TRACES or form != ("--pretty",)):
+            yield Case((*words, *names), *answer_to("mdnswhy", words, files))
 
 
 def fault_of(names, merge, why, folder):

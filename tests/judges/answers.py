@@ -1,0 +1,206 @@
+"""What a program must answer over captures, by the readers and the definitions of the other judges: no answer of a program is asked.
+
+The text of a page is left to `judged_page.py`."""
+
+import argparse
+from functools import cached_property, lru_cache
+from itertools import compress, takewhile
+from typing import Callable, NamedTuple
+
+from tests.captures.wire import SECOND
+from tests.judges.causes import DAMAGED, LOSSES, causes_of
+from tests.judges.hearings import hearings_of
+from tests.judges.json_forms import MEMBERS, json_text
+from tests.judges.lines import Line, instances_text, line_of, lines_of, moment_of, sets_of, types_names
+from tests.judges.listeners import COMMAND, listeners_text, warnings_text
+from tests.judges.lives import CHOICES, lives_text, records_text, rows_of
+from tests.judges.pretty import (instances_columns, instances_in, lives_columns, others_in, pretty_text, records_columns,
+                                 types_columns)
+from tests.judges.savefile import frames_in, reading_of
+from tests.judges.subjects import gives_about, is_about, is_name, is_record_about
+from tests.judges.traced import TEXTS, traced_text
+from tests.judges.words import moment_text
+from tests.running.commands import FORMS, TRACES
+from tests.running.program import Answer
+
+
+def nanos_of(text):
+    """A moment in seconds, with a fraction or without."""
+    seconds, _, fraction = text.partition(".")
+    return int(seconds) * SECOND + int(fraction.ljust(9, "0"))
+
+
+WORDS = argparse.ArgumentParser(add_help=False)
+WORDS.add_argument("ask")
+WORDS.add_argument("--at", type=nanos_of)
+WORDS.add_argument("--before", type=nanos_of)
+WORDS.add_argument("--about", action="append", default=[])
+WORDS.add_argument("--listener", action="append", default=[])
+for form in FORMS:
+    WORDS.add_argument(form, dest="form", action="store_const", const=form)
+
+
+@lru_cache(maxsize=32)
+def counts_of(capture):
+    """How many packets `check` counts of a capture, by what they came to, and how many hearings."""
+    causes, packets = causes_of(capture), len(reading_of(capture).packets)
+    silent, refused = sum(causes.values()), causes[DAMAGED]
+    return {"packets": packets, "skipped": silent - refused, "refused": refused, "messages": packets - silent,
+            "hearings": len(held_in(capture)[1])}
+
+
+@lru_cache(maxsize=32)
+def held_in(capture):
+    """The moments of a capture's packets, and its hearings."""
+    return [moment for moment, _ in frames_in(capture)], list(hearings_of(capture))
+
+
+@lru_cache(maxsize=8)
+def rows_of_all(hearings):
+    return rows_of(hearings)
+
+
+class Life(NamedTuple):
+    text: str
+    record: Line
+    start: int
+    until: int
+    how: str
+
+
+class Basis:
+    """What a question is answered from: the files, the hearings that count, the moment as of which records are live, and the span of
+    lives."""
+
+    def __init__(self, asked, files):
+        self.asked, self.files = asked, files
+        held = [held_in(capture) for _, capture in files]
+        moments = [moment for moments, _ in held for moment in moments]
+        self.every = [hearing for _, hearings in held for hearing in hearings]
+        self.hearings = frozenset(one for one in self.every if asked.before is None or one.moment < asked.before)
+        self.newest = max((one.moment for one in self.hearings), default=0)
+        given = asked.before if asked.at is None else asked.at
+        self.now = self.newest if given is None else given
+        self.end = max(moments, default=0) if given is None else given
+        self.begin = min([self.end, *moments])
+
+    @cached_property
+    def rows(self):
+        return rows_of_all(self.hearings)
+
+    @cached_property
+    def lines(self):
+        return lines_of(records_text(self.rows, self.now))
+
+    @cached_property
+    def sets(self):
+        return sets_of(self.lines)
+
+
+class Kind(NamedTuple):
+    """What a report lists of a basis, which of it is about words, and the text of some of it in lines and in columns."""
+    listed: Callable
+    is_about: Callable
+    lines_text: Callable
+    columns: Callable
+
+
+def texts_of(_, some):
+    return "".join(f"{line.text}\n" for line in some)
+
+
+def lives_kind(choice):
+    """What a command lists that chooses so from all lives."""
+    return Kind(lambda basis: list(lives_in(lives_text(choice.of_rows(basis.rows), basis.end))),
+                lambda _, words, life: is_about(is_record_about, words, life.record),
+                texts_of,
+                lambda basis, _, some: lives_columns(some, basis.begin, basis.end, choice.words))
+
+
+KINDS = {
+    "records": Kind(lambda basis: basis.lines,
+                    lambda _, words, line: is_about(is_record_about, words, line),
+                    texts_of,
+                    lambda basis, _, some: records_columns(some, basis.now)),
+    "types": Kind(lambda basis: types_names(basis.lines),
+                  lambda _, words, name: is_about(is_name, words, name),
+                  lambda _, some: "".join(f"{name}\n" for name in some),
+                  lambda basis, _, some: types_columns(some, basis.now)),
+    "instances": Kind(lambda basis: instances_in(basis.lines),
+                      lambda basis, words, line: gives_about(words, line, basis.sets),
+                      lambda basis, some: instances_text(basis.lines, some),
+                      lambda basis, words, some: instances_columns(some, others_about(words, basis.lines), basis.sets, basis.now)),
+    **{ask: lives_kind(choice) for ask, choice in CHOICES.items()},
+}
+
+
+def others_about(words, lines):
+    return [line for line in others_in(lines) if is_about(is_record_about, words, line)]
+
+
+def lives_in(text):
+    """The lives that lines list."""
+    for found in map(MEMBERS["lives"].fullmatch, text.splitlines()):
+        record = line_of("{owner} {type}{data} ttl {ttl} heard {heard} until {until}".format(**found.groupdict()))
+        yield Life(found[0], record, moment_of(found["from"]), record.until, found["end"])
+
+
+def report_text(basis):
+    """The text of a report: of what a command lists, that which is about the words."""
+    asked, kind = basis.asked, KINDS[basis.asked.ask]
+    listed = kind.listed(basis)
+    kept = [kind.is_about(basis, asked.about, one) for one in listed]
+    some = list(compress(listed, kept))
+    if asked.form == "--pretty":
+        return head_text(basis) + kind.columns(basis, asked.about, some)
+    if asked.form == "--json":
+        records = "".join(f"{line.text}\n" for line in basis.lines)
+        objects = json_text(asked.ask, kind.lines_text(basis, listed), lambda _: records).splitlines(keepends=True)
+        return "".join(compress(objects, kept))
+    return kind.lines_text(basis, some)
+
+
+def head_text(basis):
+    """What stands above columns: before lives which clocks don't agree by all packets, whatever the moment; what was lost, and
+    whether anything was heard."""
+    causes = [causes_of(capture) for _, capture in basis.files]
+    lost = sum(some[cause] for some in causes for cause in (*LOSSES, DAMAGED))
+    return "".join((
+        warnings_text(basis.files) if basis.asked.ask in CHOICES else "",
+        f"{lost} packet{'' if lost == 1 else 's'} could not be used: mdnswhy files FILE... says why\n" if lost else "",
+        "" if basis.every else "nothing was heard: mdnswhy files FILE... says what each file is\n"))
+
+
+def check_text(files):
+    counts = [" ".join(f"{what} {count}" for what, count in counts_of(capture).items()) for _, capture in files]
+    return "".join(f"{name}: {some} {reading_of(capture).ending}\n" for (name, capture), some in zip(files, counts))
+
+
+def trace_text(asked, files):
+    text = traced_text(asked.ask, files)
+    if asked.form == "--json":
+        return json_text(asked.ask, text, lambda _: check_text(files))
+    return pretty_text(asked.ask, text) if asked.form else text
+
+
+def answer_to(program, words, files):
+    """The answer of a program to words without the names of files, over files, each a name and its bytes. The text of a page is None.
+    What is wrong with a damaged message isn't known here: a line of `packets` ends with `refused`. `files` is known of whole files."""
+    asked = WORDS.parse_args(words)
+    readings = [(name, reading_of(capture)) for name, capture in files]
+    fault = next((f"{program}: {name}: {reading.fault}\n" for name, reading in readings if reading.fault), None)
+    if fault:
+        before = takewhile(lambda file: not reading_of(file[1]).fault, files)
+        return Answer(2, traced_text(asked.ask, before) if asked.ask in TRACES else "", fault)
+    endings = "".join(f"{program}: {name}: {reading.ending}\n" for name, reading in readings if not reading.is_whole)
+    status = 1 if endings else 0
+    if asked.ask == "check":
+        return Answer(status, check_text(files), "")
+    if asked.ask in TEXTS:
+        return Answer(status, trace_text(asked, files), endings)
+    if asked.ask == COMMAND:
+        return Answer(status, listeners_text(files, asked.listener, (asked.form,) if asked.form else ()), endings)
+    basis = Basis(asked, files)
+    if asked.at is not None and asked.at < basis.newest:
+        return Answer(2, "", f"{program}: the moment is earlier than the newest hearing, {moment_text(basis.newest)}\n")
+    return Answer(status, None if asked.ask == "page" else report_text(basis), endings)

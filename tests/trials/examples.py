@@ -1,0 +1,22 @@
+"""The expected outputs of the example captures: each text is what the judges make of the bytes of the captures, in whichever form."""
+
+from tests import EXAMPLES
+from tests.judges.answers import answer_to
+from tests.running.commands import WHYS
+from tests.running.runs import report_difference
+
+
+def try_examples():
+    """Answers how many expected texts aren't those of the judges."""
+    paths = sorted((EXAMPLES / "expected").glob("*.txt"))
+    failed = 0
+    for path in paths:
+        captures, _, asked = path.stem.partition(".")
+        command, *form = asked.split("-")
+        files = [(f"{name}.pcap", (EXAMPLES / f"{name}.pcap").read_bytes()) for name in captures.split("-")]
+        must = answer_to("mdnswhy" if command in WHYS else "mdnsmerge", [command, *(f"--{one}" for one in form)], files).out
+        if path.read_text("utf-8") != must:
+            failed += 1
+            report_difference(f"examples/expected/{path.name}, beside what the captures give", must, path.read_text("utf-8"))
+    print(f"{len(paths)} expected texts beside what the captures give, {failed} failed")
+    return failed
