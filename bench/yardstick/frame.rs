@@ -16,11 +16,11 @@ const IPV4_GROUP: [u8; 4] = [224, 0, 0, 251];
 const IPV6_GROUP: [u8; 16] = [0xff, 0x02, 0, 0, 0, 0, 0, 0, 0, 0, 0, 0, 0, 0, 0, 0xfb];
 
 /// The payload of a frame from port 5353 to port 5353 of the group, if it carries one.
-pub fn payload_of(frame: &[u8], ipv6: bool) -> Option<&[u8]> {
+pub fn payload_of(frame: &[u8]) -> Option<&[u8]> {
     let packet = frame.get(ETHERNET_SIZE..)?;
     match half(frame, 12)? {
         IPV4 => udp_payload(ipv4_data(packet)?),
-        IPV6 if ipv6 => udp_payload(ipv6_data(packet)?),
+        IPV6 => udp_payload(ipv6_data(packet)?),
         _ => None,
     }
 }

@@ -1,11 +1,10 @@
 //! The yardstick: the job of `mdnsmerge records` in plain Rust, as it is usually written. Each hearing owns what it
 //! says, and two ordered maps keep what was heard. It prints what `mdnsmerge records FILE...` prints, byte for byte.
 //!
-//!     yardstick [--instances | --lives] [--without-ends] [--without-ipv6] FILE...
+//!     yardstick [--instances | --lives] FILE...
 //!
 //! With `--instances` it prints what `mdnsmerge instances FILE...` prints, and with `--lives` what `mdnsmerge lives FILE...`
-//! does. The other switches make it do what earlier versions of the program did: lines that end with the moment of the
-//! last hearing, and IPv4 alone.
+//! does.
 
 mod cache;
 mod capture;
@@ -36,8 +35,6 @@ enum Ask {
 /// What the command line asks for.
 struct Request {
     ask: Ask,
-    ends: bool,
-    ipv6: bool,
     files: Vec<String>,
 }
 
@@ -63,16 +60,12 @@ fn main() -> ExitCode {
 fn requested(words: impl Iterator<Item = String>) -> Request {
     let mut request = Request {
         ask: Ask::Records,
-        ends: true,
-        ipv6: true,
         files: Vec::new(),
     };
     for word in words {
         match word.as_str() {
             "--instances" => request.ask = Ask::Instances,
             "--lives" => request.ask = Ask::Lives,
-            "--without-ends" => request.ends = false,
-            "--without-ipv6" => request.ipv6 = false,
             _ => request.files.push(word),
         }
     }
@@ -84,7 +77,7 @@ fn answered(request: &Request) -> io::Result<()> {
     match request.ask {
         Ask::Records => {
             for live in listened::<Cache>(request)?.live() {
-                text::write_line(&mut out, &live, request.ends)?;
+                text::write_line(&mut out, &live)?;
             }
         }
         Ask::Instances => {
@@ -101,18 +94,18 @@ fn answered(request: &Request) -> io::Result<()> {
 fn listened<L: Listener + Default>(request: &Request) -> io::Result<L> {
     let mut listener = L::default();
     for name in &request.files {
-        listen(name, request.ipv6, &mut listener)?;
+        listen(name, &mut listener)?;
     }
     Ok(listener)
 }
 
 /// Hears what a capture says, up to where it ends or is damaged.
-fn listen(name: &str, ipv6: bool, listener: &mut impl Listener) -> io::Result<()> {
+fn listen(name: &str, listener: &mut impl Listener) -> io::Result<()> {
     let file = BufReader::with_capacity(READ_AHEAD, File::open(name)?);
     let mut capture = Capture::begin(file)?;
     while let Some(packet) = capture.next()? {
         listener.pass(packet.moment);
-        let Some(payload) = frame::payload_of(packet.frame, ipv6) else {
+        let Some(payload) = frame::payload_of(packet.frame) else {
             continue;
         };
         // A message that is damaged, or no response, says nothing.

@@ -4,15 +4,13 @@ use crate::cache::{Live, SECOND};
 use crate::message::{Data, Kind, Record};
 use std::io::{self, Write};
 
-/// Writes the line of a live record, with its end if `ends`.
-pub fn write_line(out: &mut impl Write, live: &Live<'_>, ends: bool) -> io::Result<()> {
+/// Writes the line of a live record.
+pub fn write_line(out: &mut impl Write, live: &Live<'_>) -> io::Result<()> {
     write_record(out, live.kind, live.record)?;
     write!(out, " ttl {} heard ", live.ttl)?;
     write_moment(out, live.moment)?;
-    if ends {
-        out.write_all(b" until ")?;
-        write_moment(out, live.end)?;
-    }
+    out.write_all(b" until ")?;
+    write_moment(out, live.end)?;
     out.write_all(b"\n")
 }
 

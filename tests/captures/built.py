@@ -11,14 +11,22 @@ ONE_PACKET = TOP / "crates/mdnsmerge/data/v1.pcap"
 SOURCE = bytes((192, 0, 2, 1))
 
 
+# Names of files that are escaped in lines, and as they are on standard error; and one below a folder.
+TWO_LINES = "a file\nof two lines.pcap"
+QUOTED = "back\\slash \"\u00e9\".pcap"
+IN_FOLDER = "folder/one.pcap"
+
+
 def lay_out_small(folder):
     """Puts a capture, one that is cut short, and files that are none into a folder."""
     one = ONE_PACKET.read_bytes()
-    (folder / "one.pcap").write_bytes(one)
     # The header of a second packet, without its last byte.
-    (folder / "cut.pcap").write_bytes(one + one[24:39])
-    (folder / "empty.pcap").write_bytes(b"")
-    (folder / "text.pcap").write_bytes(b"No capture, but a text that is longer than a file header.\n")
+    cut = one + one[24:39]
+    (folder / "folder").mkdir()
+    files = {"one.pcap": one, IN_FOLDER: one, TWO_LINES: one, "cut.pcap": cut, QUOTED: cut, "empty.pcap": b"",
+             "text.pcap": b"No capture, but a text that is longer than a file header.\n"}
+    for name, content in files.items():
+        (folder / name).write_bytes(content)
 
 
 def labels(name):

@@ -158,19 +158,3 @@ class Crate:
         text = self.texts[caller.module]
         methods = [one for one in named if one.owner and re.search(rf"\b{re.escape(one.owner)}\b", text)]
         return [] if any(self.is_public(one) for one in methods) else methods
-
-    def reach(self, function):
-        """A function, and the private ones that it calls, directly or by others."""
-        reached, left = set(), [function]
-        while left:
-            caller = left.pop()
-            if caller not in reached:
-                reached.add(caller)
-                calls = CALL.findall(self.text(caller, caller.body))
-                called = [one for before, name in calls for one in self.called(caller, before, name)]
-                left.extend(one for one in called if not self.is_public(one))
-        return reached
-
-    def names(self, functions, word):
-        """Whether one of the functions has a word."""
-        return any(re.search(rf"\b{word}\b", self.text(one, one.first)) for one in functions)

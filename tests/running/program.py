@@ -7,7 +7,7 @@ from typing import NamedTuple
 
 from tests.judges.shown import HIDDEN
 from tests.running.commands import FORMS
-from tests.running.runs import answer_of, difference
+from tests.running.runs import answer_of, difference, differences
 
 # Characters that people don't see, among them controls.
 HIDDEN_CHARACTER = re.compile("[%s]" % "".join(f"{re.escape(chr(some[0]))}-{re.escape(chr(some[-1]))}" for some in HIDDEN))
@@ -36,13 +36,9 @@ def expect(is_so, *what):
 
 def expect_same(was, must, *what):
     """Expects a text, or an answer, and says which lines differ."""
-    if was == must:
-        return
-    if isinstance(must, Answer):
-        must, was = ("".join(f"{name}: {line}\n" for name, text in zip(("status", "out", "err"), answer)
-                             for line in (str(text).splitlines() if name != "status" else [text]))
-                     for answer in (must, was))
-    raise Finding(*what, "\n".join(difference("answered", must, was)))
+    if was != must:
+        found = differences(must, was) if isinstance(must, Answer) else difference("answered", must, was)
+        raise Finding(*what, "\n".join(["", *found]))
 
 
 class Program:

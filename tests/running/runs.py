@@ -8,6 +8,7 @@ import shlex
 import shutil
 import subprocess
 import sys
+from contextlib import ExitStack
 from pathlib import Path
 from typing import NamedTuple
 
@@ -91,62 +92,38 @@ def named_copy(program, folder, name="mdnsmerge"):
     return copied
 
 
-class Stream:
-    """Where a run writes: a pipe that is read to its end, or what the case says in its place."""
-
-    def __init__(self, to):
-        self.to = to
-        self.read, self.write = -1, -1
-        if to == "full":
-            self.write = os.open("/dev/full", os.O_WRONLY)
-        else:
-            self.read, self.write = os.pipe()
-        if to == "gone":
-            os.close(self.read)
-
-    def text(self):
-        """What was written, once the run ended. It fits into a pipe."""
-        os.close(self.write)
-        if self.to in ("full", "gone"):
-            return b""
-        with os.fdopen(self.read, "rb") as written:
-            return written.read()
-
-
 def run_case(case, program, folder, given=None):
-    """The status of a run, or None where it has not ended in time, and what it wrote on its two streams. Its standard
-    input is the pipe that is given, or the case's file."""
-    out, err = Stream(case.out_to), Stream(case.err_to)
-
+    """The answer of a run. Its standard input is the pipe that is given, or the case's file."""
     def prepare():
         if case.open_files:
             resource.setrlimit(resource.RLIMIT_NOFILE, (case.open_files, case.open_files))
-        for number, stream in ((1, out), (2, err)):
-            if stream.to == "closed":
+        for number, to in ((1, case.out_to), (2, case.err_to)):
+            if to == "closed":
                 os.close(number)
+
+    def stream(to):
+        if to == "gone":
+            read, write = os.pipe()
+            os.close(read)
+            return opened.enter_context(open(write, "wb"))
+        return opened.enter_context(open("/dev/full", "wb")) if to == "full" else subprocess.PIPE
 
     words = [] if case.is_nameless else [program, *map(os.fsencode, case.words)]
     user = {"user": NOBODY, "group": NOBODY, "extra_groups": []} if case.is_nobody and not os.geteuid() else {}
-    with open(folder / case.standard_input if case.standard_input else os.devnull, "rb") as file:
-        how = {"cwd": folder, "stdin": given or file, "stdout": out.write, "stderr": err.write, "preexec_fn": prepare, **user}
-        status = status_of(words, executable=program, **how)
-    return status, out.text(), err.text()
-
-
-def status_of(words, **how):
-    try:
-        return subprocess.run(words, timeout=PATIENCE, **how).returncode
-    except subprocess.TimeoutExpired:
-        return None
+    with ExitStack() as opened:
+        file = opened.enter_context(open(folder / case.standard_input if case.standard_input else os.devnull, "rb"))
+        return answer_of(words, folder, executable=program, stdin=given or file, stdout=stream(case.out_to),
+                         stderr=stream(case.err_to), preexec_fn=prepare, **user)
 
 
 def answer_of(words, folder, patience=PATIENCE, **how):
-    """The same of a run without standard input, whose streams are read while it runs."""
+    """The status of a run, or None where it has not ended in time, and what it wrote on its two streams, where these are pipes."""
+    how = {"stdin": subprocess.DEVNULL, "stdout": subprocess.PIPE, "stderr": subprocess.PIPE, **how}
     try:
-        ended = subprocess.run(words, cwd=folder, stdin=subprocess.DEVNULL, capture_output=True, timeout=patience, **how)
+        ended = subprocess.run(words, cwd=folder, timeout=patience, **how)
     except subprocess.TimeoutExpired:
         return None, b"", b""
-    return ended.returncode, ended.stdout, ended.stderr
+    return ended.returncode, ended.stdout or b"", ended.stderr or b""
 
 
 def can_drop(folder):
@@ -200,9 +177,9 @@ def command(program, words):
     return shlex.join([program.name, *readable])
 
 
-def agrees(case, program, folder, what="", given=None, is_long=False):
-    """Tries a case in a folder, and says what differs; one that may print more than a pipe holds is long."""
-    answer = answer_of([program, *case.words], folder) if is_long else run_case(case, program, folder, given)
+def agrees(case, program, folder, what="", given=None):
+    """Tries a case in a folder, and says what differs."""
+    answer = run_case(case, program, folder, given)
     streams = [f", {name} {to}" for name, to in (("output", case.out_to), ("errors", case.err_to)) if to]
     about = command(program, case.words) + "".join(streams)
     return not fails(case.place, f"{what}: {about}" if what else about, differences(case, answer))

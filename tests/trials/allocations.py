@@ -17,18 +17,21 @@ It also counts them: hearings of records that are known, spelled as before, must
 
 import os
 import re
+import shutil
 import signal
 import subprocess
+import sys
 from concurrent.futures import ThreadPoolExecutor
 from pathlib import Path
 from typing import NamedTuple
 
-from tests import TOP
+from tests import EXAMPLES, TOP
 from tests.captures.built import frame_of, labels, lay_out_small, write_capture
 from tests.captures.link import Link
 from tests.captures.wire import SECOND, TXT
 from tests.judges.lives import CHOICES
 from tests.running.commands import ASKS, COMMANDS, FORMS, WHYS, flags_of
+from tests.running.program import Answer
 from tests.running.runs import DAMAGED, REFUSED, WHOLE, answer_of, differences, fails, placed
 from tests.trials.memory import again
 
@@ -52,9 +55,9 @@ BUFFER = 65_536
 
 BOTH = ("west.pcap", "east.pcap")
 
-# So many packets of few records, come twice and twelve times, and how many allocations more the longer run may ask for:
+# So many packets of few records come twice and twelve times in these files, and how many allocations more the longer run may ask for:
 # lists of moments that outgrow their place take some, where its 42,330 more hearings would take as many.
-PACKETS, TWICE, OFTEN, OF_KNOWN = 1_000, 2, 12, 2_000
+PACKETS, TWICE, OFTEN, OF_KNOWN = 1_000, "twice.pcap", "often.pcap", 2_000
 
 # So many records with a text of so many bytes, each of which is printed as four: together more than is printed at once.
 LONG_TEXTS, LONG = 15, 1_275
@@ -76,17 +79,6 @@ class Run(NamedTuple):
     are_read: bool = True
     program: str = "mdnsmerge"
     place: str = ""
-
-    @property
-    def remembers(self):
-        """Whether the run remembers messages that come again, and does without where memory for that is refused."""
-        is_one = self.program == "mdnsmerge" or self.words[:1] == ("listeners",)
-        return is_one and self.are_read and self.files > 0
-
-    @property
-    def in_a_row(self):
-        """How many allocations are refused in a row: several only where no option changes what the command does."""
-        return (ONE,) if any(word.startswith("--") for word in self.words) else (ONE, TWO, ALL)
 
 
 RUNS = (
@@ -133,40 +125,24 @@ WHY_RUNS = tuple(run._replace(program="mdnswhy") for run in (
 KNOWN = tuple(Run((asked,), 1, WHOLE) for asked in ("records", "check"))
 
 
-class Answer(NamedTuple):
-    """The status of a run, which is negative where a signal ended it, and what it wrote on its two streams."""
-    status: int
-    out: str
-    err: str
-
-
 class Met(NamedTuple):
-    """A run: its answer, of how many bytes the allocations were that were refused in it, and how many it asked for."""
+    """A run: its answer, whose status is negative where a signal ended it, of how many bytes the allocations were that were refused in
+    it, and how many it asked for."""
     answer: Answer
     refused: frozenset
     allocations: int
 
 
-class NoCompiler(Exception):
-    """There is no C compiler."""
+class Sweeps:
+    """Sweeps over the allocations of runs in a folder, and what came of them."""
 
-
-def build(folder):
-    """Builds what is loaded into the runs."""
-    library = folder / "refuse_allocation.so"
-    try:
-        subprocess.run(["cc", "-O1", "-Wall", "-Wextra", "-fPIC", "-shared", "-o", library, SOURCE], check=True)
-    except FileNotFoundError:
-        raise NoCompiler("there is no C compiler `cc`, which refusing allocations needs") from None
-    return library
-
-
-class Refuser:
-    """Runs programs in a folder, with allocations refused."""
-
-    def __init__(self, library, folder):
-        self.library = library
-        self.folder = folder
+    def __init__(self, folder):
+        self.folder, self.library = folder, folder / "refuse_allocation.so"
+        self.sweeps = self.met = self.failed = 0
+        try:
+            subprocess.run(["cc", "-O1", "-Wall", "-Wextra", "-fPIC", "-shared", "-o", self.library, SOURCE], check=True)
+        except FileNotFoundError:
+            sys.exit("trials: there is no C compiler `cc`, which refusing allocations needs")
 
     def run(self, words, allocation, in_a_row=ONE):
         """Runs the words with so many allocations refused from that one on, counted from 1, or with none refused at 0."""
@@ -175,8 +151,7 @@ class Refuser:
                 "ALLOCATION_REPORT": write}
         environment = {**os.environ, **{name: str(value) for name, value in told.items()}}
         try:
-            status, out, err = answer_of(words, self.folder, env=environment, pass_fds=[write])
-            answer = Answer(status, text_of(out), text_of(err))
+            status, *texts = answer_of(words, self.folder, env=environment, pass_fds=[write])
         finally:
             os.close(write)
             with os.fdopen(read) as report:
@@ -184,27 +159,15 @@ class Refuser:
         refused = frozenset(int(size) for what, size in said if what == "refused")
         # A run that was stopped has not said how many allocations there were.
         allocations = sum(int(count) for what, count in said if what == "allocations")
-        return Met(answer, refused, allocations)
-
-
-def text_of(output):
-    return output.decode("ascii", "backslashreplace")
-
-
-class Sweeps:
-    """Sweeps over the allocations of runs, and what came of them."""
-
-    def __init__(self, refuser):
-        self.refuser = refuser
-        self.sweeps = self.met = self.failed = 0
+        return Met(Answer(status, *(text.decode("ascii", "backslashreplace") for text in texts)), refused, allocations)
 
     def sweep(self, place, words, judge, in_a_row=ONE):
         """Refuses the allocations of a row's run in turn. `judge` finds faults in the plain answer and the others by allocation."""
-        plain = self.refuser.run(words, 0)
+        plain = self.run(words, 0)
         with ThreadPoolExecutor(os.cpu_count()) as pool:
             allocations = range(1, plain.allocations + 1)
-            met = dict(zip(allocations, pool.map(lambda it: self.refuser.run(words, it, in_a_row), allocations)))
-        last = self.refuser.run(words, plain.allocations + 1)
+            met = dict(zip(allocations, pool.map(lambda it: self.run(words, it, in_a_row), allocations)))
+        last = self.run(words, plain.allocations + 1)
         faults = [
             *(f"  allocation {allocation}: nothing was refused" for allocation, it in met.items() if not it.refused),
             *judge(plain.answer, met),
@@ -221,23 +184,21 @@ class Judge:
     """Knows what a run of a program may answer where so many allocations were refused in a row."""
 
     def __init__(self, run, in_a_row):
-        names = run.words[len(run.words) - run.files:]
-        self.status = run.status
+        self.run, self.in_a_row = run, in_a_row
         self.most_made_good = run.made_good if in_a_row == ONE else 0
-        self.buffers = run.files if run.are_read else 0
-        self.in_a_row = in_a_row
-        self.does_without = run.remembers and in_a_row != ALL
-        self.prints_while_it_reads = run.program == "mdnswhy"
+        # Whether the run remembers messages that come again, and does without where memory for that is refused.
+        is_one = run.program == "mdnsmerge" or run.words[:1] == ("listeners",)
+        self.does_without = is_one and run.are_read and run.files > 0 and in_a_row != ALL
         self.prints_record_by_record = bool(CHOICES.keys() & {*run.words})
         self.may_have_long_text = self.prints_record_by_record or bool({"hearings", "page"} & {*run.words})
         # How a run ends that was refused an allocation, and what is said of that, each with the index of the file that it names.
         self.out_of_memory = Answer(REFUSED, "", f"{run.program}: out of memory\n")
         self.refusals = {self.out_of_memory.err: None}
-        for index, name in enumerate(names):
+        for index, name in enumerate(run.words[len(run.words) - run.files:]):
             self.refusals[f"{run.program}: {name}: out of memory\n"] = index
 
     def faults(self, plain, met):
-        yield from apart("with ample memory", plain._replace(status=self.status), plain)
+        yield from apart("with ample memory", plain._replace(status=self.run.status), plain)
         yield from self.buffer_faults(plain, met)
         answers = {allocation: it.answer for allocation, it in met.items() if it.refused != {BUFFER}}
         allowed = {*short_of_a_line(plain, self.out_of_memory.err)}
@@ -252,36 +213,26 @@ class Judge:
 
     def is_refusal(self, answer, plain):
         """Whether the answer says that memory was wanting, and there is no more of it than may have been printed before."""
-        printed = not answer.out or plain.out.startswith(answer.out) and self.may_have_printed(answer.out, plain.out)
+        printed = not answer.out or plain.out.startswith(answer.out) and (
+            self.run.program == "mdnswhy" or self.prints_record_by_record and ends_with_a_record(answer.out, plain.out))
         return answer.status == REFUSED and answer.err in self.refusals and printed
 
-    def may_have_printed(self, out, whole):
-        """Whether a run may have printed this beginning of its answer before memory was wanting."""
-        return self.prints_while_it_reads or self.prints_record_by_record and ends_with_a_record(out, whole)
-
-    def is_text(self, answer, plain):
-        """Whether what was refused, of as many bytes as a buffer, was the text of lives, of hearings or of a page."""
-        return self.may_have_long_text and self.is_refusal(answer, plain)
-
     def buffer_faults(self, plain, met):
-        """Finds faults in the runs to which nothing but buffers was refused: each file asks for one, and does without."""
+        """Finds faults in the runs to which nothing but buffers was refused: each file asks for one, and does without. What was refused,
+        of as many bytes, may be the text of lives, of hearings or of a page."""
         without = {allocation: it.answer for allocation, it in met.items()
-                   if it.refused == {BUFFER} and not self.is_text(it.answer, plain)}
+                   if it.refused == {BUFFER} and not (self.may_have_long_text and self.is_refusal(it.answer, plain))}
         for allocation, answer in without.items():
             yield from apart(f"allocation {allocation}, a buffer", plain, answer)
-        if self.in_a_row == ONE and len(without) != self.buffers:
-            yield f"  {len(without)} allocations were buffers, and not {self.buffers}"
+        buffers = self.run.files if self.run.are_read else 0
+        if self.in_a_row == ONE and len(without) != buffers:
+            yield f"  {len(without)} allocations were buffers, and not {buffers}"
 
 
 def ends_with_a_record(out, whole):
     """Whether the beginning of the lives of records has all those of each record that it has."""
-    rest = whole[len(out):]
-    return out.endswith("\n") and not (rest and record_of(out.splitlines()[-1]) == record_of(rest.splitlines()[0]))
-
-
-def record_of(line):
-    """The record in the line of a life."""
-    return AFTER_RECORD.split(line)[0]
+    last, following = (AFTER_RECORD.split(line)[0] for line in (out.splitlines()[-1], whole[len(out):].partition("\n")[0]))
+    return out.endswith("\n") and last != following
 
 
 def short_of_a_line(plain, out_of_memory):
@@ -315,17 +266,16 @@ def stops(plain, met):
 
 
 def lay_out(folder):
-    """Puts the files that the runs name into a folder."""
+    """Puts the files that the runs name into a folder; one has records of long texts."""
     lay_out_small(folder)
     for name in BOTH:
-        (folder / name).write_bytes((TOP / "examples" / name).read_bytes())
-    write_capture(folder / "long.pcap", "little-micro", [(seconds * SECOND, long_frame()) for seconds in (100, 400)])
-
-
-def long_frame():
-    """A frame with records of long texts."""
+        shutil.copy(EXAMPLES / name, folder)
     text = (bytes([254]) + bytes(254)) * (LONG // 255)
-    return frame_of([((labels(f"{number}.local"), TXT, text, False), 120) for number in range(LONG_TEXTS)])
+    frame = frame_of([((labels(f"{number}.local"), TXT, text, False), 120) for number in range(LONG_TEXTS)])
+    write_capture(folder / "long.pcap", "little-micro", [(seconds * SECOND, frame) for seconds in (100, 400)])
+    packets = list(Link(1, 4).packets(PACKETS))
+    for name, rounds in ((TWICE, 2), (OFTEN, 12)):
+        write_capture(folder / name, "little-micro", (again(packets, number) for number in range(PACKETS * rounds)))
 
 
 def test_programs():
@@ -335,56 +285,33 @@ def test_programs():
         yield crate / "out" / f"{crate.name}_tests"
 
 
-def tests_in(program):
-    listed = subprocess.run([program, "--list"], capture_output=True, text=True, check=True).stdout
-    names = [line.removesuffix(": test") for line in listed.splitlines()]
-    return [name for name in names if name.startswith(f"{MODULE}::")]
-
-
-def place_of(program, test):
-    """The file and line of a test."""
-    source = program.parent.parent / f"src/{MODULE}.rt"
-    before, _, _ = source.read_text("utf-8").partition(f"fn {test.rpartition('::')[2]}(")
-    return f"{source.relative_to(TOP)}:{before.count(chr(10)) + 1}"
-
-
-def try_programs(programs, sweeps):
-    for run in (*RUNS, *WHY_RUNS):
-        for in_a_row in run.in_a_row:
-            sweeps.sweep(run.place, [programs[run.program], *run.words], Judge(run, in_a_row).faults, in_a_row)
-
-
 def try_tests(sweeps):
     for program in test_programs():
-        tests = tests_in(program)
+        listed = subprocess.run([program, "--list"], capture_output=True, text=True, check=True).stdout
+        tests = re.findall(rf"(?m)^({MODULE}::.*): test$", listed)
         if not tests:
             sweeps.failed += 1
             print(f"{program.name} has no {MODULE}: it is not what was built last")
+        source = program.parent.parent / f"src/{MODULE}.rt"
         for test in tests:
-            sweeps.sweep(place_of(program, test), [program, test], passes)
-            sweeps.sweep(place_of(program, test), [program, test], stops, ALL)
-
-
-def try_known(program, refuser, folder):
-    """Counts the allocations for hearings that are known; answers how many commands ask for them."""
-    packets = list(Link(1, 4).packets(PACKETS))
-    for name, rounds in (("twice.pcap", TWICE), ("often.pcap", OFTEN)):
-        write_capture(folder / name, "little-micro", (again(packets, number) for number in range(PACKETS * rounds)))
-    failed = 0
-    for run in KNOWN:
-        few, many = (refuser.run([program, *run.words, name], 0).allocations for name in ("twice.pcap", "often.pcap"))
-        found = [] if 0 < few <= many <= few + OF_KNOWN else [f"  {few} allocations, and {many} where what is known is heard again"]
-        failed += fails(run.place, f"mdnsmerge {' '.join(run.words)}", found)
-    return failed
+            before, _, _ = source.read_text("utf-8").partition(f"fn {test.rpartition('::')[2]}(")
+            place = f"{source.relative_to(TOP)}:{before.count(chr(10)) + 1}"
+            sweeps.sweep(place, [program, test], passes)
+            sweeps.sweep(place, [program, test], stops, ALL)
 
 
 def try_allocations(programs, folder):
     """Refuses the allocations of the programs, given by name, and of the tests; answers how many sweeps failed."""
     lay_out(folder)
-    refuser = Refuser(build(folder), folder)
-    sweeps = Sweeps(refuser)
-    try_programs(programs, sweeps)
+    sweeps = Sweeps(folder)
+    for run in (*RUNS, *WHY_RUNS):
+        # Several in a row only where no option changes what the command does.
+        for in_a_row in (ONE,) if any(word.startswith("--") for word in run.words) else (ONE, TWO, ALL):
+            sweeps.sweep(run.place, [programs[run.program], *run.words], Judge(run, in_a_row).faults, in_a_row)
     try_tests(sweeps)
-    failed = sweeps.failed + try_known(programs["mdnsmerge"], refuser, folder)
-    print(f"{sweeps.met} allocations refused in {sweeps.sweeps} sweeps; {failed} failed")
-    return failed
+    for run in KNOWN:
+        few, many = (sweeps.run([programs["mdnsmerge"], *run.words, name], 0).allocations for name in (TWICE, OFTEN))
+        found = [] if 0 < few <= many <= few + OF_KNOWN else [f"  {few} allocations, and {many} where what is known is heard again"]
+        sweeps.failed += fails(run.place, f"mdnsmerge {' '.join(run.words)}", found)
+    print(f"{sweeps.met} allocations refused in {sweeps.sweeps} sweeps; {sweeps.failed} failed")
+    return sweeps.failed

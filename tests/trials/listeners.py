@@ -5,14 +5,12 @@ other way around; and a file in two parts, which `--listener` makes one again, c
 `listeners.rows` has small captures with their answers, worked out by hand."""
 
 import re
-import shutil
 import tempfile
 from functools import partial
 from pathlib import Path
 from random import Random
-from typing import NamedTuple
 
-from tests.captures.built import lay_out_small
+from tests.captures.built import IN_FOLDER, QUOTED, TWO_LINES, lay_out_small
 from tests.captures.listening import listenings
 from tests.judges.answers import answer_to
 from tests.judges.json_forms import APART
@@ -39,11 +37,6 @@ def lines_of_one(name):
     between = "from 100.000000000 until 100.000000000"
     return f"{name} heard 1 alone 1 missed 0 {between}\n192.0.2.1 {name} heard 1 missed 0 {between} a.local\n"
 
-
-# Names of files that are escaped in lines, and as they are on standard error.
-TWO_LINES = "a file\nof two lines.pcap"
-QUOTED = "back\\slash \"\u00e9\".pcap"
-IN_FOLDER = "folder/one.pcap"
 
 # Why a prefix is refused.
 UNFIT = "no FILE's name, without folders, begins with it"
@@ -72,14 +65,6 @@ CASES = (
 )
 
 
-def lay_out(folder):
-    lay_out_small(folder)
-    (folder / "folder").mkdir()
-    shutil.copy(folder / "one.pcap", folder / IN_FOLDER)
-    shutil.copy(folder / "one.pcap", folder / TWO_LINES)
-    shutil.copy(folder / "cut.pcap", folder / QUOTED)
-
-
 class Trial:
     """The runs over a set of captures, which are laid out in a folder."""
 
@@ -100,14 +85,12 @@ class Trial:
         """What must come of what is asked of files, which is tried."""
         words = (COMMAND, *form, *(word for prefix in prefixes for word in ("--listener", prefix)))
         must = answer_to("mdnswhy", words, [(name, self.files[name]) for name in names])
-        self.failed += not agrees(Case((*words, *names), *must), self.program, self.folder, self.what, is_long=True)
+        self.failed += not agrees(Case((*words, *names), *must), self.program, self.folder, self.what)
         return must.out
 
     def run(self):
         names = list(self.files)
-        text = self.answer((), names, self.prefixes)
-        for form in list(FORMS)[1:]:
-            self.answer(form, names, self.prefixes)
+        text, *_ = [self.answer(form, names, self.prefixes) for form in FORMS]
         if text:
             self.in_another_order(names, text)
             self.in_two_parts(names)
@@ -130,7 +113,8 @@ class Trial:
             self.add(f"parted-{number}.pcap", part)
         others = [other for other in names if other != name]
         at = self.rng.randint(0, len(others))
-        prefixes = ["parted", *(prefix for prefix in self.prefixes if fits_some(prefix, others))]
+        bases = [other.rpartition("/")[2] for other in others]
+        prefixes = ["parted", *(prefix for prefix in self.prefixes if any(base.startswith(prefix) for base in bases))]
         one, two = (self.answer((), [*others[:at], *parts, *others[at:]], prefixes)
                     for parts in (["parted.pcap"], ["parted-0.pcap", "parted-1.pcap"]))
         if not are_alike(one, two):
@@ -141,33 +125,19 @@ class Trial:
         report_difference(f"tests/trials/listeners.py: {self.what}: {about}", must, was)
 
 
-def fits_some(prefix, names):
-    return any(name.rpartition("/")[2].startswith(prefix) for name in names)
-
-
-class Clock(NamedTuple):
-    """What is said of two listeners, the lesser name first. Of an even number the lesser of two medians depends on the order."""
-    one: str
-    other: str
-    common: str
-    bounds: tuple
-    median: object
-    by: str
-
-
-def clock_of(found):
-    one, other, common, *moments, by = found.groups()
-    signs = -1 if one > other else 1
-    ahead, low, high = (None if text == "-" else signs * signed_nanos(text) for text in moments)
-    bounds = () if ahead is None else tuple(sorted((low, high)))
-    return Clock(min(one, other), max(one, other), common, bounds, ahead if int(by) % 2 else None, by)
-
-
 def in_order(text):
-    """The lines of an answer in an order that the order of files doesn't change."""
-    lines = text.splitlines()
-    clocks = [clock_of(found) for found in map(APART.fullmatch, lines) if found]
-    return "".join(f"{line}\n" for line in sorted([*map(str, clocks), *(line for line in lines if not APART.fullmatch(line))]))
+    """The lines of an answer in an order that the order of files doesn't change: of each two the lesser name first. Of an even number of
+    messages the lesser of two medians depends on it."""
+    lines = []
+    for line in text.splitlines():
+        found = APART.fullmatch(line)
+        if found:
+            one, other, common, *moments, by = found.groups()
+            sign = -1 if one > other else 1
+            ahead, *bounds = (None if moment == "-" else sign * signed_nanos(moment) for moment in moments)
+            line = f"{sorted((one, other))} {common} {ahead if int(by) % 2 else None} {bounds[::sign]} {by}"
+        lines.append(line)
+    return "".join(f"{line}\n" for line in sorted(lines))
 
 
 def are_alike(one, two):
@@ -181,22 +151,15 @@ def are_alike(one, two):
     return one.count("\n") == two.count("\n")
 
 
-def try_sets(why, folder):
-    """Answers how many sets of captures have other answers than they must."""
-    failed = 0
+def try_listeners(merge, folder):
+    """Tries the mdnswhy that lies beside mdnsmerge; answers how many runs or sets of captures failed."""
+    why = merge.with_name("mdnswhy")
+    lay_out_small(folder)
+    failed = sum(not agrees(case, why, folder) for case in CASES)
     for number, listening in enumerate(listenings(SETS, folder / "scratch")):
         with tempfile.TemporaryDirectory(dir=folder) as place:
             trial = Trial(why, Path(place), number, listening)
             trial.run()
             failed += bool(trial.failed)
-    return failed
-
-
-def try_listeners(merge, folder):
-    """Tries the mdnswhy that lies beside mdnsmerge; answers how many runs or sets of captures failed."""
-    why = merge.with_name("mdnswhy")
-    lay_out(folder)
-    failed = sum(not agrees(case, why, folder) for case in CASES)
-    failed += try_sets(why, folder)
     print(f"{len(CASES)} runs of mdnswhy listeners, and over {SETS} sets of captures, {failed} failed")
     return failed

@@ -68,6 +68,6 @@ def try_lives_agree(program, folder):
         for words, names in questions(link):
             must = answer_to("mdnsmerge", words, [(name, captures[name]) for name in names])
             count += 1
-            failed += not agrees(Case((*words, *names), *must, place=link.place), program, folder, link.what, is_long=True)
+            failed += not agrees(Case((*words, *names), *must, place=link.place), program, folder, link.what)
     print(f"{count} runs whose lives are those of the definition, {failed} failed")
     return failed

@@ -88,7 +88,6 @@ WHY_CASES = (
 
 def lay_out(folder):
     lay_out_small(folder)
-    (folder / "folder").mkdir()
     for name in COPIES:
         shutil.copy(folder / "one.pcap", folder / name)
     for number, name in enumerate(HOSTS):

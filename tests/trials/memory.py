@@ -24,47 +24,11 @@ GROWTH, CEILING = 1.0, 16.0
 # Seconds of processor time for a run.
 LIMIT = 60
 
-PACKETS, FEW_PACKETS = 200_000, 1_000
-FLUSHES, SECONDS = 400_000, 4_000
-FILES = 1_000
+# The packets of a short run.
+FEW = 1_000
 
-# So many flushes in a few seconds, each told by a message of its own, in rounds through the seconds.
-LATE_FLUSHES, LATE_SECONDS, ROUNDS = 100_000, 4, 100
-
-# The mebibytes that the flush moments of one of these seconds may take, while others wait and both are sorted.
-OF_LATE = 2.0
-
-# Messages of ten records each that are heard for the first time, and the mebibytes that these may take.
-NEW, OF_NEW = 10_000, 48.0
-
-# Messages of ten records each that come again two seconds later with another TTL, and the mebibytes that the lives of these
-# records may take: each has a list of two hearings, 24 bytes.
-AGAIN, OF_AGAIN = 10_000, 50.0
-
-# Messages that come twice in a row, the bytes of each, and the mebibytes that those of them may take which are remembered,
-# 8 at most, with what finds them.
-REPEATED, REPEATED_SIZE, OF_REPEATED = 40_000, 500, 11.0
-
-# Hearings of one record within a second, and the mebibytes that its lives may take where all of them flush its set.
-FLOOD, OF_FLOOD = 400_000, 20.0
-
-# The mebibytes that the lives of few records may take that are heard 850,000 times, most of them with a flush: 24 bytes a
-# hearing and 12 a flush, and what any run takes.
-OF_LIVES = 32.0
-
-# Messages of a thousand PTR records of one type each, and the mebibytes that what changed of them may take: 300,000 lives, none
-# of which waits for another.
-OF_ONE_TYPE, OF_TYPE = 300, 115.0
-
-# The mebibytes that the moments may take at which listeners heard few messages; and those that 40,000 different messages of 500
-# bytes may take, each of which is kept once, with the moments of both times that it comes.
-OF_MOMENTS, OF_MESSAGES = 10.0, 36.0
-
-# Instances, each heard in every so manieth file; the mebibytes that a page may take for more such files, and in all.
-SCATTERED, OF_FILES, OF_PAGE = 400, 4.0, 32.0
-
-# Files that a process has open beside the captures.
-OTHER_FILES = 16
+# How many instances there are, each heard in every so manieth file; and files that a process has open beside the captures.
+SCATTERED, OTHER_FILES = 400, 16
 
 
 @placed
@@ -80,35 +44,58 @@ class Pair(NamedTuple):
     place: str = ""
 
 
+def pair(what, asked, name, program="mdnsmerge", short=None, **bounds):
+    """The runs over a capture, and over its first packets or a small one."""
+    return Pair(what, asked, [f"{name}.pcap"], [short or f"{name}-begin.pcap"], program, **bounds)
+
+
 def pairs():
     """The runs that are compared."""
-    some = FILES if may_open(FILES) else FILES // 2
-    yield Pair(f"{PACKETS} packets of few records", "records", ["few.pcap"], ["few-begin.pcap"])
-    yield Pair(f"{PACKETS} packets that are counted", "check", ["few.pcap"], ["few-begin.pcap"])
-    yield Pair(f"flushes of one set for {SECONDS} seconds", "records", ["flushes.pcap"], ["flushes-begin.pcap"])
-    yield Pair(f"{LATE_FLUSHES} late flushes of one set", "records", ["late.pcap"], ["late-begin.pcap"],
-               growth=OF_LATE)
-    yield Pair(f"{NEW} messages of new records", "records", ["new.pcap"], ["one.pcap"], growth=OF_NEW, ceiling=OF_NEW)
-    yield Pair(f"{AGAIN} messages of records that are heard twice", "lives", ["again.pcap"], ["one.pcap"], growth=OF_AGAIN,
-               ceiling=OF_AGAIN)
-    yield Pair(f"{REPEATED} messages of {REPEATED_SIZE} bytes that come twice", "records", ["repeated.pcap"],
-               ["repeated-begin.pcap"], growth=OF_REPEATED)
-    yield Pair(f"{FLOOD} flushes of one set within a second", "lives", ["flood.pcap"], ["flood-begin.pcap"],
-               growth=OF_FLOOD, ceiling=OF_FLOOD)
-    yield Pair(f"{FLOOD} hearings of one record within a second", "lives", ["heard.pcap"], ["heard-begin.pcap"])
-    yield Pair(f"{PACKETS} packets of few records by their lives", "lives", ["few.pcap"], ["few-begin.pcap"],
-               growth=OF_LIVES, ceiling=OF_LIVES)
-    yield Pair(f"{OF_ONE_TYPE} messages of instances of one type", "changes", ["instances.pcap"], ["one.pcap"], growth=OF_TYPE,
-               ceiling=OF_TYPE)
+    some = 1_000 if may_open(1_000) else 500
+    yield pair("200000 packets of few records", "records", "few")
+    yield pair("200000 packets that are counted", "check", "few")
+    yield pair("flushes of one set for 4000 seconds", "records", "flushes")
+    # The moments of one of the seconds, while others wait and both are sorted.
+    yield pair("100000 late flushes of one set", "records", "late", growth=2.0)
+    yield pair("10000 messages of new records", "records", "new", short="one.pcap", growth=48.0, ceiling=48.0)
+    # Each record has a list of two hearings, 24 bytes.
+    yield pair("10000 messages of records that are heard twice", "lives", "again", short="one.pcap", growth=50.0, ceiling=50.0)
+    # Those that are remembered, 8 MiB at most, with what finds them.
+    yield pair("40000 messages of 500 bytes that come twice", "records", "repeated", growth=11.0)
+    yield pair("400000 flushes of one set within a second", "lives", "flood", growth=20.0, ceiling=20.0)
+    yield pair("400000 hearings of one record within a second", "lives", "heard")
+    # They are heard 850,000 times, most with a flush: 24 bytes a hearing and 12 a flush, and what any run takes.
+    yield pair("200000 packets of few records by their lives", "lives", "few", growth=32.0, ceiling=32.0)
+    # 300,000 lives, none of which waits for another.
+    yield pair("300 messages of instances of one type", "changes", "instances", short="one.pcap", growth=115.0, ceiling=115.0)
     yield Pair(f"{some} files", "records", ["one.pcap"] * some, ["one.pcap"])
     yield Pair(f"{some} files with one of {SCATTERED} instances each", "page", scattered(some), scattered(SCATTERED),
-               growth=OF_FILES, ceiling=OF_PAGE)
-    yield Pair(f"{PACKETS} packets of few messages by listeners", "listeners", ["few.pcap"], ["few-begin.pcap"], "mdnswhy",
-               growth=OF_MOMENTS)
-    yield Pair(f"{REPEATED} messages of {REPEATED_SIZE} bytes that come twice, by listeners", "listeners", ["repeated.pcap"],
-               ["repeated-begin.pcap"], "mdnswhy", growth=OF_MESSAGES, ceiling=OF_MESSAGES)
+               growth=4.0, ceiling=32.0)
+    # The moments at which listeners heard them.
+    yield pair("200000 packets of few messages by listeners", "listeners", "few", "mdnswhy", growth=10.0)
+    # Each is kept once, with the moments of both times that it comes.
+    yield pair("40000 messages of 500 bytes that come twice, by listeners", "listeners", "repeated", "mdnswhy", growth=36.0,
+               ceiling=36.0)
     for trace in TRACES:
-        yield Pair(f"{PACKETS} packets by {trace}", trace, ["few.pcap"], ["few-begin.pcap"], "mdnswhy")
+        yield pair(f"200000 packets by {trace}", trace, "few", "mdnswhy")
+
+
+def captures():
+    """The packets of each capture. Each of the messages of records has ten."""
+    few = list(Link(1, 4).packets(FEW))
+    yield "few", (again(few, number) for number in range(200_000))
+    yield "flushes", flushes(1, 400_000, 4_000, "ascending")
+    yield "flood", flushes(1, 400_000, 1, "shuffled")
+    yield "heard", unique(hearings(1, 400_000, 1, "shuffled"))
+    # Each told by a message of its own, in rounds through the seconds.
+    yield "late", unique(late_flushes(1, 100_000, 4, 100))
+    yield "new", records(10_000)
+    # They come again two seconds later with another TTL.
+    yield "again", unique(twice(records(10_000), 2 * SECOND))
+    yield "repeated", twice(long_messages(40_000, 500), 0)
+    yield "instances", instances(1, 300, "ascending")
+    for number, name in enumerate(scattered(SCATTERED)):
+        yield name.removesuffix(".pcap"), [full(at(number), b"instance-%d" % number, host=(b"host-%d" % number, LOCAL))]
 
 
 def scattered(files):
@@ -124,23 +111,6 @@ def may_open(files):
         return False
     resource.setrlimit(resource.RLIMIT_NOFILE, (wanted, most))
     return True
-
-
-def lay_out(folder):
-    lay_out_small(folder)
-    few = list(Link(1, 4).packets(FEW_PACKETS))
-    write_long(folder, "few", (again(few, number) for number in range(PACKETS)))
-    write_long(folder, "flushes", flushes(1, FLUSHES, SECONDS, "ascending"))
-    write_long(folder, "flood", flushes(1, FLOOD, 1, "shuffled"))
-    write_long(folder, "heard", unique(hearings(1, FLOOD, 1, "shuffled")))
-    write_long(folder, "late", unique(late_flushes(1, LATE_FLUSHES, LATE_SECONDS, ROUNDS)))
-    write_capture(folder / "new.pcap", "little-micro", records(NEW))
-    write_capture(folder / "again.pcap", "little-micro", unique(twice(records(AGAIN), 2 * SECOND)))
-    write_long(folder, "repeated", twice(long_messages(REPEATED, REPEATED_SIZE), 0))
-    write_capture(folder / "instances.pcap", "little-micro", instances(1, OF_ONE_TYPE, "ascending"))
-    for number, name in enumerate(scattered(SCATTERED)):
-        instance = full(at(number), b"instance-%d" % number, host=(b"host-%d" % number, LOCAL))
-        write_capture(folder / name, "little-micro", [instance])
 
 
 def twice(packets, later):
@@ -168,23 +138,19 @@ def again(packets, number):
 
 def write_long(folder, name, packets):
     """Writes a capture, and one of the first packets of it."""
-    first = list(islice(packets, FEW_PACKETS))
+    packets = iter(packets)
+    first = list(islice(packets, FEW))
     write_capture(folder / f"{name}-begin.pcap", "little-micro", first)
     write_capture(folder / f"{name}.pcap", "little-micro", (packet for part in (first, packets) for packet in part))
 
 
-def peak(program, asked, names, folder):
-    """The peak of a run in mebibytes, or None where it failed."""
-    cost = cost_of([program, asked, *(folder / name for name in names)], os.devnull, LIMIT)
-    return cost.mebibytes if cost.status == WHOLE else None
-
-
 def faults_of(pair, program, folder):
     """What is wrong with the peak of a long run."""
-    asked = program.with_name(pair.program)
-    long, short = (peak(asked, pair.asked, names, folder) for names in (pair.long, pair.short))
-    if long is None or short is None:
+    costs = [cost_of([program.with_name(pair.program), pair.asked, *(folder / name for name in names)], os.devnull, LIMIT)
+             for names in (pair.long, pair.short)]
+    if any(cost.status != WHOLE for cost in costs):
         return ["  a run failed"]
+    long, short = (cost.mebibytes for cost in costs)
     most = min(short + pair.growth, pair.ceiling)
     return [f"  {long:.1f} MiB, {most:.1f} MiB at most, and {short:.1f} MiB where there is little"] if long > most else []
 
@@ -192,7 +158,9 @@ def faults_of(pair, program, folder):
 def try_memory(program, folder):
     """Tries all pairs on a program; answers how many failed."""
     become_reaper()
-    lay_out(folder)
+    lay_out_small(folder)
+    for name, packets in captures():
+        write_long(folder, name, packets)
     tried = list(pairs())
     failed = sum(fails(pair.place, f"{pair.program} {pair.asked} over {pair.what}", faults_of(pair, program, folder)) for pair in tried)
     print(f"{len(tried)} peaks of memory, {failed} failed")

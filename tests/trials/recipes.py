@@ -1,9 +1,9 @@
-"""The blocks of docs/recipes.md and the commands by question of README.md: each runs on the captures of examples/, and prints
-the lines below it; a command of README.md prints some, or writes them into a file.
+"""The commands of the documents: each runs on the captures of examples/, and prints the lines below it.
 
-A block is fenced as `bash`, and what it prints as `text`, up to a line `...` if it prints more. A block that never
-ends, or needs other files, is fenced as `bash unrun`, and only `bash -n` reads it. A block is skipped if its tool is
-missing."""
+In docs/recipes.md they are blocks fenced as `bash`, and what each prints is fenced as `text`, up to a line `...` if it prints more. A
+block that never ends, or needs other files, is fenced as `bash unrun`, and only `bash -n` reads it. In docs/theorem.txt they follow
+a `$`, and run from the top of the repository. Those in the table of README.md print any lines, or write them into a file. A command
+is skipped if its tool is missing."""
 
 import gzip
 import os
@@ -14,104 +14,83 @@ import subprocess
 from tests import TOP
 from tests.running.runs import difference, fails
 
-PAGE = TOP / "docs/recipes.md"
-README = TOP / "README.md"
-CAPTURES = ("east.pcap", "west.pcap")
+RECIPES, README, THEOREM = TOP / "docs/recipes.md", TOP / "README.md", TOP / "docs/theorem.txt"
 MORE = "..."
 
-# How long a block may take, in seconds; then `timeout` ends it with status 124.
+# How long a command may take, in seconds; then `timeout` ends it with status 124.
 PATIENCE = "120"
 
-# What the blocks need beside bash and the tools of any Linux.
+# What the commands need beside bash and the tools of any Linux.
 TOOLS = ("jq", "perl")
 
-# The kind of a block, its commands, and the block `text` right below it, if there is one.
+# The kind of a block, its commands, and the block `text` right below it, if there is one; and the fences.
 BLOCK = re.compile(r"^```(bash|bash unrun)\n(.*?)^```\n(?:\n```text\n(.*?)^```\n)?", re.MULTILINE | re.DOTALL)
+FENCE = re.compile(r"^```", re.MULTILINE)
 
-# A row of the table of README.md, its commands, and one of them.
+# A row of the table of README.md, its commands, and one of them; and a command of docs/theorem.txt with the lines below it.
 ROW = re.compile(r"^[^|`]+\? \| (`.*`)$", re.MULTILINE)
 COMMAND = re.compile(r"`([^`]+)`")
+EXAMPLE = re.compile(r"^    \$ (.*)\n((?:    (?!\$ ).*\n)*)", re.MULTILINE)
 
 
-def questions():
-    """Each command of README.md that answers a question, as a block that may print any lines."""
-    text = README.read_text(encoding="utf-8")
-    commands = [(place(README, text, row.start()), command) for row in ROW.finditer(text) for command in COMMAND.findall(row[1])]
-    return [(at, "bash", re.sub(r" > (\S+)$", r" > \1 && cat \1", command), None) for at, command in commands]
+def commands(folder):
+    """The file and the line of each command, whether it is only read, the command, the lines that it must print, or None if any, and
+    the folder in which it runs."""
+    for path, pattern in ((RECIPES, BLOCK), (README, ROW), (THEOREM, EXAMPLE)):
+        text = path.read_text("utf-8")
+        for found in pattern.finditer(text):
+            place = f"{path.relative_to(TOP)}:{text.count(chr(10), 0, found.start()) + 1}"
+            if path == RECIPES:
+                yield place, found[1] != "bash", found[2], (found[3] or "").splitlines() or None, folder
+            elif path == THEOREM:
+                # Some are refused, and say so.
+                yield place, False, f"{found[1]} || true", [line.removeprefix("    ") for line in found[2].splitlines()], TOP
+            else:
+                for command in COMMAND.findall(found[1]):
+                    yield place, False, re.sub(r" > (\S+)$", r" > \1 && cat \1", command), None, folder
 
 
-def place(path, text, at):
-    """The file and the line of an offset."""
-    return f"{path.relative_to(TOP)}:{text.count(chr(10), 0, at) + 1}"
+def lost_fences():
+    """How many fences of the recipes belong to no block."""
+    page = RECIPES.read_text("utf-8")
+    return len(FENCE.findall(page)) - sum(len(FENCE.findall(block[0])) for block in BLOCK.finditer(page))
 
 
-def blocks(page):
-    """The place of each block, its kind, its commands, and the lines that it must print, or None if the page has none."""
-    return [(place(PAGE, page, block.start()), block[1], block[2], (block[3] or "").splitlines() or None)
-            for block in BLOCK.finditer(page)]
-
-
-def lost_fences(page):
-    """How many fences of the page belong to no block."""
-    return len(re.findall("^```", page, re.MULTILINE)) - sum(4 if printed else 2 for *_, printed in blocks(page))
-
-
-def lay_out(folder):
-    """Copies the captures to the folder, and compresses a copy of each."""
-    for name in CAPTURES:
-        shutil.copyfile(TOP / "examples" / name, folder / name)
-        with gzip.open(folder / f"{name}.gz", "wb") as packed:
-            packed.write((folder / name).read_bytes())
-
-
-def are_as_said(lines, printed):
-    """Whether the lines are those of the page, and more where it has a line `...`; without lines of the page, any."""
-    if printed is None:
-        return bool(lines)
-    if printed[-1] == MORE:
-        return lines[:len(printed) - 1] == printed[:-1] and len(lines) >= len(printed)
-    return lines == printed
-
-
-def fault_of(commands, printed, folder, environment):
-    """What is wrong with the run of a block, in lines, if something is."""
-    run = subprocess.run(["timeout", PATIENCE, "bash", "-c", commands], cwd=folder, env=environment,
+def fault_of(command, printed, folder, environment):
+    """What is wrong with a run, in lines, if something is."""
+    run = subprocess.run(["timeout", PATIENCE, "bash", "-c", command], cwd=folder, env=environment,
                          stdin=subprocess.DEVNULL, capture_output=True, encoding="utf-8", check=False)
+    lines = run.stdout.splitlines()
     if run.returncode or run.stderr:
         return [f"  status {run.returncode} and on standard error {run.stderr}"]
-    if are_as_said(run.stdout.splitlines(), printed):
-        return []
     if printed is None:
-        return ["  it prints nothing"]
+        return [] if lines else ["  it prints nothing"]
+    if lines == printed or printed[-1:] == [MORE] and lines[:len(printed) - 1] == printed[:-1] and len(lines) >= len(printed):
+        return []
     return difference("  standard output", "".join(f"{line}\n" for line in printed), run.stdout)
 
 
-def unread(commands):
-    """What bash says of a block that it can't read, in lines."""
-    run = subprocess.run(["bash", "-n", "-c", commands], capture_output=True, encoding="utf-8", check=False)
-    return [f"  {line}" for line in run.stderr.splitlines()]
-
-
 def try_recipes(program, folder):
-    """Runs the blocks with the folder of the program first on the PATH; answers how many failed."""
-    lay_out(folder)
-    page = PAGE.read_text(encoding="utf-8")
+    """Runs the commands with the folder of the program first on the PATH; answers how many failed."""
+    for name in ("east.pcap", "west.pcap"):
+        shutil.copyfile(TOP / "examples" / name, folder / name)
+        with gzip.open(folder / f"{name}.gz", "wb") as packed:
+            packed.write((folder / name).read_bytes())
     environment = {**os.environ, "PATH": f"{program.parent}:{os.environ['PATH']}", "LC_ALL": "C", "TZ": "UTC"}
     missing = [tool for tool in TOOLS if not shutil.which(tool)]
-    failed, counts = lost_fences(page), {"run": 0, "only read": 0, "skipped": 0}
+    failed, counts = lost_fences(), {"run": 0, "only read": 0, "skipped": 0}
     if failed:
         print(f"recipes: {failed} fences are of no block")
-    for at, kind, commands, printed in [*blocks(page), *questions()]:
-        fault = unread(commands)
-        if kind != "bash":
-            counts["only read"] += 1
-        elif any(re.search(rf"\b{tool}\b", commands) for tool in missing):
-            counts["skipped"] += 1
-        else:
-            counts["run"] += 1
-            fault = fault or fault_of(commands, printed, folder, environment)
-        failed += fails(at, commands.strip(), fault)
+    for place, is_only_read, command, printed, within in commands(folder):
+        read = subprocess.run(["bash", "-n", "-c", command], capture_output=True, encoding="utf-8", check=False)
+        fault = [f"  {line}" for line in read.stderr.splitlines()]
+        what = ("only read" if is_only_read else
+                "skipped" if any(re.search(rf"\b{tool}\b", command) for tool in missing) else "run")
+        if what == "run" and not fault:
+            fault = fault_of(command, printed, within, environment)
+        counts[what] += 1
+        failed += fails(place, command.strip(), fault)
     lacks = f" for want of {' and '.join(missing)}" if missing else ""
-    print(f"recipes: {counts['run']} blocks run, {counts['only read']} only read, {counts['skipped']} skipped{lacks}, "
+    print(f"recipes: {counts['run']} commands run, {counts['only read']} only read, {counts['skipped']} skipped{lacks}, "
           f"{failed} failed")
     return failed

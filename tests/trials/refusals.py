@@ -3,20 +3,15 @@
 What must come of each is known from README.md, the man page and docs/DECISIONS.md."""
 
 import shutil
-import subprocess
 
 from tests.captures.built import lay_out_small
 from tests.captures.vectors import lines
-from tests.running.runs import DAMAGED, PATIENCE, REFUSED, WHOLE, Case, agrees, can_drop, refused, said
+from tests.running.runs import DAMAGED, REFUSED, WHOLE, Case, agrees, answer_of, can_drop, refused, said
 
 LINE = lines()["AT_100"] + "\n"
 LIFE = "a.local A 192.0.2.1 from 100.000000000 ttl 120 heard 100.000000000 until 220.000000000 live\n"
 COUNTS = "packets 1 skipped 0 refused 0 messages 1 hearings 1"
 WRITE_FAILED = "mdnsmerge: write failed\n"
-
-
-def unwritten(words, out_to):
-    return refused(words, WRITE_FAILED, out_to=out_to)
 
 
 # What `mdnswhy files` says of the files that can't be used.
@@ -109,7 +104,7 @@ SKIPS = (
 )
 
 STREAMS = (
-    *(unwritten(words, to) for to in ("closed", "full", "gone")
+    *(refused(words, WRITE_FAILED, out_to=to) for to in ("closed", "full", "gone")
       for words in (["records", "one.pcap"], ["lives", "one.pcap"], ["page", "one.pcap"], ["check", "one.pcap"],
                     ["--help"])),
     # What can't be said on standard error changes neither the answer nor the status.
@@ -125,18 +120,9 @@ def lay_out(folder):
     """Puts the files that the cases name into a folder that anyone may read."""
     folder.chmod(0o755)
     lay_out_small(folder)
-    (folder / "folder").mkdir()
     for name in ("locked.pcap", "named like -- this"):
         shutil.copy(folder / "one.pcap", folder / name)
     (folder / "locked.pcap").chmod(0)
-
-
-def is_page_otherwise(program, folder):
-    """Whether a page of a capture and files that are left out is another than that of the capture alone."""
-    def page(*words):
-        return subprocess.run([program, "page", *words], cwd=folder, capture_output=True, timeout=PATIENCE).stdout
-
-    return page("--skip-unusable", "text.pcap", "one.pcap", "missing.pcap") != page("one.pcap")
 
 
 def try_refusals(program, folder):
@@ -145,7 +131,9 @@ def try_refusals(program, folder):
     is_droppable = can_drop(folder)
     tried = [case for case in CASES if is_droppable or not case.is_nobody]
     failed = sum(not agrees(case, program, folder) for case in tried)
-    if is_page_otherwise(program, folder):
+    skipping_some, alone = (answer_of([program, "page", *words], folder)[1] for words in (
+        ["--skip-unusable", "text.pcap", "one.pcap", "missing.pcap"], ["one.pcap"]))
+    if skipping_some != alone:
         failed += 1
         print("mdnsmerge page --skip-unusable: the files that are left out change the page")
     skipped = f", {len(CASES) - len(tried)} skipped (no run as nobody)" if len(tried) < len(CASES) else ""

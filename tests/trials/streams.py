@@ -6,6 +6,7 @@ import os
 import shutil
 import threading
 import time
+from contextlib import suppress
 from functools import partial
 from itertools import cycle
 
@@ -54,34 +55,23 @@ CASES = (
 )
 
 
-class Feeder(threading.Thread):
-    """Writes bytes in pieces to what `begin` opens, until all are written, or nobody reads them any more."""
-
-    def __init__(self, begin, capture):
-        super().__init__(daemon=True)
-        self.begin = begin
-        self.capture = capture
-
-    def run(self):
-        to = self.begin()
-        try:
-            for number, piece in enumerate(pieces(self.capture)):
-                os.write(to, piece)
+def feed(begin, capture):
+    """Begins to write bytes in pieces to what `begin` opens, until all are written, or nobody reads them any more."""
+    def write():
+        to, offset = begin(), 0
+        with suppress(BrokenPipeError):
+            for number, size in enumerate(cycle(PIECES)):
+                if offset >= len(capture):
+                    break
+                os.write(to, capture[offset:offset + size])
+                offset += size
                 if number < SLOW_PIECES:
                     time.sleep(PAUSE)
-        except BrokenPipeError:
-            pass
-        finally:
-            os.close(to)
+        os.close(to)
 
-
-def pieces(capture):
-    offset = 0
-    for size in cycle(PIECES):
-        if offset >= len(capture):
-            return
-        yield capture[offset:offset + size]
-        offset += size
+    feeder = threading.Thread(target=write, daemon=True)
+    feeder.start()
+    return feeder
 
 
 def opened_fifo(path, is_over):
@@ -102,11 +92,13 @@ def over_fifos(case, program, files, folder):
     shutil.rmtree(folder, ignore_errors=True)
     folder.mkdir()
     is_over = threading.Event()
-    feeders = []
     for name in case.words[1:]:
         os.mkfifo(folder / name)
-        feeders.append(Feeder(partial(opened_fifo, folder / name, is_over), (files / name).read_bytes()))
-    return fed(feeders, is_over, lambda: agrees(case, program, folder, "over FIFOs"))
+    for name in case.words[1:]:
+        feed(partial(opened_fifo, folder / name, is_over), (files / name).read_bytes())
+    is_right = agrees(case, program, folder, "over FIFOs")
+    is_over.set()
+    return is_right
 
 
 def over_standard_input(case, program, files):
@@ -115,31 +107,18 @@ def over_standard_input(case, program, files):
     given, to = os.pipe()
     piped = case._replace(words=(what, "/dev/stdin"), out=case.out.replace(name, "/dev/stdin"),
                           err=case.err.replace(name, "/dev/stdin"))
-    feeder = Feeder(lambda: to, (files / name).read_bytes())
+    feeder = feed(lambda: to, (files / name).read_bytes())
     with os.fdopen(given, "rb") as given:
-        is_right = fed([feeder], threading.Event(), lambda: agrees(piped, program, files, "over a pipe", given))
+        is_right = agrees(piped, program, files, "over a pipe", given)
     feeder.join()
     return is_right
-
-
-def fed(feeders, is_over, run):
-    """What a run comes to while its files are fed."""
-    for feeder in feeders:
-        feeder.start()
-    is_right = run()
-    is_over.set()
-    return is_right
-
-
-def address_frame(name, last):
-    return frame_of([((labels(name), A, bytes((192, 0, 2, last)), False), 120)])
 
 
 def lay_out(folder):
     lay_out_small(folder)
     for name in ("west.pcap", "east.pcap"):
         shutil.copy(EXAMPLES / name, folder)
-    first, second = (address_frame(name, last) for name, last in (("a.local", 1), ("b.local", 2)))
+    first, second = (frame_of([((labels(name), A, bytes((192, 0, 2, last)), False), 120)]) for name, last in (("a.local", 1), ("b.local", 2)))
     packets = [(100 * SECOND, first), (100 * SECOND, LONG_FRAME), (101 * SECOND, second)]
     write_capture(folder / "long.pcap", "big-nano", packets)
 

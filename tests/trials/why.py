@@ -4,12 +4,11 @@ must be those of the bytes, and agree with what mdnsmerge says of the same files
 What must come of the small ones is known from the man page; `why.rows` has more of them."""
 
 import ipaddress
-import shutil
 from functools import partial
 from random import Random
 
 from tests import EXAMPLES
-from tests.captures.built import frame_of, labels, lay_out_small, write_capture
+from tests.captures.built import QUOTED, TWO_LINES, frame_of, labels, lay_out_small, write_capture
 from tests.captures.wire import A, AAAA, PTR, SECOND, SRV, TXT, ipv6_frame
 from tests.fuzz.oracles import Seen, try_case
 from tests.judges.answers import answer_to
@@ -24,10 +23,7 @@ from tests.trials.command_lines import NO_FILE, unfit, version_of
 said = partial(runs.said, program="mdnswhy")
 misused = partial(command_lines.misused, program="mdnswhy")
 
-# Names of files that are escaped in lines, and as they are on standard error.
-TWO_LINES = "a file\nof two lines.pcap"
 TWO_WORDS = "two words.pcap"
-QUOTED = "back\\slash \"\u00e9\".pcap"
 
 
 def one_line(name):
@@ -212,13 +208,10 @@ def gone_packets():
 
 def lay_out(folder):
     lay_out_small(folder)
-    (folder / "folder").mkdir()
     write_capture(folder / "six.pcap", "big-nano", [six_packet()])
     write_capture(folder / "gone.pcap", "little-micro", gone_packets())
-    write_capture(folder / "skipped.pcap", "big-micro", [(SECOND, bytes(60))])
-    shutil.copy(folder / "one.pcap", folder / TWO_LINES)
-    shutil.copy(folder / "skipped.pcap", folder / TWO_WORDS)
-    shutil.copy(folder / "cut.pcap", folder / QUOTED)
+    for name in ("skipped.pcap", TWO_WORDS):
+        write_capture(folder / name, "big-micro", [(SECOND, bytes(60))])
 
 
 EXAMPLE_SETS = tuple(Case(names, WHOLE) for names in (
@@ -250,7 +243,7 @@ def try_why(merge, folder):
     cases, traced = (*HEARINGS, *PACKETS, *SPANS, *FILES, *REFUSALS, *WORDS, *HELP), list(traced_cases())
     failed = sum(not agrees(case, why, folder) for case in cases)
     failed += sum(fails(case.place, f"mdnswhy {case.words}", unfit(case.out)) for case in HELP)
-    failed += sum(not agrees(case, why, EXAMPLES, is_long=True) for case in traced)
+    failed += sum(not agrees(case, why, EXAMPLES) for case in traced)
     failed += sum(fails(case.place, f"{case.words}", fault_of(case.words, merge, why, folder)) for case in EXAMPLE_SETS)
     print(f"{len(cases) + len(traced)} runs of mdnswhy, and the oracles of the fuzzer over {len(EXAMPLE_SETS)} sets of example captures, "
           f"{failed} failed")
