@@ -18,6 +18,10 @@ import textwrap
 from pathlib import Path
 from typing import NamedTuple
 
+sys.path.insert(0, str(Path(__file__).resolve().parent.parent))
+
+from tests.planted.items import extent  # noqa: E402
+
 CRATES = Path(__file__).resolve().parent.parent / "crates"
 WIDTH = 120
 
@@ -48,17 +52,6 @@ def indent_of(line):
     return re.match(r" *", line).group()
 
 
-def last_line(lines, first):
-    """The last line of an item, by the layout that `rt fmt` gives it."""
-    indent, opened = indent_of(lines[first]), False
-    for index in range(first, len(lines)):
-        line = lines[index]
-        opened = opened or line.endswith(" {") or line == indent + "{"
-        if line in (indent + "}", indent + "};") or not opened and line.endswith((";", "{}")):
-            return index
-    raise ValueError(lines[first])
-
-
 def items(lines, first=0, last=None):
     """The items between two lines that are indented as the first of them is."""
     found, comment, attributes, index, indent = [], [], [], first, None
@@ -70,7 +63,8 @@ def items(lines, first=0, last=None):
         elif line.strip().startswith("#["):
             attributes.append(line)
         elif head and indent in (None, indent_of(line)):
-            indent, closes = indent_of(line), last_line(lines, index)
+            indent = indent_of(line)
+            *_, closes = extent(lines, index, indent)
             found.append(Item(head[2], head[3], bool(head[1]), comment, attributes, index, closes))
             index = closes
         if not line.strip().startswith(("//", "#[")):
@@ -117,13 +111,6 @@ def signature(lines, first):
     return [*found[:-1], found[-1].rstrip(",") + ";"]
 
 
-def derived(attributes):
-    """The traits that a type derives and that callers use."""
-    names = [name for line in attributes if "derive" in line for name in re.findall(r"\w+", line.split("derive")[1])]
-    names = [name for name in names if name not in UNSAID]
-    return [f"#[derive({', '.join(names)})]"] if names else []
-
-
 def fields(lines, item):
     """The variants of an enum, or the public fields of a struct, with `..` for the others."""
     shown, comment, hides = [], [], False
@@ -168,7 +155,9 @@ class Module:
             return lines + [re.sub(r" = (?=[\"&]).*", ";", head)]
         if item.kind == "trait":
             return lines + [head, *self.members(item, True), "}"]
-        lines += derived(item.attributes)
+        # The traits that a type derives and that callers use.
+        names = [name for line in item.attributes for name in re.findall(r"\w+", line.partition("derive")[2]) if name not in UNSAID]
+        lines += [f"#[derive({', '.join(names)})]"] if names else []
         if item.last == item.first:
             return lines + [head]
         shown = fields(self.lines, item)
@@ -178,17 +167,13 @@ class Module:
         """The methods of an impl or of a trait, and what else it has."""
         shown = []
         for member in items(self.lines, item.first + 1, item.last):
+            # A ghost member is shown if it is declared, and not defined.
+            is_ghost = member.kind == "ghost" and " = " not in self.lines[member.first].split(":")[0]
             if member.kind == "fn" and (is_trait or member.is_public):
                 shown += doc(member.comment, "    ") + signature(self.lines, member.first)
-            elif self.says_more(member, is_trait):
+            elif is_trait and (is_ghost or member.kind == "type") or member.kind == "const" and member.is_public:
                 shown += doc(member.comment, "    ") + self.lines[member.first:member.last + 1]
         return shown
-
-    def says_more(self, member, is_trait):
-        """Whether a member that isn't a function is shown: a public constant, a type, or a ghost member that is declared."""
-        is_defined = " = " in self.lines[member.first].split(":")[0]
-        is_ghost = member.kind == "ghost" and not is_defined
-        return is_trait and (is_ghost or member.kind == "type") or member.kind == "const" and member.is_public
 
     def impls(self):
         """Each impl of the module that callers may use: the types and traits that it names, and its lines."""

@@ -7,7 +7,6 @@ or a word of the library no row in the glossary.
 
     docs/theorem.py > docs/theorem.md    makes the page
     docs/theorem.py --check              exits with 1 where docs/theorem.md isn't what the sources give
-    docs/theorem.py --count              prints the sizes, first of what the clause `written` rests on
 """
 
 import difflib
@@ -19,7 +18,6 @@ from types import SimpleNamespace
 DOCS = Path(__file__).resolve().parent
 CRATES = DOCS.parent / "crates"
 ROOT = ("mdns_survey", "survey")
-FUNCTION, CLAUSE = "survey", "written"
 USE = re.compile(r"^\s*(?:unfoldable )?(?:pub )?(?:ghost )?use (Rattle[\w.]+?)(?:\.\{([^}]*)\}| as (\w+));?$", re.M)
 DOC = r"(?:^(?:///|#\[)[^\n]*\n)*^"
 # Words that other rows of the glossary explain.
@@ -36,9 +34,6 @@ class Definition:
     def __init__(self, crate, module, name, lines):
         self.file, self.crate, self.module, self.name = f"{crate}/{module}", crate, module, name
         self.comment, self.lines = [], lines
-
-    def size(self):
-        return len(self.comment) + len(self.lines)
 
 
 def imports_of(text):
@@ -189,22 +184,17 @@ def type_place(crate, module, word):
 
 
 def contract():
-    """The doc comment, signature and clauses of the root function, the clauses by name, and the types of its signature."""
-    text = re.search(rf"{DOC}pub fn {FUNCTION}\b.*?(?=^\{{)", rust(*ROOT), re.M | re.S).group().rstrip("\n")
-    clauses = re.findall(r"^    (?:ensures|requires) (\w+) \{(.*?)\}$", text, re.M | re.S)
-    signature = text[text.index("pub fn"):].split("    ensures")[0]
-    return text, clauses, re.findall(r"\b[A-Z]\w+", signature)
+    """The doc comment, signature and clauses of the root function."""
+    return re.search(rf"{DOC}pub fn {ROOT[1]}\b.*?(?=^\{{)", rust(*ROOT), re.M | re.S).group().rstrip("\n")
 
 
-def closure_of(only=None):
-    """What the clauses of the contract rest on, or one clause alone."""
+def closure_of(text):
+    """What the clauses of the contract and the types of its signature rest on."""
     closure = Closure()
-    _, clauses, types = contract()
     names, modules = imports_of(rust(*ROOT))
-    for name, text in clauses:
-        if only in (None, name):
-            closure.follow(text, SimpleNamespace(names=names, modules=modules, definitions={}), None)
-    for word in types:
+    for clause in re.findall(r"^    (?:ensures|requires) \w+ \{(.*?)\}$", text, re.M | re.S):
+        closure.follow(clause, SimpleNamespace(names=names, modules=modules, definitions={}), None)
+    for word in re.findall(r"\b[A-Z]\w+", text[text.index("pub fn"):].split("    ensures")[0]):
         place = type_place(*ROOT, word)
         if place is not None and not re.search(rf"^pub trait {word}\b", rust(*place), re.M):
             closure.add_type(*place, word, None)
@@ -288,12 +278,12 @@ def blocks(section):
 
 
 def page():
-    closure = closure_of()
+    closure = closure_of(contract())
     title, sections = placed(closure)
     lines = ["<!-- Made by docs/theorem.py out of the sources and docs/theorem.txt; don't edit. -->", "", title, ""]
     anchors = [section.title.lower().replace(" ", "-") for section in sections]
     for number, section in enumerate(sections, 1):
-        size = sum(found.size() for found in section.definitions)
+        size = sum(len(found.comment) + len(found.lines) for found in section.definitions)
         told = f": {len(section.definitions)} definitions, {size} lines" if size else ""
         lines.append(f"{number}. [{section.title}](#{number}-{anchors[number - 1]}){told}")
     index = {}
@@ -301,7 +291,7 @@ def page():
         text = glossary(section, closure.library) if "glossary" in section.files else section.text
         lines += ["", f"## {number}. {section.title}", "", *text, ""]
         if "contract" in section.files:
-            lines += ["```rust", contract()[0], "```", ""]
+            lines += ["```rust", contract(), "```", ""]
         lines += blocks(section)
         index.update({found.name: number for found in section.definitions})
     entries = ", ".join(f"`{name}` {index[name]}" for name in sorted(index, key=str.lower))
@@ -309,21 +299,11 @@ def page():
     return re.sub(r"\n{3,}", "\n\n", "\n".join(lines)) + "\n"
 
 
-def count():
-    """The sizes of what clauses rest on."""
-    for name, only in ((f"`{CLAUSE}` rests on", CLAUSE), ("all clauses rest on", None)):
-        found = list(closure_of(only).definitions.values())
-        files = {definition.file for definition in found}
-        print(f"{name} {len(found)} definitions, {sum(d.size() for d in found)} lines in {len(files)} files")
-
-
 def main():
     told = sys.argv[1:]
-    if told not in ([], ["--check"], ["--count"]):
+    if told not in ([], ["--check"]):
         sys.exit(__doc__)
     try:
-        if told == ["--count"]:
-            return count()
         made = page()
     except (Wrong, OSError) as wrong:
         sys.exit(f"theorem.py: {wrong}")
@@ -335,7 +315,6 @@ def main():
         lines = difflib.unified_diff(held.splitlines(True), made.splitlines(True), "docs/theorem.md", "the sources", n=1)
         sys.stdout.writelines(list(lines)[:20])
         sys.exit("theorem.py: docs/theorem.md isn't what the sources give: run `python3 docs/theorem.py > docs/theorem.md`")
-    return None
 
 
 if __name__ == "__main__":
