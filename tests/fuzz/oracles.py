@@ -22,7 +22,7 @@ from tests.judges.savefile import FILE_HEADER, LAYOUTS, moment_of, reading_of, s
 from tests.judges.subjects import some_word
 from tests.judges.words import moment_text
 from tests.running.commands import ANSWERS, ASKS, FORMS, TRACES
-from tests.running.program import Finding, expect, expect_same
+from tests.running.program import expect, expect_same
 
 LAST_SECOND = 4_294_967_295
 

@@ -11,11 +11,10 @@ from tests.captures.wire import SECOND
 from tests.judges.causes import DAMAGED, LOSSES, causes_of
 from tests.judges.hearings import hearings_of
 from tests.judges.json_forms import MEMBERS, json_text
-from tests.judges.lines import Line, instances_text, line_of, lines_of, moment_of, sets_of, types_names
+from tests.judges.lines import Line, gives_instance, instances_text, line_of, lines_of, moment_of, sets_of, types_names
 from tests.judges.listeners import COMMAND, listeners_text, warnings_text
 from tests.judges.lives import CHOICES, lives_text, records_text, rows_of
-from tests.judges.pretty import (instances_columns, instances_in, lives_columns, others_in, pretty_text, records_columns,
-                                 types_columns)
+from tests.judges.pretty import instances_columns, lives_columns, others_in, pretty_text, records_columns, types_columns
 from tests.judges.savefile import frames_in, reading_of
 from tests.judges.subjects import gives_about, is_about, is_name, is_record_about
 from tests.judges.traced import TEXTS, traced_text
@@ -126,16 +125,14 @@ KINDS = {
                   lambda _, words, name: is_about(is_name, words, name),
                   lambda _, some: "".join(f"{name}\n" for name in some),
                   lambda basis, _, some: types_columns(some, basis.now)),
-    "instances": Kind(lambda basis: instances_in(basis.lines),
+    "instances": Kind(lambda basis: list(filter(gives_instance, basis.lines)),
                       lambda basis, words, line: gives_about(words, line, basis.sets),
-                      lambda basis, some: instances_text(basis.lines, some),
-                      lambda basis, words, some: instances_columns(some, others_about(words, basis.lines), basis.sets, basis.now)),
+                      lambda basis, some: instances_text(some, basis.sets),
+                      lambda basis, words, some: instances_columns(
+                          some, [line for line in others_in(basis.lines) if is_about(is_record_about, words, line)],
+                          basis.sets, basis.now)),
     **{ask: lives_kind(choice) for ask, choice in CHOICES.items()},
 }
-
-
-def others_about(words, lines):
-    return [line for line in others_in(lines) if is_about(is_record_about, words, line)]
 
 
 def lives_in(text):

@@ -81,15 +81,9 @@ def types_names(lines):
     return [line.words[0] for line in lines if line.set_key == meta and is_service(line.target)]
 
 
-def types_text(lines):
-    """What `types` prints where these records are live."""
-    return "".join(f"{name}\n" for name in types_names(lines))
-
-
-def instances_text(lines, given=None):
-    """What `instances` prints where these records are live; of the instances that records give all, or the given ones."""
-    sets = sets_of(lines)
-    return "".join(instance_text(line, sets) for line in (lines if given is None else given) if gives_instance(line))
+def instances_text(given, sets):
+    """What `instances` prints of the instances that these lines give, where the records of these sets are live."""
+    return "".join(instance_text(line, sets) for line in given)
 
 
 def sets_of(lines):
@@ -108,15 +102,13 @@ def gives_instance(line):
 
 def instance_text(line, sets):
     name = wire_of(line.target)
-    servers = "".join(server_text(server, sets) for server in sets.get((name, SRV), ()))
-    texts = "".join(" ".join(("  text", *text.words)) + "\n" for text in sets.get((name, TXT), ()))
-    return f"{line.words[0]}\n" + (servers or "  unresolved\n") + texts
-
-
-def server_text(server, sets):
-    priority, weight, port, target = server.words
-    return f"  server {target} {port} priority {priority} weight {weight}\n" + "".join(
-        f"    address {address.words[0]}\n" for address in addresses_of(server, sets))
+    below = []
+    for server in sets.get((name, SRV), ()):
+        priority, weight, port, target = server.words
+        below.append(f"  server {target} {port} priority {priority} weight {weight}")
+        below += [f"    address {address.words[0]}" for address in addresses_of(server, sets)]
+    texts = [" ".join(("  text", *text.words)) for text in sets.get((name, TXT), ())]
+    return "".join(f"{said}\n" for said in (line.words[0], *(below or ["  unresolved"]), *texts))
 
 
 def addresses_of(server, sets):

@@ -48,11 +48,6 @@ class Span(NamedTuple):
     def meets(self, other):
         return self.has(other.first) or other.has(self.first)
 
-    def is_together_with(self, other):
-        """Whether both last together for half of the shorter one."""
-        together = min(self.last, other.last) - max(self.first, other.first)
-        return self.meets(other) and 2 * together >= min(span.last - span.first for span in (self, other))
-
 
 def span_of(moments):
     return Span(min(moments), max(moments)) if moments else None
@@ -121,8 +116,12 @@ class Apart(NamedTuple):
 
     @property
     def recorded_together(self):
+        """Whether the spans of both meet for half of the shorter one."""
         spans = self.one.span, self.other.span
-        return all(spans) and spans[0].is_together_with(spans[1])
+        if not all(spans):
+            return False
+        together = min(span.last for span in spans) - max(span.first for span in spans)
+        return together >= 0 and 2 * together >= min(span.last - span.first for span in spans)
 
     @property
     def quartiles(self):
@@ -138,16 +137,12 @@ def apart(one, other):
     return Apart(one, other, len(both), ahead)
 
 
-def base_name(name):
-    """A name without folders."""
-    return name.rpartition("/")[2]
-
-
 def listeners_of(captures, prefixes):
-    """The listeners of files, each with its name and its bytes: those that begin with the same of some prefixes are one's."""
+    """The listeners of files, each with its name and its bytes: those that begin with the same of some prefixes are one's, whatever
+    their folders."""
     files = {}
     for number, (name, capture) in enumerate(captures):
-        prefix = next((prefix for prefix in prefixes if base_name(name).startswith(prefix)), None)
+        prefix = next((prefix for prefix in prefixes if name.rpartition("/")[2].startswith(prefix)), None)
         key = (name, number) if prefix is None else (prefix, None)
         files.setdefault(key, []).append(recorded_in(capture))
     return [Listener(name, some) for (name, _), some in files.items()]
@@ -174,16 +169,20 @@ def listeners_text(captures, prefixes=(), form=()):
 
 
 def lines_text(captures, prefixes):
+    """A line for each listener, for each two, and for what each heard of a sender."""
     listeners = listeners_of(captures, prefixes)
     messages = {message for listener in listeners for message in listener.heard}
     names = {name for _, capture in captures for name in recorded_in(capture).names}
-    lines = [listener_line(listener, listeners, messages) for listener in listeners]
+    lines = [f"{file_text(one.name)} heard {len(one.moments_of(messages))} alone {one.alone(listeners)} "
+             f"missed {one.missed(listeners, messages)} {bounds(one.span)}" for one in listeners]
     lines += map(pair_line, pairs_of(listeners))
     for source in sorted({message.source for message in messages}, key=lambda source: (len(source), source)):
         of_sender = [message for message in messages if message.source == source]
-        owners = [name_text(name) for name in names_of(names, source)]
-        for listener in listeners:
-            lines.append(" ".join([sender_line(source, listener, listeners, of_sender), *owners]))
+        owners = "".join(f" {name_text(name)}" for name in names_of(names, source))
+        for one in listeners:
+            moments = one.moments_of(of_sender)
+            lines.append(f"{source_text(source)} {file_text(one.name)} heard {len(moments)} "
+                         f"missed {one.missed(listeners, of_sender)} {bounds(span_of(moments))}{owners}")
     return "".join(f"{line}\n" for line in lines)
 
 
@@ -203,22 +202,10 @@ def warnings_text(captures):
     return "".join(warning(APART.fullmatch(pair_line(pair)).groupdict()) for pair in pairs)
 
 
-def listener_line(listener, listeners, messages):
-    heard = len(listener.moments_of(messages))
-    return (f"{file_text(listener.name)} heard {heard} alone {listener.alone(listeners)} "
-            f"missed {listener.missed(listeners, messages)} {bounds(listener.span)}")
-
-
 def pair_line(pair):
-    ahead, low, high = map(signed_text, pair.quartiles) if pair.quartiles else "---"
+    ahead, low, high = (("-" if nanos < 0 else "") + moment_text(abs(nanos)) for nanos in pair.quartiles) if pair.quartiles else "---"
     return (f"{file_text(pair.one.name)} {file_text(pair.other.name)} common {pair.common} "
             f"ahead {ahead} from {low} to {high} by {len(pair.ahead)}")
-
-
-def sender_line(source, listener, listeners, messages):
-    moments = listener.moments_of(messages)
-    return (f"{source_text(source)} {file_text(listener.name)} heard {len(moments)} "
-            f"missed {listener.missed(listeners, messages)} {bounds(span_of(moments))}")
 
 
 def file_text(name):
@@ -228,10 +215,6 @@ def file_text(name):
 def bounds(span):
     first, last = map(moment_text, span) if span else "--"
     return f"from {first} until {last}"
-
-
-def signed_text(nanos):
-    return ("-" if nanos < 0 else "") + moment_text(abs(nanos))
 
 
 def source_text(source):

@@ -125,10 +125,6 @@ def millis(nanos):
     return date_of(nanos).strftime("%Y-%m-%dT%H:%M:%S.") + f"{nanos % SECOND // 1_000_000:03}Z"
 
 
-def instances_in(lines):
-    return [line for line in lines if gives_instance(line)]
-
-
 def others_in(lines):
     """The lines of PTR records of a service whose names are no instances'."""
     return [line for line in lines if line.kind == "PTR" and is_service(line.owner) and not gives_instance(line)]

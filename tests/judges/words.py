@@ -16,29 +16,12 @@ def moment_text(moment):
 
 def name_text(name):
     """A name in wire form as its labels with dots between them."""
-    return ".".join(label_text(label) for label in labels_in(name)) or "."
-
-
-def labels_in(name):
-    """The labels of a name in wire form."""
-    while name[0]:
-        yield name[1:1 + name[0]]
-        name = name[1 + name[0]:]
-
-
-def label_text(label):
-    return bytes_text(label).replace(".", "\\.")
+    return ".".join(bytes_text(label).replace(".", "\\.") for label in strings_in(name[:-1])) or "."
 
 
 def bytes_text(text):
     """Bytes with a backslash before backslashes, and those that don't print as three decimal digits."""
-    return "".join(byte_text(byte) for byte in text)
-
-
-def byte_text(byte):
-    if byte == ord("\\"):
-        return "\\\\"
-    return chr(byte) if 0x21 <= byte <= 0x7E else f"\\{byte:03}"
+    return "".join("\\\\" if byte == ord("\\") else chr(byte) if 0x21 <= byte <= 0x7E else f"\\{byte:03}" for byte in text)
 
 
 def data_words(kind, data):

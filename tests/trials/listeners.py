@@ -18,7 +18,7 @@ from tests.judges.listeners import COMMAND, FORMS
 from tests.judges.pretty import signed_nanos
 from tests.judges.savefile import reading_of, split_at
 from tests.running import runs
-from tests.running.runs import DAMAGED, REFUSED, WHOLE, Case, agrees, report_difference
+from tests.running.runs import DAMAGED, WHOLE, Case, agrees, report_difference
 from tests.trials import command_lines
 from tests.trials.command_lines import NO_FILE
 

@@ -118,7 +118,8 @@ def lay_out(folder):
     lay_out_small(folder)
     for name in ("west.pcap", "east.pcap"):
         shutil.copy(EXAMPLES / name, folder)
-    first, second = (frame_of([((labels(name), A, bytes((192, 0, 2, last)), False), 120)]) for name, last in (("a.local", 1), ("b.local", 2)))
+    first, second = (frame_of([((labels(name), A, bytes((192, 0, 2, last)), False), 120)])
+                     for name, last in (("a.local", 1), ("b.local", 2)))
     packets = [(100 * SECOND, first), (100 * SECOND, LONG_FRAME), (101 * SECOND, second)]
     write_capture(folder / "long.pcap", "big-nano", packets)
 

@@ -222,7 +222,7 @@ def traced_cases():
     """What is printed of the example captures, made of their bytes in each form."""
     for names in (case.words for case in EXAMPLE_SETS):
         files = [(name, (EXAMPLES / name).read_bytes()) for name in names]
-        for words in ((trace, *form) for trace in TEXTS for form in ((), ("--json",), ("--pretty",)) if trace in TRACES or form != ("--pretty",)):
+        for words in ((trace, *form) for trace in TEXTS for form in ((), ("--json",), *[("--pretty",)] * (trace in TRACES))):
             yield Case((*words, *names), *answer_to("mdnswhy", words, files))
 
 
