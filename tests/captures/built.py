@@ -2,7 +2,7 @@
 
 from tests import TOP
 from tests.captures.wire import PTR, Capture, ipv4_frame, message_of
-from tests.judges.shown import LABEL, bytes_of
+from tests.judges.shown import labels
 
 # One packet at 100 s, which tells of one record.
 ONE_PACKET = TOP / "crates/mdnsmerge/data/v1.pcap"
@@ -27,11 +27,6 @@ def lay_out_small(folder):
              "text.pcap": b"No capture, but a text that is longer than a file header.\n"}
     for name, content in files.items():
         (folder / name).write_bytes(content)
-
-
-def labels(name):
-    """The labels of a name as it is printed, with a dot at its end or without."""
-    return tuple(map(bytes_of, LABEL.findall(name)))
 
 
 def write_capture(path, magic, packets):

@@ -53,54 +53,45 @@ def late(seed, count, seconds, rounds):
 
 def flushes(seed, count, seconds, order):
     """So many flushes of one record set, in so many seconds."""
-    return flushes_at(ordered(seed, count, order), count, seconds)
+    return hearings_at(ordered(seed, count, order), count, seconds, True)
 
 
 def late_flushes(seed, count, seconds, rounds):
     """The same, in rounds through the seconds, so that most flushes come when others of later seconds came before."""
-    return flushes_at(late(seed, count, seconds, rounds), count, seconds)
+    return hearings_at(late(seed, count, seconds, rounds), count, seconds, True)
 
 
 def hearings(seed, count, seconds, order):
     """So many hearings of one record that flush nothing, in so many seconds."""
-    return flushes_at(ordered(seed, count, order), count, seconds, False)
+    return hearings_at(ordered(seed, count, order), count, seconds, False)
 
 
-def flushes_at(numbers, count, seconds, flush=True):
+def hearings_at(numbers, count, seconds, flush):
     frame = ipv4_frame(SOURCE, message_of([(Record(HOST, A, SOURCE, flush), 120)]))
     return ((START + number * seconds * SECOND // count, frame) for number in numbers)
 
 
 def addresses(seed, packets, order):
-    """So many packets of different addresses of one host."""
-    return one_set(ordered(seed, packets * OF_ONE_SET, order), address)
+    """So many packets of different addresses of one host. None of them flushes the set, so all of them are live."""
+    return together(ordered(seed, packets * OF_ONE_SET, order), OF_ONE_SET, 1000, lambda number: Record(
+        HOST, A, struct.pack("!I", FIRST_ADDRESS + number), False))
 
 
 def instances(seed, packets, order):
-    """So many packets of different instances of one service type."""
-    return one_set(ordered(seed, packets * OF_ONE_SET, order), instance)
-
-
-def one_set(numbers, record_of):
-    """Packets of a record for each number. None of them flushes the set, so all of them are live."""
-    for first in range(0, len(numbers), OF_ONE_SET):
-        message = message_of((record_of(number), 120) for number in numbers[first:first + OF_ONE_SET])
-        yield START + first * 1000, ipv4_frame(SOURCE, message)
-
-
-def address(number):
-    return Record(HOST, A, struct.pack("!I", FIRST_ADDRESS + number), False)
-
-
-def instance(number):
-    return Record(SERVICE, PTR, (b"instance-%07d" % number,) + SERVICE, False)
+    """The same of different instances of one service type."""
+    return together(ordered(seed, packets * OF_ONE_SET, order), OF_ONE_SET, 1000, lambda number: Record(
+        SERVICE, PTR, (b"instance-%07d" % number,) + SERVICE, False))
 
 
 def records(packets):
-    """So many packets of different records, each heard once."""
-    count = packets * TOGETHER
-    for first in range(0, count, TOGETHER):
-        hosts = (number * STRIDE % count for number in range(first, first + TOGETHER))
-        told = [Record((b"host-%07d" % host, b"local"), A, struct.pack("!I", 0xC6120000 | host & 0x1FFFF), True) for host in hosts]
-        # Less than a second in all for a million, so that all of them are live.
-        yield START + first * 100, ipv4_frame(SOURCE, message_of((record, 120) for record in told))
+    """So many packets of different records, each heard once: a million in less than a second, so that all of them are live."""
+    hosts = [number * STRIDE % (packets * TOGETHER) for number in range(packets * TOGETHER)]
+    return together(hosts, TOGETHER, 100, lambda host: Record(
+        (b"host-%07d" % host, b"local"), A, struct.pack("!I", 0xC6120000 | host & 0x1FFFF), True))
+
+
+def together(numbers, count, apart, record_of):
+    """Packets of so many records each, one for each number, which are so many nanoseconds apart."""
+    for first in range(0, len(numbers), count):
+        message = message_of((record_of(number), 120) for number in numbers[first:first + count])
+        yield START + first * apart, ipv4_frame(SOURCE, message)

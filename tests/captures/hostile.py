@@ -44,11 +44,6 @@ def chain(begin):
     return b"".join(pointer(offset - 2 if offset > begin else HEADER_SIZE) for offset in offsets)
 
 
-def deepest_of(begin, links):
-    """A pointer to the last one of a chain."""
-    return pointer(begin + len(links) - 2)
-
-
 def questions_message():
     """Questions whose type and class are pointers too, so that each has a name of three more steps than the last."""
     # The first question is whole: the root, its type and its class.
@@ -56,7 +51,7 @@ def questions_message():
     begin = HEADER_SIZE + len(first)
     links = chain(begin)
     count = (LONGEST - begin) // 6
-    body = links + deepest_of(begin, links) * LONGEST
+    body = links + pointer(begin + len(links) - 2) * LONGEST
     return header(1 + count, 0) + first + body[: 6 * count]
 
 
@@ -64,7 +59,7 @@ def chain_record():
     """A record whose data, which is stepped over, is a chain; and a pointer to the end of it."""
     begin = HEADER_SIZE + 1 + 10
     links = chain(begin)
-    return b"\0" + fixed(NULL, links) + links, deepest_of(begin, links)
+    return b"\0" + fixed(NULL, links) + links, pointer(begin + len(links) - 2)
 
 
 def fixed(kind, data):
@@ -92,16 +87,13 @@ def repeated(first, record):
 
 def long_names(count):
     """So many messages of different SRV records, whose two names take seven bytes here and 510 when they are read."""
-    for number in range(count):
-        yield START + number * SECOND, ipv4_frame(SOURCE, long_names_message(number))
-
-
-def long_names_message(number):
     # Bytes that print as four each, in labels that together make a name of 255 bytes.
     target = tuple(bytes((octet,)) * 63 for octet in (0x80, 0x81, 0x82)) + (b"\x83" * 61,)
     suffix = (b"\x84" * 60,) + target[1:]
-    return message_of((Record((struct.pack("!H", port),) + suffix, SRV, (0, number, port, target), True), 120)
-                      for port in range(LONG_NAMED))
+    for number in range(count):
+        message = message_of((Record((struct.pack("!H", port),) + suffix, SRV, (0, number, port, target), True), 120)
+                             for port in range(LONG_NAMED))
+        yield START + number * SECOND, ipv4_frame(SOURCE, message)
 
 
 def product(count, together=TOGETHER, instances=1):

@@ -3,11 +3,10 @@
 import random
 import struct
 from collections import deque
-from itertools import accumulate, islice
+from itertools import islice
 from typing import NamedTuple
 
-from tests.captures.wire import (A, AAAA, ADDITIONAL, ANSWER, ANY, AUTHORITY, NSEC, PTR, QUERY, SECOND, SRV, TXT, Message,
-                                 ipv4_frame, ipv6_frame, message_of)
+from tests.captures.wire import A, AAAA, ANY, NSEC, PTR, QUERY, SECOND, SRV, TXT, ipv4_frame, ipv6_frame, message_of
 
 START = 1_700_000_000 * SECOND
 
@@ -84,19 +83,14 @@ class Service:
     """A service instance and its records."""
 
     def __init__(self, number, kind, host):
-        label = f"{PLACES[number % len(PLACES)]} {kind.noun} {number}".encode()
-        service_type = (kind.label.encode(), b"_tcp", LOCAL)
-        name = (label,) + service_type
-        self.service_type = service_type
-        self.listing = Record(META, PTR, service_type, False)
-        self.pointer = Record(service_type, PTR, name, False)
+        self.type = (kind.label.encode(), b"_tcp", LOCAL)
+        name = (f"{PLACES[number % len(PLACES)]} {kind.noun} {number}".encode(), *self.type)
+        self.listing = Record(META, PTR, self.type, False)
+        self.pointer = Record(self.type, PTR, name, False)
         self.server = Record(name, SRV, (0, 0, kind.port, host), True)
-        self.text = Record(name, TXT, text_data(kind.text), True)
-
-
-def text_data(strings):
-    """The data of a TXT record; without strings, one empty string (RFC 6763, section 6.1)."""
-    return b"".join(bytes((len(string),)) + string.encode() for string in strings) or b"\0"
+        # Without strings, one empty string (RFC 6763, section 6.1).
+        text = b"".join(bytes((len(string),)) + string.encode() for string in kind.text) or b"\0"
+        self.text = Record(name, TXT, text, True)
 
 
 class Host:
@@ -121,8 +115,8 @@ class Host:
         self.link_local = bytes.fromhex("fe80000000000000") + struct.pack("!II", 0x02005EFF, self.number)
         self.sent = {}
 
-    def addresses(self, name):
-        return [Record(name, A, self.ipv4, True), Record(name, AAAA, self.ipv6, True)]
+    def addresses(self, name, flush=True):
+        return [(Record(name, A, self.ipv4, flush), HOST_TTL), (Record(name, AAAA, self.ipv6, flush), HOST_TTL)]
 
     def records(self):
         """All that the host has to say, each with its TTL."""
@@ -131,14 +125,11 @@ class Host:
             yield service.pointer, OTHER_TTL
             yield service.server, HOST_TTL
             yield service.text, OTHER_TTL
-        for address in self.addresses(self.name):
-            yield address, HOST_TTL
+        yield from self.addresses(self.name)
         # Some speakers say whose their address is, too.
         if self.number % 8 == 1:
-            yield Record(self.reverse_name(), PTR, self.name, True), HOST_TTL
-
-    def reverse_name(self):
-        return tuple(str(octet).encode() for octet in reversed(self.ipv4)) + (b"in-addr", b"arpa")
+            reverse_name = tuple(str(octet).encode() for octet in reversed(self.ipv4)) + (b"in-addr", b"arpa")
+            yield Record(reverse_name, PTR, self.name, True), HOST_TTL
 
     def frames(self, what):
         """The frames of a message that the host sends."""
@@ -162,67 +153,36 @@ class Host:
     def answer(self, index):
         """A service that was asked for, and what is wanted next (RFC 6763, section 12.1)."""
         service = self.services[index]
-        message = Message()
-        message.record(ANSWER, service.pointer, OTHER_TTL)
-        message.record(ADDITIONAL, service.server, HOST_TTL)
-        message.record(ADDITIONAL, service.text, OTHER_TTL)
-        message.record(ADDITIONAL, no_other(service.text.owner, SERVICE_ALONE), HOST_TTL)
-        self.add_addresses(message, ADDITIONAL)
-        return message.wire()
+        return message_of([(service.pointer, OTHER_TTL)], [
+            (service.server, HOST_TTL), (service.text, OTHER_TTL), no_other(service.text.owner, SERVICE_ALONE),
+            *self.addresses(self.answered_name), no_other(self.answered_name, ADDRESSES_ALONE)])
 
     def address(self):
         """The addresses of the host alone."""
-        message = Message()
-        self.add_addresses(message, ANSWER)
-        return message.wire()
-
-    def add_addresses(self, message, section):
-        for address in self.addresses(self.answered_name):
-            message.record(section, address, HOST_TTL)
-        message.record(ADDITIONAL, no_other(self.answered_name, ADDRESSES_ALONE), HOST_TTL)
+        return message_of(self.addresses(self.answered_name), [no_other(self.answered_name, ADDRESSES_ALONE)])
 
     def query(self, index):
         """A question for services, with the host's own as a known answer (RFC 6762, section 7.1)."""
         service = self.services[index]
-        message = Message(QUERY)
-        message.question(service.service_type, PTR)
-        message.record(ANSWER, service.pointer, OTHER_TTL)
-        return message.wire()
+        return message_of([(service.pointer, OTHER_TTL)], questions=[(service.type, PTR)], flags=QUERY)
 
     def probe(self):
         """A question whether the host's name is taken (RFC 6762, section 8.1)."""
-        message = Message(QUERY)
-        message.question(self.name, ANY)
-        for address in self.addresses(self.name):
-            message.record(AUTHORITY, address._replace(flush=False), HOST_TTL)
-        return message.wire()
+        return message_of((), authority=self.addresses(self.name, False), questions=[(self.name, ANY)], flags=QUERY)
 
 
 def no_other(name, types):
     """The record that says which types of records a name has, and that it has no other (RFC 6762, section 6.1)."""
-    return Record(name, NSEC, (name, types), True)
-
-
-def hosts_of(count):
-    """The hosts, with four services for each three."""
-    hosts = [Host(number) for number in range(count)]
-    for number in range(count * 4 // 3):
-        host = hosts[number % count]
-        host.services.append(Service(number, KINDS[number * 7 % len(KINDS)], host.name))
-    return hosts
+    return Record(name, NSEC, (name, types), True), HOST_TTL
 
 
 def damaged(rng, payload):
     """A message with something wrong: cut short, an octet that begins no label, or a pointer to itself."""
-    broken = bytearray(payload)
     way = rng.randrange(3)
     if way == 0:
         return payload[: rng.randrange(12, len(payload))]
-    if way == 1:
-        broken[12] = 0x80
-    else:
-        struct.pack_into("!H", broken, 12, 0xC00C)
-    return bytes(broken)
+    wrong = b"\x80" if way == 1 else b"\xc0\x0c"
+    return payload[:12] + wrong + payload[12 + len(wrong):]
 
 
 def other_frames(host):
@@ -231,19 +191,19 @@ def other_frames(host):
     search = b"M-SEARCH * HTTP/1.1\r\nHOST: 239.255.255.250:1900\r\nST: ssdp:all\r\nMX: 2\r\n\r\n"
     discovery = ipv4_frame(host.ipv4, search, bytes((239, 255, 255, 250)), 50_000, 1900)
     unicast = ipv4_frame(host.ipv4, host.address(), bytes((198, 18, 255, 1)), 5353, 40_000)
-    fragment = bytearray(host.frames(("address",))[0])
-    struct.pack_into("!H", fragment, 20, 0x2000)
-    return arp, discovery, unicast, bytes(fragment)
+    whole = host.frames(("address",))[0]
+    return arp, discovery, unicast, whole[:20] + b"\x20\0" + whole[22:]
 
 
 class Link:
-    """The hosts of a link, and whose turn it is."""
+    """The hosts of a link, with four services for each three, and whose turn it is."""
 
-    def __init__(self, seed, hosts):
+    def __init__(self, seed, count):
         self.rng = random.Random(seed)
-        self.hosts = hosts_of(hosts)
-        self.turns = tuple(TURNS)
-        self.weights = tuple(accumulate(TURNS.values()))
+        self.hosts = [Host(number) for number in range(count)]
+        for number in range(count * 4 // 3):
+            host = self.hosts[number % count]
+            host.services.append(Service(number, KINDS[number * 7 % len(KINDS)], host.name))
 
     def packets(self, count):
         """So many packets in order, each with its moment."""
@@ -265,30 +225,21 @@ class Link:
 
     def turn(self):
         """The frames of one turn, and whether they come again a second later."""
-        host = self.rng.choice(self.hosts)
+        rng, what = self.rng, "other"
+        host = rng.choice(self.hosts)
         if not host.is_present:
-            return self.absent_turn(host)
-        if self.rng.random() < MOVES:
-            host.move(self.rng.randrange(1, 16))
-            return host.frames(("announcement",)), True
-        return self.present_turn(host, self.rng.choices(self.turns, cum_weights=self.weights)[0])
-
-    def absent_turn(self, host):
-        if self.rng.random() < RETURNS:
-            host.is_present = True
-            return host.frames(("announcement",)), True
-        return self.other(host), False
-
-    def present_turn(self, host, what):
-        if what in ("answer", "query"):
-            return host.frames((what, self.rng.randrange(len(host.services)))), False
-        if what == "damage":
-            return host.framed(damaged(self.rng, host.address())), False
+            if rng.random() < RETURNS:
+                host.is_present, what = True, "announcement"
+        elif rng.random() < MOVES:
+            host.move(rng.randrange(1, 16))
+            what = "announcement"
+        else:
+            what = rng.choices(list(TURNS), TURNS.values())[0]
         if what == "other":
-            return self.other(host), False
+            return (rng.choice(other_frames(host)),), False
+        if what == "damage":
+            return host.framed(damaged(rng, host.address())), False
         if what == "goodbye":
             host.is_present = False
-        return host.frames((what,)), what == "announcement"
-
-    def other(self, host):
-        return (self.rng.choice(other_frames(host)),)
+        index = [rng.randrange(len(host.services))] if what in ("answer", "query") else []
+        return host.frames((what, *index)), what == "announcement"

@@ -8,10 +8,9 @@ from tests import EXAMPLES
 from tests.captures import floods
 from tests.captures import hostile
 from tests.captures.link import META, START, Link, Record
-from tests.captures.wire import (A, ADDITIONAL, ANSWER, AUTHORITY, LAST_MOMENT, NSEC, PTR, QUERY, RESPONSE, SECOND, SRV, TXT,
-                                 TYPES, Content, Message, ipv4_frame, ipv6_frame)
+from tests.captures.wire import (A, LAST_MOMENT, NSEC, PTR, QUERY, RESPONSE, SECOND, SRV, TXT, TYPES, Content, ipv4_frame, ipv6_frame,
+                                 message_of)
 from tests.judges.savefile import frames_in
-
 
 IPV4_SOURCE = bytes((192, 0, 2, 1))
 IPV6_SOURCE = bytes.fromhex("fe80000000000000") + bytes((0, 0, 0, 0, 0, 0, 0, 1))
@@ -126,14 +125,10 @@ def nearly(rng, payload):
 
 def message(rng, names):
     flags = rng.choices((RESPONSE, 0x8000, QUERY, 0x8800, 0x8401, 0xFFF0 & ~0x7800), (20, 4, 1, 1, 1, 2))[0]
-    made = Message(flags)
-    for _ in range(rng.choice((0, 0, 0, 1, 2))):
-        made.question(rng.choice(names), rng.choice((A, PTR)))
+    questions = [(rng.choice(names), rng.choice((A, PTR))) for _ in range(rng.choice((0, 0, 0, 1, 2)))]
     counts = rng.choice((1, 1, 2, 4, 8)), rng.choice((0, 0, 0, 1)), rng.choice((0, 0, 1, 3))
-    for section, count in zip((ANSWER, AUTHORITY, ADDITIONAL), counts):
-        for _ in range(count):
-            made.record(section, record(rng, names), rng.choice(TTLS))
-    return made.wire()
+    answers, authority, additional = ([(record(rng, names), rng.choice(TTLS)) for _ in range(count)] for count in counts)
+    return message_of(answers, additional, authority, questions, flags)
 
 
 def record(rng, names):
@@ -154,9 +149,7 @@ def data(rng, names, kind):
 
 
 def framed(rng, payload):
-    if rng.random() < 0.6:
-        return ipv4_frame(IPV4_SOURCE, payload)
-    return ipv6_frame(IPV6_SOURCE, payload)
+    return ipv4_frame(IPV4_SOURCE, payload) if rng.random() < 0.6 else ipv6_frame(IPV6_SOURCE, payload)
 
 
 def of_instances(rng):
@@ -166,15 +159,15 @@ def of_instances(rng):
              for _ in range(rng.randint(1, 8))]
     made = []
     for _ in range(rng.randint(1, 30)):
-        told = Message()
+        told = []
         for name in rng.sample(names, rng.randint(1, len(names))):
-            told.record(ANSWER, Record(name[1:], PTR, name, rng.random() < 0.1), rng.choice(TTLS))
+            told.append((Record(name[1:], PTR, name, rng.random() < 0.1), rng.choice(TTLS)))
             if rng.random() < 0.3:
                 host = name[0], LOCAL
-                told.record(ANSWER, Record(name, SRV, (*rng.choice(ORDERS), 631, host), rng.random() < 0.5), 120)
-                told.record(ANSWER, Record(host, A, bytes((192, 0, 2, rng.randint(1, 3))), False), 120)
-                told.record(ANSWER, Record(name, TXT, bytes((len(name[0]),)) + name[0], False), 120)
-        made.append((moment, framed(rng, told.wire())))
+                told += [(Record(name, SRV, (*rng.choice(ORDERS), 631, host), rng.random() < 0.5), 120),
+                         (Record(host, A, bytes((192, 0, 2, rng.randint(1, 3))), False), 120),
+                         (Record(name, TXT, bytes((len(name[0]),)) + name[0], False), 120)]
+        made.append((moment, framed(rng, message_of(told))))
         moment = min(moment + rng.choice(GAPS), LAST_MOMENT)
     return made
 

@@ -91,7 +91,7 @@ class Capture:
 class Message:
     """A message that is being written. Of each name as much as stands before becomes a pointer."""
 
-    def __init__(self, flags=RESPONSE):
+    def __init__(self, flags):
         self.flags = flags
         self.counts = [0, 0, 0, 0]
         self.body = bytearray(HEADER_SIZE)
@@ -146,11 +146,14 @@ class Message:
         return bytes(self.body)
 
 
-def message_of(records):
-    """A message whose answers are these records, each with its TTL."""
-    message = Message()
-    for record, ttl in records:
-        message.record(ANSWER, record, ttl)
+def message_of(answers, additional=(), authority=(), questions=(), flags=RESPONSE):
+    """A message of records, each with its TTL, and of questions, each a name and a type."""
+    message = Message(flags)
+    for name, kind in questions:
+        message.question(name, kind)
+    for section, records in ((ANSWER, answers), (AUTHORITY, authority), (ADDITIONAL, additional)):
+        for record, ttl in records:
+            message.record(section, record, ttl)
     return message.wire()
 
 

@@ -1,23 +1,10 @@
 """The lines of `records`, read back; and what `types` and `instances` must print where these are live."""
 
-import re
 from typing import NamedTuple
 
 from tests.captures.link import META
 from tests.captures.wire import A, AAAA, NAMED, PTR, SECOND, SRV, TXT
-from tests.judges.shown import LABEL, bytes_of
-
-TYPE = "|".join(NAMED)
-
-LINE = re.compile(rf"(\S+) ({TYPE})((?: [!-~]+)*) ttl (\d+) heard (\d+\.\d{{9}}) until (\d+\.\d{{9}})")
-
-# The bytes of labels as their three decimal digits, after a backslash or as themselves, with a dot between two labels.
-PRINTED = r"(?:\\(?:[01]\d\d|2[0-4]\d|25[0-5]|[.\\])|[!-\-/-\[\]-~])+"
-NAME = re.compile(rf"{PRINTED}(?:\.{PRINTED})*")
-
-
-class Unreadable(Exception):
-    """A text that no line of `records` has."""
+from tests.judges.shown import labels
 
 
 class Line(NamedTuple):
@@ -32,7 +19,7 @@ class Line(NamedTuple):
     @property
     def target(self):
         """The labels of the name in the data of a PTR or SRV."""
-        return labels_of(self.words[-1])
+        return labels(self.words[-1])
 
     @property
     def set_key(self):
@@ -40,17 +27,12 @@ class Line(NamedTuple):
 
 
 def lines_of(report):
-    if report and not report.endswith("\n"):
-        raise Unreadable("the last line has no line feed")
-    return [line_of(text) for text in report.split("\n")[:-1]]
+    return list(map(line_of, report.splitlines()))
 
 
 def line_of(text):
-    match = LINE.fullmatch(text)
-    if match is None:
-        raise Unreadable(f"no line of a record: {text}")
-    owner, kind, words, ttl, heard, until = match.groups()
-    return Line(text, labels_of(owner), kind, tuple(words.split()), int(ttl), moment_of(heard), moment_of(until))
+    owner, kind, *words, _, ttl, _, heard, _, until = text.split(" ")
+    return Line(text, labels(owner), kind, tuple(words), int(ttl), moment_of(heard), moment_of(until))
 
 
 def moment_of(text):
@@ -58,21 +40,13 @@ def moment_of(text):
     return int(seconds) * SECOND + int(nanos)
 
 
-def labels_of(text):
-    """The labels of a name that was printed."""
-    labels = tuple(map(bytes_of, LABEL.findall(text))) if NAME.fullmatch(text) else ()
-    if not labels and text != "." or any(len(label) > 63 for label in labels):
-        raise Unreadable(f"no name: {text}")
-    return labels
-
-
-def wire_of(labels):
+def wire_of(name):
     """The wire form of a name in lower case."""
-    return b"".join(bytes((len(label),)) + label.lower() for label in labels) + b"\0"
+    return b"".join(bytes((len(label),)) + label.lower() for label in name) + b"\0"
 
 
-def is_service(labels):
-    return len(labels) == 3 and labels[1].lower() in (b"_tcp", b"_udp") and labels[2].lower() == b"local"
+def is_service(name):
+    return len(name) == 3 and name[1].lower() in (b"_tcp", b"_udp") and name[2].lower() == b"local"
 
 
 def types_names(lines):

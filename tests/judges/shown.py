@@ -53,7 +53,12 @@ def shown_words(kind, words):
 
 
 def shown_name(text):
-    return ".".join(shown(bytes_of(label), "\\.") for label in LABEL.findall(text)) or "."
+    return ".".join(shown(label, "\\.") for label in labels(text)) or "."
+
+
+def labels(name):
+    """The labels of a name as it is printed, with a dot at its end or without."""
+    return tuple(map(bytes_of, LABEL.findall(name)))
 
 
 def bytes_of(text):

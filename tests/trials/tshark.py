@@ -12,7 +12,7 @@ from collections import Counter
 from tests import EXAMPLES
 from tests.captures.wire import NAMED, PORT, TYPES, Content
 from tests.judges.json_forms import MEMBERS
-from tests.judges.shown import LABEL, bytes_of, short_ipv6
+from tests.judges.shown import bytes_of, labels, short_ipv6
 from tests.running.runs import report_difference
 
 CAPTURES = ("west.pcap", "east.pcap")
@@ -38,7 +38,7 @@ def line_of(moment, source, owner, kind, words, ttl, flush):
 
 def name_of(text):
     """The bytes of a printed name, with dots between its labels."""
-    return b".".join(map(bytes_of, LABEL.findall(text))) or b"<Root>"
+    return b".".join(labels(text)) or b"<Root>"
 
 
 def words_of(kind, words):
