@@ -15,9 +15,7 @@ from tests.judges.lines import lines_of
 from tests.judges.listeners import COMMAND
 from tests.judges.listeners import FORMS as FORMS_OF_LISTENERS
 from tests.judges.lives import CHOICES
-from tests.judges.markup import Unreadable
 from tests.judges.pretty import clock_words, pretty_text
-from tests.judges.read_page import read_page
 from tests.judges.savefile import FILE_HEADER, LAYOUTS, moment_of, reading_of, split_at
 from tests.judges.subjects import some_word
 from tests.judges.words import moment_text
@@ -189,9 +187,7 @@ class Case:
             self.ask_listeners(form, self.names, [])
         again = [*self.names, self.by_another_clock(rng.choice(self.names))]
         for names in (again, rng.choice(self.variants)):
-            form, order = rng.choice(list(FORMS_OF_LISTENERS)), rng.sample(names, len(names))
-            chosen = [rng.choice(names) for _ in range(rng.choice((0, 1, 2)))]
-            self.ask_listeners(form, order, [name[:rng.randint(1, len(name))] for name in chosen])
+            self.ask_listeners(rng.choice(list(FORMS_OF_LISTENERS)), rng.sample(names, len(names)), self.prefixes(names))
         self.ask("lives", "--pretty", names=again)
 
     def ask_listeners(self, form, names, prefixes):
@@ -199,6 +195,11 @@ class Case:
         for pair in filter(None, map(APART.fullmatch, text.splitlines() if form == () else ())):
             words = clock_words(pair.groupdict())
             self.seen.clocks[next((kind for kind in CLOCKS if words.startswith(kind)), "ahead")] += 1
+
+    def prefixes(self, names):
+        """Beginnings of some names, as often of none."""
+        chosen = [self.rng.choice(names) for _ in range(self.rng.choice((0, 1, 2)))]
+        return [name[:self.rng.randint(1, len(name))] for name in chosen]
 
     def by_another_clock(self, name):
         """A capture whose packets are those of another one, all later or earlier by as much."""
@@ -259,27 +260,24 @@ class Case:
 
     def pages(self):
         """Pages without options for a moment, and pages as of a later moment or before one."""
-        self.ask_pages(Asked())
+        self.ask_pages(self.names, Asked())
         flag, moment = self.rng.choice((("at", self.newest + self.rng.choice(LATER)), ("before", self.about_packet())))
         if moment <= LAST_MOMENT:
-            self.ask_pages(Asked(**{flag: moment}), f"--{flag}", moment_text(moment))
+            self.ask_pages(self.names, Asked(**{flag: moment}), f"--{flag}", moment_text(moment))
 
-    def ask_pages(self, asked, *options):
+    def ask_pages(self, names, asked, *options):
         """The page with options for a moment that is about everything, and one about one or two words of what was heard."""
-        judge = self.ask_page(asked, *options)
+        judge = self.ask_page(names, asked, *options)
         lines = list(map(judge.line, judge.accounts))
         about = tuple(some_word(self.rng, lines) for _ in range(self.rng.choice((1, 2))))
-        self.ask_page(asked._replace(about=about), *options, *(f"--about={word}" for word in about))
+        self.ask_page(names, asked._replace(about=about), *options, *(f"--about={word}" for word in about))
 
-    def ask_page(self, asked, *options):
-        """The judge of a page with options, which must say what the judge takes for right."""
-        judge, text = Judge([(name, self.captures[name]) for name in self.names], asked), self.ask("page", *options)
-        try:
-            page = read_page(text)
-            found = list(differences(page, judge.page(page.style)))
-        except Unreadable as fault:
-            found = [str(fault)]
-        expect(not found, "page", *options, "\nprinted", text, "\nand", *found)
+    def ask_page(self, names, asked, *options):
+        """The judge of a page of files with options, which must be what the judge takes for right."""
+        judge, text = Judge([(name, self.captures[name]) for name in names], asked), self.ask("page", *options, names=names)
+        found = differences(text, judge)
+        expect(not found, "page", *options, *names, "\n".join(["", *found]))
+        page = judge.page("")
         rows = [row for group in page.timeline for row in group.rows]
         self.seen.pages.update({"pages": 1, "rows": len(rows), "lives": sum(row.earlier + len(row.words) for row in rows),
                                 "names of several labels": len(page.apart.rows) if page.apart else 0})

@@ -22,8 +22,7 @@ from tests.judges.lines import addresses_of, gives_instance, is_service, line_of
 from tests.judges.listeners import are_compared, compared_of, listeners_of, pair_line
 from tests.judges.lives import accounts
 from tests.judges.meanings import table_of
-from tests.judges.read_page import HAS_TABLE, Lead, Page, Ticks
-from tests.judges.read_rows import APART, HOSTS, CaptureRow, Group, LiveGroup, LiveRow, Row
+from tests.judges.page_text import APART, HOSTS, CaptureRow, Group, Lead, LiveGroup, LiveRow, Page, Row, Ticks, page_text, style_of
 from tests.judges.savefile import moment_of, reading_of
 from tests.judges.shown import shown, shown_name
 from tests.judges.subjects import is_instance_about, is_record_about
@@ -56,14 +55,9 @@ KEY = [("live", ["b M0 9H26"]), ("ended by goodbye", ["b M0 9H20", "m1 M20 2V14"
        ("flushed by other data", ["b M0 9H20", "m3 M20 2V14", "h3 M20 2h.01"]), ("its server (SRV) live", ["s M0 9H26"])]
 LANES_KEY = [("heard, while recording", ["n M0 11H26", "t M4 6v5M9 6v5M20 6v5"]),
              ("goodbye heard", ["n M0 11H26", "z M13 6v5"])]
-LINKS = ["Captures", "Timeline", "What was live", *(["Skipped packets"] if HAS_TABLE else [])]
 
 ENDS = ("goodbye", "flushed", "expired")
 GOING_ON = {"goodbye": "still live, said goodbye", "flushed": "still live, flushed", "expired": "still live"}
-
-
-# What a page has or has not, and must be right where it is there.
-OPTIONAL = ("hearing_places",)
 
 
 class Asked(NamedTuple):
@@ -221,9 +215,8 @@ class Judge(Axis):
     def captures(self):
         for place, (name, moments, ending, causes) in enumerate(zip(self.names, self.moments, self.endings, self.causes)):
             bar, title, span = self.recorded(moments)
-            places = sorted({self.place(hearing.moment) for hearing in self.heard[place]})
             silent, refused = sum(causes.values()), causes[DAMAGED]
-            yield CaptureRow(self.sign(place), shown(name.encode()), len(moments), len(self.hearings[place]), bar, title, places, span,
+            yield CaptureRow(self.sign(place), shown(name.encode()), len(moments), len(self.hearings[place]), bar, title, span,
                              ending, len(moments) - silent, silent - refused, refused, *self.compared(place))
 
     def sign(self, place):
@@ -278,17 +271,13 @@ class Judge(Axis):
         texts = words_below(line, sets)[max(len(servers), 1):]
         return LiveRow(shown_label(line.words[0]), self.short(life.start), left, servers, texts)
 
-    def table(self):
-        """The table of skipped and refused packets."""
-        return table_of(sum(self.causes, Counter())) if HAS_TABLE else None
-
     def page(self, style):
         """What a page of this style must say."""
         others = (HOSTS, self.hosts), (APART, self.apart)
         return Page(self.days(), style, height_of(self.lanes), self.ticks(), bases_of(self.moments, self.lanes, self.end, self.bar),
-                    self.lead(), LINKS, list(self.captures()), self.note(), KEY + LANES_KEY if self.lanes else KEY,
+                    self.lead(), list(self.captures()), self.note(), KEY + LANES_KEY if self.lanes else KEY,
                     list(self.timeline()), *(self.group(name, keys) if keys else None for name, keys in others), millis(self.end),
-                    list(self.live()), self.table())
+                    list(self.live()), table_of(sum(self.causes, Counter())))
 
 
 @lru_cache(maxsize=2)
@@ -320,19 +309,7 @@ def label_of(moment, step, form):
     return clock(moment) if step < 60 else clock(moment)[:5]
 
 
-def differences(was, must, where="the page"):
-    """In what two things that pages say differ, each with where it stands."""
-    if isinstance(was, tuple) and hasattr(must, "_fields"):
-        for name, one, other in zip(must._fields, was, must):
-            if one or name not in OPTIONAL:
-                yield from differences(one, other, f"{where}, {name}")
-    elif isinstance(must, list) and isinstance(was, list) and len(was) == len(must):
-        for place, (one, other) in enumerate(zip(was, must), 1):
-            yield from differences(one, other, f"{where} {place}")
-    elif was != must:
-        yield "\n".join(difference(f"  {where}", lines_of(must), lines_of(was)))
-
-
-def lines_of(said):
-    """What a page says at one place, a line for each of several things."""
-    return "".join(f"{one if isinstance(one, str) else repr(one)}\n" for one in (said if isinstance(said, list) else [said]))
+def differences(text, judge):
+    """The lines in which a page isn't what a judge takes for right, of which each begins with an element."""
+    must = page_text(judge.page(style_of(text)))
+    return [] if text == must else difference("  the page", *(one.replace("><", ">\n<") for one in (must, text)))

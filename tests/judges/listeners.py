@@ -137,12 +137,16 @@ def apart(one, other):
     return Apart(one, other, len(both), ahead)
 
 
+def base_name(name):
+    """A name without folders."""
+    return name.rpartition("/")[2]
+
+
 def listeners_of(captures, prefixes):
-    """The listeners of files, each with its name and its bytes: those that begin with the same of some prefixes are one's, whatever
-    their folders."""
+    """The listeners of files, each with its name and its bytes: those that begin with the same of some prefixes are one's."""
     files = {}
     for number, (name, capture) in enumerate(captures):
-        prefix = next((prefix for prefix in prefixes if name.rpartition("/")[2].startswith(prefix)), None)
+        prefix = next((prefix for prefix in prefixes if base_name(name).startswith(prefix)), None)
         key = (name, number) if prefix is None else (prefix, None)
         files.setdefault(key, []).append(recorded_in(capture))
     return [Listener(name, some) for (name, _), some in files.items()]

@@ -2,7 +2,7 @@
 answer: first the causes that need attention, in this order, then the normal ones."""
 
 from tests.judges.causes import CUT, CUT_HEADER, DAMAGED, LENGTH, MALFORMED
-from tests.judges.read_page import CauseRow
+from tests.judges.page_text import CauseRow
 
 MISSING = "bytes are missing: record with tcpdump -s 0"
 UNLESS_TOLD = "what it told is missing, unless another message told it"

@@ -2,21 +2,26 @@
 
 from tests import EXAMPLES
 from tests.judges.answers import answer_to
+from tests.judges.judged_page import Asked, Judge
+from tests.judges.page_text import page_text, style_of
 from tests.running.commands import WHYS
 from tests.running.runs import report_difference
 
 
 def try_examples():
     """Answers how many expected texts aren't those of the judges."""
-    paths = sorted((EXAMPLES / "expected").glob("*.txt"))
+    paths = sorted((EXAMPLES / "expected").iterdir())
     failed = 0
     for path in paths:
         captures, _, asked = path.stem.partition(".")
         command, *form = asked.split("-")
         files = [(f"{name}.pcap", (EXAMPLES / f"{name}.pcap").read_bytes()) for name in captures.split("-")]
+        text = path.read_text("utf-8")
         must = answer_to("mdnswhy" if command in WHYS else "mdnsmerge", [command, *(f"--{one}" for one in form)], files).out
-        if path.read_text("utf-8") != must:
+        if command == "page":
+            must = page_text(Judge(files, Asked()).page(style_of(text)))
+        if text != must:
             failed += 1
-            report_difference(f"examples/expected/{path.name}, beside what the captures give", must, path.read_text("utf-8"))
+            report_difference(f"examples/expected/{path.name}, beside what the captures give", must, text)
     print(f"{len(paths)} expected texts beside what the captures give, {failed} failed")
     return failed

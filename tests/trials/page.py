@@ -1,4 +1,4 @@
-"""Runs of `mdnsmerge page`, whose pages must say what follows from the captures, in markup of few elements.
+"""Runs of `mdnsmerge page`, whose pages must be those that follow from the captures.
 
 `trials/run --pages WORDS` runs only the cases whose subject has these words."""
 
@@ -6,8 +6,7 @@ import tempfile
 from pathlib import Path
 
 from tests.judges.judged_page import Judge, differences
-from tests.judges.markup import Unreadable, expect
-from tests.judges.read_page import read_page
+from tests.judges.page_text import style_of
 from tests.judges.words import moment_text
 from tests.running import runs
 from tests.running.program import HIDDEN_CHARACTER
@@ -17,8 +16,8 @@ from tests.trials.page_captures import cases
 # A thousand instances are a page of a megabyte.
 PATIENCE = 60
 
-# How many differences of a page are printed.
-PRINTED = 5
+# How many lines of what is wrong with a page are printed.
+PRINTED = 20
 
 
 class Trial:
@@ -47,17 +46,11 @@ class Trial:
         must = runs.Case(self.words("page"), status, b"" if status == REFUSED else answer[1], err)
         yield from runs.differences(must, answer)
         if status != REFUSED:
-            try:
-                yield from self.differences(answer[1].decode("utf-8", "surrogateescape"))
-            except Unreadable as fault:
-                yield f"  no page: {fault}"
-
-    def differences(self, text):
-        expect(not HIDDEN_CHARACTER.search(text.replace("\n", "")), "no UTF-8, or a character that people don't see")
-        page = read_page(text)
-        self.style = page.style
-        judge = Judge(self.files, self.case.asked)
-        yield from differences(page, judge.page(page.style))
+            text = answer[1].decode("utf-8", "surrogateescape")
+            if HIDDEN_CHARACTER.search(text.replace("\n", "")):
+                yield "  no UTF-8, or a character that people don't see"
+            self.style = style_of(text)
+            yield from differences(text, Judge(self.files, self.case.asked))
 
 
 def try_page(program, folder, words=""):
