@@ -62,11 +62,10 @@ class Row(NamedTuple):
 
 def rows_of(names, *paths):
     """Reads the rows of the last of the paths, with what the names and the paths define in the place of its name."""
-    known, rows = {word: word for word in WORDS}, []
+    known = {word: word for word in WORDS}
     for name, text in names.items():
         define(name, text, known)
-    for path in paths:
-        rows = list(read_rows(path, known))
+    *_, rows = [list(read_rows(path, known)) for path in paths]
     return rows
 
 
@@ -122,32 +121,19 @@ def bytes_of(words):
             del made[int(word[2:]):]
         elif "=" in word:
             at, digits = word.split("=")
-            put(made, int(at), bytes.fromhex(digits))
+            changed = bytes.fromhex(digits)
+            if int(at) + len(changed) > len(made):
+                raise ValueError(f"{at}: there are {len(made)} bytes alone")
+            made[int(at):int(at) + len(changed)] = changed
         else:
             made += bytes.fromhex(word)
     return bytes(made)
 
 
-def put(made, at, changed):
-    if at + len(changed) > len(made):
-        raise ValueError(f"{at}: there are {len(made)} bytes alone")
-    made[at:at + len(changed)] = changed
-
-
-def address(text):
-    return ipaddress.ip_address(text).packed
-
-
-def server(priority, weight, port, target):
-    return int(priority), int(weight), int(port), labels(target)
-
-
-def digits(*words):
-    return bytes.fromhex("".join(words))
-
-
 # How data is read from words, by what it says.
-READ = {Content.ADDRESS: address, Content.NAME: labels, Content.SERVICE: server, Content.STRINGS: digits}
+READ = {Content.ADDRESS: lambda text: ipaddress.ip_address(text).packed, Content.NAME: labels,
+        Content.SERVICE: lambda *words: (*map(int, words[:3]), labels(words[3])),
+        Content.STRINGS: lambda *words: bytes.fromhex("".join(words))}
 
 
 def packet_of(hearing):

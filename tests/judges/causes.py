@@ -27,7 +27,7 @@ def cause_of(frame):
     try:
         expect_response(payload_of(frame))
     except Nothing as why:
-        return why.args[0] if why.args else DAMAGED
+        return why.args[0]
     return None
 
 

@@ -62,7 +62,7 @@ class Hearing(NamedTuple):
 
 
 class Nothing(Exception):
-    """A frame that tells nothing: it carries no message, by the cause that is given, the message is damaged, or it is no response."""
+    """A frame that tells nothing, by the cause that is given."""
 
 
 def folded(kind, data):
@@ -147,8 +147,7 @@ def source_of(frame):
 
 def part(whole, start, end):
     """The bytes from one offset to another, which are all there."""
-    if not start <= end <= len(whole):
-        raise Nothing
+    need(start <= end <= len(whole), DAMAGED)
     return whole[start:end]
 
 
@@ -176,8 +175,7 @@ class Message:
     def hearings(self):
         """What all records of the answers and of the additional section tell, if the whole message can be read."""
         _, flags, questions, answers, authority, additional = self.numbers("!HHHHHH")
-        if not flags & RESPONSE_BIT or flags & CODES:
-            raise Nothing
+        need(flags & RESPONSE_BIT and not flags & CODES, DAMAGED)
         for _ in range(questions):
             self.name()
             self.take(4)
@@ -199,8 +197,7 @@ class Message:
 
     def data_of(self, of_type, data):
         """Data that was just taken, its name in full."""
-        if not of_type.fits(data):
-            raise Nothing
+        need(of_type.fits(data), DAMAGED)
         if of_type.content is Content.NAME:
             return self.name_in(data)
         if of_type.content is Content.SERVICE:
@@ -211,8 +208,7 @@ class Message:
         """The name that takes exactly the last bytes that were taken."""
         after, self.at = self.at, self.at - len(data)
         name = self.name()
-        if self.at != after:
-            raise Nothing
+        need(self.at == after, DAMAGED)
         return name
 
     def name(self):
@@ -229,15 +225,13 @@ class Message:
             runs.append((at, labels))
             if target is None:
                 break
-            if target >= at:
-                raise Nothing
+            need(target < at, DAMAGED)
             at = target
         else:
             rest = self.names[at]
         for start, labels in reversed(runs):
             rest = labels + rest
-            if len(rest) > LONGEST_NAME:
-                raise Nothing
+            need(len(rest) <= LONGEST_NAME, DAMAGED)
             self.names[start] = rest
         return rest
 
@@ -249,8 +243,7 @@ class Message:
             if octet >= POINTER:
                 labels, target, self.ends[start] = self.wire[start:at], number_at(self.wire, at) & 0x3FFF, at + 2
                 return labels, target
-            if octet > 63 or at - start > LONGEST_NAME:
-                raise Nothing
+            need(octet <= 63 and at - start <= LONGEST_NAME, DAMAGED)
             if octet == 0:
                 self.ends[start] = at + 1
                 return self.wire[start:at], None

@@ -12,11 +12,11 @@ from typing import NamedTuple, Optional
 from tests import TOP
 from tests.captures.built import frame_of, lay_out_small, pointer, write_capture
 from tests.captures.wire import SECOND
-from tests.judges.hearings import hearings_of
-from tests.judges.lives import CHOICES, lives_text, rows_of
+from tests.judges.answers import answer_to
+from tests.judges.lives import CHOICES
 from tests.judges.words import moment_text
 from tests.running.commands import ANSWERS, ASKS, COMMANDS, END, FLAGS, TWO_FORMS, flags_of, page
-from tests.running.runs import DAMAGED, WHOLE, Case, agrees, fails, placed, refused, said
+from tests.running.runs import WHOLE, Case, agrees, fails, placed, refused, said
 
 TRY_HELP = "For more information, try '--help'.\n"
 
@@ -268,98 +268,39 @@ NAMELESS = (
 )
 
 
-# The owner of the records that list the service types.
-LIST = "_services._dns-sd._udp.local"
-
-
-class Heard(NamedTuple):
+def packet(label, moment, ttl):
     """A packet that tells of the service type `_LABEL._tcp.local` and of its instance `x`."""
-    label: str
-    # In nanoseconds.
-    moment: int
-    ttl: int
-
-    def packet(self):
-        own = self.type()
-        records = pointer(LIST, own), pointer(own, f"x.{own}")
-        return self.moment, frame_of([(record, self.ttl) for record in records])
-
-    def type(self):
-        return f"_{self.label}._tcp.local"
-
-    def line(self, owner, target):
-        heard, until = moment_text(self.moment), moment_text(self.moment + self.ttl * SECOND)
-        return f"{owner} PTR {target} ttl {self.ttl} heard {heard} until {until}\n"
-
-
-def report_of(what, heard):
-    """What is reported of the types that stand, which are given in the order of their names."""
-    if what == "types":
-        return "".join(f"{one.type()}\n" for one in heard)
-    if what == "instances":
-        return "".join(f"x.{one.type()}\n  unresolved\n" for one in heard)
-    return ("".join(one.line(one.type(), f"x.{one.type()}") for one in heard)
-            + "".join(one.line(LIST, one.type()) for one in heard))
-
-
-def lives_of(told, capture):
-    """The lives that are listed of what a capture tells, by their definition."""
-    heard = list(hearings_of(capture))
-    end = max(one.moment for one in heard) if told.at is None else told.at
-    if told.before is not None:
-        end, heard = told.before, [one for one in heard if one.moment < told.before]
-    return lives_text(CHOICES[told.what].of_rows(rows_of(heard)), end)
+    own = f"_{label}._tcp.local"
+    records = pointer("_services._dns-sd._udp.local", own), pointer(own, f"x.{own}")
+    return moment, frame_of([(record, ttl) for record in records])
 
 
 def scenes(told):
-    """Captures as lists of what is heard, and what stands of it at the moment that is asked for, or None where that is
-    too early. At no other moment the same would stand."""
+    """The packets of captures over which what is asked has another answer as of each other moment, and before each other one."""
     if told.before is not None:
-        return [before_scene(told.before)]
+        earlier = [packet("new", told.before - 1, 120), packet("old", told.before - SECOND, 1)] if told.before else []
+        return [[packet("at", told.before, 120), *earlier]]
     if told.at is None:
-        both = [Heard("new", SECOND - 1, 120), Heard("old", 0, 1)]
-        return [(both, both)]
+        return [[packet("new", SECOND - 1, 120), packet("old", 0, 1)]]
     if told.at == 0:
-        first, later = [Heard("new", 0, 120)], [Heard("new", 1, 120)]
-        return [(first, first), (later, None)]
+        # The moment is earlier than the second hearing.
+        return [[packet("new", 0, 120)], [packet("new", 1, 120)]]
     ttl, start = divmod(told.at, SECOND)
-    new, old = Heard("new", start + 1, ttl), Heard("old", start, ttl)
-    return [([new, old], [new])]
-
-
-def before_scene(moment):
-    """What is heard at a moment, where it begins, and before it, in no order; only what is earlier and still stands then is
-    told."""
-    at = Heard("at", moment, 120)
-    if moment == 0:
-        return [at], []
-    new, old = Heard("new", moment - 1, 120), Heard("old", moment - SECOND, 1)
-    return [at, new, old], [new]
-
-
-def case_of(told, heard, standing, capture):
-    """The run of these words over captures that were cut where this one ends."""
-    end = len(capture)
-    if told.what == "check":
-        counts = f"packets {len(heard)} skipped 0 refused 0 messages {len(heard)} hearings {2 * len(heard)}"
-        return Case(told.words, DAMAGED, "".join(f"{name}: {counts} cut at {end}\n" for name in told.names), place=told.place)
-    if standing is None:
-        newest = moment_text(heard[0].moment)
-        return said(told.words, f"the moment is earlier than the newest hearing, {newest}", place=told.place)
-    cut = "".join(f"mdnsmerge: {name}: cut at {end}\n" for name in told.names)
-    answer = lives_of(told, capture) if told.what in CHOICES else report_of(told.what, standing)
-    return Case(told.words, DAMAGED, answer, cut, place=told.place)
+    return [[packet("new", start + 1, ttl), packet("old", start, ttl)]]
 
 
 def try_told(told, program, folder):
-    """Tries words in a folder with files of their names, and answers how many runs failed."""
+    """Tries words in a folder with files of their names, each cut short, and answers how many runs failed."""
     folder.mkdir()
     failed = 0
-    for heard, standing in scenes(told):
-        capture = write_capture(folder / told.names[0], "little-nano", [one.packet() for one in heard])
+    moments = (("--at", told.at), ("--before", told.before))
+    asked = [told.what, *(word for flag, moment in moments if moment is not None for word in (flag, moment_text(moment)))]
+    for packets in scenes(told):
+        capture = write_capture(folder / told.names[0], "little-nano", packets) + b"\0"
         for name in told.names:
-            (folder / name).write_bytes(capture + b"\0")
-        failed += not agrees(case_of(told, heard, standing, capture), program, folder)
+            (folder / name).write_bytes(capture)
+        must = answer_to("mdnsmerge", asked, [(name, capture) for name in told.names])
+        failed += not agrees(Case(told.words, *must, place=told.place), program, folder)
     return failed
 
 
