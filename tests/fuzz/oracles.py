@@ -10,11 +10,12 @@ from collections import Counter
 from tests.captures.wire import LAST_MOMENT, SECOND
 from tests.judges.answers import answer_to, counts_of, held_in, lives_in
 from tests.judges.json_forms import APART
-from tests.judges.judged_page import Asked, Judge, differences
+from tests.judges.judged_page import Asked, Judge
 from tests.judges.lines import lines_of
 from tests.judges.listeners import COMMAND
 from tests.judges.listeners import FORMS as FORMS_OF_LISTENERS
 from tests.judges.lives import CHOICES
+from tests.judges.page_text import differences
 from tests.judges.pretty import clock_words, pretty_text
 from tests.judges.savefile import FILE_HEADER, LAYOUTS, moment_of, reading_of, split_at
 from tests.judges.subjects import some_word
@@ -277,10 +278,8 @@ class Case:
         judge, text = Judge([(name, self.captures[name]) for name in names], asked), self.ask("page", *options, names=names)
         found = differences(text, judge)
         expect(not found, "page", *options, *names, "\n".join(["", *found]))
-        page = judge.page("")
-        rows = [row for group in page.timeline for row in group.rows]
-        self.seen.pages.update({"pages": 1, "rows": len(rows), "lives": sum(row.earlier + len(row.words) for row in rows),
-                                "names of several labels": len(page.apart.rows) if page.apart else 0})
+        rows, lives = len(judge.drawn), sum(len(judge.lives[key]) for key in judge.drawn)
+        self.seen.pages.update({"pages": 1, "rows": rows, "lives": lives, "names of several labels": len(judge.apart)})
         if asked.about:
-            self.seen.pages.update({"pages about words": 1, "rows about words": len(rows)})
+            self.seen.pages.update({"pages about words": 1, "rows about words": rows})
         return judge

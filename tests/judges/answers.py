@@ -14,7 +14,7 @@ from tests.judges.json_forms import MEMBERS, json_text
 from tests.judges.lines import Line, gives_instance, instances_text, line_of, lines_of, moment_of, sets_of, types_names
 from tests.judges.listeners import COMMAND, listeners_text, warnings_text
 from tests.judges.lives import CHOICES, lives_text, records_text, rows_of
-from tests.judges.pretty import instances_columns, lives_columns, others_in, pretty_text, records_columns, types_columns
+from tests.judges.pretty import instances_columns, is_apart, lives_columns, pretty_text, records_columns, types_columns
 from tests.judges.savefile import frames_in, reading_of
 from tests.judges.subjects import gives_about, is_about, is_name, is_record_about
 from tests.judges.traced import TEXTS, traced_text
@@ -129,7 +129,7 @@ KINDS = {
                       lambda basis, words, line: gives_about(words, line, basis.sets),
                       lambda basis, some: instances_text(some, basis.sets),
                       lambda basis, words, some: instances_columns(
-                          some, [line for line in others_in(basis.lines) if is_about(is_record_about, words, line)],
+                          some, [line for line in basis.lines if is_apart(line) and is_about(is_record_about, words, line)],
                           basis.sets, basis.now)),
     **{ask: lives_kind(choice) for ask, choice in CHOICES.items()},
 }

@@ -2,7 +2,6 @@
 answer: first the causes that need attention, in this order, then the normal ones."""
 
 from tests.judges.causes import CUT, CUT_HEADER, DAMAGED, LENGTH, MALFORMED
-from tests.judges.page_text import CauseRow
 
 MISSING = "bytes are missing: record with tcpdump -s 0"
 UNLESS_TOLD = "what it told is missing, unless another message told it"
@@ -25,7 +24,8 @@ NORMAL = ("query", "another port", "another group", "not UDP", "neither IPv4 nor
 
 
 def table_of(causes):
-    """The rows of the table, by how many packets of all captures have each cause."""
-    rows = [CauseRow(causes[cause], cause, meaning, True) for cause, meaning in ATTENTION.items()]
-    rows += [CauseRow(causes[cause], cause, "normal", False) for cause in NORMAL]
-    return [row for row in rows if row.count]
+    """The table, by how many packets of all captures have each cause; a word where none has one."""
+    meanings = {**{cause: f'<b class="warn">{meaning}</b>' for cause, meaning in ATTENTION.items()}, **dict.fromkeys(NORMAL, "normal")}
+    rows = "".join(f'<tr><td>{causes[cause]:,}</td><th scope="row">{cause}</th><td>{meaning}</td></tr>\n'
+                   for cause, meaning in meanings.items() if causes[cause])
+    return f"<table>\n{rows}</table>\n" if rows else '<p class="note">None.</p>\n'

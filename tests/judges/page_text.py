@@ -1,25 +1,57 @@
-"""What a page says, and the text of the page that says it: one HTML file, of which only the style is another's.
+"""The text of the page that says what a judge takes for right (`judged_page.py`): one HTML file, of which only the style is another's.
 
-So a page has no scripts and leads nowhere. Text of captures is escaped, and stands in `<bdi>`, in the title of a bar or in `<code>`."""
+So a page has no scripts and leads nowhere. Text of captures is escaped, and stands in `<bdi>`."""
 
 import html
 import re
+from collections import Counter
+from itertools import groupby
 from typing import NamedTuple
+
+from tests.captures.wire import PTR, SECOND, SRV
+from tests.judges.axis import day
+from tests.judges.lanes import bases_of, counts_of, height_of, ticks_of
+from tests.judges.lines import addresses_of, sets_of, wire_of
+from tests.judges.meanings import table_of
+from tests.judges.pretty import date_of, duration, is_apart, millis, shown_label, words_below, words_of
+from tests.judges.shown import shown_name
+from tests.judges.words import name_text
+from tests.running.runs import difference
 
 # The groups whose rows aren't of instances, and what these are.
 HOSTS, APART = "Addresses of hosts", "Names that aren't one label and the type"
 KINDS = {HOSTS: ("address", "addresses"), APART: ("name", "names")}
 
-# The style of a page, and a label of its axis that narrow windows show.
-STYLE = re.compile(r"<style>\n(.*\n)li>svg\{height:\d+px\}\n</style>", re.S)
-DATE = re.compile(r"\d{4}-\d\d-\d\d")
+# Of each row the last lives are in words.
+IN_WORDS = 3
 
-# The target of a server, and the port behind it, mostly without a priority and a weight.
-SERVER = re.compile(r"(.*)(:\d+(?:  priority \d+ weight \d+)?)", re.S)
+DAY = 86_400
+STEPS = (1, 2, 5, 10, 15, 30, 60, 120, 300, 600, 900, 1800, 3600, 7200, 10_800, 21_600, 43_200)
+
+# How many steps the axis has at most, whole ones.
+MOST_STEPS = 7
+
+# Labels nearer to an end of the axis are left out.
+LABELED = range(30, 971)
+
+NOTE = ["Times are UTC, cut off at seconds.", "A bar begins when the record was first heard; it may have stood before.",
+        "A goodbye ends it one second later, unless it is announced again before.", "Heard 3×: in three different seconds."]
+TITLES_NOTE = "Point at a bar for milliseconds."
+LANES_NOTE = "The lanes of ticks are the captures, ① on top."
+LARGE_NOTE = ("With more than 1,000 instances, the ticks of hearings, the addresses of hosts and names that are not one label "
+              "and the type are left out.")
+KEY = [("live", ["b M0 9H26"]), ("ended by goodbye", ["b M0 9H20", "m1 M20 2V14", "h1 M20 2h.01"]),
+       ("expired: not heard again", ["b M0 9H20", "m2 M20 2V14"]),
+       ("flushed by other data", ["b M0 9H20", "m3 M20 2V14", "h3 M20 2h.01"]), ("its server (SRV) live", ["s M0 9H26"])]
+LANES_KEY = [("heard, while recording", ["n M0 11H26", "t M4 6v5M9 6v5M20 6v5"]),
+             ("goodbye heard", ["n M0 11H26", "z M13 6v5"])]
+
+GOING_ON = {"goodbye": "still live, said goodbye", "flushed": "still live, flushed", "expired": "still live"}
 
 # The classes of pins and of their heads, and what they say.
 PINS = (("m1", "goodbye", "h1"), ("m2", "expired", None), ("m3", "flushed", "h3"))
 
+STYLE = re.compile(r"<style>\n(.*\n)li>svg\{height:\d+px\}\n</style>", re.S)
 AXIS = '<svg class="x" aria-hidden="true"><use href="#x"/></svg>'
 DRAWN = 'preserveAspectRatio="none" aria-hidden="true"'
 
@@ -39,20 +71,6 @@ class Lead(NamedTuple):
     # Of each two captures without one clock, the names, the later one first, and what is said of its clock.
     apart: list
     lost: int
-
-
-class Ticks(NamedTuple):
-    places: list
-    # Places in tenths of a percent, and texts.
-    labels: list
-
-
-class CauseRow(NamedTuple):
-    """How many packets were skipped or refused for a cause, and what that means; a warning has attention."""
-    count: int
-    cause: str
-    meaning: str
-    is_warning: bool
 
 
 class CaptureRow(NamedTuple):
@@ -75,70 +93,10 @@ class CaptureRow(NamedTuple):
     beside: tuple
 
 
-class Row(NamedTuple):
-    name: str
-    # None of an instance.
-    address: str
-    # In how many seconds each capture heard the record, with how many of these ended with its goodbye; or of many captures
-    # both numbers of all together, how many heard it, and how many there are.
-    heard: list
-    bars: list
-    # None where bars have no titles.
-    titles: list
-    pins: dict
-    # The bars of servers, those of each path together.
-    servers: list
-    server_titles: list
-    # The paths of ticks in their order: the class of each, its height, and its places.
-    ticks: list
-    earlier: int
-    words: list
-
-
-class Group(NamedTuple):
-    name: str
-    is_open: bool
-    count: int
-    live: int
-    rows: list
-
-
-class LiveRow(NamedTuple):
-    name: str
-    since: str
-    left: str
-    # Each server's words and its addresses.
-    servers: list
-    # The strings of each text.
-    texts: list
-
-
-class LiveGroup(NamedTuple):
-    name: str
-    is_open: bool
-    rows: list
-
-
-class Page(NamedTuple):
-    days: str
-    style: str
-    # Pixels of a row's picture.
-    height: int
-    ticks: Ticks
-    # The lines on which ticks of hearings stand: the height of each, and from where to where; None without lanes.
-    bases: list
-    lead: Lead
-    captures: list
-    note: list
-    key: list
-    timeline: list
-    # The groups of addresses, and of names that aren't one label and the type; None where there are none.
-    hosts: Group
-    apart: Group
-    moment: str
-    live: list
-    # The table of skipped and refused packets.
-    causes: list
+def differences(text, judge):
+    """The lines in which a page isn't what a judge takes for right, each of which begins with an element."""
+    must = page_text(judge, style_of(text))
+    return [] if text == must else difference("  the page", *(one.replace("><", ">\n<") for one in (must, text)))
 
 
 def style_of(text):
@@ -171,50 +129,65 @@ def path_of(of_class, drawn, title=None):
     return f'<path class="{of_class}" d="{drawn}"' + ("/>" if title is None else f"><title>{title}</title></path>")
 
 
-def page_text(page):
-    """The text of a page."""
-    return head_text(page) + lead_text(page.lead) + "".join((
+def group_text(is_open, head, items):
+    return f"<details{' open' * is_open}><summary>{head}</summary><ul>\n{''.join(items)}</ul></details>\n"
+
+
+def page_text(judge, style):
+    """The text of a page of some style."""
+    captures = list(judge.captures())
+    return "".join((
+        head_text(judge, style), lead_text(judge.lead()),
         '<nav><a href="#captures">Captures</a><a href="#timeline">Timeline</a><a href="#live">What was live</a>'
         '<a href="#nothing">Skipped packets</a></nav>\n'
         '<h2 id="captures">Captures</h2>\n<div class="g">\n',
-        group_text(True, f"<bdi>{counted(len(page.captures), 'capture')}</bdi>{AXIS}<small>recorded, and how the file ends</small>",
-                   map(capture_text, page.captures)),
-        f'</div>\n<h2 id="timeline">Timeline</h2>\n<p class="note">{own(" ".join(page.note))}</p>\n<p class="key">',
-        " ".join(f'<span><svg class="k" viewBox="0 0 26 16" {DRAWN}>{"".join(path_of(*stroke.split(" ", 1)) for stroke in strokes)}'
-                 f"</svg>{words}</span>" for words, strokes in page.key),
-        '</p>\n<div class="g">\n',
-        *(timeline_text(group, page.height) for group in (*page.timeline, page.hosts, page.apart) if group),
-        f'</div>\n<h2 id="live">What was live at <time>{page.moment}</time></h2>\n<div class="g l">\n',
-        *(group_text(group.is_open, bdi(group.name) + "<small>server, addresses</small><small>text</small>", map(live_text, group.rows))
-          for group in page.live),
-        '</div>\n<h2 id="nothing">Skipped and refused packets</h2>\n',
-        causes_text(page.causes),
+        group_text(True, f"<bdi>{counted(len(captures), 'capture')}</bdi>{AXIS}<small>recorded, and how the file ends</small>",
+                   map(capture_text, captures)),
+        '</div>\n<h2 id="timeline">Timeline</h2>\n', *timeline_text(judge),
+        f'</div>\n<h2 id="live">What was live at <time>{millis(judge.end)}</time></h2>\n<div class="g l">\n', *live_text(judge),
+        '</div>\n<h2 id="nothing">Skipped and refused packets</h2>\n', table_of(sum(judge.causes, Counter())),
         "</main></body></html>\n"))
 
 
-def head_text(page):
-    """All before the lead: what the pictures share, too. Labels with a date are hidden in narrow windows, every other one."""
-    classes = [' class="y"' if DATE.fullmatch(label) else "" for _, label in page.ticks.labels]
-    labels = "".join(f'<text{of_class} x="{place // 10}.{place % 10}%" y="12">{label}</text>'
-                     for of_class, (place, label) in zip(classes, page.ticks.labels))
-    bases = "" if page.bases is None else path_of("n", "".join(f"M{start} {height}H{end}" for height, start, end in page.bases))
-    low, high = (path_of("v", "".join(f"M{place} 0V{height}" for place in page.ticks.places)) for height in (24, page.height))
+def head_text(judge, style):
+    """All before the lead: what the pictures share, too."""
+    span = (judge.end - judge.start) // SECOND
+    step = next((step for step in STEPS if span // step < MOST_STEPS), DAY * (span // (MOST_STEPS * DAY) + 1))
+    first = -(-judge.start // (step * SECOND)) * step
+    ticks = {judge.place(second * SECOND): label_of(second * SECOND, step, judge.form)
+             for second in range(first, judge.end // SECOND + 1, step)}
+    # Every other label with a year is hidden in narrow windows.
+    classes = {place: ' class="y"' if len(label) == len("2026-11-22") else "" for place, label in ticks.items()}
+    labels = "".join(f'<text{classes[place]} x="{place // 10}.{place % 10}%" y="12">{label}</text>'
+                     for place, label in ticks.items() if place in LABELED)
+    height, bases = height_of(judge.lanes), bases_of(judge.moments, judge.lanes, judge.end, judge.bar)
+    low, high = (path_of("v", "".join(f"M{place} 0V{bottom}" for place in ticks)) for bottom in (24, height))
+    lines = "" if bases is None else path_of("n", "".join(f"M{start} {base}H{end}" for base, start, end in bases))
+    days = " to ".join(dict.fromkeys(map(day, (judge.start, judge.end))))
     return f"""<!doctype html>
 <html lang="en"><head><meta charset="utf-8">
 <meta http-equiv="Content-Security-Policy" content="default-src 'none'; style-src 'unsafe-inline'">
 <meta name="viewport" content="width=device-width">
-<title>Multicast DNS, {page.days}</title>
+<title>Multicast DNS, {days}</title>
 <style>
-{page.style}li>svg{{height:{page.height}px}}
+{style}li>svg{{height:{height}px}}
 </style></head>
 <body>
 <svg class="d" width="0" height="0" aria-hidden="true"><defs><symbol id="x" overflow="visible">{labels}</symbol>
 <g id="v">{low}</g>
-<g id="g">{high}{bases}</g>
+<g id="g">{high}{lines}</g>
 </defs></svg>
 <main>
-<h1>Multicast DNS, {page.days}</h1>
+<h1>Multicast DNS, {days}</h1>
 """
+
+
+def label_of(moment, step, form):
+    """The label of a tick: the day at midnight, with its year if moments have theirs; else the time of day, with seconds if the
+    step is less than a minute."""
+    if moment // SECOND % DAY == 0:
+        return day(moment) if "%Y" in form else day(moment)[5:]
+    return date_of(moment).strftime("%H:%M:%S" if step < 60 else "%H:%M")
 
 
 def lead_text(lead):
@@ -224,16 +197,12 @@ def lead_text(lead):
     others = counted(sum(count for count, _ in ended), "other")
     before = ", ".join(f"{count:,} {how}" for count, how in ended if count)
     return "".join((
-        f'<p class="lead">{counted(lead.live, "service instance was", "service instances were")} live at <time>{lead.moment}</time>{said}.'
-        + (f" {others} had ended before: {before}." if before else "") + "</p>\n",
+        f'<p class="lead">{counted(lead.live, "service instance was", "service instances were")} live at '
+        f"<time>{lead.moment}</time>{said}." + (f" {others} had ended before: {before}." if before else "") + "</p>\n",
         f'<p class="note">Only what is about {", ".join(map(bdi, lead.about))}.</p>\n' if lead.about else "",
         *(f'<p class="warn">{bdi(name)}: {ending}. What came later is missing, goodbyes too.</p>\n' for name, ending in lead.cut),
         *(f'<p class="warn">{bdi(one)} beside {bdi(other)}: {words}</p>\n' for one, other, words in lead.apart),
         f'<p class="warn">{counted(lead.lost, "packet")} could not be used: <a href="#nothing">why</a>.</p>\n' if lead.lost else ""))
-
-
-def group_text(is_open, head, items):
-    return f"<details{' open' * is_open}><summary>{head}</summary><ul>\n{''.join(items)}</ul></details>\n"
 
 
 def capture_text(row):
@@ -243,8 +212,9 @@ def capture_text(row):
         sign, name, words = row.beside
         beside = f"<small>clock beside {own(sign)}&#160;{bdi(name)}: {words}</small>"
     return "".join((
-        f"<li><div>{own(row.sign)}&#160;{bdi(row.name)}<small>{counted(row.packets, 'packet')}, {counted(row.hearings, 'hearing')}</small>"
-        f'</div><svg class="c" viewBox="0 0 1000 24" {DRAWN}><use href="#v"/>',
+        f"<li><div>{own(row.sign)}&#160;{bdi(row.name)}"
+        f"<small>{counted(row.packets, 'packet')}, {counted(row.hearings, 'hearing')}</small></div>"
+        f'<svg class="c" viewBox="0 0 1000 24" {DRAWN}><use href="#v"/>',
         path("r", "M{} 19H{}", [row.bar], row.title) if row.bar else "",
         f"</svg><div><p>{own(row.span)} {ending}</p>"
         f"<small>{row.heard:,} heard, {row.skipped:,} skipped, {row.refused:,} refused</small>",
@@ -252,58 +222,96 @@ def capture_text(row):
         f"{beside}</div></li>\n"))
 
 
-def timeline_text(group, height):
-    count = counted(group.count, *KINDS.get(group.name, ("instance", "instances")))
-    return group_text(group.is_open, f"{bdi(group.name)}{AXIS}<small>{count}, {group.live:,} live</small>",
-                      (row_text(row, height) for row in group.rows))
+def by_type(judge, keys):
+    """The name of each type, and those of some records that it has."""
+    for _, some in groupby(keys, key=lambda key: key[0]):
+        some = list(some)
+        yield judge.owner(some[0]), some
 
 
-def row_text(row, height):
-    address = f" <code>{row.address}</code>" if row.address else ""
-    earlier = f"<small>{row.earlier:,} earlier</small>" if row.earlier else ""
-    lives = "".join(f"<p>{own(start)} &#8211; {f'<b>{end}</b>' if end.startswith('still live') else end}</p>"
-                    for start, _, end in (words.partition(" – ") for words in row.words))
-    return (f"<li><div>{bdi(row.name)}{address}<small>heard {own(heard_text(row.heard))}</small></div>"
-            f'<svg viewBox="0 0 1000 {height}" {DRAWN}><use href="#g"/>{picture_text(row)}</svg><div>{earlier}{lives}</div></li>\n')
+def timeline_text(judge):
+    """The sentences above the timeline, its key, and its groups."""
+    note = [*NOTE, *[TITLES_NOTE] * judge.has_titles, *[LANES_NOTE] * (judge.lanes > 1), *[LARGE_NOTE] * judge.is_large]
+    yield f'<p class="note">{own(" ".join(note))}</p>\n<p class="key">'
+    yield " ".join(f'<span><svg class="k" viewBox="0 0 26 16" {DRAWN}>{"".join(path_of(*stroke.split(" ", 1)) for stroke in strokes)}'
+                   f"</svg>{words}</span>" for words, strokes in (KEY + LANES_KEY if judge.lanes else KEY))
+    yield '</p>\n<div class="g">\n'
+    for name, keys in (*by_type(judge, judge.drawn), (HOSTS, judge.hosts), (APART, judge.apart)):
+        if keys:
+            count = counted(len(keys), *KINDS.get(name, ("instance", "instances")))
+            head = f"{bdi(name)}{AXIS}<small>{count}, {sum(map(judge.is_live, keys)):,} live</small>"
+            yield group_text(judge.is_open, head, (row_text(judge, key) for key in keys))
+
+
+def row_text(judge, key):
+    """A row: its name, an address of a host, in how many seconds captures heard it, its picture, and its last lives in words."""
+    line, lives, seconds = judge.line(key), judge.lives[key], [seconds.get(key, []) for seconds in judge.seconds]
+    name, address = judge.owner(key), f" <code>{words_of(line)[0]}</code>"
+    if key[1] == PTR:
+        name, address = (shown_name if is_apart(line) else shown_label)(name_text(judge.accounts[key].hearings[-1].data)), ""
+    pins = [path(of_class, form, sorted({judge.bar(life.start, life.until)[1] for life in lives
+                                         if life.until <= judge.end and life.reason == cause}))
+            for pin, cause, head in PINS for of_class, form in ((pin, "M{} 4V17"), (head, "M{} 4h.01")) if of_class]
+    ticks = [path(of_class, f"M{{}} {top}v5", places) for of_class, top, places in ticks_of(seconds, judge.lanes, judge.place)]
+    earlier = f"<small>{len(lives) - IN_WORDS:,} earlier</small>" if len(lives) > IN_WORDS else ""
+    return "".join((
+        f"<li><div>{bdi(name)}{address}<small>heard {own(heard_text(counts_of(seconds)))}</small></div>"
+        f'<svg viewBox="0 0 1000 {height_of(judge.lanes)}" {DRAWN}><use href="#g"/>',
+        bars_text(judge, "b", "M{} 12H{}", lives),
+        *(bars_text(judge, "s", "M{} 19H{}", some, "server ") for some in judge.servers_of(key)),
+        *pins, *ticks, f"</svg><div>{earlier}", *(life_text(judge, life) for life in lives[-IN_WORDS:]), "</div></li>\n"))
+
+
+def bars_text(judge, of_class, form, lives, word=""):
+    """The bars of lives: each a path with a title, or all one path."""
+    if not judge.has_titles:
+        return path(of_class, form, sorted({judge.bar(life.start, life.until) for life in lives}))
+    return "".join(path(of_class, form, [judge.bar(life.start, life.until)],
+                        f"{word}{millis(life.start)} to {millis(life.until)}, {duration(life.until - life.start)}: {how(judge, life)}")
+                   for life in lives)
+
+
+def how(judge, life):
+    return GOING_ON[life.reason] if life.until > judge.end else life.reason
+
+
+def life_text(judge, life):
+    """A life in words. The end on the day of its start is a time of day."""
+    if life.until > judge.end:
+        return f"<p>{judge.short(life.start)} &#8211; <b>{how(judge, life)}</b></p>"
+    until = date_of(life.until).strftime("%H:%M:%S") if day(life.start) == day(life.until) else judge.short(life.until)
+    return f"<p>{judge.short(life.start)} &#8211; {until} {how(judge, life)}</p>"
 
 
 def heard_text(heard):
-    """In how many seconds captures heard a record: in each, or in all of many together."""
+    """In how many seconds captures heard a record, and in how many of these its goodbye: in each, or in all of many together."""
     def times(count, goodbyes):
         ended = counted(goodbyes, "goodbye").replace(" ", "\xa0")
         return f"{count:,}×" + (f" ({ended})" if goodbyes else "")
 
-    if heard and not isinstance(heard[-1], tuple):
-        together, count, all_captures = heard
-        return f"{times(*together)} in {count:,} of {all_captures:,} captures"
-    return ", ".join(f"{chr(0x2460 + place)} {times(*some)}" if some[0] else f"{chr(0x2460 + place)} <b>never</b>"
-                     for place, some in enumerate(heard))
+    if not isinstance(heard[-1], tuple):
+        together, count, of_all = heard
+        return f"{times(*together)} in {count:,} of {of_all:,} captures"
+    return ", ".join(f"{chr(0x2460 + place)} {times(*some) if some[0] else '<b>never</b>'}" for place, some in enumerate(heard))
 
 
-def picture_text(row):
-    """The bars of a row, those of its servers, pins with their heads, and ticks."""
-    bar, server = "M{} 12H{}", "M{} 19H{}"
-    bars = [path("b", bar, [place], title) for place, title in zip(row.bars, row.titles)] if row.titles else [path("b", bar, row.bars)]
-    servers = ([path("s", server, places, f"server {title}") for places, title in zip(row.servers, row.server_titles)]
-               if row.server_titles else [path("s", server, places) for places in row.servers])
-    pins = [path(of_class, form, row.pins[cause]) for pin, cause, head in PINS
-            for of_class, form in ((pin, "M{} 4V17"), (head, "M{} 4h.01")) if of_class]
-    return "".join((*bars, *servers, *pins, *(path(of_class, f"M{{}} {top}v5", places) for of_class, top, places in row.ticks)))
+def live_text(judge):
+    """What was live at the end: the groups of the instances of the timeline that were."""
+    sets = sets_of(judge.line(key) for key in judge.accounts if judge.is_live(key))
+    for name, keys in by_type(judge, filter(judge.is_live, judge.drawn)):
+        yield group_text(judge.is_open, bdi(name) + "<small>server, addresses</small><small>text</small>",
+                         (live_row_text(judge, key, sets) for key in keys))
 
 
-def live_text(row):
-    left = row.left if row.left == "said goodbye" else f"{row.left} left"
-    servers = "<p>unresolved</p>" if not row.servers else ""
-    for words, addresses in row.servers:
-        target, port = SERVER.fullmatch(words).groups()
-        servers += f"<p>{bdi(target)}{port}</p>" + " ".join(f"<code>{address}</code>" for address in addresses)
-    texts = "".join(f"<p>{bdi(chr(10).join(strings))}</p>" for strings in row.texts)
-    return f"<li><div>{bdi(row.name)}<small>since {row.since}, {left}</small></div><div>{servers}</div><div>{texts}</div></li>\n"
-
-
-def causes_text(rows):
-    if not rows:
-        return '<p class="note">None.</p>\n'
-    meanings = (f'<b class="warn">{row.meaning}</b>' if row.is_warning else row.meaning for row in rows)
-    return "<table>\n" + "".join(f'<tr><td>{row.count:,}</td><th scope="row">{row.cause}</th><td>{meaning}</td></tr>\n'
-                                 for row, meaning in zip(rows, meanings)) + "</table>\n"
+def live_row_text(judge, key, sets):
+    line, life = judge.line(key), judge.lives[key][-1]
+    left = "said goodbye" if line.ttl == 0 else f"{duration(life.until - judge.end)} left"
+    servers = []
+    for server in sets.get((wire_of(line.target), SRV), ()):
+        *_, target = server.words
+        words, addresses = "  ".join(words_of(server)), [words_of(address)[0] for address in addresses_of(server, sets)]
+        servers.append(f"<p>{bdi(shown_name(target))}{words.removeprefix(shown_name(target))}</p>"
+                       + " ".join(f"<code>{address}</code>" for address in addresses))
+    texts = "".join(f"<p>{bdi(chr(10).join(strings))}</p>" for strings in words_below(line, sets)[max(len(servers), 1):])
+    return (f"<li><div>{bdi(shown_label(line.words[0]))}<small>since {judge.short(life.start)}, {left}</small></div>"
+            f"<div>{''.join(servers) or '<p>unresolved</p>'}</div><div>{texts}</div></li>\n")

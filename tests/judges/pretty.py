@@ -125,9 +125,9 @@ def millis(nanos):
     return date_of(nanos).strftime("%Y-%m-%dT%H:%M:%S.") + f"{nanos % SECOND // 1_000_000:03}Z"
 
 
-def others_in(lines):
-    """The lines of PTR records of a service whose names are no instances'."""
-    return [line for line in lines if line.kind == "PTR" and is_service(line.owner) and not gives_instance(line)]
+def is_apart(line):
+    """Whether a record points from a service type to a name that isn't one label and the type."""
+    return line.kind == "PTR" and is_service(line.owner) and not gives_instance(line)
 
 
 def pretty_text(trace, text):

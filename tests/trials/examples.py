@@ -19,7 +19,7 @@ def try_examples():
         text = path.read_text("utf-8")
         must = answer_to("mdnswhy" if command in WHYS else "mdnsmerge", [command, *(f"--{one}" for one in form)], files).out
         if command == "page":
-            must = page_text(Judge(files, Asked()).page(style_of(text)))
+            must = page_text(Judge(files, Asked()), style_of(text))
         if text != must:
             failed += 1
             report_difference(f"examples/expected/{path.name}, beside what the captures give", must, text)

@@ -5,8 +5,8 @@
 import tempfile
 from pathlib import Path
 
-from tests.judges.judged_page import Judge, differences
-from tests.judges.page_text import style_of
+from tests.judges.judged_page import Judge
+from tests.judges.page_text import differences, style_of
 from tests.judges.words import moment_text
 from tests.running import runs
 from tests.running.program import HIDDEN_CHARACTER

@@ -36,32 +36,20 @@ def skipping(words, names, out="", err="", status=DAMAGED, **how):
 
 
 FILES = (
-    said(["records", "missing.pcap"], "missing.pcap: cannot be opened"),
-    said(["check", "missing.pcap"], "missing.pcap: cannot be opened"),
-    said(["records", "one.pcap", "missing.pcap"], "missing.pcap: cannot be opened"),
-    said(["check", "one.pcap", "missing.pcap"], "missing.pcap: cannot be opened"),
-    said(["lives", "one.pcap", "missing.pcap"], "missing.pcap: cannot be opened"),
-    said(["page", "one.pcap", "missing.pcap"], "missing.pcap: cannot be opened"),
+    # The last file is named.
+    *(said(words.split(" "), f"{words.split(' ')[-1]}: {fault}") for fault, rows in (
+        ("cannot be opened", ("records missing.pcap", "check missing.pcap", "records one.pcap missing.pcap",
+                              "check one.pcap missing.pcap", "lives one.pcap missing.pcap", "page one.pcap missing.pcap",
+                              "records empty.pcap missing.pcap", "records ", "records -", "records one.pcap/")),
+        ("read failed", ("records folder", "check one.pcap folder", "lives one.pcap folder", "page one.pcap folder")),
+        ("file header is cut short", ("records empty.pcap", "records /dev/null")),
+        ("not a classic pcap file", ("records text.pcap", "check one.pcap text.pcap", "lives one.pcap text.pcap",
+                                     "page one.pcap text.pcap"))) for words in rows),
     # All files are opened before any is read, in the order of the words.
-    said(["records", "empty.pcap", "missing.pcap"], "missing.pcap: cannot be opened"),
     said(["records", "missing.pcap", "absent.pcap"], "missing.pcap: cannot be opened"),
-    said(["records", ""], ": cannot be opened"),
-    said(["records", "-"], "-: cannot be opened"),
-    said(["records", "one.pcap/"], "one.pcap/: cannot be opened"),
     said(["records", *["one.pcap"] * 20], "one.pcap: cannot be opened", open_files=10),
     said(["records", "locked.pcap"], "locked.pcap: cannot be opened", is_nobody=True),
-    said(["records", "folder"], "folder: read failed"),
-    said(["check", "one.pcap", "folder"], "folder: read failed"),
-    said(["records", "empty.pcap"], "empty.pcap: file header is cut short"),
-    said(["records", "/dev/null"], "/dev/null: file header is cut short"),
-    said(["records", "text.pcap"], "text.pcap: not a classic pcap file"),
-    said(["check", "one.pcap", "text.pcap"], "text.pcap: not a classic pcap file"),
-    said(["lives", "one.pcap", "text.pcap"], "text.pcap: not a classic pcap file"),
-    said(["lives", "one.pcap", "folder"], "folder: read failed"),
-    said(["page", "one.pcap", "text.pcap"], "text.pcap: not a classic pcap file"),
-    said(["page", "one.pcap", "folder"], "folder: read failed"),
-    *(said([command, "--at", "99", "one.pcap"],
-           "the moment is earlier than the newest hearing, 100.000000000")
+    *(said([command, "--at", "99", "one.pcap"], "the moment is earlier than the newest hearing, 100.000000000")
       for command in ("records", "lives", "page")),
     Case(("records", "--at", "100", "one.pcap"), WHOLE, LINE),
     Case(("records", "--at", "219", "one.pcap"), WHOLE, LINE),
