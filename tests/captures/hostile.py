@@ -55,13 +55,6 @@ def questions_message():
     return header(1 + count, 0) + first + body[: 6 * count]
 
 
-def chain_record():
-    """A record whose data, which is stepped over, is a chain; and a pointer to the end of it."""
-    begin = HEADER_SIZE + 1 + 10
-    links = chain(begin)
-    return b"\0" + fixed(NULL, links) + links, pointer(begin + len(links) - 2)
-
-
 def fixed(kind, data):
     """What stands between the owner of a record and its data."""
     return struct.pack("!HHIH", kind, IN, 120, len(data))
@@ -69,18 +62,20 @@ def fixed(kind, data):
 
 def owners_message():
     """Records without data, each of whose owners is at the end of a chain."""
-    first, deepest = chain_record()
-    return repeated(first, deepest + fixed(NULL, b""))
+    return after_chain(lambda deepest: deepest + fixed(NULL, b""))
 
 
 def targets_message():
     """PTR records whose owners and targets are both at the end of a chain."""
-    first, deepest = chain_record()
-    return repeated(first, deepest + fixed(PTR, deepest) + deepest)
+    return after_chain(lambda deepest: deepest + fixed(PTR, deepest) + deepest)
 
 
-def repeated(first, record):
-    """A record, and after it another one as often as there is room."""
+def after_chain(record_of):
+    """A record whose data, which is stepped over, is a chain; and after it one that is made of a pointer to the end of the chain, as
+    often as there is room."""
+    begin = HEADER_SIZE + 1 + 10
+    links = chain(begin)
+    first, record = b"\0" + fixed(NULL, links) + links, record_of(pointer(begin + len(links) - 2))
     count = (LONGEST - HEADER_SIZE - len(first)) // len(record)
     return header(0, 1 + count) + first + record * count
 

@@ -1,6 +1,7 @@
 """What is done to packets and captures, so that they are damaged in every way."""
 
 import struct
+from random import Random
 
 from tests.captures import sources
 from tests.captures.built import write_capture
@@ -40,17 +41,15 @@ def delete(rng, data):
     del data[at:at + rng.choice((1, 2, 4, 16))]
 
 
-def put_half(rng, data):
-    put(data, rng.randint(0, len(data)), "!H", rng.choice(EDGES) & 0xFFFF)
-
-
 def put(data, at, form, number):
     """Puts a number over bytes, where there is room for it."""
     if 0 <= at <= len(data) - struct.calcsize(form):
         struct.pack_into(form, data, at, number)
 
 
-BYTES = (flip_bit, change_byte, cut, insert, delete, put_half)
+# The last one puts an edge value over two bytes.
+BYTES = (flip_bit, change_byte, cut, insert, delete,
+         lambda rng, data: put(data, rng.randint(0, len(data)), "!H", rng.choice(EDGES) & 0xFFFF))
 
 
 def put_count(rng, message):
@@ -153,10 +152,6 @@ def repeat(rng, packets):
         packets.insert(rng.randint(0, len(packets)), rng.choice(packets))
 
 
-def reorder(rng, packets):
-    rng.shuffle(packets)
-
-
 def splice(rng, packets):
     """Goes on with the packets of another source."""
     del packets[rng.randint(0, len(packets)):]
@@ -180,7 +175,7 @@ def change(rng, packets):
             packets[at] = moment, rng.choice((mutate_message, mutate_message, mutate_frame))(rng, frame)
 
 
-PACKETS = (drop, repeat, reorder, splice, move, *[change] * 7)
+PACKETS = (drop, repeat, Random.shuffle, splice, move, *[change] * 7)
 
 
 def put_field(rng, capture):
@@ -218,11 +213,7 @@ def captures_of(rng, scratch):
     """The captures of a case: of one, two or three listeners who heard parts of the same, and damaged."""
     packets = sources.packets(rng)
     listeners = rng.choice((1, 1, 2, 2, 3))
-    return [capture_of(rng, part_of(rng, packets, listeners), scratch) for _ in range(listeners)]
-
-
-def part_of(rng, packets, listeners):
-    return [packet for packet in packets if listeners == 1 or rng.random() < 0.7]
+    return [capture_of(rng, [packet for packet in packets if listeners == 1 or rng.random() < 0.7], scratch) for _ in range(listeners)]
 
 
 def capture_of(rng, packets, scratch):

@@ -24,8 +24,7 @@ def records_columns(lines, now):
 
 def types_columns(names, now):
     """The service types, by their names as lines have them."""
-    rows = [shown_name(name) for name in names]
-    return heading(rows, "service type", "service types", now) + paragraph(rows)
+    return heading(names, "service type", "service types", now) + paragraph(map(shown_name, names))
 
 
 def instances_columns(instances, others, sets, now):
@@ -59,16 +58,13 @@ def words_below(line, sets):
 
 def lives_columns(lives, begin, end, chosen):
     """A table of lives, each a record's line, when it was live from and until, and how it ended; and which are chosen."""
-    rows = [(millis(life.start), millis(life.until), ending(life), life.record.kind, shown_record(life.record)) for life in lives]
+    # What will end a life that goes on, unless that is its TTL.
+    going_on = {"goodbye": "live, said goodbye", "flushed": "live, flushed"}
+    rows = [(millis(life.start), millis(life.until),
+             life.how if life.how != "live" else going_on.get(left(life.record, life.record.heard), "live"),
+             life.record.kind, shown_record(life.record)) for life in lives]
     return (f"{len(rows)} {'life' if len(rows) == 1 else 'lives'}{chosen} between {millis(begin)} and {millis(end)}\n"
             + table(("FROM", "UNTIL", "END", "TYPE", "RECORD"), rows))
-
-
-def ending(life):
-    """How a life ended, or that it goes on, and what will end it unless that is its TTL."""
-    if life.how != "live":
-        return life.how
-    return {"goodbye": "live, said goodbye", "flushed": "live, flushed"}.get(left(life.record, life.record.heard), "live")
 
 
 def heading(rows, one, many, now):
@@ -143,17 +139,15 @@ def pretty_hearing(line):
 
 
 def pretty_packet(line):
-    moment, name, offset, words = line.split(" ", 3)
-    return f"{millis(moment_of(moment))}  {name}  {offset}  {words}"
+    moment, *words = line.split(" ", 3)
+    return "  ".join([millis(moment_of(moment)), *words])
 
 
 def pretty_span(line):
     name, *moments, snap = SPAN.fullmatch(line).groups()
-    return f"{name}  packets {bounds(*moments[:2])}  hearings {bounds(*moments[2:])}  snap {snap}"
-
-
-def bounds(first, last):
-    return "none" if first == "-" else f"{millis(moment_of(first))} to {millis(moment_of(last))}"
+    packets, hearings = ("none" if first == "-" else f"{millis(moment_of(first))} to {millis(moment_of(last))}"
+                         for first, last in (moments[:2], moments[2:]))
+    return f"{name}  packets {packets}  hearings {hearings}  snap {snap}"
 
 
 PRETTY = {"hearings": pretty_hearing, "packets": pretty_packet, "spans": pretty_span}

@@ -82,10 +82,10 @@ class Tab:
     def ask(self, method, **parameters):
         return self.browser.ask(method, self.session, **parameters)
 
-    def look(self, width, height, scheme="light", media=""):
-        """Sets the size of the window, and what the page is made for."""
+    def look(self, width, height, scheme):
+        """Sets the size of the window, and the colours that the page is made for."""
         self.ask("Emulation.setDeviceMetricsOverride", width=width, height=height, deviceScaleFactor=1, mobile=False)
-        self.ask("Emulation.setEmulatedMedia", media=media, features=[{"name": "prefers-color-scheme", "value": scheme}])
+        self.ask("Emulation.setEmulatedMedia", media="", features=[{"name": "prefers-color-scheme", "value": scheme}])
 
     def open(self, url):
         """Opens a page; answers how many seconds that took until it was laid out."""

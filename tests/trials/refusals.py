@@ -24,15 +24,10 @@ UNUSABLE = {
 }
 
 
-def left_out(*names):
-    """The error lines of files that are left out."""
-    return "".join(f"mdnsmerge: {name}: unusable {UNUSABLE[name]}\n" for name in names)
-
-
 def skipping(words, names, out="", err="", status=DAMAGED, **how):
     """A run with `--skip-unusable` over files, of which those that can't be used are left out."""
-    without = [name for name in names if name in UNUSABLE]
-    return Case((*words, "--skip-unusable", *names), status, out, left_out(*without) + err, **how)
+    left_out = "".join(f"mdnsmerge: {name}: unusable {UNUSABLE[name]}\n" for name in names if name in UNUSABLE)
+    return Case((*words, "--skip-unusable", *names), status, out, left_out + err, **how)
 
 
 FILES = (
