@@ -29,13 +29,6 @@ def head(lines, function):
     return "\n".join(lines[first:function.body + 1])
 
 
-def empty(lines, function):
-    """Takes the body of a function away, and moves no line."""
-    inside = function.last - function.body - 1
-    if inside > 0:
-        lines[function.body + 1:function.last] = ["loop {}"] + [""] * (inside - 1)
-
-
 def unprove(texts, crate, name):
     """Puts a hole in the place of the proof of a function that the prover calls so."""
     folder = "/".join(["proofs", *name.split("::")])
@@ -55,7 +48,10 @@ def bare(texts, crate, names, kept):
             is_kept = item.kind != "fn" or item.body < 0 or item.path() in kept or KEEPS_BODY.search(head(lines, item))
             name = None if is_kept else name_of(item, names)
             if name:
-                empty(lines, item)
+                # No line moves.
+                inside = item.last - item.body - 1
+                if inside > 0:
+                    lines[item.body + 1:item.last] = ["loop {}"] + [""] * (inside - 1)
                 unprove(changed, crate, name)
         changed[path] = "\n".join(lines)
     changed["proofs/Unproved.antt"] = HOLE

@@ -6,7 +6,8 @@ began."""
 import re
 from typing import NamedTuple
 
-OWNER = re.compile(r"(?:pub )?(impl|trait)\b(.*)")
+# What begins a type's functions, after its parameters, among which one may have parameters itself.
+OWNER = re.compile(r"(?:pub )?(impl|trait)\b(?:<(?:[^<>]|<[^<>]*>)*>)?(.*?)[ {]*$")
 ITEM = re.compile(r"( *)(pub(?:\(crate\))? )?(?:const )?(fn|const|static|struct|enum|trait|type) (\w+)")
 CLAUSE = re.compile(r" *(requires|ensures)\b")
 
@@ -34,16 +35,6 @@ class Item(NamedTuple):
         return "::".join(part for part in (self.module, owner, self.name) if part)
 
 
-def after_parameters(text):
-    """A text without the parameters in angle brackets at its beginning."""
-    depth = 0
-    for index, letter in enumerate(text):
-        depth += {"<": 1, ">": -1}.get(letter, 0)
-        if depth == 0:
-            return text[index + 1:] if letter == ">" else text
-    return text
-
-
 def base(text):
     """The name of a type or a trait, without its path and its parameters."""
     return re.match(r"(?:\w+::)*([^<:]*)", text.strip()).group(1)
@@ -52,9 +43,7 @@ def base(text):
 def owner_of(line):
     """The type and the trait, with its parameters, of an `impl`; the trait alone of a `trait`."""
     kind, rest = OWNER.match(line).groups()
-    if kind == "trait":
-        return base(rest.rstrip(" {")), ""
-    trait, _, owner = after_parameters(rest.rstrip(" {")).rpartition(" for ")
+    trait, _, owner = rest.rpartition(" for ") if kind == "impl" else ("", "", rest)
     return base(owner), trait.strip()
 
 
@@ -138,21 +127,15 @@ class Crate:
                 return base(found.group(1)) if found else None
         return None
 
-    def receiver(self, caller, before):
-        """The type, trait or module that a call names by what stands before the function; none where it's unknown."""
-        if before in ("self.", "Self::"):
-            return caller.owner
-        if before.endswith("::"):
-            return before[:-2]
-        field = before[len("self."):-1]
-        return self.field_type(caller.owner, field) if field else None
-
     def called(self, caller, before, name):
         """The functions that a call may be of: none where it may be one of a public function that the caller's file names."""
         named = [one for one in self.functions if one.name == name]
         if not before:
             return [one for one in named if not one.owner]
-        receiver = self.receiver(caller, before)
+        # The type, trait or module that the call names by what stands before the function; none where it's unknown.
+        field = before[len("self."):-1]
+        receiver = (caller.owner if before in ("self.", "Self::") else before[:-2] if before.endswith("::")
+                    else self.field_type(caller.owner, field) if field else None)
         if receiver:
             return [one for one in named if receiver in (one.owner or one.module, base(one.trait))]
         text = self.texts[caller.module]
