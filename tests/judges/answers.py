@@ -1,6 +1,6 @@
 """What a program must answer over captures, by the readers and the definitions of the other judges: no answer of a program is asked.
 
-The text of a page is left to `judged_page.py`."""
+The text of a page is left to `page_text.py`."""
 
 import argparse
 from functools import cached_property, lru_cache
