@@ -54,11 +54,6 @@ def held_in(capture):
     return [moment for moment, _ in frames_in(capture)], list(hearings_of(capture))
 
 
-@lru_cache(maxsize=8)
-def rows_of_all(hearings):
-    return rows_of(hearings)
-
-
 class Life(NamedTuple):
     text: str
     record: Line
@@ -82,10 +77,7 @@ class Basis:
         self.now = self.newest if given is None else given
         self.end = max(moments, default=0) if given is None else given
         self.begin = min([self.end, *moments])
-
-    @cached_property
-    def rows(self):
-        return rows_of_all(self.hearings)
+        self.rows = rows_of(self.hearings)
 
     @cached_property
     def lines(self):

@@ -7,7 +7,6 @@ seconds captures heard records. No answer of the program is asked.
 Moments are nanoseconds since 1970. The *end* is the moment that is asked for, or the latest moment of any packet."""
 
 from collections import Counter
-from functools import lru_cache
 from typing import NamedTuple
 
 from tests.captures.wire import AAAA, PTR, SRV, A
@@ -60,7 +59,8 @@ class Judge(Axis):
         every = [moment for moments in self.moments for moment in moments]
         given = asked.before if asked.at is None else asked.at
         super().__init__(max(every, default=0) if given is None else given, self.moments)
-        self.accounts, self.lives = lives_of(tuple(hearing for heard in self.heard for hearing in heard))
+        found = accounts(frozenset(hearing for heard in self.heard for hearing in heard))
+        self.accounts, self.lives = ({key: both[which] for key, both in found.items()} for which in (0, 1))
         self.sets = sets_of(map(self.line, self.accounts))
         # The lives of each SRV record, live or not, by its owner.
         self.servers = {}
@@ -162,13 +162,6 @@ class Judge(Axis):
         words = [name_text(last.owner), kind_text(last.kind), *data_words(last.kind, last.data)]
         heard = ["ttl", str(last.ttl), "heard", moment_text(last.moment), "until", moment_text(life.until)]
         return line_of(" ".join(words + heard))
-
-
-@lru_cache(maxsize=2)
-def lives_of(hearings):
-    """What was heard of each record, and its lives, by its key."""
-    heard = {account.hearings[-1].key: account for account in accounts(hearings)}
-    return heard, {key: list(account.lives()) for key, account in heard.items()}
 
 
 def row_of(pair):

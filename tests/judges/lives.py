@@ -2,6 +2,7 @@
 heard or may end, and a nanosecond before and after. What was heard later doesn't count."""
 
 from bisect import bisect_right
+from functools import lru_cache
 from typing import Callable, NamedTuple
 
 from tests.captures.wire import PTR, SECOND
@@ -77,21 +78,22 @@ def end_alone(hearing):
     return hearing.moment + max(hearing.ttl, 1) * SECOND
 
 
+@lru_cache(maxsize=8)
 def accounts(hearings):
-    """The account of each record, in the order of their keys."""
+    """The account of each record of a set of hearings, and its lives, by its key, in the order of keys."""
     records, flushes = {}, {}
     for hearing in hearings:
         records.setdefault(hearing.key, set()).add(hearing)
         if hearing.flush:
             flushes.setdefault(hearing.set_key, set()).add(hearing.moment)
     ordered = {key: sorted(moments) for key, moments in flushes.items()}
-    for key in sorted(records):
-        yield Account(records[key], ordered.get(key[:2], []))
+    found = {key: Account(records[key], ordered.get(key[:2], [])) for key in sorted(records)}
+    return {key: (account, list(account.lives())) for key, account in found.items()}
 
 
 def rows_of(hearings):
     """The last hearing of each record, and the record's lives, where these hearings count."""
-    return [(account.hearings[-1], list(account.lives())) for account in accounts(hearings)]
+    return [(account.hearings[-1], lives) for account, lives in accounts(hearings).values()]
 
 
 def lives_text(rows, end):

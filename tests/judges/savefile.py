@@ -1,6 +1,7 @@
 """What a classic pcap capture holds, by the savefile format and the program's limits, read apart from the program."""
 
 import struct
+from functools import lru_cache
 from typing import NamedTuple
 
 from tests.captures.wire import ETHERNET, MAGICS, SECOND, SNAPSHOT_LENGTH
@@ -38,6 +39,7 @@ class Reading(NamedTuple):
         return self.header + b"".join(packet.wire for packet in self.packets)
 
 
+@lru_cache(maxsize=64)
 def reading_of(capture):
     fault = header_fault(capture)
     if fault:
