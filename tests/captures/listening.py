@@ -70,12 +70,8 @@ def by_clock(rng, packets):
     """Packets by a clock that is ahead, drifts, or says when they were written."""
     offset, drift, delay = rng.choice(OFFSETS), rng.choice(DRIFTS), rng.choice(DELAYS)
     begin = packets[0][0] if packets else 0
-    return [(bounded(moment + offset + int((moment - begin) * drift) + rng.randint(0, delay)), frame)
+    return [(min(max(moment + offset + int((moment - begin) * drift) + rng.randint(0, delay), 0), LAST_MOMENT), frame)
             for moment, frame in packets]
-
-
-def bounded(moment):
-    return min(max(moment, 0), LAST_MOMENT)
 
 
 def named_parts(rng, host, packets):

@@ -20,21 +20,13 @@ def unique(packets):
             continue
         framed, message = found
         changed = message
-        while (digest := digest_of(changed)) in made:
+        while (digest := blake2b(changed[2:], digest_size=8).digest()) in made:
             times[message] += 1
-            changed = raised(message, times[message])
+            at = first_ttl(message)
+            (number,) = struct.unpack_from("!I", message, at)
+            changed = message[:at] + struct.pack("!I", (number + times[message]) % (1 << 32)) + message[at + 4:]
         made.add(digest)
         yield moment, framed(changed)
-
-
-def digest_of(message):
-    return blake2b(message[2:], digest_size=8).digest()
-
-
-def raised(message, by):
-    at = first_ttl(message)
-    (number,) = struct.unpack_from("!I", message, at)
-    return message[:at] + struct.pack("!I", (number + by) % (1 << 32)) + message[at + 4:]
 
 
 @cache

@@ -24,10 +24,6 @@ class Life(NamedTuple):
             return "goodbye"
         return "expired" if self.until == end_alone(self.last) else "flushed"
 
-    def end_word(self, end):
-        """Why it ended, or that it goes on after the end of the captures."""
-        return "live" if self.until > end else self.reason
-
 
 class Account:
     """What was heard of one record, and the moments at which its set was flushed."""
@@ -97,8 +93,10 @@ def rows_of(hearings):
 
 
 def lives_text(rows, end):
-    """The lives of rows, a line for each, where the captures end at a moment."""
-    return "".join(life_line(last, life, end) + "\n" for last, lives in rows for life in lives)
+    """The lives of rows, a line for each, where the captures end at a moment; some go on after it."""
+    return "".join(
+        f"{record_text(last)} from {moment_text(life.start)} {end_text(life)} {life.reason if life.until <= end else 'live'}\n"
+        for last, lives in rows for life in lives)
 
 
 def changes_in(rows):
@@ -123,12 +121,8 @@ def records_text(rows, now):
     return "".join(f"{record_text(last)} {end_text(life)}\n" for last, lives in rows for life in lives if life.start <= now < life.until)
 
 
-def life_line(spelled, life, end):
-    """The line of a life, the record being spelled as in a hearing."""
-    return f"{record_text(spelled)} from {moment_text(life.start)} {end_text(life)} {life.end_word(end)}"
-
-
 def record_text(spelled):
+    """A record, spelled as in a hearing."""
     return " ".join([name_text(spelled.owner), kind_text(spelled.kind), *data_words(spelled.kind, spelled.data)])
 
 

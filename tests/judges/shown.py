@@ -20,13 +20,7 @@ NONCHARACTERS = (range(0xFDD0, 0xFDF0), *(range(0x10000 * plane + 0xFFFE, 0x1000
 STRAY = range(0xDC80, 0xDD00)
 
 
-def ranges(text):
-    for word in text.split():
-        first, _, last = word.partition("-")
-        yield range(int(first, 16), int(last or first, 16) + 1)
-
-
-HIDDEN = (STRAY, *NONCHARACTERS, *ranges(RANGES))
+HIDDEN = (STRAY, *NONCHARACTERS, *(range(int(word.split("-")[0], 16), int(word.split("-")[-1], 16) + 1) for word in RANGES.split()))
 
 
 def shown_of(one):

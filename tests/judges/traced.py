@@ -17,17 +17,13 @@ def frames_of(capture):
     return [(packet.at, moment_of(capture, packet), packet.wire[PACKET_HEADER:]) for packet in reading_of(capture).packets]
 
 
-def sender_of(frame):
-    """The address of who sent a frame of IP, as it is printed."""
-    return ipaddress.ip_address(source_of(frame)).exploded
-
-
 def hearings_text(name, capture):
     lines = []
     for _, moment, frame in frames_of(capture):
         for ttl, flush, owner, kind, data in told_by(frame):
             record = [name_text(owner), kind_text(kind), *data_words(kind, data)]
-            lines.append([moment_text(moment), name, sender_of(frame), *record, "ttl", str(ttl), *["flush"] * flush])
+            sender = ipaddress.ip_address(source_of(frame)).exploded
+            lines.append([moment_text(moment), name, sender, *record, "ttl", str(ttl), *["flush"] * flush])
     return "".join(" ".join(line) + "\n" for line in lines)
 
 

@@ -24,15 +24,10 @@ TRY_HELP = "For more information, try '--help'.\n"
 LINES, COLUMNS = 24, 80
 
 
-def newest_version():
-    """The number in the head of mdnsmerge's man page."""
-    head = (TOP / "man/mdnsmerge.1").read_text().splitlines()[0]
-    return re.search(r'"mdnsmerge (\S+)"', head)[1]
-
-
 def version_of(program):
-    """What `--version` prints: the program's name, its version and the kit."""
-    return f"{program} {newest_version()} (rattle-kit-13)\n"
+    """What `--version` prints: the program's name, its version as the head of mdnsmerge's man page has it, and the kit."""
+    version = re.match(r'.*"mdnsmerge (\S+)"', (TOP / "man/mdnsmerge.1").read_text())[1]
+    return f"{program} {version} (rattle-kit-13)\n"
 
 
 def outdated_pages():

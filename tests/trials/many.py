@@ -26,10 +26,6 @@ def host_line(number):
             f"heard 100.{number:09} until 220.{number:09}\n")
 
 
-def host_life(number):
-    return host_line(number).replace(" ttl ", f" from 100.{number:09} ttl ").replace("\n", " live\n")
-
-
 def bounds(first, last):
     return f"from 100.{first:09} until 100.{last:09}"
 
@@ -42,7 +38,8 @@ def group_lines(listeners):
 
 
 HOST_LINES = "".join(host_line(number) for number in range(FILES))
-HOST_LIVES = "".join(host_life(number) for number in range(FILES))
+HOST_LIVES = "".join(host_line(number).replace(" ttl ", f" from 100.{number:09} ttl ").replace("\n", " live\n")
+                     for number in range(FILES))
 
 
 def with_another(names, name):

@@ -191,11 +191,6 @@ HELP = (
 )
 
 
-def six_packet():
-    record = labels("b.local"), AAAA, ipaddress.ip_address("fe80::2").packed, True
-    return 200 * SECOND + 1, frame_of([(record, 4500)], ipv6_frame, ipaddress.ip_address("2001:db8::9").packed)
-
-
 def gone_packets():
     printer = (b"My Printer", *labels("_ipp._tcp.local"))
     goodbyes = ((printer, SRV, (1, 2, 631, labels("C.local")), True), (labels("_ipp._tcp.local"), PTR, printer, False),
@@ -208,7 +203,9 @@ def gone_packets():
 
 def lay_out(folder):
     lay_out_small(folder)
-    write_capture(folder / "six.pcap", "big-nano", [six_packet()])
+    record = labels("b.local"), AAAA, ipaddress.ip_address("fe80::2").packed, True
+    six = frame_of([(record, 4500)], ipv6_frame, ipaddress.ip_address("2001:db8::9").packed)
+    write_capture(folder / "six.pcap", "big-nano", [(200 * SECOND + 1, six)])
     write_capture(folder / "gone.pcap", "little-micro", gone_packets())
     for name in ("skipped.pcap", TWO_WORDS):
         write_capture(folder / name, "big-micro", [(SECOND, bytes(60))])
