@@ -95,8 +95,7 @@ class CaptureRow(NamedTuple):
 
 def differences(text, judge):
     """The lines in which a page isn't what a judge takes for right, each of which begins with an element."""
-    must = page_text(judge, style_of(text))
-    return [] if text == must else difference("  the page", *(one.replace("><", ">\n<") for one in (must, text)))
+    return difference("  the page", *(one.replace("><", ">\n<") for one in (page_text(judge, style_of(text)), text)))
 
 
 def style_of(text):

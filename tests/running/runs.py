@@ -143,22 +143,20 @@ def differences(case, answer):
     status, *texts = answer
     found = [] if status == case.status else [f"  status {status}, and not {case.status}"]
     for name, must, was in zip(("standard output", "standard error"), (case.out, case.err), texts):
-        if bytes_of(was) != bytes_of(must):
-            found += difference(f"  {name}", must, was)
+        found += difference(f"  {name}", must, was)
     return found
 
 
 def difference(about, must, was):
-    """The lines in which a text isn't what it must be, below what it is about."""
-    return [f"{about}, as it must be (-) and as it is (+):", *lines_apart(must, was)]
-
-
-def lines_apart(must, was):
-    """The lines of which two texts differ, with those around them; what can't be seen is escaped."""
+    """The lines in which a text isn't what it must be, with those around them, below what it is about; none if it is. What can't be seen
+    is escaped."""
+    if bytes_of(must) == bytes_of(was):
+        return []
     lines = [[line.decode(errors="backslashreplace") for line in bytes_of(text).splitlines(keepends=True)] for text in (must, was)]
     apart = difflib.unified_diff(*lines, n=1)
     # The two lines before the first piece would have the names of files.
-    return [f"    {line[0]}{shown(line[1:])}" if line[0] in "-+ " else f"    {line.rstrip()}" for line in list(apart)[2:]]
+    return [f"{about}, as it must be (-) and as it is (+):",
+            *(f"    {line[0]}{shown(line[1:])}" if line[0] in "-+ " else f"    {line.rstrip()}" for line in list(apart)[2:])]
 
 
 def bytes_of(text):
@@ -190,8 +188,3 @@ def fails(place, about, found):
     if found:
         print(f"{place}: {about}", *found, sep="\n")
     return bool(found)
-
-
-def report_difference(about, must, was):
-    """Says that a text isn't what it must be, and which lines differ."""
-    print(*difference(about, must, was), sep="\n")

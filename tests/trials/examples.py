@@ -5,7 +5,7 @@ from tests.judges.answers import answer_to
 from tests.judges.judged_page import Asked, Judge
 from tests.judges.page_text import page_text, style_of
 from tests.running.commands import WHYS
-from tests.running.runs import report_difference
+from tests.running.runs import difference, fails
 
 
 def try_examples():
@@ -20,8 +20,6 @@ def try_examples():
         must = answer_to("mdnswhy" if command in WHYS else "mdnsmerge", [command, *(f"--{one}" for one in form)], files).out
         if command == "page":
             must = page_text(Judge(files, Asked()), style_of(text))
-        if text != must:
-            failed += 1
-            report_difference(f"examples/expected/{path.name}, beside what the captures give", must, text)
+        failed += fails(f"examples/expected/{path.name}", "what the captures give", difference("  the text", must, text))
     print(f"{len(paths)} expected texts beside what the captures give, {failed} failed")
     return failed

@@ -18,7 +18,7 @@ from tests.judges.listeners import COMMAND, FORMS
 from tests.judges.pretty import signed_nanos
 from tests.judges.savefile import reading_of, split_at
 from tests.running import runs
-from tests.running.runs import DAMAGED, WHOLE, Case, agrees, report_difference
+from tests.running.runs import DAMAGED, WHOLE, Case, agrees, difference, fails
 from tests.trials import command_lines
 from tests.trials.command_lines import NO_FILE
 
@@ -98,8 +98,7 @@ class Trial:
     def in_another_order(self, names, text):
         """In another order of the files the lines are the same, told of each two in one order."""
         again = self.answer((), self.rng.sample(names, len(names)), self.prefixes)
-        if in_order(again) != in_order(text):
-            self.fail(f"{names} in another order", in_order(text), in_order(again))
+        self.fail(f"{names} in another order", in_order(text), in_order(again))
 
     def in_two_parts(self, names):
         """A file that is cut in two where a packet begins is one again by a prefix that no other file has."""
@@ -121,8 +120,8 @@ class Trial:
             self.fail(f"{name} in two parts", one, two)
 
     def fail(self, about, must, was):
-        self.failed += 1
-        report_difference(f"tests/trials/listeners.py: {self.what}: {about}", must, was)
+        """Says what differs of two texts, if something does."""
+        self.failed += fails("tests/trials/listeners.py", f"{self.what}: {about}", difference("  the lines", must, was))
 
 
 def in_order(text):

@@ -7,13 +7,12 @@ trial is skipped, and says so."""
 import shutil
 import subprocess
 import xml.etree.ElementTree as ElementTree
-from collections import Counter
 
 from tests import EXAMPLES
 from tests.captures.wire import NAMED, PORT, TYPES, Content
 from tests.judges.json_forms import MEMBERS
 from tests.judges.shown import bytes_of, labels, short_ipv6
-from tests.running.runs import report_difference
+from tests.running.runs import difference, fails
 
 CAPTURES = ("west.pcap", "east.pcap")
 
@@ -114,9 +113,8 @@ def try_tshark(merge, _folder):
     for name in CAPTURES:
         must, was = (sorted(lines) for lines in (dissected(name), heard(merge.with_name("mdnswhy"), name)))
         count += len(must)
-        if Counter(must) != Counter(was) or not must:
-            failed += 1
-            report_difference(f"examples/{name}: the records of packets by mdnswhy hearings (+) and by tshark (-)",
-                              *("".join(f"{line}\n" for line in lines) for lines in (must, was)))
+        texts = ["".join(f"{line}\n" for line in lines) for lines in (must, was)]
+        failed += fails(f"examples/{name}", "the records of packets by tshark (-) and by mdnswhy hearings (+)",
+                        difference("  the lines", *texts) if must else ["  tshark names no records"])
     print(f"{count} records in the packets that tshark reads of {len(CAPTURES)} captures, {failed} captures differ")
     return failed
