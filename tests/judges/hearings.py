@@ -219,32 +219,21 @@ class Message:
 
     def name_at(self, at):
         """The name at an offset. A pointer leads before the labels that it ends."""
-        runs, rest = [], b"\0"
-        while at not in self.names:
-            labels, target = self.run_at(at)
-            runs.append((at, labels))
-            if target is None:
-                break
-            need(target < at, DAMAGED)
-            at = target
-        else:
-            rest = self.names[at]
+        runs, octet = [], None
+        while at not in self.names and octet != 0:
+            start = at
+            while 0 < (octet := part(self.wire, at, at + 1)[0]) <= 63:
+                at += 1 + octet
+                need(at - start <= LONGEST_NAME, DAMAGED)
+            need(octet == 0 or octet >= POINTER, DAMAGED)
+            runs.append((start, self.wire[start:at]))
+            self.ends[start] = at + (1 if octet == 0 else 2)
+            if octet:
+                at = number_at(self.wire, at) & 0x3FFF
+                need(at < start, DAMAGED)
+        rest = b"\0" if octet == 0 else self.names[at]
         for start, labels in reversed(runs):
             rest = labels + rest
             need(len(rest) <= LONGEST_NAME, DAMAGED)
             self.names[start] = rest
         return rest
-
-    def run_at(self, start):
-        """The labels from an offset on, and where the pointer after them leads, if there is one."""
-        at = start
-        while True:
-            octet = part(self.wire, at, at + 1)[0]
-            if octet >= POINTER:
-                labels, target, self.ends[start] = self.wire[start:at], number_at(self.wire, at) & 0x3FFF, at + 2
-                return labels, target
-            need(octet <= 63 and at - start <= LONGEST_NAME, DAMAGED)
-            if octet == 0:
-                self.ends[start] = at + 1
-                return self.wire[start:at], None
-            at += 1 + octet
