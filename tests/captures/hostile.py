@@ -2,10 +2,9 @@
 
 import struct
 
+from tests.captures.floods import SERVICE, SOURCE
 from tests.captures.link import START, Record
 from tests.captures.wire import HEADER_SIZE, IN, PTR, RESPONSE, SECOND, SRV, A, ipv4_frame, message_of
-
-SOURCE = bytes((198, 18, 0, 1))
 
 # The longest payload of UDP over IPv4, whose total length is at most 65,535.
 LONGEST = 65_535 - 20 - 8
@@ -18,9 +17,8 @@ NULL = 10
 # So many records of 23 bytes fill the longest message after its first names.
 LONG_NAMED = 2_800
 
-# How many servers, and as many addresses, a message of a product has, and what the servers are of.
+# How many servers, and as many addresses, a message of a product has, and whose these are.
 TOGETHER = 500
-SERVICE = (b"_http", b"_tcp", b"local")
 HOST = (b"host", b"local")
 
 
