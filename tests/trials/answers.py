@@ -8,7 +8,7 @@ from typing import NamedTuple
 from tests import TOP
 from tests.captures.vectors import lines, vectors
 from tests.captures.written import rows_of
-from tests.running.runs import agrees
+from tests.running.runs import agrees, fails
 
 
 class Table(NamedTuple):
@@ -37,9 +37,8 @@ def try_answers(merge, folder, about=""):
     failed = count = 0
     for table in TABLES:
         rows = table.rows()
-        if len(rows) != table.count:
-            failed += 1
-            print(f"{table.names[-1]} has {len(rows)} rows, and not {table.count}: say so in `TABLES`, if it is meant")
+        failed += fails(f"trials/{table.names[-1]}", f"{len(rows)} rows, and not {table.count}",
+                        [] if len(rows) == table.count else ["  say so in `TABLES`, if it is meant"])
         program = merge.with_name(table.program)
         for row in rows:
             if about in row.what:
