@@ -15,7 +15,7 @@ def try_shapes(program):
     """Tries all shapes, and answers the status to exit with."""
     paths = sorted(SHAPES.glob("*.rows"))
     rows = [row for path in paths for row in rows_of({}, path)]
-    failed = fails("fuzz/shapes", f"{len(rows)} rows", [] if len(rows) == COUNT else ["  say so in `COUNT`, if it is meant"])
+    failed = int(fails("fuzz/shapes", f"{len(rows)} rows", [] if len(rows) == COUNT else ["  say so in `COUNT`, if it is meant"]))
     for row in rows:
         case = row.case(program.folder)
         try:
