@@ -99,8 +99,7 @@ class Closure:
             self.add(crate, ".".join(path[1:]), name)
 
     def add(self, crate, module, name):
-        specs = self.files.setdefault((crate, module), None) or Specs(crate, module)
-        self.files[crate, module] = specs
+        specs = self.files[crate, module] = self.files.get((crate, module)) or Specs(crate, module)
         found = specs.definitions.get(name)
         if found is None and name in specs.names:
             self.resolve(*specs.names[name], None)
@@ -164,8 +163,8 @@ def type_lines(crate, module, name):
 def model_of(text, name):
     """What definitions see of a type that has an `impl Model`, and the names that are in scope there."""
     block = re.search(rf"^impl(?:<[^>]*>)? Model for {name}\b.*?^\}}", text, re.M | re.S)
-    value = block and re.search(r"^ *ghost Value = \{ (.*) \};", block.group(), re.M)
-    return (value.group(1), imports_of(block.group())[0]) if value else (None, {})
+    value = block and re.search(r"^ *ghost Value = \{ (.*) \};", block[0], re.M)
+    return (value[1], imports_of(block[0])[0]) if value else (None, {})
 
 
 def type_place(crate, module, word):
@@ -255,13 +254,9 @@ def glossary(section, library):
     return rows
 
 
-def bare(line):
-    """A line of a definition without the words that say who may use it and whether the prover opens it by itself."""
-    return re.sub(r"^(  )?(?:(?:abbrev|unfoldable|pub) )+", lambda found: found.group(1) or "", line)
-
-
 def blocks(section):
-    """The types and the definitions of a section, file by file."""
+    """The types and the definitions of a section, file by file, without the words that say who may use them and whether the prover
+    opens them by itself."""
     out = []
     if section.types:
         out += ["```rust", *"\n\n".join("\n".join(found.lines) for found in section.types).split("\n"), "```", ""]
@@ -273,7 +268,7 @@ def blocks(section):
         else:
             out.append("")
         file = found.file
-        out += found.comment + [bare(line) for line in found.lines]
+        out += found.comment + [re.sub(r"^(  |)(?:(?:abbrev|unfoldable|pub) )+", r"\1", line) for line in found.lines]
     return out + (["```", ""] if file else [])
 
 
