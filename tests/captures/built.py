@@ -1,7 +1,7 @@
 """The small files that the trials run the program on."""
 
 from tests import TOP
-from tests.captures.wire import PTR, Capture, ipv4_frame, message_of
+from tests.captures.wire import PTR, capture, ipv4_frame, message_of
 from tests.judges.shown import labels
 
 # One packet at 100 s, which tells of one record.
@@ -31,9 +31,9 @@ def lay_out_small(folder):
 
 def write_capture(path, magic, packets):
     """Writes a capture of frames and their moments in nanoseconds, and answers its bytes."""
-    with Capture(path, magic) as capture:
+    with capture(path, magic) as add:
         for moment, frame in packets:
-            capture.packet(moment, frame)
+            add(moment, frame)
     return path.read_bytes()
 
 

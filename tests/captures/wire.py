@@ -1,6 +1,7 @@
 """What a listener records: messages in datagrams in frames in a classic pcap capture."""
 
 import struct
+from contextlib import contextmanager
 from enum import Enum
 from functools import partial
 from typing import Callable, NamedTuple
@@ -66,26 +67,19 @@ NAMED = {one.name: one for one in TYPES.values()}
 NAMES = tuple(one.name for one in TYPES.values() if one.content in (Content.NAME, Content.SERVICE))
 
 
-class Capture:
-    """A capture that is being written."""
+@contextmanager
+def capture(path, magic):
+    """Begins a capture, and lends what adds a frame that was heard at a moment, in nanoseconds since 1970."""
+    order, number, unit = MAGICS[magic]
+    header = struct.Struct(order + "IIII").pack
+    with open(path, "wb", buffering=1 << 20) as file:
+        file.write(struct.pack(order + "IHHIIII", number, 2, 4, 0, 0, SNAPSHOT_LENGTH, ETHERNET))
 
-    def __init__(self, path, magic):
-        order, number, self.unit = MAGICS[magic]
-        self.header = struct.Struct(order + "IIII").pack
-        self.file = open(path, "wb", buffering=1 << 20)
-        self.file.write(struct.pack(order + "IHHIIII", number, 2, 4, 0, 0, SNAPSHOT_LENGTH, ETHERNET))
+        def add(moment, frame):
+            seconds, nanos = divmod(moment, SECOND)
+            file.write(header(seconds, nanos // unit, len(frame), len(frame)) + frame)
 
-    def __enter__(self):
-        return self
-
-    def __exit__(self, *failure):
-        self.file.close()
-
-    def packet(self, moment, frame):
-        """Adds a frame that was heard at a moment, in nanoseconds since 1970."""
-        seconds, nanos = divmod(moment, SECOND)
-        length = len(frame)
-        self.file.write(self.header(seconds, nanos // self.unit, length, length) + frame)
+        yield add
 
 
 class Message:
