@@ -18,7 +18,8 @@ from types import SimpleNamespace
 DOCS = Path(__file__).resolve().parent
 CRATES = DOCS.parent / "crates"
 ROOT = ("mdns_survey", "survey")
-USE = re.compile(r"^\s*(?:unfoldable )?(?:pub )?(?:ghost )?use (Rattle[\w.]+?)(?:\.\{([^}]*)\}| as (\w+));?$", re.M)
+USE = re.compile(r"^\s*(?:unfoldable )?(?:pub )?(?:ghost )?use (Rattle[\w.]+?)(?:\.\{(.*)\}| as (\w+));?$", re.M)
+MODULE = re.compile(r"([\w.]+)\.\{([^{}]*)\}")
 DOC = r"(?:^(?:///|#\[)[^\n]*\n)*^"
 # Words that other rows of the glossary explain.
 PLAIN = {"*", "Some", "None", "true", "false"}
@@ -39,12 +40,14 @@ class Definition:
 def imports_of(text):
     """The names that `use` items bring in, with their modules and names there, and modules under another name."""
     names, modules = {}, {}
-    for module, items, alias in USE.findall(text):
+    for path, items, alias in USE.findall(text):
         if alias:
-            modules[alias] = module
-        for item in filter(str.strip, items.split(",")):
-            name, _, other = item.strip().partition(" as ")
-            names[other or name] = (module, name)
+            modules[alias] = path
+        grouped = [(f"{path}.{module}", inside) for module, inside in MODULE.findall(items)]
+        for module, inside in grouped or [(path, items)]:
+            for item in filter(str.strip, inside.split(",")):
+                name, _, other = item.strip().partition(" as ")
+                names[other or name] = (module, name)
     return names, modules
 
 

@@ -2,12 +2,10 @@
 -- order of checks never meet, since each fixes the octet at the offset.
 use Rattle.std.proofs.Common.{◌≡◌, ℕ, ◌+◌, ◌≤◌, List, ◌++◌, length, sym, ◌∙◌, subst, arith, length-append}
 use Rattle.std.specs.Prelude.{slice_range}
-use Rattle.dns_name.specs.NameAt.{NameStands, NameReads, LabelAt}
-use Rattle.dns_name.specs.NameAt.NameStands.{root, label, pointer}
+use Rattle.dns_name.specs.{NameAt.{NameStands, NameReads, LabelAt}, NameAt.NameStands.{root, label, pointer}}
 use Rattle.dns_name.specs.FirstFault.{NameFailsUnder, NameFails}
-use Rattle.dns_name.specs.FirstFault.NameFailsUnder.{no_octet, label_cut, label_long, label_form, pointer_cut}
-use Rattle.dns_name.specs.FirstFault.NameFailsUnder.{pointer_target, after_label, after_pointer}
-use Rattle.dns_name.specs.declared.fault.NameReadFault.{NameReadFault}
+use Rattle.dns_name.specs.FirstFault.NameFailsUnder.{no_octet, label_cut, label_long, label_form, pointer_cut, pointer_target, after_label}
+use Rattle.dns_name.specs.{FirstFault.NameFailsUnder.{after_pointer}, declared.fault.NameReadFault.{NameReadFault}}
 use Rattle.dns_name.proofs.NameLemmas.{label_unique, pointer_unique, label_length, name_some}
 
 -- reading meets at most one first fault

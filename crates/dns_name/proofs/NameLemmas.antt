@@ -1,8 +1,7 @@
 -- Names at an offset: where they end, how long they are, and that at most one begins at an offset.
 use Rattle.std.proofs.Common.{◌≡◌, ℕ, ◌+◌, ◌<◌, ◌≤◌, List, length, refl, sym, ◌∙◌, subst, arith, length-append, length-take, length-drop}
 use Rattle.std.specs.Prelude.{slice_range}
-use Rattle.dns_name.specs.NameAt.{NameStands, NameReads, LabelAt, PointerAt, PointerLeads}
-use Rattle.dns_name.specs.NameAt.NameStands.{root, label, pointer}
+use Rattle.dns_name.specs.{NameAt.{NameStands, NameReads, LabelAt, PointerAt, PointerLeads}, NameAt.NameStands.{root, label, pointer}}
 
 -- labels at one offset have one length
 pub label_unique : (m : List ℕ) (p j k : ℕ) → LabelAt m p j → LabelAt m p k → j ≡ k

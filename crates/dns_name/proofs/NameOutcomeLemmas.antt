@@ -4,12 +4,10 @@ use Rattle.std.proofs.Common.{drop, refl, arith, length-append}
 use Rattle.std.specs.Prelude.{slice_index, slice_range}
 use Rattle.byteorder.specs.Endian.{big_number}
 use Rattle.std.proofs.lemmas.Bool.{cases_lt}
-use Rattle.dns_name.specs.NameAt.{NameStands, NameReads, LabelAt, PointerAt}
-use Rattle.dns_name.specs.NameAt.NameStands.{root, label, pointer}
+use Rattle.dns_name.specs.{NameAt.{NameStands, NameReads, LabelAt, PointerAt}, NameAt.NameStands.{root, label, pointer}}
 use Rattle.dns_name.specs.FirstFault.{NameFailsUnder, NameFails}
-use Rattle.dns_name.specs.FirstFault.NameFailsUnder.{no_octet, label_cut, label_long, label_form, pointer_cut}
-use Rattle.dns_name.specs.FirstFault.NameFailsUnder.{pointer_target, after_label, after_pointer}
-use Rattle.dns_name.specs.declared.fault.NameReadFault.{NameReadFault}
+use Rattle.dns_name.specs.FirstFault.NameFailsUnder.{no_octet, label_cut, label_long, label_form, pointer_cut, pointer_target, after_label}
+use Rattle.dns_name.specs.{FirstFault.NameFailsUnder.{after_pointer}, declared.fault.NameReadFault.{NameReadFault}}
 use Rattle.dns_name.specs.declared.fault.NameReadFault.TheVariants.{Cut, Label, Pointer, LongName}
 use Rattle.dns_name.proofs.NameLemmas.{label_length}
 

@@ -1,14 +1,9 @@
 -- Where chains of pointers lead, each pointer at the target of the one before.
 use Rattle.std.proofs.Common.{◌≡◌, ℕ, ◌+◌, ◌≤◌, List, [], ◌∷◌, ◌++◌, length, refl, subst, arith, length-append}
-use Rattle.std.proofs.Math.ListN.{get_or-append}
-use Rattle.std.proofs.Math.Seq.{get_or-append_seam}
-use Rattle.dns_name.specs.NameAt.{NameStands, PointerLeads}
-use Rattle.dns_name.specs.NameAt.NameStands.{pointer}
-use Rattle.dns_name.specs.FirstFault.{NameFailsUnder}
-use Rattle.dns_name.specs.FirstFault.NameFailsUnder.{after_pointer}
-use Rattle.dns_name.specs.declared.fault.NameReadFault.{NameReadFault}
-use Rattle.dns_name.specs.Pointer.{PointersLead, PointersEnd, EndsHold}
-use Rattle.dns_name.specs.Pointer.PointersLead.{there, along}
+use Rattle.std.proofs.Math.{ListN.{get_or-append}, Seq.{get_or-append_seam}}
+use Rattle.dns_name.specs.{NameAt.{NameStands, PointerLeads}, NameAt.NameStands.{pointer}, FirstFault.{NameFailsUnder}}
+use Rattle.dns_name.specs.{FirstFault.NameFailsUnder.{after_pointer}, declared.fault.NameReadFault.{NameReadFault}}
+use Rattle.dns_name.specs.{Pointer.{PointersLead, PointersEnd, EndsHold}, Pointer.PointersLead.{there, along}}
 
 -- a chain leads to no later offset
 pub lead_before : (m : List ℕ) {p e : ℕ} → PointersLead m p e → e ≤ p

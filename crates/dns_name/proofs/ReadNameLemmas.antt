@@ -7,13 +7,10 @@ use lib.Seq.{take-add}
 use Rattle.std.proofs.lemmas.List.{append-nil, drop-drop, drop_more}
 use Rattle.dns_name.specs.Name.{IsForm, IsWire, wire_of}
 use Rattle.dns_name.specs.NameAt.{NameStands, NameReads, ReadsOnto, RootAt, LabelAt, LabelEnds, PointerLeads}
-use Rattle.dns_name.specs.NameAt.NameStands.{root, label, pointer}
-use Rattle.dns_name.specs.FirstFault.{NameFailsUnder, NameFails}
-use Rattle.dns_name.specs.FirstFault.NameFailsUnder.{after_label, after_pointer}
-use Rattle.dns_name.specs.declared.fault.NameReadFault.{NameReadFault}
+use Rattle.dns_name.specs.{NameAt.NameStands.{root, label, pointer}, FirstFault.{NameFailsUnder, NameFails}}
+use Rattle.dns_name.specs.{FirstFault.NameFailsUnder.{after_label, after_pointer}, declared.fault.NameReadFault.{NameReadFault}}
 use Rattle.dns_name.specs.Pointer.{PointersLead}
-use Rattle.dns_name.proofs.NameLemmas.{label_length}
-use Rattle.dns_name.proofs.PointerLemmas.{name_along, fault_along}
+use Rattle.dns_name.proofs.{NameLemmas.{label_length}, PointerLemmas.{name_along, fault_along}}
 
 -- the octets `bytes` of the name at offset `at` were read, and reading goes on at `offset` in the run that
 -- begins at `start`; `after` is where m goes on after the first pointer, if there was one

@@ -1,9 +1,7 @@
 -- The first fault in reading order.
 use Rattle.std.specs.Prelude.{◌≡◌, ℕ, ◌+◌, ◌<◌, ◌≤◌, List, length, slice_index}
-use Rattle.dns_name.specs.Name.{longest_label, longest_name}
-use Rattle.dns_name.specs.NameAt.{least_pointer, LabelAt, PointerAt}
-use Rattle.dns_name.specs.declared.fault.NameReadFault.{NameReadFault}
-use Rattle.dns_name.specs.declared.fault.NameReadFault.TheVariants.{Cut, Label, Pointer, LongName}
+use Rattle.dns_name.specs.{Name.{longest_label, longest_name}, NameAt.{least_pointer, LabelAt, PointerAt}}
+use Rattle.dns_name.specs.declared.fault.{NameReadFault.{NameReadFault}, NameReadFault.TheVariants.{Cut, Label, Pointer, LongName}}
 
 -- reading a name at offset p of m, in a run whose pointers must lead before `bound`, with u octets of
 -- the name before p, meets the fault f first

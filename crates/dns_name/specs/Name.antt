@@ -1,8 +1,7 @@
 -- Names: their wire form (RFC 1035, section 3.1; at most 256 bytes by RFC 6762, Appendix C), folding, and text.
 use Rattle.std.specs.Prelude.{◌≡◌, ℕ, zero, suc, ◌+◌, ◌/◌, ◌%◌, ◌≤◌, ◌==◌, Bool, true, ◌&&◌, ◌||◌, nat_le}
 use Rattle.std.specs.Prelude.{if◌then◌else◌, List, [], ◌∷◌, ◌++◌, length, map}
-use Rattle.std.specs.List.{flat_map}
-use Rattle.std.specs.Char.{to_ascii_lowercase}
+use Rattle.std.specs.{List.{flat_map}, Char.{to_ascii_lowercase}}
 
 -- the most bytes of a label (RFC 1035, section 2.3.4), and of a name, its final zero included (RFC 6762, Appendix C)
 abbrev pub longest_label : ℕ

@@ -1,8 +1,7 @@
 -- A name at an offset of a message, with its pointers followed (RFC 1035, section 4.1.4).
 use Rattle.std.specs.Prelude.{◌≡◌, ℕ, ◌+◌, ◌%◌, ◌<◌, ◌≤◌, List, [], ◌∷◌, ◌++◌, length, drop, slice_index, slice_range}
 use Rattle.byteorder.specs.Endian.{big_number}
-use Rattle.dns_name.specs.Name.{longest_label, longest_name}
-use Rattle.dns_name.specs.declared.name_at.NameStep.{NameStep}
+use Rattle.dns_name.specs.{Name.{longest_label, longest_name}, declared.name_at.NameStep.{NameStep}}
 use Rattle.dns_name.specs.declared.name_at.NameStep.TheVariants.{Root, Label, Pointer}
 
 -- the least first byte of a pointer: its two top bits are 1 (RFC 1035, section 4.1.4)

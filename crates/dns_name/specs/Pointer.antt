@@ -1,7 +1,6 @@
 -- Where chains of pointers lead, each pointer at the target of the one before (RFC 1035, section 4.1.4).
 use Rattle.std.specs.Prelude.{◌≡◌, ℕ, ◌<◌, List, length, slice_index}
-use Rattle.dns_name.specs.NameAt.{PointerAt, PointerLeads}
-use Rattle.dns_name.specs.declared.name_at.NameReader.{NameReader}
+use Rattle.dns_name.specs.{NameAt.{PointerAt, PointerLeads}, declared.name_at.NameReader.{NameReader}}
 
 -- a chain of pointers of m, each leading before its own offset, leads from offset p to offset e: none where p is e,
 -- or a pointer at p and a chain from its target

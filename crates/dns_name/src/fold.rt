@@ -2,8 +2,7 @@
 //! (RFC 6762, section 16).
 
 ghost use Rattle.std.specs.Prelude.{◌≡◌, ◌↔◌, IsTrue};
-ghost use Rattle.std.specs.Cmp.Lexicographic.{slice_cmp};
-ghost use Rattle.std.specs.Ordering.{nat_cmp};
+ghost use Rattle.std.specs.{Cmp.Lexicographic.{slice_cmp}, Ordering.{nat_cmp}};
 ghost use Rattle.dns_name.specs.Name.{folded};
 
 use std::cmp::Ordering;

@@ -1,10 +1,8 @@
 //! Laws of names, over their definitions alone. Each function does nothing: its contract is the law.
 
 ghost use Rattle.std.specs.Prelude.{◌≡◌, ◌⊎◌, ℕ, List};
-ghost use Rattle.dns_name.specs.declared.fault.NameReadFault.{NameReadFault};
-ghost use Rattle.dns_name.specs.FirstFault.{NameFails};
-ghost use Rattle.dns_name.specs.Name.{AreLabels, IsWire, labels_of, wire_of};
-ghost use Rattle.dns_name.specs.NameAt.{NameReads, NameStands};
+ghost use Rattle.dns_name.specs.{declared.fault.NameReadFault.{NameReadFault}, FirstFault.{NameFails}};
+ghost use Rattle.dns_name.specs.{Name.{AreLabels, IsWire, labels_of, wire_of}, NameAt.{NameReads, NameStands}};
 
 /// The labels of a wire form are those that it spells, each of 1 to 63 bytes, and no others.
 pub fn wire_labels()

@@ -1,10 +1,8 @@
 //! A name at an offset of a message, read with its pointers (RFC 1035, section 4.1.4).
 
 ghost use Rattle.std.specs.Prelude.{◌≡◌, ℕ, ◌+◌, ◌<◌, ◌≤◌, ◌⊎◌, List, length, slice_index, IfOk, IfErr};
-ghost use Rattle.dns_name.specs.Name.{longest_label, longest_name, Extends};
-ghost use Rattle.dns_name.specs.NameAt.{NameReads, LabelEnds, ReadsOnto, StepStands};
-ghost use Rattle.dns_name.specs.FirstFault.{NameFailsUnder, NameFails};
-ghost use Rattle.dns_name.specs.Pointer.{IsReaderOf};
+ghost use Rattle.dns_name.specs.{Name.{longest_label, longest_name, Extends}, NameAt.{NameReads, LabelEnds, ReadsOnto, StepStands}};
+ghost use Rattle.dns_name.specs.{FirstFault.{NameFailsUnder, NameFails}, Pointer.{IsReaderOf}};
 
 use crate::fault::NameReadFault;
 use crate::name::{LABEL_LIMIT, NAME_LIMIT, Name};

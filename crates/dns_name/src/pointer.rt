@@ -1,8 +1,7 @@
 //! Pointers, each of which leads backward, and where chains of them end (RFC 1035, section 4.1.4).
 
 ghost use Rattle.std.specs.Prelude.{◌≡◌, ℕ, ◌+◌, ◌<◌, ◌≤◌, List, length, min, slice_index, IfErr, IfNone, IfOk, IfSome, IsOk};
-ghost use Rattle.dns_name.specs.NameAt.{least_pointer, PointerAt, PointerLeads};
-ghost use Rattle.dns_name.specs.FirstFault.{NameFailsUnder};
+ghost use Rattle.dns_name.specs.{NameAt.{least_pointer, PointerAt, PointerLeads}, FirstFault.{NameFailsUnder}};
 ghost use Rattle.dns_name.specs.Pointer.{EndsHold, PointersEnd, PointersLead};
 
 use crate::fault::NameReadFault;

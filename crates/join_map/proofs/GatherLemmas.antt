@@ -1,11 +1,9 @@
 -- Entries in any order, and the map of them.
 use Rattle.std.proofs.Common.{rules, ◌≡◌, ℕ, zero, suc, ◌<◌, List, [], ◌∷◌, ◌++◌, length, get_or, take, drop, set}
 use Rattle.std.proofs.Common.{Option, Some, None, IfSome, Result, Ok, Err, OnOk, OnErr, Ordering, Equal, refl, sym, ap, ◌∙◌, subst, arith}
-use Rattle.std.specs.Cmp.{IsTotalOrder, tied_itself}
-use Rattle.std.specs.Ordering.{match_ordering}
+use Rattle.std.specs.{Cmp.{IsTotalOrder, tied_itself}, Ordering.{match_ordering}}
 use Rattle.std.proofs.lemmas.List.{set-get_or, set_split}
-use Rattle.join_map.specs.Join.{JoinLaws}
-use Rattle.join_map.specs.Entries.{AllFit, AllValid, IsJoinMap, gathered, joined, one_entry}
+use Rattle.join_map.specs.{Join.{JoinLaws}, Entries.{AllFit, AllValid, IsJoinMap, gathered, joined, one_entry}}
 use Rattle.join_map.specs.laws.Entries.{IsJoinMap-none, IsJoinMap-one, joined-laws}
 
 module _ {K V : Type 0} where

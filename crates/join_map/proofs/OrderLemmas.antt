@@ -2,9 +2,7 @@
 use Rattle.std.proofs.Common.{◌≡◌, ℕ, zero, suc, ◌+◌, ◌<◌, ◌≤◌, inl, inr, List, [], ◌∷◌, ◌++◌, length, get_or, take, drop, set}
 use Rattle.std.proofs.Common.{Ordering, Less, Equal, refl, sym, ap, ◌∙◌, subst, arith, append_assoc, length-append}
 use borrow.Rule.Slice.PartMut.{mid_of, post_of, put_mid, put_same, same_len_mid}
-use Rattle.std.specs.Cmp.{IsTotalOrder}
-use Rattle.std.specs.List.{All, AllByRecursion, Contains}
-use Rattle.std.specs.List.Sorted.{IsPermutation, IsStrictlySortedBy}
+use Rattle.std.specs.{Cmp.{IsTotalOrder}, List.{All, AllByRecursion, Contains}, List.Sorted.{IsPermutation, IsStrictlySortedBy}}
 use Rattle.std.specs.Map.{keys_of}
 use Rattle.std.proofs.lemmas.Bool.{cases_lt}
 use Rattle.std.proofs.lemmas.List.{append-nil, length-map, map-append, drop_all, drop_more, get_or_default, take-append-drop}
@@ -12,13 +10,10 @@ use Rattle.std.proofs.lemmas.List.Elements.{All-contains, All-from_recursion, Co
 use Rattle.std.proofs.lemmas.List.Sorted.{All-permutation, Contains-permutation, IsPermutation-append_left}
 use Rattle.std.proofs.lemmas.List.Sorted.{IsPermutation-append_right, length_permutation}
 use Rattle.join_map.specs.Blocks.{AllFilled, AllWithin, ArePlaces, IsOrder, entries_of, picked, places_of}
-use Rattle.join_map.specs.Entries.{AllValid, IsJoinMap, gathered, joined, one_entry}
-use Rattle.join_map.specs.Join.{JoinLaws, IsAtMost}
+use Rattle.join_map.specs.{Entries.{AllValid, IsJoinMap, gathered, joined, one_entry}, Join.{JoinLaws, IsAtMost}}
 use Rattle.join_map.specs.laws.Entries.{above_trans, joined-none, sorted_above, IsJoinMap-none, IsJoinMap-one, joined-laws}
-use Rattle.join_map.specs.laws.Join.{IsAtMost-least, IsAtMost-left, IsAtMost-right, IsAtMost-trans}
-use Rattle.join_map.specs.declared.order.Ranked.{Ranked}
-use Rattle.join_map.proofs.BlockLemmas.{entries_of-append, filled-append}
-use Rattle.join_map.proofs.GatherLemmas.{map-gathered, map-joined}
+use Rattle.join_map.specs.{laws.Join.{IsAtMost-least, IsAtMost-left, IsAtMost-right, IsAtMost-trans}, declared.order.Ranked.{Ranked}}
+use Rattle.join_map.proofs.{BlockLemmas.{entries_of-append, filled-append}, GatherLemmas.{map-gathered, map-joined}}
 use Rattle.join_map.proofs.PlaceLemmas.{within-both, within-more}
 
 -- ---- each place once

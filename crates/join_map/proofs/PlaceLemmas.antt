@@ -1,20 +1,14 @@
 -- Entries by their places.
 use Rattle.std.proofs.lemmas.Grind.{common_steps}
+use Rattle.std.proofs.lemmas.List.{drop_more, drop_at, take_at, get_or_default, get_or_read, get_or-set_other, get_or-set_same, length-set}
 use Rattle.std.proofs.Common.{◌≡◌, ◌≢◌, ℕ, zero, suc, ◌+◌, ◌<◌, ◌≤◌}
 use Rattle.std.proofs.Common.{List, [], ◌∷◌, ◌++◌, length, get_or, take, drop, set, refl, sym, ap, ◌∙◌}
 use Rattle.std.proofs.Common.{subst, arith, append_assoc, length-append, Ordering, Less, Equal, Greater}
-use Rattle.std.specs.List.{AllByRecursion}
-use Rattle.std.specs.Map.{keys_of}
-use Rattle.std.proofs.lemmas.List.{drop_more, drop_at, take_at, get_or_default, get_or_read, get_or-set_other, get_or-set_same, length-set}
-use Rattle.join_map.specs.Blocks.{AllAbove, AllBelow, AllFilled, AllWithin, ArePlaces, IsEntry}
-use Rattle.join_map.specs.Blocks.{IsGap, IsRewritten, IsSpot, block_at, before, after, entries_of, picked, rows}
-use Rattle.std.specs.Cmp.{IsTotalOrder}
-use Rattle.std.specs.List.Sorted.{IsStrictlySortedBy}
+use Rattle.std.specs.{List.{AllByRecursion}, Map.{keys_of}, Cmp.{IsTotalOrder}, List.Sorted.{IsStrictlySortedBy}}
 use Rattle.std.specs.Ordering.{ordering_reverse}
-use Rattle.join_map.specs.laws.Entries.{sorted_above}
-use Rattle.join_map.specs.declared.blocks.Spot.{Spot}
-use Rattle.join_map.proofs.BlockLemmas.{entries_of-gap, entries_of-split, length-inserted}
-use Rattle.join_map.proofs.KeyLemmas.{below_first, sorted_back}
+use Rattle.join_map.specs.Blocks.{AllAbove, AllBelow, AllFilled, AllWithin, ArePlaces, IsEntry, IsGap, IsRewritten, IsSpot, block_at}
+use Rattle.join_map.specs.{Blocks.{before, after, entries_of, picked, rows}, laws.Entries.{sorted_above}, declared.blocks.Spot.{Spot}}
+use Rattle.join_map.proofs.{BlockLemmas.{entries_of-gap, entries_of-split, length-inserted}, KeyLemmas.{below_first, sorted_back}}
 
 pub within-front : (n : ℕ) (ps qs : List ℕ) → AllWithin n (ps ++ qs) → AllWithin n ps
 within-front n [] qs w = tt

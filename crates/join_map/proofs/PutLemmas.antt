@@ -1,16 +1,12 @@
 -- A map after one value in it was joined with another, and a walk that joins entry by entry.
 use Rattle.std.proofs.Common.{arith, ◌≡◌, Bool, true, false, cond, List, [], ◌∷◌, Option, Some, None, Result, Ok, Err, OnOk}
 use Rattle.std.proofs.Common.{OnErr, IsSome, is_some, Ordering, Equal, refl, sym, ap, ◌∙◌, subst, is_eq}
-use Rattle.std.specs.Cmp.{IsTotalOrder, eq_by_cmp_equiv, Equal-is}
-use Rattle.std.specs.List.Sorted.{IsStrictlySortedBy}
-use Rattle.std.specs.Map.{keys_of, set_value}
-use Rattle.std.proofs.lemmas.Map.{lookup-set_value}
-use Rattle.std.proofs.lemmas.Bool.{cond_both}
-use Rattle.join_map.specs.Join.{JoinLaws, IsAtMost, IsPartOfJoin}
-use Rattle.join_map.specs.laws.Join.{IsAtMost-refl, IsAtMost-trans, IsAtMost-left}
+use Rattle.std.specs.{Cmp.{IsTotalOrder, eq_by_cmp_equiv, Equal-is}, List.Sorted.{IsStrictlySortedBy}, Map.{keys_of, set_value}}
+use Rattle.std.proofs.lemmas.{Map.{lookup-set_value}, Bool.{cond_both}}
+use Rattle.join_map.specs.{Join.{JoinLaws, IsAtMost, IsPartOfJoin}, laws.Join.{IsAtMost-refl, IsAtMost-trans, IsAtMost-left}}
 use Rattle.join_map.specs.Entries.{value_at, AllValid, IsJoinMap, put_entry, joined, joined_at, one_entry}
-use Rattle.join_map.specs.laws.Entries.{joined_at-None, joined_at-same, ValidAt, valid_at, value_at-join, same_maps}
-use Rattle.join_map.specs.laws.Entries.{joined-laws, IsJoinMap-one, IsJoinMap-rest, IsJoinMap-join, set_value-put}
+use Rattle.join_map.specs.laws.Entries.{joined_at-None, joined_at-same, ValidAt, valid_at, value_at-join, same_maps, joined-laws}
+use Rattle.join_map.specs.laws.Entries.{IsJoinMap-one, IsJoinMap-rest, IsJoinMap-join, set_value-put}
 
 module _ {K V : Type 0} {cmp : K → K → Ordering} (order : IsTotalOrder cmp) (exact : (a b : K) → cmp a b ≡ Equal
     → a ≡ b) {Valid : V → Type 0} {join : V → V → V} (laws : JoinLaws Valid join) where

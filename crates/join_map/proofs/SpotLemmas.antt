@@ -1,13 +1,10 @@
 -- What a map has at a key, and how it changes there, by the spot of the key.
 use Rattle.std.proofs.Common.{arith, ◌≡◌, List, ◌∷◌, ◌++◌, Some, None, Result, Ok, Err, OnOk}
 use Rattle.std.proofs.Common.{OnErr, Ordering, Equal, sym, ap, ◌∙◌, subst}
-use Rattle.std.specs.BTreeMap.{insert_entry}
-use Rattle.std.specs.Cmp.{IsTotalOrder}
-use Rattle.join_map.specs.Blocks.{entries_of, before, after, IsEntry, IsAt, IsFree, IsRewritten, JoinsAt}
-use Rattle.join_map.specs.declared.blocks.Spot.{Spot}
+use Rattle.std.specs.{BTreeMap.{insert_entry}, Cmp.{IsTotalOrder}}
+use Rattle.join_map.specs.{Blocks.{entries_of, before, after, IsEntry, IsAt, IsFree, IsRewritten, JoinsAt}, declared.blocks.Spot.{Spot}}
 use Rattle.join_map.specs.Entries.{value_at, IsJoinMap, put_entry, joined, one_entry}
-use Rattle.join_map.specs.laws.Entries.{insert_entry-put, joined-laws, IsJoinMap-one, IsJoinMap-put}
-use Rattle.join_map.specs.Join.{JoinLaws, IsPartOfJoin}
+use Rattle.join_map.specs.{laws.Entries.{insert_entry-put, joined-laws, IsJoinMap-one, IsJoinMap-put}, Join.{JoinLaws, IsPartOfJoin}}
 use Rattle.join_map.specs.laws.Join.{IsPartOfJoin-old}
 use Rattle.join_map.proofs.BlockLemmas.{entries_of-gap, entries_of-split}
 use Rattle.join_map.proofs.KeyLemmas.{Sorted, Written, value_at-free, insert_free, value_at-entry, written_entry, sorted_written}

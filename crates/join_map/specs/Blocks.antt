@@ -1,12 +1,8 @@
 -- Entries in key order, cut into blocks.
 use Rattle.std.specs.Prelude.{◌≡◌, ℕ, ◌+◌, ◌<◌, ◌≤◌, List, [], ◌∷◌, ◌++◌, length, map, take, drop, slice_index_or, Result, OnOk, OnErr}
-use Rattle.std.specs.declared.cmp.Ordering.{Ordering}
-use Rattle.std.specs.declared.cmp.Ordering.TheVariants.{Less, Equal, Greater}
-use Rattle.std.specs.List.{AllByRecursion, Contains}
-use Rattle.std.specs.Map.{keys_of}
-use Rattle.join_map.specs.Join.{IsPartOfJoin}
-use Rattle.join_map.specs.declared.blocks.Spot.{Spot}
-use Rattle.join_map.specs.declared.order.Ranked.{Ranked}
+use Rattle.std.specs.declared.cmp.{Ordering.{Ordering}, Ordering.TheVariants.{Less, Equal, Greater}}
+use Rattle.std.specs.{List.{AllByRecursion, Contains}, Map.{keys_of}}
+use Rattle.join_map.specs.{Join.{IsPartOfJoin}, declared.blocks.Spot.{Spot}, declared.order.Ranked.{Ranked}}
 
 -- the entries of the blocks, one block after another
 abbrev pub entries_of : {E : Type 0} → List (List E) → List E

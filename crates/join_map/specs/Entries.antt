@@ -1,8 +1,6 @@
 -- Finite maps as the list of their entries in key order, and their join key by key.
 use Rattle.std.specs.Prelude.{List, [], ◌∷◌, Option, Some, None}
-use Rattle.std.specs.declared.cmp.Ordering.{Ordering}
-use Rattle.std.specs.Ordering.{match_ordering, is_eq}
-use Rattle.std.specs.Map.{keys_of, lookup}
+use Rattle.std.specs.{declared.cmp.Ordering.{Ordering}, Ordering.{match_ordering, is_eq}, Map.{keys_of, lookup}}
 use Rattle.std.specs.List.Sorted.{IsStrictlySortedBy}
 
 -- the value at the key k

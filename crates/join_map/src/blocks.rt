@@ -1,8 +1,7 @@
 //! Entries in key order, kept in blocks.
 
 ghost use Rattle.std.specs.Prelude.{◌≡◌, ◌<◌, ◌∷◌, ◌++◌, [], length, IfOk, OnOk, OnErr};
-ghost use Rattle.std.specs.List.Sorted.{IsStrictlySortedBy};
-ghost use Rattle.std.specs.Map.{keys_of};
+ghost use Rattle.std.specs.{List.Sorted.{IsStrictlySortedBy}, Map.{keys_of}};
 ghost use Rattle.join_map.specs.Join.{IsPartOfJoin};
 ghost use Rattle.join_map.specs.Blocks.{block_at, entries_of, picked, IsOrder, IsSpot, IsGap, IsEntry, JoinsAt, before, after};
 

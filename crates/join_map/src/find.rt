@@ -1,9 +1,7 @@
 //! Where the entry of a key is among the blocks, or belongs.
 
 ghost use Rattle.std.specs.Prelude.{◌≡◌, ◌+◌, ◌<◌, ◌≤◌, length, take, drop, IfOk, IfErr};
-ghost use Rattle.std.specs.declared.cmp.Ordering.{Ordering};
-ghost use Rattle.std.specs.List.Sorted.{IsStrictlySortedBy};
-ghost use Rattle.std.specs.Map.{keys_of};
+ghost use Rattle.std.specs.{declared.cmp.Ordering.{Ordering}, List.Sorted.{IsStrictlySortedBy}, Map.{keys_of}};
 ghost use Rattle.join_map.specs.Blocks.{block_at, entries_of, AllAbove, AllBelow, IsAt, IsFree, IsOffset, before, after};
 
 use crate::blocks::{Blocks, Spot};

@@ -1,8 +1,7 @@
 //! Laws over joins, as contracts of functions that do nothing.
 
 ghost use Rattle.std.specs.Prelude.{◌≡◌, List};
-ghost use Rattle.join_map.specs.Join.{JoinLaws, IsAtMost, IsPartOfJoin};
-ghost use Rattle.join_map.specs.Entries.{IsJoinMap, value_at, joined, joined_at};
+ghost use Rattle.join_map.specs.{Join.{JoinLaws, IsAtMost, IsPartOfJoin}, Entries.{IsJoinMap, value_at, joined, joined_at}};
 
 use crate::copied::Copied;
 use crate::join::Semilattice;

@@ -1,8 +1,7 @@
 //! Places of entries in the order of the keys there.
 
 ghost use Rattle.std.specs.Prelude.{◌≡◌, ◌<◌, ◌≤◌, length, IsTrue, IfOk};
-ghost use Rattle.std.specs.List.Sorted.{IsPermutation, IsStrictlySortedBy};
-ghost use Rattle.std.specs.Map.{keys_of};
+ghost use Rattle.std.specs.{List.Sorted.{IsPermutation, IsStrictlySortedBy}, Map.{keys_of}};
 ghost use Rattle.join_map.specs.Blocks.{entries_of, picked, places_of, AllFilled, AllWithin, IsOrder};
 
 use crate::block::{Block, LIMIT};

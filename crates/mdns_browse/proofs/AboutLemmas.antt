@@ -1,30 +1,20 @@
 -- What is about subjects, one text and one value at a time.
 use Rattle.std.proofs.Common.{◌≡◌, refl, sym, ◌∙◌, ap, ℕ, ◌<◌, ◌≤◌, ◌==◌, Bool, true, false, ◌||◌}
 use Rattle.std.proofs.Common.{List, [], ◌∷◌, ◌++◌, length, map, take, drop, length-append, codes, string_bytes, arith}
-use Rattle.std.proofs.Math.Seq.{drop-append_seam, take-append_seam}
-use Rattle.std.proofs.lemmas.Bool.{cases_lt, false_from_ne_true, or_left}
-use Rattle.std.proofs.lemmas.Bool.Decides.{same_from_decides}
-use Rattle.std.proofs.lemmas.List.Folds.{list_any-append}
-use Rattle.std.specs.Fmt.{decimal}
-use Rattle.std.specs.List.{list_any}
+use Rattle.std.proofs.{Math.Seq.{drop-append_seam, take-append_seam}, lemmas.Bool.{cases_lt, false_from_ne_true, or_left}}
+use Rattle.std.proofs.lemmas.{Bool.Decides.{same_from_decides}, List.Folds.{list_any-append}}
+use Rattle.std.specs.{Fmt.{decimal}, List.{list_any}}
 use Rattle.dns_name.specs.Name.{IsLabel, IsWire, bytes_text, folded, label_text, labels_of, name_text}
 use Rattle.dns_name.proofs.FormLemmas.{IsForm-after, IsForm-last, labels_of-after, labels_of-form, length-after}
-use Rattle.mdns_message.specs.TextData.{strings_of}
+use Rattle.mdns_message.specs.{TextData.{strings_of}, declared.parts.Service.{Service}, declared.resource.Resource.{Resource}}
 use Rattle.mdns_message.specs.declared.parts.Content.TheVariants as content
-use Rattle.mdns_message.specs.declared.parts.Service.{Service}
-use Rattle.mdns_message.specs.declared.resource.Resource.{Resource}
 use Rattle.people_text.specs.Shown.{name_shown, shown}
-use Rattle.mdns_browse.specs.About.{is_first_label, is_in_content, is_in_data, is_name_about, is_one_of, matches_name, matches_rest, matches_said}
-use Rattle.mdns_browse.specs.About.{is_text_about, keeps, matches_text_in_local}
-use Rattle.mdns_browse.specs.NameSaid.{front}
-use Rattle.mdns_browse.specs.RecordShown.{shown_string, shown_strings}
-use Rattle.mdns_browse.specs.RecordText.{string_words, text_words}
-use Rattle.mdns_browse.specs.declared.about.Subject.{Subject}
-use Rattle.mdns_browse.specs.Services.{same_text}
-use Rattle.mdns_browse.proofs.NameLemmas.{folded-append, length-folded, same_text-decides}
-use Rattle.mdns_browse.proofs.SaidLemmas.{labels_said}
-use Rattle.mdns_browse.proofs.ShownLemmas.{strings-cons}
-use Rattle.mdns_browse.proofs.TextLemmas.{text_words-cons}
+use Rattle.mdns_browse.specs.About.{is_first_label, is_in_content, is_in_data, is_name_about, is_one_of, matches_name, matches_rest}
+use Rattle.mdns_browse.specs.{About.{matches_said, is_text_about, keeps, matches_text_in_local}, NameSaid.{front}}
+use Rattle.mdns_browse.specs.{RecordShown.{shown_string, shown_strings}, RecordText.{string_words, text_words}}
+use Rattle.mdns_browse.specs.{declared.about.Subject.{Subject}, Services.{same_text}}
+use Rattle.mdns_browse.proofs.{NameLemmas.{folded-append, length-folded, same_text-decides}, SaidLemmas.{labels_said}}
+use Rattle.mdns_browse.proofs.{ShownLemmas.{strings-cons}, TextLemmas.{text_words-cons}}
 
 -- ALTERNATIVES
 

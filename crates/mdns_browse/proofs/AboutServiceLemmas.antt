@@ -1,20 +1,14 @@
 -- What service instances are about subjects.
 use Rattle.std.proofs.Common.{◌≡◌, refl, sym, ◌∙◌, ap, ℕ, ◌+◌, ◌<◌, ◌≤◌, Bool, false, true, ◌||◌, List, [], ◌∷◌}
 use Rattle.std.proofs.Common.{◌++◌, Option, None, Some, option_map, length, map, take, get_or, string_bytes}
-use Rattle.std.proofs.lemmas.Bool.{or_from}
-use Rattle.std.proofs.lemmas.List.{take_all}
-use Rattle.std.proofs.lemmas.List.Folds.{list_any-append, list_any_at, list_any_more}
-use Rattle.std.specs.List.{cons_option, filter_map, list_any}
-use Rattle.std.specs.Option.{option_map_or}
+use Rattle.std.proofs.lemmas.{Bool.{or_from}, List.{take_all}, List.Folds.{list_any-append, list_any_at, list_any_more}}
+use Rattle.std.specs.{List.{cons_option, filter_map, list_any}, Option.{option_map_or}}
 use Rattle.dns_name.specs.Name.{labels_of}
-use Rattle.mdns_message.specs.Resource.{Body}
-use Rattle.mdns_message.specs.Parts.{service_of}
-use Rattle.mdns_message.specs.declared.parts.Service.{Service}
+use Rattle.mdns_message.specs.{Resource.{Body}, Parts.{service_of}, declared.parts.Service.{Service}}
 use Rattle.mdns_join.specs.declared.latest.Latest.{Latest}
 use Rattle.mdns_browse.specs.About.{is_in_data, is_instance_about, is_name_about, is_served_about, is_server_about, matches_rest}
 use Rattle.mdns_browse.specs.Services.{body_of, data_of_set, instance_in, rows_of_set, server_at, servers_in}
-use Rattle.mdns_browse.specs.declared.instance.Server.{Server}
-use Rattle.mdns_browse.specs.declared.about.Subject.{Subject}
+use Rattle.mdns_browse.specs.declared.{instance.Server.{Server}, about.Subject.{Subject}}
 use Rattle.mdns_browse.proofs.AboutLemmas.{any-map, any-none, any-or, any-same, any-swap, any_rest, false_or, or-first, or-rest}
 
 -- one of the values so far, and one more

@@ -1,14 +1,12 @@
 -- Columns, their widths, and what is written in them.
 use Rattle.std.proofs.Common.{◌≡◌, refl, sym, ap, ◌∙◌, ℕ, ◌+◌, ◌-◌, ◌<◌, ◌≤◌, ◌==◌, max, true, false, List, [], ◌∷◌, ◌++◌}
 use Rattle.std.proofs.Common.{length, map, take, get_or, add-one, arith, codes}
-use Rattle.std.proofs.lemmas.List.{append-nil, append_assoc, length-append, length-map}
-use Rattle.std.proofs.lemmas.Simd.{map-map}
+use Rattle.std.proofs.lemmas.{List.{append-nil, append_assoc, length-append, length-map}, Simd.{map-map}}
 use Rattle.std.specs.List.{flat_map}
 use Rattle.mdns_message.specs.Resource.{type_name, type_of}
 use Rattle.mdns_join.specs.declared.latest.Latest.{Latest}
 use Rattle.people_text.specs.MomentText.{clock_text, date_text, date_written, hours_text, seconds_text}
-use Rattle.mdns_browse.specs.Columns.{heading, padded, record_heads, record_row, record_table, time_left_text}
-use Rattle.mdns_browse.specs.Columns.{spaces, unless_none, widest}
+use Rattle.mdns_browse.specs.Columns.{heading, padded, record_heads, record_row, record_table, time_left_text, spaces, unless_none, widest}
 use Rattle.mdns_browse.specs.RecordShown.{shown_record}
 use Rattle.mdns_browse.proofs.ListLemmas.{map_more}
 

@@ -2,13 +2,9 @@
 use Rattle.std.proofs.Common.{◌≡◌, ℕ, zero, suc, ◌+◌, ◌-◌, ◌*◌, ◌/◌, ◌%◌, ◌^◌, ◌<◌, ◌≤◌, Bool, true, false, ◌&&◌, T, eqb, inl, inr}
 use Rattle.std.proofs.Common.{List, [], ◌∷◌, ◌++◌, length, take, drop, set, replicate, get_or, ap, sym, ◌∙◌, arith}
 use Rattle.std.proofs.Common.{eq-zero-or-pos, eqb→eq, append_assoc, length-append, length-set, take-take}
-use Rattle.std.proofs.Math.Nat.{sub-zero}
-use Rattle.std.specs.Fmt.{decimal, digit_glyph}
-use Rattle.std.specs.Str.{IsAscii}
+use Rattle.std.proofs.{Math.Nat.{sub-zero}, lemmas.Fmt.{decimal_digit, decimal_step}, lemmas.List.{drop-set, set_comm, take-replicate}}
+use Rattle.std.specs.{Fmt.{decimal, digit_glyph}, Str.{IsAscii}, List.{slice_range}}
 use Rattle.mdns_browse.specs.RecordText.{hex_octet}
-use Rattle.std.specs.List.{slice_range}
-use Rattle.std.proofs.lemmas.Fmt.{decimal_digit, decimal_step}
-use Rattle.std.proofs.lemmas.List.{drop-set, set_comm, take-replicate}
 use lib.Ieee.Fits.{and_l, and_r}
 use Rattle.mdns_browse.specs.declared.digits.TheConstants.{PAIRS}
 

@@ -1,22 +1,16 @@
 -- Instances in readable columns: their lines by the pieces that are written of them.
 use Rattle.std.proofs.Common.{◌≡◌, refl, sym, ◌∙◌, ap, subst, ℕ, ◌==◌, false, true, if◌then◌else◌}
 use Rattle.std.proofs.Common.{List, [], ◌∷◌, ◌++◌, length, map, max, arith, codes}
-use Rattle.std.proofs.lemmas.List.{append-nil, append_assoc, length-map}
-use Rattle.std.proofs.lemmas.Simd.{map-map}
-use Rattle.std.proofs.lemmas.Grind.{flat_map-append}
+use Rattle.std.proofs.lemmas.{List.{append-nil, append_assoc, length-map}, Simd.{map-map}, Grind.{flat_map-append}}
 use Rattle.std.specs.List.{flat_map}
 use Rattle.mdns_join.specs.declared.latest.Latest.{Latest}
-use Rattle.mdns_browse.specs.declared.instance.Server.{Server}
-use Rattle.mdns_browse.specs.declared.instance_sheet.InstanceSheet.{InstanceSheet}
+use Rattle.mdns_browse.specs.declared.{instance.Server.{Server}, instance_sheet.InstanceSheet.{InstanceSheet}}
 use Rattle.mdns_browse.specs.ColumnPieces.{Writes, piece_columns, row_pieces, rows_pieces, type_pieces}
-use Rattle.mdns_browse.specs.Columns.{heading, instance_rows, instances_pretty, line_of_some, time_left_text}
-use Rattle.mdns_browse.specs.Columns.{other_row, others_pretty, rows_by_type, server_line, spaces, type_begin, widest, words_line}
-use Rattle.mdns_browse.specs.Services.{GivenRow, InstanceRow}
-use Rattle.mdns_browse.specs.Sheet.{server_pieces, servers_end, servers_pieces, instance_pieces}
-use Rattle.mdns_browse.specs.RecordShown.{spaced_wide}
+use Rattle.mdns_browse.specs.Columns.{heading, instance_rows, instances_pretty, line_of_some, time_left_text, other_row, others_pretty}
+use Rattle.mdns_browse.specs.{Columns.{rows_by_type, server_line, spaces, type_begin, widest, words_line}, Services.{GivenRow, InstanceRow}}
+use Rattle.mdns_browse.specs.{Sheet.{server_pieces, servers_end, servers_pieces, instance_pieces}, RecordShown.{spaced_wide}}
 use Rattle.mdns_browse.specs.laws.ColumnPieces.{columns-laws}
-use Rattle.mdns_browse.proofs.LineLemmas.{flat_map-map, flat_map-pieces}
-use Rattle.mdns_browse.proofs.InstanceLemmas.{given_in}
+use Rattle.mdns_browse.proofs.{LineLemmas.{flat_map-map, flat_map-pieces}, InstanceLemmas.{given_in}}
 
 -- ---- instances one after another
 

@@ -1,27 +1,17 @@
 -- The instances that records give among rows.
 use Rattle.std.proofs.Common.{◌≡◌, refl, sym, ◌∙◌, ap, ℕ, ◌==◌, Bool, true, false, cond, Option, None, Some, is_some, option_map}
 use Rattle.std.proofs.Common.{List, [], ◌∷◌, ◌++◌, length, map, arith}
-use Rattle.std.proofs.lemmas.Bool.{false≢true}
-use Rattle.std.proofs.lemmas.Bool.Decides.{nat_tests}
-use Rattle.std.proofs.lemmas.List.{map-append}
-use Rattle.std.proofs.lemmas.List.Elements.{filter-append, filter_map-append}
-use Rattle.std.proofs.lemmas.Option.{cond_some, none-some}
+use Rattle.std.proofs.lemmas.{Bool.{false≢true}, Bool.Decides.{nat_tests}, List.{map-append}}
+use Rattle.std.proofs.lemmas.{List.Elements.{filter-append, filter_map-append}, Option.{cond_some, none-some}}
 use Rattle.std.specs.List.{cons_option, filter, filter_map}
-use Rattle.mdns_message.specs.Parts.{pointer_of, service_of, text_of}
-use Rattle.mdns_message.specs.Resource.{Body, number_of}
+use Rattle.mdns_message.specs.{Parts.{pointer_of, service_of, text_of}, Resource.{Body, number_of}, laws.Resource.{set_key_cmp-exact}}
 use Rattle.mdns_message.specs.declared.body.RecordData.TheVariants as body
-use Rattle.mdns_message.specs.laws.Resource.{set_key_cmp-exact}
 use Rattle.mdns_join.specs.declared.latest.Latest.{Latest}
-use Rattle.mdns_browse.specs.About.{keeps_instance}
-use Rattle.mdns_browse.specs.Given.{kept_given}
-use Rattle.mdns_browse.specs.declared.about.Subject.{Subject}
-use Rattle.mdns_browse.specs.declared.instance.Instance.{Instance}
-use Rattle.mdns_browse.specs.declared.instance.Server.{Server}
+use Rattle.mdns_browse.specs.{About.{keeps_instance}, Given.{kept_given}, declared.about.Subject.{Subject}}
+use Rattle.mdns_browse.specs.declared.instance.{Instance.{Instance}, Server.{Server}}
 use Rattle.mdns_browse.specs.Services.{GivenRow, InstanceRow, body_of, given_of, gives_instance, instance_given, instance_in}
 use Rattle.mdns_browse.specs.Services.{instance_row_in, instance_rows_in, lasts_in, name_if, rows_of_set, server_at}
-use Rattle.mdns_browse.proofs.KeptLemmas.{filter-all}
-use Rattle.mdns_browse.proofs.ListLemmas.{through-append}
-use Rattle.mdns_browse.proofs.SearchLemmas.{eq_is}
+use Rattle.mdns_browse.proofs.{KeptLemmas.{filter-all}, ListLemmas.{through-append}, SearchLemmas.{eq_is}}
 
 -- ---- what a record gives
 

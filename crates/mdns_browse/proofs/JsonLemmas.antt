@@ -1,10 +1,7 @@
 -- Texts within strings, one character at a time.
 use Rattle.std.proofs.Common.{◌≡◌, sym, ◌∙◌, ap, ℕ, ◌≤◌, ◌==◌, ◌||◌, Bool, true}
 use Rattle.std.proofs.Common.{false, cond, if◌then◌else◌, List, [], ◌∷◌, ◌++◌, length, nat_lt, arith}
-use Rattle.std.proofs.lemmas.Bool.Decides.{nat_tests}
-use Rattle.std.proofs.lemmas.List.{append-nil, append_assoc}
-use Rattle.std.proofs.lemmas.Grind.{flat_map-append}
-use Rattle.std.proofs.lemmas.Str.{encode_ascii}
+use Rattle.std.proofs.lemmas.{Bool.Decides.{nat_tests}, List.{append-nil, append_assoc}, Grind.{flat_map-append}, Str.{encode_ascii}}
 use Rattle.std.specs.Char.{encode_utf8}
 use Rattle.mdns_browse.specs.Json.{escaped}
 

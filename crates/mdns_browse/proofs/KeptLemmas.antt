@@ -1,14 +1,11 @@
 -- What live records give, and what of it is kept: of records one after another it is what each part gives.
 use Rattle.std.proofs.Common.{arith, ◌≡◌, refl, ap, ℕ, Bool, true, List, [], ◌∷◌, ◌++◌, map, is_some}
-use Rattle.std.proofs.lemmas.List.{map-append}
-use Rattle.std.proofs.lemmas.List.Elements.{filter-append, filter_map-append}
+use Rattle.std.proofs.lemmas.{List.{map-append}, List.Elements.{filter-append, filter_map-append}}
 use Rattle.std.specs.List.{filter, filter_map}
 use Rattle.mdns_join.specs.declared.latest.Latest.{Latest}
-use Rattle.mdns_browse.specs.About.{keeps_record, keeps_type}
-use Rattle.mdns_browse.specs.Report.{records_about, types_about}
+use Rattle.mdns_browse.specs.{About.{keeps_record, keeps_type}, Report.{records_about, types_about}}
 use Rattle.mdns_browse.specs.Services.{GivenRow, given_of, gives_instance, lasts_in, others_in, type_given, types_in}
-use Rattle.mdns_browse.specs.Sheet.{live_record, service_type}
-use Rattle.mdns_browse.specs.declared.about.Subject.{Subject}
+use Rattle.mdns_browse.specs.{Sheet.{live_record, service_type}, declared.about.Subject.{Subject}}
 use Rattle.mdns_browse.proofs.ListLemmas.{through-append}
 
 -- where each value is kept, all are

@@ -1,12 +1,9 @@
 -- The layout of lives.
 use Rattle.std.proofs.Common.{arith, ◌≡◌, ℕ, ◌+◌, max, List, [], ◌∷◌, ◌++◌, length, map, codes}
-use Rattle.std.proofs.lemmas.Grind.{flat_map-append}
-use Rattle.std.proofs.lemmas.List.{append-nil, length-append, map-append}
+use Rattle.std.proofs.lemmas.{Grind.{flat_map-append}, List.{append-nil, length-append, map-append}}
 use Rattle.mdns_join.specs.declared.latest.Latest.{Latest}
 use Rattle.mdns_lives.specs.declared.life.Life.{Life}
-use Rattle.mdns_browse.specs.declared.life_text.Layout.{Layout}
-use Rattle.mdns_browse.specs.LifeText.{IsLayout, end_shown, lives_in}
-use Rattle.mdns_browse.specs.Columns.{widest}
+use Rattle.mdns_browse.specs.{declared.life_text.Layout.{Layout}, LifeText.{IsLayout, end_shown, lives_in}, Columns.{widest}}
 use Rattle.mdns_browse.proofs.ColumnLemmas.{widest-append}
 
 -- without lives the head decides the width

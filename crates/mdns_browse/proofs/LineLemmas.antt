@@ -1,15 +1,11 @@
 -- Lines by the pieces that are written of them.
 use Rattle.std.proofs.Common.{◌≡◌, refl, ◌∙◌, ap, ℕ, ◌==◌, if◌then◌else◌, List, [], ◌∷◌, ◌++◌, length, map, arith, codes}
-use Rattle.std.proofs.lemmas.List.{append-nil, append_assoc}
-use Rattle.std.proofs.lemmas.Grind.{flat_map-append}
-use Rattle.std.specs.Fmt.{decimal}
-use Rattle.std.specs.List.{flat_map}
+use Rattle.std.proofs.lemmas.{List.{append-nil, append_assoc}, Grind.{flat_map-append}}
+use Rattle.std.specs.{Fmt.{decimal}, List.{flat_map}}
 use Rattle.dns_name.specs.Name.{name_text}
-use Rattle.mdns_browse.specs.declared.instance.Server.{Server}
-use Rattle.mdns_browse.specs.RecordText.{data_words, instance_lines, server_lines, spaced}
+use Rattle.mdns_browse.specs.{declared.instance.Server.{Server}, RecordText.{data_words, instance_lines, server_lines, spaced}}
 use Rattle.mdns_browse.specs.Sheet.{server_address, server_end, servers_end, server_pieces, servers_pieces, instance_pieces}
-use Rattle.mdns_browse.specs.LinePieces.{piece_lines}
-use Rattle.mdns_browse.specs.Services.{InstanceRow}
+use Rattle.mdns_browse.specs.{LinePieces.{piece_lines}, Services.{InstanceRow}}
 
 pub flat_map-map : {X P : Type 0} (text_of : P → List ℕ) (piece : X → P) (xs : List X)
     → flat_map text_of (map piece xs) ≡ flat_map (λ x. text_of (piece x)) xs

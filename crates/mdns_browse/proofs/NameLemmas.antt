@@ -1,19 +1,15 @@
 -- One label and then a rest: how the bytes of a name decide this, and what a record gives by the names in it.
 use Rattle.std.proofs.Common.{◌≡◌, refl, sym, ◌∙◌, ap, ℕ, suc, ◌≤◌, inl, inr, ◌↔◌, Bool, true, ◌&&◌, nat_le, min}
 use Rattle.std.proofs.Common.{Decides, Option, None, Some, List, [], ◌∷◌, ◌++◌, length, length-append, take, drop, codes, arith}
-use Rattle.std.proofs.Math.Seq.{drop-append_seam}
-use Rattle.std.proofs.lemmas.Bool.{false≢true}
+use Rattle.std.proofs.{Math.Seq.{drop-append_seam}, lemmas.Bool.{false≢true}}
 use Rattle.std.proofs.lemmas.Bool.Decides.{Decides-and, Decides-like, Decides-not, Decides-or, nat_tests, same_from_decides}
-use Rattle.std.proofs.lemmas.List.{length-take-le, take-append-drop}
-use Rattle.std.proofs.lemmas.Option.{cond_some, none-some, same_Some}
-use Rattle.std.specs.Char.{to_ascii_lowercase}
-use Rattle.std.specs.Cmp.Lexicographic.{slice_cmp, bytes_decides, texts_ties}
-use Rattle.std.specs.Ordering.{is_eq, nat_cmp}
+use Rattle.std.proofs.lemmas.{List.{length-take-le, take-append-drop}, Option.{cond_some, none-some, same_Some}}
+use Rattle.std.specs.{Char.{to_ascii_lowercase}, Cmp.Lexicographic.{slice_cmp, bytes_decides, texts_ties}, Ordering.{is_eq, nat_cmp}}
 use Rattle.dns_name.specs.Name.{IsLabel, folded, longest_label, wire_of}
 use Rattle.mdns_join.specs.declared.latest.Latest.{Latest}
 use Rattle.mdns_browse.specs.Services.{GivesInstance, GivesOther, GivesType, IsServiceName, IsInstanceOf, body_of, instance_given}
-use Rattle.mdns_message.specs.Parts.{pointer_of}
 use Rattle.mdns_browse.specs.Services.{is_instance_of, is_service_name, name_if, other_given, same_text, type_given, types_owner}
+use Rattle.mdns_message.specs.Parts.{pointer_of}
 
 -- ---- folding
 

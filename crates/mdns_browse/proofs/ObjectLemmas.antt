@@ -1,22 +1,16 @@
 -- Objects by the pieces that are written of them.
 use Rattle.std.proofs.Common.{arith, ◌≡◌, refl, ◌∙◌, ap, ℕ, Bool, true, false, List, [], ◌∷◌, ◌++◌, map, codes}
 use Rattle.std.proofs.lemmas.List.{append-nil, append_assoc}
-use Rattle.std.specs.Fmt.{decimal}
-use Rattle.std.specs.List.{flat_map}
-use Rattle.std.specs.String.{string_bytes}
+use Rattle.std.specs.{Fmt.{decimal}, List.{flat_map}, String.{string_bytes}}
 use Rattle.dns_name.specs.Name.{name_text}
 use Rattle.mdns_capture.specs.Text.{moment_text}
-use Rattle.mdns_message.specs.Resource.{Body, type_name, type_of}
-use Rattle.mdns_message.specs.declared.resource.Resource.{Resource}
+use Rattle.mdns_message.specs.{Resource.{Body, type_name, type_of}, declared.resource.Resource.{Resource}}
 use Rattle.mdns_join.specs.declared.latest.Latest.{Latest}
 use Rattle.mdns_lives.specs.declared.life.Life.{Life}
-use Rattle.mdns_browse.specs.declared.instance.Server.{Server}
-use Rattle.mdns_browse.specs.declared.report_json.Objects.{Objects}
-use Rattle.mdns_browse.specs.RecordShown.{shown_record}
+use Rattle.mdns_browse.specs.{declared.instance.Server.{Server}, declared.report_json.Objects.{Objects}, RecordShown.{shown_record}}
 use Rattle.mdns_browse.specs.RecordText.{data_words, text_words}
 use Rattle.mdns_browse.specs.Json.{escaped, parted, comma_unless, first_after, json_string, json_words, json_member, json_object}
-use Rattle.mdns_browse.specs.Json.{record_json, type_json, server_json, instance_json}
-use Rattle.mdns_browse.specs.Services.{InstanceRow}
+use Rattle.mdns_browse.specs.{Json.{record_json, type_json, server_json, instance_json}, Services.{InstanceRow}}
 use Rattle.mdns_browse.specs.Sheet.{Piece, live_record, service_type, server_address, instance_text, server_pieces, instance_pieces}
 use Rattle.mdns_browse.specs.LifeText.{end_text, life_json, life_rest, resource_json}
 use Rattle.mdns_browse.specs.JsonPieces.{piece_json, piece_next, pieces_json, pieces_next, strings_json, Grows}

@@ -4,17 +4,10 @@ use Rattle.std.specs.List.{flat_map}
 use Rattle.dns_name.specs.Name.{name_text}
 use Rattle.mdns_message.specs.declared.hearing.Hearing.{Hearing}
 use Rattle.mdns_join.specs.declared.latest.Latest.{Latest}
-use Rattle.mdns_browse.specs.About.{keeps_instance, keeps_record, keeps_type}
-use Rattle.mdns_browse.specs.Report.{IsReport, IsReportIn, lines_in, text_about}
-use Rattle.mdns_browse.specs.Services.{lasts_in, types_in}
-use Rattle.mdns_browse.specs.RecordText.{record_line}
-use Rattle.mdns_browse.specs.declared.report.Ask.{Ask}
-use Rattle.mdns_browse.specs.declared.report.Ask.TheVariants.{Records, Types, Instances}
-use Rattle.mdns_browse.specs.declared.report.Form.TheVariants.{Lines}
-use Rattle.mdns_browse.proofs.InstanceLemmas.{instances-shown}
-use Rattle.mdns_browse.proofs.KeptLemmas.{filter-all}
-use Rattle.mdns_browse.proofs.LineLemmas.{flat_map-map}
-use Rattle.mdns_browse.proofs.RowLemmas.{like_value}
+use Rattle.mdns_browse.specs.{About.{keeps_instance, keeps_record, keeps_type}, Report.{IsReport, IsReportIn, lines_in, text_about}}
+use Rattle.mdns_browse.specs.{Services.{lasts_in, types_in}, RecordText.{record_line}, declared.report.Ask.{Ask}}
+use Rattle.mdns_browse.specs.declared.report.{Ask.TheVariants.{Records, Types, Instances}, Form.TheVariants.{Lines}}
+use Rattle.mdns_browse.proofs.{InstanceLemmas.{instances-shown}, KeptLemmas.{filter-all}, LineLemmas.{flat_map-map}, RowLemmas.{like_value}}
 
 all_lines : (ask : Ask) (now : ℕ) (rows : List (Latest × ℕ)) → text_about [] Lines now ask rows ≡ lines_in ask rows
 unfolding keeps_record keeps_type keeps_instance

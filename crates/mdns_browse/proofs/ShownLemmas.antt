@@ -1,7 +1,6 @@
 -- Texts for people, one string at a time.
 use Rattle.std.proofs.Common.{arith, ◌≡◌, refl, sym, ◌∙◌, ap, ℕ, List, [], ◌∷◌, ◌++◌}
-use Rattle.std.proofs.lemmas.List.{append-nil, append_assoc}
-use Rattle.std.proofs.lemmas.Grind.{flat_map-append}
+use Rattle.std.proofs.lemmas.{List.{append-nil, append_assoc}, Grind.{flat_map-append}}
 use Rattle.mdns_message.specs.TextData.{strings_of}
 use Rattle.mdns_browse.specs.RecordShown.{shown_string, shown_strings, spaced_wide}
 

@@ -1,28 +1,17 @@
 -- What is about a subject: a name, a word of data or an address for which somebody asks.
 use Rattle.std.specs.Prelude.{ℕ, ◌==◌, Bool, false, ◌||◌, List, [], ◌∷◌, ◌++◌, length, Option, Some, None, codes, string_bytes}
-use Rattle.std.specs.Option.{option_map_or}
-use Rattle.std.specs.Cmp.Lexicographic.{slice_cmp}
-use Rattle.std.specs.Fmt.{decimal}
-use Rattle.std.specs.List.{list_any}
-use Rattle.std.specs.Net.Addr.{ipv4_octets, ipv6_octets}
-use Rattle.std.specs.Ordering.{is_eq, nat_cmp}
-use Rattle.std.specs.declared.net.ip_addr.IpAddr.{IpAddr}
+use Rattle.std.specs.{Option.{option_map_or}, Cmp.Lexicographic.{slice_cmp}, Fmt.{decimal}, List.{list_any}}
+use Rattle.std.specs.{Net.Addr.{ipv4_octets, ipv6_octets}, Ordering.{is_eq, nat_cmp}, declared.net.ip_addr.IpAddr.{IpAddr}}
 use Rattle.std.specs.declared.net.ip_addr.IpAddr.TheVariants.{V4, V6}
 use Rattle.dns_name.specs.Name.{labels_of, label_text, name_text, wire_of}
-use Rattle.mdns_message.specs.Resource.{Body}
-use Rattle.mdns_message.specs.Parts.{content_of, service_of}
-use Rattle.mdns_message.specs.declared.parts.Address.TheVariants as address
-use Rattle.mdns_message.specs.declared.parts.Content.{Content}
-use Rattle.mdns_message.specs.declared.parts.Content.TheVariants as content
+use Rattle.mdns_message.specs.{Resource.{Body}, Parts.{content_of, service_of}, declared.parts.Content.{Content}}
 use Rattle.mdns_message.specs.declared.resource.Resource.{Resource}
+use Rattle.mdns_message.specs.declared.parts.Address.TheVariants as address
+use Rattle.mdns_message.specs.declared.parts.Content.TheVariants as content
 use Rattle.mdns_join.specs.declared.latest.Latest.{Latest}
 use Rattle.people_text.specs.Shown.{dotted, name_shown, shown}
-use Rattle.mdns_browse.specs.declared.about.Subject.{Subject}
-use Rattle.mdns_browse.specs.declared.instance.Instance.{Instance}
-use Rattle.mdns_browse.specs.declared.instance.Server.{Server}
-use Rattle.mdns_browse.specs.NameSaid.{front}
-use Rattle.mdns_browse.specs.Services.{instance_in, same_text, server_at}
-use Rattle.mdns_browse.specs.RecordShown.{shown_strings}
+use Rattle.mdns_browse.specs.declared.{about.Subject.{Subject}, instance.Instance.{Instance}, instance.Server.{Server}}
+use Rattle.mdns_browse.specs.{NameSaid.{front}, Services.{instance_in, same_text, server_at}, RecordShown.{shown_strings}}
 use Rattle.mdns_browse.specs.RecordText.{text_words}
 
 -- the word is one of the texts

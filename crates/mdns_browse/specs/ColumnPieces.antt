@@ -1,16 +1,12 @@
 -- The pieces of instances in readable columns.
 use Rattle.std.specs.Prelude.{◌≡◌, ℕ, if◌then◌else◌, List, [], ◌∷◌, ◌++◌, codes, string_bytes}
-use Rattle.std.specs.Cmp.Lexicographic.{slice_cmp}
-use Rattle.std.specs.Ordering.{is_eq, nat_cmp}
-use Rattle.std.specs.List.{flat_map}
+use Rattle.std.specs.{Cmp.Lexicographic.{slice_cmp}, Ordering.{is_eq, nat_cmp}, List.{flat_map}}
 use Rattle.dns_name.specs.Name.{folded}
 use Rattle.mdns_message.specs.declared.body.RecordData.TheVariants as body
 use Rattle.mdns_browse.specs.declared.instance_sheet.InstanceSheet.{InstanceSheet}
-use Rattle.mdns_browse.specs.Columns.{instance_row, spaces, text_row, type_row, words_line}
-use Rattle.mdns_browse.specs.Services.{InstanceRow}
-use Rattle.mdns_browse.specs.Sheet.{Piece, live_record, service_type, instance_begin, server_begin, server_address}
-use Rattle.mdns_browse.specs.Sheet.{server_end, servers_end, instance_text, instance_end, instance_pieces}
-use Rattle.mdns_browse.specs.RecordShown.{shown_words, spaced_wide}
+use Rattle.mdns_browse.specs.{Columns.{instance_row, spaces, text_row, type_row, words_line}, Services.{InstanceRow}}
+use Rattle.mdns_browse.specs.Sheet.{Piece, live_record, service_type, instance_begin, server_begin, server_address, server_end, servers_end}
+use Rattle.mdns_browse.specs.{Sheet.{instance_text, instance_end, instance_pieces}, RecordShown.{shown_words, spaced_wide}}
 
 -- the text of a piece; columns of instances have no other records
 abbrev pub piece_columns : ℕ → ℕ → Piece → List ℕ

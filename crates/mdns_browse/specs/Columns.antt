@@ -1,19 +1,14 @@
 -- Reports in readable columns, for people. Each column but the last has ASCII alone and is padded with spaces, so that the
 -- columns stand straight whatever the widths of other characters.
 use Rattle.std.specs.Prelude.{ℕ, zero, suc, ◌+◌, ◌-◌, ◌==◌, max, nat_lt, if◌then◌else◌, List, [], ◌∷◌, ◌++◌, length, map, codes}
-use Rattle.std.specs.Fmt.{decimal}
-use Rattle.std.specs.List.{flat_map}
-use Rattle.std.specs.Cmp.Lexicographic.{slice_cmp}
-use Rattle.std.specs.Ordering.{is_eq, nat_cmp}
+use Rattle.std.specs.{Fmt.{decimal}, List.{flat_map}, Cmp.Lexicographic.{slice_cmp}, Ordering.{is_eq, nat_cmp}}
 use Rattle.dns_name.specs.Name.{folded}
 use Rattle.mdns_message.specs.declared.body.RecordData.TheVariants as body
 use Rattle.mdns_message.specs.Resource.{type_name, type_of}
 use Rattle.mdns_join.specs.declared.latest.Latest.{Latest}
 use Rattle.mdns_cache.specs.Live.{life_of}
-use Rattle.people_text.specs.MomentText.{duration_text, millis_text, seconds_text}
-use Rattle.people_text.specs.Shown.{name_shown}
-use Rattle.mdns_browse.specs.declared.instance.Server.{Server}
-use Rattle.mdns_browse.specs.Services.{GivenRow, InstanceRow}
+use Rattle.people_text.specs.{MomentText.{duration_text, millis_text, seconds_text}, Shown.{name_shown}}
+use Rattle.mdns_browse.specs.{declared.instance.Server.{Server}, Services.{GivenRow, InstanceRow}}
 use Rattle.mdns_browse.specs.RecordShown.{shown_instance, shown_record, shown_strings, shown_words, spaced_wide}
 
 -- ---- columns

@@ -4,9 +4,7 @@ use Rattle.std.specs.List.{filter, filter_map}
 use Rattle.mdns_capture.specs.declared.moment.Moment.{Moment}
 use Rattle.mdns_join.specs.declared.latest.Latest.{Latest}
 use Rattle.mdns_cache.specs.LentRecords.{last_lent}
-use Rattle.mdns_browse.specs.About.{keeps_instance}
-use Rattle.mdns_browse.specs.declared.about.Subject.{Subject}
-use Rattle.mdns_browse.specs.declared.sheet.InstancePointer.{InstancePointer}
+use Rattle.mdns_browse.specs.{About.{keeps_instance}, declared.about.Subject.{Subject}, declared.sheet.InstancePointer.{InstancePointer}}
 use Rattle.mdns_browse.specs.Services.{GivenRow, InstanceRow, instance_row_in}
 
 -- a moment in nanoseconds, where there is one

@@ -1,16 +1,12 @@
 -- Records and services as JSON (RFC 8259): one object a line.
 use Rattle.std.specs.Prelude.{ℕ, Bool, true, false, ◌==◌, ◌||◌, if◌then◌else◌, List, [], ◌∷◌, ◌++◌, map, codes}
-use Rattle.std.specs.Fmt.{decimal}
-use Rattle.std.specs.List.{flat_map}
+use Rattle.std.specs.{Fmt.{decimal}, List.{flat_map}}
 use Rattle.dns_name.specs.Name.{name_text}
-use Rattle.mdns_message.specs.Resource.{type_name, type_of}
-use Rattle.mdns_message.specs.declared.resource.Resource.{Resource}
+use Rattle.mdns_message.specs.{Resource.{type_name, type_of}, declared.resource.Resource.{Resource}}
 use Rattle.mdns_join.specs.declared.latest.Latest.{Latest}
-use Rattle.mdns_browse.specs.declared.instance.Server.{Server}
-use Rattle.people_text.specs.Shown.{name_shown}
-use Rattle.mdns_browse.specs.Services.{InstanceRow}
-use Rattle.mdns_browse.specs.RecordShown.{shown_instance, shown_record}
+use Rattle.mdns_browse.specs.{declared.instance.Server.{Server}, Services.{InstanceRow}, RecordShown.{shown_instance, shown_record}}
 use Rattle.mdns_browse.specs.RecordText.{data_words, text_words}
+use Rattle.people_text.specs.Shown.{name_shown}
 use Rattle.mdns_capture.specs.Text.{moment_text}
 
 -- a text within a string, `"` and `\` after a `\`. No text here has a control character, so nothing else has to be escaped: words

@@ -3,10 +3,8 @@ use Rattle.std.specs.Prelude.{◌≡◌, ◌==◌, ℕ, Bool, true, false, List,
 use Rattle.std.specs.Fmt.{decimal}
 use Rattle.dns_name.specs.Name.{name_text}
 use Rattle.people_text.specs.Shown.{name_shown}
-use Rattle.mdns_browse.specs.Sheet.{Piece, live_record, service_type, instance_begin, server_begin, server_address}
-use Rattle.mdns_browse.specs.Sheet.{server_end, servers_end, instance_text, instance_end}
-use Rattle.mdns_browse.specs.RecordShown.{shown_instance}
-use Rattle.mdns_browse.specs.RecordText.{data_words, text_words}
+use Rattle.mdns_browse.specs.Sheet.{Piece, live_record, service_type, instance_begin, server_begin, server_address, server_end, servers_end}
+use Rattle.mdns_browse.specs.{Sheet.{instance_text, instance_end}, RecordShown.{shown_instance}, RecordText.{data_words, text_words}}
 use Rattle.mdns_browse.specs.Json.{json_string, json_bool, json_words, record_json, type_json, comma_unless, parted, first_after}
 use Rattle.mdns_browse.specs.declared.report_json.Objects.{Objects}
 

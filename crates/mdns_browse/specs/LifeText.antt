@@ -1,25 +1,16 @@
 -- The lives of records as text.
 use Rattle.std.specs.Prelude.{◌≡◌, ℕ, nat_lt, ◌==◌, if◌then◌else◌, List, [], ◌∷◌, ◌++◌, length, map, codes}
-use Rattle.std.specs.Fmt.{decimal}
-use Rattle.std.specs.List.{flat_map}
+use Rattle.std.specs.{Fmt.{decimal}, List.{flat_map}}
 use Rattle.mdns_capture.specs.Text.{moment_text}
 use Rattle.dns_name.specs.Name.{name_text}
-use Rattle.mdns_message.specs.Resource.{type_name, type_of}
-use Rattle.mdns_message.specs.declared.resource.Resource.{Resource}
+use Rattle.mdns_message.specs.{Resource.{type_name, type_of}, declared.resource.Resource.{Resource}}
 use Rattle.mdns_join.specs.declared.latest.Latest.{Latest}
-use Rattle.mdns_lives.specs.declared.life.Life.{Life}
-use Rattle.mdns_lives.specs.declared.life.EndReason.{EndReason}
-use Rattle.mdns_lives.specs.declared.life.EndReason.TheVariants.{Expired, Goodbye, Flushed}
-use Rattle.mdns_lives.specs.declared.life.Which.{Which}
-use Rattle.mdns_lives.specs.declared.life.Which.TheVariants.{All, Changes}
-use Rattle.mdns_browse.specs.declared.report.Form.{Form}
-use Rattle.mdns_browse.specs.declared.report.Form.TheVariants.{Lines, Json, Pretty}
-use Rattle.people_text.specs.MomentText.{millis_text}
-use Rattle.mdns_browse.specs.declared.life_text.Layout.{Layout}
-use Rattle.mdns_browse.specs.Columns.{padded, widest}
-use Rattle.mdns_browse.specs.RecordShown.{shown_record}
-use Rattle.mdns_browse.specs.RecordText.{data_words, resource_text}
+use Rattle.mdns_lives.specs.declared.life.{Life.{Life}, EndReason.{EndReason}, EndReason.TheVariants.{Expired, Goodbye, Flushed}}
+use Rattle.mdns_lives.specs.declared.life.{Which.{Which}, Which.TheVariants.{All, Changes}}
+use Rattle.mdns_browse.specs.declared.{report.Form.{Form}, report.Form.TheVariants.{Lines, Json, Pretty}, life_text.Layout.{Layout}}
+use Rattle.mdns_browse.specs.{Columns.{padded, widest}, RecordShown.{shown_record}, RecordText.{data_words, resource_text}}
 use Rattle.mdns_browse.specs.Json.{json_string, json_member, json_object, json_words, resource_members, text_member}
+use Rattle.people_text.specs.MomentText.{millis_text}
 
 -- why a life ended, as a word
 abbrev pub reason_text : EndReason → List ℕ

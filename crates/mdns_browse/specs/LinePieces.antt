@@ -2,9 +2,8 @@
 use Rattle.std.specs.Prelude.{ℕ, if◌then◌else◌, List, [], ◌∷◌, ◌++◌, codes}
 use Rattle.std.specs.Fmt.{decimal}
 use Rattle.dns_name.specs.Name.{name_text}
-use Rattle.mdns_browse.specs.Sheet.{Piece, live_record, service_type, instance_begin, server_begin, server_address}
-use Rattle.mdns_browse.specs.Sheet.{server_end, servers_end, instance_text, instance_end}
-use Rattle.mdns_browse.specs.RecordText.{data_words, record_line, spaced, text_words}
+use Rattle.mdns_browse.specs.Sheet.{Piece, live_record, service_type, instance_begin, server_begin, server_address, server_end, servers_end}
+use Rattle.mdns_browse.specs.{Sheet.{instance_text, instance_end}, RecordText.{data_words, record_line, spaced, text_words}}
 
 -- the lines of a piece
 abbrev pub piece_lines : Piece → List ℕ

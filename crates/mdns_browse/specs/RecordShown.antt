@@ -1,18 +1,11 @@
 -- Records and services as text for people.
 use Rattle.std.specs.Prelude.{ℕ, ◌==◌, ◌&&◌, if◌then◌else◌, List, [], ◌∷◌, ◌++◌, slice_index_or, codes}
-use Rattle.std.specs.Fmt.{decimal}
-use Rattle.std.specs.List.{flat_map}
+use Rattle.std.specs.{Fmt.{decimal}, List.{flat_map}}
 use Rattle.dns_name.specs.Name.{labels_of}
-use Rattle.mdns_message.specs.Resource.{Body}
-use Rattle.mdns_message.specs.TextData.{strings_of}
-use Rattle.mdns_message.specs.declared.resource.Resource.{Resource}
-use Rattle.mdns_message.specs.Parts.{content_of}
-use Rattle.mdns_message.specs.declared.parts.Address.{Address}
-use Rattle.mdns_message.specs.declared.parts.Address.TheVariants.{V4, V6}
-use Rattle.mdns_message.specs.declared.parts.Content.{Content}
+use Rattle.mdns_message.specs.{Resource.{Body}, TextData.{strings_of}, declared.resource.Resource.{Resource}, Parts.{content_of}}
+use Rattle.mdns_message.specs.declared.parts.{Address.{Address}, Address.TheVariants.{V4, V6}, Content.{Content}}
 use Rattle.mdns_message.specs.declared.parts.Content.TheVariants as content
-use Rattle.people_text.specs.Address.{ipv6_short}
-use Rattle.people_text.specs.Shown.{name_shown, shown}
+use Rattle.people_text.specs.{Address.{ipv6_short}, Shown.{name_shown, shown}}
 use Rattle.mdns_browse.specs.RecordText.{ipv4_text}
 
 -- one word for a string that isn't empty, none for an empty one

@@ -1,22 +1,15 @@
 -- Records and services as text: presentation form after RFC 1035, section 5.1, and this project's own lines.
 use Rattle.std.specs.Prelude.{ℕ, false, ◌+◌, ◌*◌, ◌/◌, ◌%◌, ◌==◌, nat_lt, if◌then◌else◌}
 use Rattle.std.specs.Prelude.{List, [], ◌∷◌, ◌++◌, length, slice_index, codes}
-use Rattle.std.specs.Fmt.{decimal, digit_glyph}
-use Rattle.std.specs.List.{flat_map}
+use Rattle.std.specs.{Fmt.{decimal, digit_glyph}, List.{flat_map}}
 unfoldable pub use Rattle.mdns_capture.specs.Text.{moment_text}
 use Rattle.dns_name.specs.Name.{name_text}
-use Rattle.mdns_message.specs.Resource.{type_name, type_of, Body}
-use Rattle.mdns_message.specs.TextData.{string_text, strings_of}
+use Rattle.mdns_message.specs.{Resource.{type_name, type_of, Body}, TextData.{string_text, strings_of}}
+use Rattle.mdns_message.specs.{declared.resource.Resource.{Resource}, Parts.{content_of}, declared.parts.Address.{Address}}
+use Rattle.mdns_message.specs.declared.parts.{Address.TheVariants.{V4, V6}, Content.{Content}}
 use Rattle.mdns_join.specs.declared.latest.Latest.{Latest}
-use Rattle.mdns_message.specs.declared.resource.Resource.{Resource}
-use Rattle.mdns_message.specs.Parts.{content_of}
-use Rattle.mdns_message.specs.declared.parts.Address.{Address}
-use Rattle.mdns_message.specs.declared.parts.Address.TheVariants.{V4, V6}
-use Rattle.mdns_message.specs.declared.parts.Content.{Content}
 use Rattle.mdns_message.specs.declared.parts.Content.TheVariants as content
-use Rattle.mdns_browse.specs.declared.instance.Instance.{Instance}
-use Rattle.mdns_browse.specs.declared.instance.Server.{Server}
-use Rattle.mdns_browse.specs.declared.data_words.Word.{Word}
+use Rattle.mdns_browse.specs.declared.{instance.Instance.{Instance}, instance.Server.{Server}, data_words.Word.{Word}}
 use Rattle.mdns_browse.specs.declared.data_words.Word.TheVariants.{Ipv4, Ipv6, Name as NameWord, Number, String as StringWord, Moment}
 
 -- one word for a string that isn't empty, none for an empty one

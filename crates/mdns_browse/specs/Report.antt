@@ -5,17 +5,12 @@ use Rattle.dns_name.specs.Name.{name_text}
 use Rattle.mdns_capture.specs.declared.moment.Moment.{Moment}
 use Rattle.mdns_message.specs.declared.hearing.Hearing.{Hearing}
 use Rattle.mdns_join.specs.declared.latest.Latest.{Latest}
-use Rattle.mdns_browse.specs.About.{keeps_instance, keeps_record, keeps_type}
-use Rattle.mdns_browse.specs.declared.about.Subject.{Subject}
-use Rattle.mdns_browse.specs.RecordText.{instance_lines, record_line}
-use Rattle.mdns_browse.specs.Json.{record_json, type_json, instance_json}
+use Rattle.mdns_browse.specs.{About.{keeps_instance, keeps_record, keeps_type}, declared.about.Subject.{Subject}}
+use Rattle.mdns_browse.specs.{RecordText.{instance_lines, record_line}, Json.{record_json, type_json, instance_json}}
 use Rattle.mdns_browse.specs.Columns.{instances_pretty, records_pretty, types_pretty}
 use Rattle.mdns_browse.specs.Services.{InstanceRow, IsOfLive, given_of, instance_rows_in, instances_in, lasts_in, others_in, types_in}
-use Rattle.mdns_browse.specs.declared.report.Ask.{Ask}
-use Rattle.mdns_browse.specs.declared.report.Ask.TheVariants.{Records, Types, Instances}
-use Rattle.mdns_browse.specs.declared.report.Form.{Form}
-use Rattle.mdns_browse.specs.declared.report.Form.TheVariants.{Lines, Json, Pretty}
-use Rattle.mdns_browse.specs.declared.report.ReportFault.{ReportFault}
+use Rattle.mdns_browse.specs.declared.report.{Ask.{Ask}, Ask.TheVariants.{Records, Types, Instances}, Form.{Form}}
+use Rattle.mdns_browse.specs.declared.report.{Form.TheVariants.{Lines, Json, Pretty}, ReportFault.{ReportFault}}
 use Rattle.mdns_browse.specs.declared.report.ReportFault.TheVariants.{Early, Memory}
 
 -- the lines of words that answer the question of live records with their ends: a line for each record, for each service type,

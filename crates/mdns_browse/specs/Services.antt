@@ -2,21 +2,14 @@
 -- section 16), and each is spelled as in the record that gives it.
 use Rattle.std.specs.Prelude.{◌≡◌, ◌⊎◌, ℕ, Bool, false, not, ◌&&◌, ◌||◌, nat_le, min, if◌then◌else◌, List, [], ◌∷◌, ◌++◌}
 use Rattle.std.specs.Prelude.{length, map, drop, codes, Option, None, Some, is_some, option_map}
-use Rattle.std.specs.Cmp.Lexicographic.{slice_cmp}
-use Rattle.std.specs.List.{filter, filter_map}
-use Rattle.std.specs.List.Sorted.{IsStrictlySortedBy}
-use Rattle.std.specs.Ordering.{is_eq, nat_cmp}
-use Rattle.mdns_message.specs.declared.hearing.Hearing.{Hearing}
-use Rattle.mdns_message.specs.Parts.{pointer_of, service_of, text_of}
-use Rattle.mdns_message.specs.RecordSet.{RecordSet}
-use Rattle.mdns_message.specs.Resource.{Body, type_number, key_cmp, set_key_cmp}
-use Rattle.mdns_message.specs.declared.parts.Service.{Service}
+use Rattle.std.specs.{Cmp.Lexicographic.{slice_cmp}, List.{filter, filter_map}, List.Sorted.{IsStrictlySortedBy}, Ordering.{is_eq, nat_cmp}}
+use Rattle.mdns_message.specs.{declared.hearing.Hearing.{Hearing}, Parts.{pointer_of, service_of, text_of}, RecordSet.{RecordSet}}
+use Rattle.mdns_message.specs.{Resource.{Body, type_number, key_cmp, set_key_cmp}, declared.parts.Service.{Service}}
 use Rattle.mdns_message.specs.declared.record_type.RecordType.TheVariants as kind
 use Rattle.dns_name.specs.Name.{IsLabel, folded, longest_label, wire_of}
 use Rattle.mdns_join.specs.declared.latest.Latest.{Latest}
 use Rattle.mdns_cache.specs.Live.{AreLiveRecords, key_of_last}
-use Rattle.mdns_browse.specs.declared.instance.Instance.{Instance}
-use Rattle.mdns_browse.specs.declared.instance.Server.{Server}
+use Rattle.mdns_browse.specs.declared.instance.{Instance.{Instance}, Server.{Server}}
 
 -- ---- names by their labels
 

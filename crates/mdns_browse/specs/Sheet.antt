@@ -1,15 +1,11 @@
 -- The pieces of a report, in the order in which a sheet takes them.
 use Rattle.std.specs.Prelude.{◌≡◌, ℕ, Bool, ◌==◌, List, [], ◌∷◌, ◌++◌, length, map, string_bytes}
-use Rattle.std.specs.declared.string.String.{String}
-use Rattle.std.specs.List.{flat_map}
+use Rattle.std.specs.{declared.string.String.{String}, List.{flat_map}}
 use Rattle.mdns_message.specs.Resource.{Body}
 use Rattle.mdns_join.specs.declared.latest.Latest.{Latest}
-use Rattle.mdns_browse.specs.declared.about.Subject.{Subject}
-use Rattle.mdns_browse.specs.declared.instance.Server.{Server}
-use Rattle.mdns_browse.specs.declared.report.Ask.{Ask}
+use Rattle.mdns_browse.specs.declared.{about.Subject.{Subject}, instance.Server.{Server}, report.Ask.{Ask}}
 use Rattle.mdns_browse.specs.declared.report.Ask.TheVariants.{Records, Types, Instances}
-use Rattle.mdns_browse.specs.Report.{instances_about, records_about, types_about}
-use Rattle.mdns_browse.specs.Services.{GivenRow, InstanceRow}
+use Rattle.mdns_browse.specs.{Report.{instances_about, records_about, types_about}, Services.{GivenRow, InstanceRow}}
 
 -- a piece of a report
 pub data Piece : Type 0 where

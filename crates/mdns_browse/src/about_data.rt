@@ -1,14 +1,11 @@
 //! Which data of records has a subject.
 
 ghost use Rattle.std.specs.Prelude.{◌≡◌, ◌||◌, ◌++◌, ◌∷◌, IfOk, string_bytes};
-ghost use Rattle.std.specs.Fmt.{decimal};
-ghost use Rattle.std.specs.List.{list_any};
-ghost use Rattle.mdns_message.specs.Borrowed.{body_lent};
-ghost use Rattle.mdns_message.specs.Parts.{content_lent, service_lent};
+ghost use Rattle.std.specs.{Fmt.{decimal}, List.{list_any}};
+ghost use Rattle.mdns_message.specs.{Borrowed.{body_lent}, Parts.{content_lent, service_lent}};
 ghost use Rattle.people_text.specs.Shown.{name_shown};
 ghost use Rattle.mdns_browse.specs.About.{is_in_content, is_in_data, is_one_of, is_text_about, matches_address};
-ghost use Rattle.mdns_browse.specs.RecordShown.{shown_string};
-ghost use Rattle.mdns_browse.specs.RecordText.{string_words};
+ghost use Rattle.mdns_browse.specs.{RecordShown.{shown_string}, RecordText.{string_words}};
 
 use crate::about::Subject;
 use crate::about_names::{matches_bytes, matches_name, matches_number, matches_text};

@@ -1,8 +1,7 @@
 //! Which texts and names are subjects.
 
 ghost use Rattle.std.specs.Prelude.{◌≡◌, ◌++◌, ◌||◌, ℕ, List, IfOk, IfNone, IfSome, codes, string_bytes, false};
-ghost use Rattle.std.specs.Fmt.{decimal};
-ghost use Rattle.std.specs.List.{list_any};
+ghost use Rattle.std.specs.{Fmt.{decimal}, List.{list_any}};
 ghost use Rattle.dns_name.specs.Name.{bytes_text, labels_of};
 ghost use Rattle.people_text.specs.Shown.{shown};
 ghost use Rattle.mdns_browse.specs.About.{matches_rest, matches_said, is_text_about, matches_text_in_local, is_name_about};

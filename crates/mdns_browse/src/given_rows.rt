@@ -3,9 +3,7 @@
 ghost use Rattle.std.specs.Prelude.{◌≡◌, ◌++◌, ◌∷◌, [], List, map, IfOk, OnOk};
 ghost use Rattle.std.specs.List.{filter};
 ghost use Rattle.mdns_cache.specs.LentRecords.{last_lent};
-ghost use Rattle.mdns_browse.specs.About.{keeps_instance};
-ghost use Rattle.mdns_browse.specs.Given.{given_lent, kept_given};
-ghost use Rattle.mdns_browse.specs.Report.{instances_about};
+ghost use Rattle.mdns_browse.specs.{About.{keeps_instance}, Given.{given_lent, kept_given}, Report.{instances_about}};
 ghost use Rattle.mdns_browse.specs.Services.{AreAscending, GivenRow, given_of, gives_instance, instance_rows_in, lasts_in};
 
 use crate::about::Subject;

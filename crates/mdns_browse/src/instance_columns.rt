@@ -1,19 +1,13 @@
 //! The report of service instances in readable columns.
 
 ghost use Rattle.std.specs.Prelude.{◌≡◌, List, [], map, max, IfOk, OnOk};
-ghost use Rattle.std.specs.List.{filter_map};
-ghost use Rattle.std.specs.String.{string_bytes};
+ghost use Rattle.std.specs.{List.{filter_map}, String.{string_bytes}};
 ghost use Rattle.mdns_message.specs.declared.hearing.Hearing.{Hearing};
-ghost use Rattle.mdns_cache.specs.Contents.{StandsFor};
-ghost use Rattle.mdns_cache.specs.Live.{NoneLater};
-ghost use Rattle.mdns_cache.specs.LentRecords.{last_lent, live_record_lent};
-ghost use Rattle.mdns_browse.specs.Given.{given_lent};
-ghost use Rattle.mdns_browse.specs.ColumnPieces.{Writes, row_pieces, rows_pieces, type_pieces};
-ghost use Rattle.mdns_browse.specs.Columns.{time_left_text, widest};
-ghost use Rattle.mdns_browse.specs.Report.{IsReportIn};
+ghost use Rattle.mdns_cache.specs.{Contents.{StandsFor}, Live.{NoneLater}, LentRecords.{last_lent, live_record_lent}};
+ghost use Rattle.mdns_browse.specs.{Given.{given_lent}, ColumnPieces.{Writes, row_pieces, rows_pieces, type_pieces}};
+ghost use Rattle.mdns_browse.specs.{Columns.{time_left_text, widest}, Report.{IsReportIn}};
 ghost use Rattle.mdns_browse.specs.Services.{AreAscending, GivenRow, instance_in, instance_row_in};
-ghost use Rattle.mdns_browse.specs.declared.report.Ask.TheVariants.{Instances};
-ghost use Rattle.mdns_browse.specs.declared.report.Form.TheVariants.{Pretty};
+ghost use Rattle.mdns_browse.specs.declared.report.{Ask.TheVariants.{Instances}, Form.TheVariants.{Pretty}};
 
 use crate::about::Subject;
 use crate::columns::{push_heading, time_left_len, time_left_width, wider};

@@ -2,9 +2,7 @@
 //! specified.
 
 ghost use Rattle.std.specs.Prelude.{◌≡◌, ◌==◌, ◌||◌, ◌++◌, ◌∷◌, [], OnOk};
-ghost use Rattle.std.specs.Fmt.{decimal};
-ghost use Rattle.std.specs.Char.{encode_utf8};
-ghost use Rattle.std.specs.String.{string_bytes};
+ghost use Rattle.std.specs.{Fmt.{decimal}, Char.{encode_utf8}, String.{string_bytes}};
 ghost use Rattle.mdns_browse.specs.Json.{comma_unless, escaped, json_bool, json_member, json_string, text_member};
 
 use mdns_message::Want;

@@ -3,8 +3,7 @@
 ghost use Rattle.std.specs.Prelude.{◌≡◌, IfOk, map};
 ghost use Rattle.mdns_message.specs.Borrowed.{resource_lent};
 ghost use Rattle.mdns_cache.specs.LentRecords.{last_lent};
-ghost use Rattle.mdns_browse.specs.About.{keeps_heard, keeps_record, keeps_type};
-ghost use Rattle.mdns_browse.specs.Services.{AreAscending};
+ghost use Rattle.mdns_browse.specs.{About.{keeps_heard, keeps_record, keeps_type}, Services.{AreAscending}};
 
 use crate::about::Subject;
 use crate::about_data::is_in_data;

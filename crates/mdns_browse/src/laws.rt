@@ -5,12 +5,9 @@ ghost use Rattle.mdns_message.specs.declared.hearing.Hearing.{Hearing};
 ghost use Rattle.mdns_join.specs.declared.latest.Latest.{Latest};
 ghost use Rattle.mdns_cache.specs.Live.{SameHearings};
 ghost use Rattle.mdns_browse.specs.Report.{IsReport, IsReportIn};
-ghost use Rattle.mdns_browse.specs.Services.{instance_given, is_instance_of, is_service_name, other_given, type_given};
-ghost use Rattle.mdns_browse.specs.Services.{GivesInstance, GivesOther, GivesType, IsInstanceOf, IsServiceName};
-ghost use Rattle.mdns_browse.specs.declared.report.Ask.{Ask};
-ghost use Rattle.mdns_browse.specs.declared.about.Subject.{Subject};
-ghost use Rattle.mdns_browse.specs.declared.report.Form.{Form};
-ghost use Rattle.mdns_browse.specs.declared.report.Form.TheVariants.{Lines};
+ghost use Rattle.mdns_browse.specs.Services.{instance_given, is_instance_of, is_service_name, other_given, type_given, GivesInstance};
+ghost use Rattle.mdns_browse.specs.{Services.{GivesOther, GivesType, IsInstanceOf, IsServiceName}, declared.report.Ask.{Ask}};
+ghost use Rattle.mdns_browse.specs.declared.{about.Subject.{Subject}, report.Form.{Form}, report.Form.TheVariants.{Lines}};
 
 pub use mdns_message::laws::strings_of_text;
 

@@ -1,12 +1,10 @@
 //! The lives of records in readable columns, for people. After `Want` the contents of `text` are not specified.
 
 ghost use Rattle.std.specs.Prelude.{◌≡◌, ◌++◌, ◌∷◌, [], codes, length, map, IfOk, OnOk};
-ghost use Rattle.std.specs.List.{flat_map};
-ghost use Rattle.std.specs.String.{string_bytes};
+ghost use Rattle.std.specs.{List.{flat_map}, String.{string_bytes}};
 ghost use Rattle.mdns_message.specs.Resource.{type_name, type_of};
 ghost use Rattle.people_text.specs.MomentText.{millis_text};
-ghost use Rattle.mdns_browse.specs.LifeText.{called, end_shown, life_row, lives_heading, open_text};
-ghost use Rattle.mdns_browse.specs.Columns.{padded, widest};
+ghost use Rattle.mdns_browse.specs.{LifeText.{called, end_shown, life_row, lives_heading, open_text}, Columns.{padded, widest}};
 ghost use Rattle.mdns_browse.specs.RecordShown.{shown_record};
 
 use crate::columns::{push_padded, wider, word_for};

@@ -1,11 +1,9 @@
 //! The lives of records as text. After `Want` the contents of `text` are not specified.
 
 ghost use Rattle.std.specs.Prelude.{◌≡◌, ◌++◌, ◌∷◌, [], ◌≤◌, ℕ, IfOk, List, length, OnOk};
-ghost use Rattle.std.specs.List.{flat_map};
-ghost use Rattle.std.specs.String.{string_bytes};
+ghost use Rattle.std.specs.{List.{flat_map}, String.{string_bytes}};
 ghost use Rattle.mdns_join.specs.declared.latest.Latest.{Latest};
-ghost use Rattle.mdns_browse.specs.LifeText.{IsLayout, end_text, life_json, life_rest, life_text, life_words, lives_head};
-ghost use Rattle.mdns_browse.specs.LifeText.{reason_text};
+ghost use Rattle.mdns_browse.specs.LifeText.{IsLayout, end_text, life_json, life_rest, life_text, life_words, lives_head, reason_text};
 ghost use Rattle.mdns_browse.specs.RecordText.{resource_text};
 
 use crate::columns::wider;

@@ -2,8 +2,7 @@
 //! specified.
 
 ghost use Rattle.std.specs.Prelude.{◌≡◌, ◌∷◌, ◌++◌, IfOk, OnOk};
-ghost use Rattle.std.specs.List.{flat_map};
-ghost use Rattle.std.specs.String.{string_bytes};
+ghost use Rattle.std.specs.{List.{flat_map}, String.{string_bytes}};
 ghost use Rattle.dns_name.specs.Name.{IsForm, labels_of};
 ghost use Rattle.people_text.specs.Shown.{dotted, shown};
 ghost use Rattle.mdns_browse.specs.NameSaid.{after_front, before_type, from_type, front, is_of_type};

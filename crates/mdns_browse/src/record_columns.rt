@@ -1,19 +1,13 @@
 //! The reports of records and of service types in readable columns.
 
 ghost use Rattle.std.specs.Prelude.{◌≡◌, ◌<◌, ℕ, ◌++◌, ◌∷◌, [], List, length, map, IfOk, OnOk};
-ghost use Rattle.std.specs.List.{filter, flat_map};
-ghost use Rattle.std.specs.String.{string_bytes};
-ghost use Rattle.mdns_message.specs.declared.hearing.Hearing.{Hearing};
-ghost use Rattle.mdns_message.specs.Resource.{type_name, type_of};
+ghost use Rattle.std.specs.{List.{filter, flat_map}, String.{string_bytes}};
+ghost use Rattle.mdns_message.specs.{declared.hearing.Hearing.{Hearing}, Resource.{type_name, type_of}};
 ghost use Rattle.mdns_join.specs.declared.latest.Latest.{Latest};
-ghost use Rattle.mdns_cache.specs.Contents.{StandsFor};
-ghost use Rattle.mdns_cache.specs.Live.{NoneLater};
-ghost use Rattle.mdns_cache.specs.LentRecords.{live_record_lent};
+ghost use Rattle.mdns_cache.specs.{Contents.{StandsFor}, Live.{NoneLater}, LentRecords.{live_record_lent}};
 ghost use Rattle.mdns_browse.specs.About.{keeps_type};
-ghost use Rattle.mdns_browse.specs.Columns.{record_heads, record_row, record_table, records_pretty, type_row};
-ghost use Rattle.mdns_browse.specs.Columns.{types_pretty, widest};
-ghost use Rattle.mdns_browse.specs.Report.{IsReportIn, records_about, types_about};
-ghost use Rattle.mdns_browse.specs.declared.report.Ask.TheVariants.{Records, Types};
+ghost use Rattle.mdns_browse.specs.Columns.{record_heads, record_row, record_table, records_pretty, type_row, types_pretty, widest};
+ghost use Rattle.mdns_browse.specs.{Report.{IsReportIn, records_about, types_about}, declared.report.Ask.TheVariants.{Records, Types}};
 ghost use Rattle.mdns_browse.specs.declared.report.Form.TheVariants.{Pretty};
 
 use crate::about::{Subject, keeps_record, keeps_type};

@@ -3,10 +3,8 @@
 ghost use Rattle.std.specs.Prelude.{◌≡◌, ◌<◌, List, Err, IfOk, IfErr, IfSome, IfNone};
 ghost use Rattle.std.specs.String.{string_bytes};
 ghost use Rattle.mdns_message.specs.declared.hearing.Hearing.{Hearing};
-ghost use Rattle.mdns_cache.specs.Live.{NoneLater};
-ghost use Rattle.mdns_cache.specs.Contents.{StandsFor};
-ghost use Rattle.mdns_browse.specs.Report.{IsReport, IsReportIn, IfEarly};
-ghost use Rattle.mdns_browse.specs.declared.report.Form.TheVariants.{Json, Lines, Pretty};
+ghost use Rattle.mdns_cache.specs.{Live.{NoneLater}, Contents.{StandsFor}};
+ghost use Rattle.mdns_browse.specs.{Report.{IsReport, IsReportIn, IfEarly}, declared.report.Form.TheVariants.{Json, Lines, Pretty}};
 
 use crate::about::Subject;
 use crate::instance_columns::instances_columns;

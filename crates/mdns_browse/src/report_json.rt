@@ -1,16 +1,14 @@
 //! Reports as JSON (RFC 8259): one object a line.
 
 ghost use Rattle.std.specs.Prelude.{◌≡◌, ◌++◌, [], codes, take, true, false, OnOk};
-ghost use Rattle.std.specs.Fmt.{decimal};
-ghost use Rattle.std.specs.String.{string_bytes};
+ghost use Rattle.std.specs.{Fmt.{decimal}, String.{string_bytes}};
 ghost use Rattle.dns_name.specs.Name.{name_text};
 ghost use Rattle.mdns_browse.specs.RecordText.{word_text, data_words};
+ghost use Rattle.mdns_browse.specs.Json.{json_string, comma_unless, first_after, parted, resource_members};
+ghost use Rattle.mdns_browse.specs.{LifeText.{life_rest, resource_begin, resource_json}, RecordShown.{shown_instance}};
 ghost use Rattle.mdns_capture.specs.Text.{moment_text};
 ghost use Rattle.mdns_message.specs.Borrowed.{resource_lent};
-ghost use Rattle.mdns_browse.specs.Json.{json_string, comma_unless, first_after, parted, resource_members};
-ghost use Rattle.mdns_browse.specs.LifeText.{life_rest, resource_begin, resource_json};
 ghost use Rattle.people_text.specs.Shown.{name_shown};
-ghost use Rattle.mdns_browse.specs.RecordShown.{shown_instance};
 
 use crate::data_words::{Word, WordSink, push_text_words, push_words};
 use crate::json::{json_bool, push_json_name, push_json_string, push_text_member};

@@ -2,11 +2,8 @@
 
 ghost use Rattle.std.specs.Prelude.{◌≡◌, ◌++◌, List, map, option_map, IfOk, OnOk};
 ghost use Rattle.std.specs.List.{filter_map};
-ghost use Rattle.mdns_message.specs.Resource.{type_number};
-ghost use Rattle.mdns_message.specs.declared.hearing.Hearing.{Hearing};
-ghost use Rattle.mdns_cache.specs.Live.{NoneLater};
-ghost use Rattle.mdns_cache.specs.Contents.{StandsFor};
-ghost use Rattle.mdns_cache.specs.LentRecords.{last_lent};
+ghost use Rattle.mdns_message.specs.{Resource.{type_number}, declared.hearing.Hearing.{Hearing}};
+ghost use Rattle.mdns_cache.specs.{Live.{NoneLater}, Contents.{StandsFor}, LentRecords.{last_lent}};
 ghost use Rattle.mdns_browse.specs.Given.{given_lent};
 ghost use Rattle.mdns_browse.specs.Services.{AreAscending, AreInstances, AreTypes, InstanceRow, types_owner};
 ghost use Rattle.mdns_browse.specs.Services.{body_of, data_of_set, instance_given, instance_in, instance_row_in, is_instance_of, lasts_in};

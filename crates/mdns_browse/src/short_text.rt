@@ -1,9 +1,7 @@
 //! Short texts, written from their last byte to the first.
 
 ghost use Rattle.std.specs.Prelude.{◌≡◌, ℕ, List, [], ◌++◌, ◌+◌, ◌^◌, ◌<◌, ◌≤◌, length, drop, OnOk, OnErr};
-ghost use Rattle.std.specs.Fmt.{decimal};
-ghost use Rattle.std.specs.Str.{IsUtf8};
-ghost use Rattle.std.specs.String.{string_bytes};
+ghost use Rattle.std.specs.{Fmt.{decimal}, Str.{IsUtf8}, String.{string_bytes}};
 ghost use Rattle.mdns_capture.specs.Text.{nine_digits, moment_text};
 ghost use Rattle.mdns_browse.specs.RecordText.{hex_octet};
 

@@ -1,27 +1,18 @@
 -- Contents between some contents and their join with others: the invariant holds of them, part by part.
 use Rattle.std.proofs.Common.{◌≡◌, ◌≢◌, ℕ, ◌≤◌, ◌<◌, true, false, List, [], ◌∷◌, Option, None, Some, Result, Ok}
 use Rattle.std.proofs.Common.{Err, OnOk, OnErr, refl, sym, ap, ◌∙◌, subst, arith, if◌then◌else◌}
-use Rattle.std.specs.declared.cmp.Ordering.TheVariants.{Greater}
-use Rattle.std.specs.Ordering.{nat_cmp, ordering_then}
-use Rattle.std.specs.declared.cmp.Ordering.{Ordering}
-use Rattle.std.proofs.lemmas.Bool.{cases_lt}
-use Rattle.std.proofs.lemmas.Bool.Decides.{nat_tests}
+use Rattle.std.specs.{declared.cmp.Ordering.TheVariants.{Greater}, Ordering.{nat_cmp, ordering_then}, declared.cmp.Ordering.{Ordering}}
+use Rattle.std.proofs.lemmas.{Bool.{cases_lt}, Bool.Decides.{nat_tests}}
 use Rattle.mdns_capture.specs.declared.moment.Moment.{Moment}
-use Rattle.mdns_message.specs.declared.hearing.Hearing.{Hearing}
-use Rattle.mdns_message.specs.declared.key.Key.{Key}
-use Rattle.mdns_message.specs.RecordSet.{RecordSet}
+use Rattle.mdns_message.specs.{declared.hearing.Hearing.{Hearing}, declared.key.Key.{Key}, RecordSet.{RecordSet}}
 use Rattle.mdns_message.specs.Resource.{key_of, set_key_of, key_cmp, set_key_cmp}
 use Rattle.mdns_message.specs.laws.Resource.{key_cmp-total, key_cmp-exact, set_key_cmp-total, set_key_cmp-exact}
-use Rattle.mdns_join.specs.declared.latest.Latest.{Latest}
-use Rattle.join_map.specs.Join.{JoinLaws, IsPartOfJoin}
-use Rattle.join_map.specs.laws.Join.{IsPartOfJoin-join}
-use Rattle.mdns_join.specs.Latest.{latest_cmp, later, latest_of, IsLatest}
-use Rattle.join_map.specs.Entries.{value_at, joined_at, IsJoinMap, joined, one_entry}
-use Rattle.join_map.specs.laws.Entries.{value_at-join, sorted-joined}
+use Rattle.mdns_join.specs.{declared.latest.Latest.{Latest}, Latest.{latest_cmp, later, latest_of, IsLatest}}
 use Rattle.mdns_join.specs.Kept.{has, newest, union, kept, kept_union, IsKeptList}
 use Rattle.mdns_join.specs.laws.Kept.{has-le-newest, union_left, has-newest, kept_from_heard, kept-one}
-use Rattle.mdns_cache.specs.Contents.{Contents, contents, IsContents, IsUpTo, MapLaws, join_of, contents_of}
-use Rattle.mdns_cache.specs.Repeats.{contents_at_each}
+use Rattle.join_map.specs.{Join.{JoinLaws, IsPartOfJoin}, laws.Join.{IsPartOfJoin-join}}
+use Rattle.join_map.specs.{Entries.{value_at, joined_at, IsJoinMap, joined, one_entry}, laws.Entries.{value_at-join, sorted-joined}}
+use Rattle.mdns_cache.specs.{Contents.{Contents, contents, IsContents, IsUpTo, MapLaws, join_of, contents_of}, Repeats.{contents_at_each}}
 use Rattle.mdns_cache.proofs.StandsPartLemmas.{LaterIs, first, second, later-is}
 use Rattle.mdns_cache.proofs.ContentsLemmas.{newer, newer-same, newer-assoc, IsJoinMap-empty, IsJoinMap-single}
 use Rattle.mdns_cache.proofs.ContentsLemmas.{lasts-laws, flushes-laws, IsUpTo-left, later-bounded, flush-bounded, same_contents}

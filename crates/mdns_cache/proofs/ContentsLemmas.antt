@@ -1,21 +1,13 @@
 -- The join of contents: its laws, and the contents between two contents and their join.
 use Rattle.std.proofs.Common.{◌≡◌, ℕ, true, List, [], Option, None, Some, max, refl, sym, ap, ◌∙◌, subst, inl, inr, arith, nat_lt}
-use Rattle.std.specs.declared.cmp.Ordering.{Ordering}
-use Rattle.std.specs.List.Sorted.{IsStrictlySortedBy}
+use Rattle.std.specs.{declared.cmp.Ordering.{Ordering}, List.Sorted.{IsStrictlySortedBy}}
 use Rattle.std.proofs.lemmas.Bool.{ltb-true, ltb-false}
 use Rattle.mdns_capture.specs.declared.moment.Moment.{Moment}
-use Rattle.mdns_message.specs.declared.key.Key.{Key}
-use Rattle.mdns_message.specs.RecordSet.{RecordSet}
-use Rattle.mdns_message.specs.Resource.{key_cmp, set_key_cmp}
-use Rattle.mdns_join.specs.declared.latest.Latest.{Latest}
-use Rattle.join_map.specs.Join.{JoinLaws}
-use Rattle.mdns_join.specs.Latest.{IsLatest, later}
-use Rattle.mdns_join.specs.laws.Latest.{moment-same}
-use Rattle.join_map.specs.Entries.{joined_at, IsJoinMap, joined, one_entry}
-use Rattle.mdns_join.specs.Kept.{has, union, kept_union, IsKeptList}
-use Rattle.mdns_join.specs.laws.Kept.{heard_from_kept, union_parts}
-use Rattle.join_map.specs.laws.Entries.{value_at-join, sorted_none}
+use Rattle.mdns_message.specs.{declared.key.Key.{Key}, RecordSet.{RecordSet}, Resource.{key_cmp, set_key_cmp}}
 use Rattle.mdns_message.specs.laws.Resource.{key_cmp-total, key_cmp-exact, set_key_cmp-total, set_key_cmp-exact}
+use Rattle.mdns_join.specs.{declared.latest.Latest.{Latest}, Latest.{IsLatest, later}, laws.Latest.{moment-same}}
+use Rattle.mdns_join.specs.{Kept.{has, union, kept_union, IsKeptList}, laws.Kept.{heard_from_kept, union_parts}}
+use Rattle.join_map.specs.{Join.{JoinLaws}, Entries.{joined_at, IsJoinMap, joined, one_entry}, laws.Entries.{value_at-join, sorted_none}}
 use Rattle.mdns_cache.specs.Contents.{Contents, contents, IsContents, IsUpTo, MapLaws, later_moment, join_of, last_at, flushes_at}
 use Rattle.mdns_cache.proofs.StandsPartLemmas.{first, second, later-is}
 

@@ -2,14 +2,11 @@
 use Rattle.std.proofs.Common.{rules, ◌≡◌, ℕ, ◌+◌, ◌<◌, ◌≤◌, true, false, ◌==◌, min, nat_lt, List, [], ◌∷◌, refl, sym, ap}
 use Rattle.std.proofs.Common.{◌∙◌, subst, inl, inr, ◌⊎◌, arith, if◌then◌else◌, ◌↔◌}
 use Rattle.std.proofs.lemmas.Bool.{false≢true, ltb-true, ltb-false, or_cases, or_left, or_right, eqb-true, eq-eqb, cases_lt}
-use Rattle.mdns_message.specs.declared.hearing.Hearing.{Hearing}
-use Rattle.mdns_message.specs.declared.key.Key.{Key}
-use Rattle.mdns_join.specs.declared.latest.Latest.{Latest}
-use Rattle.mdns_capture.specs.Limits.{second}
-use Rattle.mdns_join.specs.Kept.{has, newest, kept, IsStruckBy}
+use Rattle.mdns_message.specs.declared.{hearing.Hearing.{Hearing}, key.Key.{Key}}
+use Rattle.mdns_join.specs.{declared.latest.Latest.{Latest}, Kept.{has, newest, kept, IsStruckBy}}
 use Rattle.mdns_join.specs.laws.Kept.{has-from_IsKept, heard_from_kept}
-use Rattle.mdns_cache.specs.Live.{IsLast, SameHearings, life_of, Strikes, IsLive, flush_moments, IsEnd}
-use Rattle.mdns_cache.specs.LentRecords.{end_of}
+use Rattle.mdns_capture.specs.Limits.{second}
+use Rattle.mdns_cache.specs.{Live.{IsLast, SameHearings, life_of, Strikes, IsLive, flush_moments, IsEnd}, LentRecords.{end_of}}
 use Rattle.mdns_cache.proofs.StandsPartLemmas.{IsFlushedAt-from_has, has-from_flush, same-itself, same-back, IsLast-same, IsLast-among}
 
 -- ---- the end by flush moments is the least of what they and the life give

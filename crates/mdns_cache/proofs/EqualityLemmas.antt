@@ -1,25 +1,16 @@
 -- Tests of equality that decide it, of options, lists of pairs and contents.
 use Rattle.std.proofs.Common.{arith, ◌≡◌, ℕ, Bool, true, ◌&&◌, ◌↔◌, List, Option, None, Some, refl, sym, ap, ◌∙◌}
-use Rattle.std.specs.Option.{option_eq}
-use Rattle.std.specs.Cmp.Lexicographic.{pointwise, pointwise_decides, bytes_decides}
-use Rattle.std.proofs.lemmas.Bool.{false≢true, and_parts, and_from, eqb-true, eq-eqb}
+use Rattle.std.specs.{Option.{option_eq}, Cmp.Lexicographic.{pointwise, pointwise_decides, bytes_decides}, declared.cmp.Ordering.{Ordering}}
+use Rattle.std.specs.{declared.cmp.Ordering.TheVariants.{Equal}, Ordering.{on, is_eq, eq_by_cmp}, Cmp.{IsTotalOrder}}
+use Rattle.std.proofs.lemmas.{Bool.{false≢true, and_parts, and_from, eqb-true, eq-eqb}, Cmp.{tied_itself}}
 use Rattle.mdns_capture.specs.declared.moment.Moment.{Moment}
-use Rattle.mdns_message.specs.declared.key.Key.{Key}
-use Rattle.mdns_message.specs.RecordSet.{RecordSet}
-use Rattle.mdns_join.specs.declared.latest.Latest.{Latest}
-use Rattle.mdns_cache.specs.Contents.{Contents}
-use Rattle.mdns_cache.proofs.ContentsLemmas.{same_contents}
-use Rattle.std.specs.declared.cmp.Ordering.{Ordering}
-use Rattle.std.specs.declared.cmp.Ordering.TheVariants.{Equal}
-use Rattle.std.specs.Ordering.{on, is_eq, eq_by_cmp}
-use Rattle.std.specs.Cmp.{IsTotalOrder}
-use Rattle.std.specs.Prelude.{nat_eq}
-use Rattle.std.proofs.lemmas.Cmp.{tied_itself}
-use Rattle.mdns_message.specs.Resource.{key_cmp, set_key_cmp}
+use Rattle.mdns_message.specs.{declared.key.Key.{Key}, RecordSet.{RecordSet}, Resource.{key_cmp, set_key_cmp}}
 use Rattle.mdns_message.specs.laws.Resource.{key_cmp-total, key_cmp-exact, set_key_cmp-total, set_key_cmp-exact}
-use Rattle.mdns_join.specs.Latest.{latest_cmp}
+use Rattle.mdns_join.specs.{declared.latest.Latest.{Latest}, Latest.{latest_cmp}}
 use Rattle.mdns_join.specs.laws.Latest.{latest_cmp-total, latest_cmp-exact, moment-same}
-use Rattle.mdns_cache.specs.Equal.{eq_newest, eq_lasts, eq_flushes, eq_contents}
+use Rattle.mdns_cache.specs.{Contents.{Contents}, Equal.{eq_newest, eq_lasts, eq_flushes, eq_contents}}
+use Rattle.mdns_cache.proofs.ContentsLemmas.{same_contents}
+use Rattle.std.specs.Prelude.{nat_eq}
 use Rattle.join_map.specs.laws.Entries.{is_Equal}
 
 abbrev pub DecidesEquality : {A : Type 0} → (A → A → Bool) → Type 0

@@ -4,11 +4,8 @@ use Rattle.std.proofs.Common.{get_or, refl, arith, if◌then◌else◌, leb-true
 use Rattle.std.specs.Prelude.{nat_le}
 use Rattle.std.specs.List.Sorted.{IsPartitionedBy}
 use Rattle.std.proofs.lemmas.Bool.{ltb-true, ltb-false}
-use Rattle.mdns_capture.specs.declared.moment.Moment.{Moment}
-use Rattle.mdns_join.specs.Nanos.{nanos_of}
-use Rattle.mdns_capture.specs.Limits.{second}
-use Rattle.mdns_join.specs.Kept.{IsAscending, IsAscendingAbove}
-use Rattle.mdns_join.specs.laws.Kept.{IsAscending-from_above}
+use Rattle.mdns_capture.specs.{declared.moment.Moment.{Moment}, Limits.{second}}
+use Rattle.mdns_join.specs.{Nanos.{nanos_of}, Kept.{IsAscending, IsAscendingAbove}, laws.Kept.{IsAscending-from_above}}
 use Rattle.mdns_cache.specs.LentRecords.{end_of}
 use Rattle.mdns_cache.proofs.EndLemmas.{end-by_life}
 

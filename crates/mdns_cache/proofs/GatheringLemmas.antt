@@ -1,18 +1,11 @@
 -- The contents of a gathering after one more hearing was joined into its entries, or was refused.
 use Rattle.std.proofs.Common.{arith, ◌≡◌, ℕ, List, [], ◌∷◌, ◌++◌, None, Result, Ok, Err, OnOk, OnErr, subst, sym}
-use Rattle.mdns_message.specs.declared.key.Key.{Key}
-use Rattle.mdns_message.specs.RecordSet.{RecordSet}
-use Rattle.mdns_message.specs.Resource.{key_cmp, set_key_cmp}
-use Rattle.mdns_join.specs.declared.latest.Latest.{Latest}
-use Rattle.join_map.specs.Join.{JoinLaws}
-use Rattle.join_map.specs.Entries.{AllFit, AllValid, joined, one_entry}
-use Rattle.mdns_join.specs.Latest.{later}
-use Rattle.mdns_join.specs.Kept.{newest, kept_union, IsKeptList}
+use Rattle.mdns_message.specs.{declared.key.Key.{Key}, RecordSet.{RecordSet}, Resource.{key_cmp, set_key_cmp}}
+use Rattle.mdns_join.specs.{declared.latest.Latest.{Latest}, Latest.{later}, Kept.{newest, kept_union, IsKeptList}}
+use Rattle.join_map.specs.{Join.{JoinLaws}, Entries.{AllFit, AllValid, joined, one_entry}}
 use Rattle.mdns_join.proofs.RefusedLemmas.{part_refused}
-use Rattle.mdns_cache.specs.Contents.{Contents, contents, IsContents, IsUpTo, MapLaws}
-use Rattle.mdns_cache.specs.Gathering.{IsGathering}
-use Rattle.mdns_cache.proofs.LawLemmas.{stands-nothing}
-use Rattle.mdns_cache.proofs.ContentsLemmas.{IsJoinMap-single, lasts-laws, flushes-laws}
+use Rattle.mdns_cache.specs.{Contents.{Contents, contents, IsContents, IsUpTo, MapLaws}, Gathering.{IsGathering}}
+use Rattle.mdns_cache.proofs.{LawLemmas.{stands-nothing}, ContentsLemmas.{IsJoinMap-single, lasts-laws, flushes-laws}}
 use Rattle.mdns_cache.proofs.BetweenLemmas.{IsContents-put_last, IsContents-put_flushes, last_entry}
 
 -- any key fits any value

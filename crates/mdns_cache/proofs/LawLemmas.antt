@@ -1,17 +1,11 @@
 -- The laws of the module `laws` that no other file needs.
 use Rattle.std.proofs.Common.{arith, List, [], ◌∷◌, ◌++◌, Option, None, Some, Contains, MatchOption, inl, inr}
 use Rattle.std.proofs.lemmas.List.Elements.{Contains-append_left, Contains-append_right, Contains-append_cases}
-use Rattle.mdns_message.specs.declared.hearing.Hearing.{Hearing}
-use Rattle.mdns_message.specs.declared.key.Key.{Key}
-use Rattle.mdns_message.specs.Resource.{key_cmp, set_key_cmp}
-use Rattle.mdns_join.specs.declared.latest.Latest.{Latest}
-use Rattle.mdns_join.specs.Kept.{IsKeptList}
-use Rattle.mdns_join.specs.Latest.{IsLatest}
+use Rattle.mdns_message.specs.{declared.hearing.Hearing.{Hearing}, declared.key.Key.{Key}, Resource.{key_cmp, set_key_cmp}}
+use Rattle.mdns_join.specs.{declared.latest.Latest.{Latest}, Kept.{IsKeptList}, Latest.{IsLatest}}
 use Rattle.mdns_cache.specs.Live.{IsUnheard, IsHeard, IsLast, SameHearings}
 use Rattle.mdns_cache.specs.Contents.{Contents, MapLaws, last_at, StandsFor, no_contents, join_of, contents_of}
-use Rattle.mdns_cache.proofs.ContentsLemmas.{IsJoinMap-empty}
-use Rattle.mdns_cache.proofs.StandsPartLemmas.{Contains-nil}
-use Rattle.mdns_cache.proofs.StandsForLemmas.{stands-join}
+use Rattle.mdns_cache.proofs.{ContentsLemmas.{IsJoinMap-empty}, StandsPartLemmas.{Contains-nil}, StandsForLemmas.{stands-join}}
 use Rattle.mdns_cache.proofs.MeaningLemmas.{stands-one}
 
 pub same-onward : (heard others more : List Hearing) → SameHearings heard others → SameHearings others more → SameHearings heard more

@@ -1,29 +1,17 @@
 -- The rows of the live records.
-use Rattle.std.proofs.lemmas.Grind.{common_steps}
+use Rattle.std.proofs.lemmas.{Grind.{common_steps}, Bool.{ltb-true, lt-ltb}, Cmp.{eq_by_cmp_equiv}}
+use Rattle.std.proofs.lemmas.{Map.Views.{Contains-from_lookup, lookup-from_Contains}, Map.Keys.{IsDistinct-from_sorted}, List.{map-append}}
+use Rattle.std.proofs.lemmas.Simd.{map-map}
 use Rattle.std.proofs.Common.{arith, ◌≡◌, ℕ, Bool, true, false, nat_lt, List, [], ◌∷◌, ◌++◌, append_assoc, append-nil, map}
 use Rattle.std.proofs.Common.{Option, None, Some, Contains, MatchOption, refl, sym, ap, ◌∙◌, subst, inl, inr, if◌then◌else◌}
-use Rattle.std.specs.declared.cmp.Ordering.TheVariants.{Less}
-use Rattle.std.specs.List.{AllByRecursion}
-use Rattle.std.specs.List.Sorted.{IsStrictlySortedBy}
-use Rattle.std.specs.Map.{keys_of}
-use Rattle.std.proofs.lemmas.Bool.{ltb-true, lt-ltb}
-use Rattle.std.proofs.lemmas.Cmp.{eq_by_cmp_equiv}
-use Rattle.std.proofs.lemmas.Map.Views.{Contains-from_lookup, lookup-from_Contains}
-use Rattle.std.proofs.lemmas.Map.Keys.{IsDistinct-from_sorted}
-use Rattle.std.proofs.lemmas.List.{map-append}
-use Rattle.std.proofs.lemmas.Simd.{map-map}
-use Rattle.mdns_message.specs.declared.hearing.Hearing.{Hearing}
-use Rattle.mdns_message.specs.declared.key.Key.{Key}
-use Rattle.mdns_message.specs.RecordSet.{RecordSet}
-use Rattle.mdns_message.specs.Resource.{key_cmp}
+use Rattle.std.specs.{declared.cmp.Ordering.TheVariants.{Less}, List.{AllByRecursion}, List.Sorted.{IsStrictlySortedBy}, Map.{keys_of}}
+use Rattle.mdns_message.specs.{declared.hearing.Hearing.{Hearing}, declared.key.Key.{Key}, RecordSet.{RecordSet}, Resource.{key_cmp}}
 use Rattle.mdns_message.specs.laws.Resource.{key_cmp-total}
 use Rattle.mdns_join.specs.declared.latest.Latest.{Latest}
 use Rattle.mdns_cache.specs.Live.{IsUnheard, IsLast, IsLive, key_of_last, AreLiveRows, IsEnd, AreLiveRecords}
-use Rattle.mdns_cache.specs.LentRecords.{end_held, live_of}
-use Rattle.mdns_cache.specs.Contents.{Contents, last_at, StandsFor}
+use Rattle.mdns_cache.specs.{LentRecords.{end_held, live_of}, Contents.{Contents, last_at, StandsFor}}
 use Rattle.mdns_cache.proofs.StandsPartLemmas.{Contains-nil, Contains-head, Contains-later, Contains-cases, same-itself, IsLast-same}
-use Rattle.mdns_cache.proofs.EndLemmas.{some_end, same_end}
-use Rattle.mdns_cache.proofs.MeaningLemmas.{IsAsked, IsLast-held, key_eq-exact, living-held, end-held}
+use Rattle.mdns_cache.proofs.{EndLemmas.{some_end, same_end}, MeaningLemmas.{IsAsked, IsLast-held, key_eq-exact, living-held, end-held}}
 
 module _ (flushes : List (RecordSet × List ℕ)) (now : ℕ) where
   abbrev lives : Key × Latest → Bool

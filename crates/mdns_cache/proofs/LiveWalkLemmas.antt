@@ -1,21 +1,14 @@
 -- Walking over the records and their flush moments, both in key order.
 use Rattle.std.proofs.Common.{◌≡◌, ◌≢◌, ℕ, ◌+◌, ◌<◌, ◌≤◌, Bool, true, false, nat_lt, List, [], ◌∷◌, unwrap_or, refl, sym, ap, ◌∙◌, subst}
 use Rattle.std.proofs.Common.{if◌then◌else◌, lt-ltb, le-ltb}
-use Rattle.std.specs.declared.cmp.Ordering.{Ordering}
-use Rattle.std.specs.declared.cmp.Ordering.TheVariants.{Less, Equal, Greater}
-use Rattle.std.specs.Ordering.{ordering_then}
-use Rattle.std.specs.List.{AllByRecursion}
-use Rattle.std.specs.List.Sorted.{IsStrictlySortedBy}
-use Rattle.std.specs.Map.{keys_of}
-use Rattle.mdns_message.specs.declared.key.Key.{Key}
-use Rattle.mdns_message.specs.RecordSet.{RecordSet}
-use Rattle.mdns_message.specs.Resource.{key_cmp, set_key_cmp}
+use Rattle.std.specs.{declared.cmp.Ordering.{Ordering}, declared.cmp.Ordering.TheVariants.{Less, Equal, Greater}, Ordering.{ordering_then}}
+use Rattle.std.specs.{List.{AllByRecursion}, List.Sorted.{IsStrictlySortedBy}, Map.{keys_of}}
+use Rattle.mdns_message.specs.{declared.key.Key.{Key}, RecordSet.{RecordSet}, Resource.{key_cmp, set_key_cmp}}
 use Rattle.mdns_message.specs.laws.Resource.{key_cmp-total, key_cmp-exact}
 use Rattle.mdns_join.specs.declared.latest.Latest.{Latest}
 use Rattle.join_map.specs.laws.Entries.{sorted_above, sorted_rest}
-use Rattle.mdns_cache.specs.Live.{life_of}
+use Rattle.mdns_cache.specs.{Live.{life_of}, LentRecords.{end_of, end_held, live_of}}
 use Rattle.mdns_join.proofs.FlushWalkLemmas.{HasLater}
-use Rattle.mdns_cache.specs.LentRecords.{end_of, end_held, live_of}
 
 -- ---- records in key order
 

@@ -1,17 +1,13 @@
 -- Contents beside messages that are remembered: what they stand for after each step.
 use Rattle.std.proofs.Common.{◌≡◌, ℕ, true, List, [], ◌∷◌, ◌++◌, Contains, sym, ap, ◌∙◌, subst, inl, inr, ◌⊎◌, ◌↔◌, arith}
 use Rattle.std.proofs.Common.{append-nil, ◌<◌, length, get_or, map, refl, Option, None, Some, IfSome}
-use Rattle.std.proofs.lemmas.List.{length-map}
-use Rattle.std.proofs.lemmas.List.Elements.{Contains-append_left, Contains-append_right, Contains-append_cases}
+use Rattle.std.proofs.lemmas.{List.{length-map}, List.Elements.{Contains-append_left, Contains-append_right, Contains-append_cases}}
 use Rattle.mdns_capture.specs.declared.moment.Moment.{Moment}
-use Rattle.mdns_message.specs.declared.hearing.Hearing.{Hearing}
-use Rattle.mdns_message.specs.Message.{MessageReads, hearing_of}
-use Rattle.mdns_message.specs.RecordAt.{HeardRecord}
+use Rattle.mdns_message.specs.{declared.hearing.Hearing.{Hearing}, Message.{MessageReads, hearing_of}, RecordAt.{HeardRecord}}
 use Rattle.mdns_message.proofs.FaultKindLemmas.{few_hearings}
-use Rattle.mdns_join.specs.Nanos.{nanos_of}
-use Rattle.mdns_join.specs.Kept.{has, newest, kept, union}
-use Rattle.mdns_join.specs.laws.Kept.{heard_is_kept_or_stale, stale_best, kept_from_heard, kept_not_stale, heard_from_kept}
-use Rattle.mdns_join.specs.laws.Kept.{union_parts, union_left, union_right}
+use Rattle.mdns_join.specs.{Nanos.{nanos_of}, Kept.{has, newest, kept, union}}
+use Rattle.mdns_join.specs.laws.Kept.{heard_is_kept_or_stale, stale_best, kept_from_heard, kept_not_stale, heard_from_kept, union_parts}
+use Rattle.mdns_join.specs.laws.Kept.{union_left, union_right}
 use Rattle.mdns_cache.specs.Contents.{Contents, StandsFor}
 use Rattle.mdns_cache.specs.Repeats.{record_heard, at_each, all_at_each, IsHeardAt, IsReadOf, ReadsAs, Remembered, remembered}
 use Rattle.mdns_cache.specs.Repeats.{Recalls, IsRecalled, IsHeld, IsCovered, Covers, StandsWith, ComesAgain}

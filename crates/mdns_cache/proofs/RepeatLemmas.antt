@@ -2,30 +2,19 @@
 use Rattle.std.proofs.Common.{rules, ◌≡◌, ◌≢◌, ℕ, ◌≤◌, true, ◌==◌, List, [], ◌∷◌, Option, None, Some, Contains}
 use Rattle.std.proofs.Common.{◌⊎◌, ◌↔◌, ◌+◌, ◌<◌, ◌++◌, MatchOption, refl, ap, ◌∙◌, subst, inl, inr, arith, map}
 use Rattle.std.specs.declared.cmp.Ordering.TheVariants.{Greater}
-use Rattle.std.proofs.lemmas.Bool.{false≢true, or_cases, or_left, or_right, eqb-true, eq-eqb}
-use Rattle.std.proofs.lemmas.Cmp.{tied_itself}
+use Rattle.std.proofs.lemmas.{Bool.{false≢true, or_cases, or_left, or_right, eqb-true, eq-eqb}, Cmp.{tied_itself}}
 use Rattle.std.proofs.lemmas.List.Elements.{Contains-append_left, Contains-append_right, Contains-append_cases}
-use Rattle.mdns_capture.specs.Limits.{second}
-use Rattle.mdns_capture.specs.declared.moment.Moment.{Moment}
-use Rattle.mdns_message.specs.declared.hearing.Hearing.{Hearing}
-use Rattle.mdns_message.specs.declared.key.Key.{Key}
-use Rattle.mdns_message.specs.RecordSet.{RecordSet}
-use Rattle.mdns_message.specs.Message.{MessageReads, hearing_of}
-use Rattle.mdns_message.specs.RecordAt.{HeardRecord}
+use Rattle.mdns_capture.specs.{Limits.{second}, declared.moment.Moment.{Moment}}
+use Rattle.mdns_message.specs.{declared.hearing.Hearing.{Hearing}, declared.key.Key.{Key}, RecordSet.{RecordSet}}
+use Rattle.mdns_message.specs.{Message.{MessageReads, hearing_of}, RecordAt.{HeardRecord}}
 use Rattle.mdns_message.proofs.MessageLawLemmas.{one_hearing_list}
-use Rattle.mdns_join.specs.declared.latest.Latest.{Latest}
-use Rattle.mdns_join.specs.Latest.{latest_cmp, latest_of}
-use Rattle.mdns_join.specs.laws.Latest.{latest_cmp-total, moment-same}
-use Rattle.mdns_join.specs.Nanos.{nanos_of}
-use Rattle.mdns_join.specs.Kept.{has}
-use Rattle.mdns_join.specs.laws.Kept.{has-le-newest}
-use Rattle.mdns_cache.specs.Live.{IsUnheard, IsLast, IsNewest, flush_moments}
-use Rattle.mdns_cache.specs.Contents.{Contents, StandsFor, kept_of}
+use Rattle.mdns_join.specs.{declared.latest.Latest.{Latest}, Latest.{latest_cmp, latest_of}, laws.Latest.{latest_cmp-total, moment-same}}
+use Rattle.mdns_join.specs.{Nanos.{nanos_of}, Kept.{has}, laws.Kept.{has-le-newest}}
+use Rattle.mdns_cache.specs.{Live.{IsUnheard, IsLast, IsNewest, flush_moments}, Contents.{Contents, StandsFor, kept_of}}
 use Rattle.mdns_cache.specs.Repeats.{record_heard, at_each, IsHeardAt, IsReadOf, IsOvertaken, IsCovered, Covers}
-use Rattle.mdns_cache.proofs.StandsPartLemmas.{Contains-nil, Contains-head, Contains-later, Contains-cases, Contains-map}
-use Rattle.mdns_cache.proofs.StandsPartLemmas.{from_map, latest-upto, reverse-greater, IsLast-in, kept_of-between}
-use Rattle.mdns_cache.proofs.StandsPartLemmas.{IsFlushedAt-in, IsFlushedAt-from_has, has-from_flushed}
-use Rattle.mdns_cache.proofs.BetweenLemmas.{not_later}
+use Rattle.mdns_cache.proofs.StandsPartLemmas.{Contains-nil, Contains-head, Contains-later, Contains-cases, Contains-map, from_map}
+use Rattle.mdns_cache.proofs.StandsPartLemmas.{latest-upto, reverse-greater, IsLast-in, kept_of-between, IsFlushedAt-in}
+use Rattle.mdns_cache.proofs.{StandsPartLemmas.{IsFlushedAt-from_has, has-from_flushed}, BetweenLemmas.{not_later}}
 
 -- ---- the records of a message
 

@@ -1,22 +1,17 @@
 -- Contents that stand for hearings: those of nothing, of one hearing, of both sides of a join; and only one each.
 use Rattle.std.proofs.Common.{◌≡◌, ◌≤◌, List, [], ◌++◌, Option, None, Some, Contains, MatchOption, refl, sym, ap, ◌∙◌}
 use Rattle.std.proofs.Common.{subst, inl, inr, arith, append-nil}
-use Rattle.std.proofs.lemmas.Bool.{cases_lt}
+use Rattle.std.proofs.lemmas.{Bool.{cases_lt}, List.Elements.{Contains-append_left, Contains-append_right, Contains-append_cases}}
 use Rattle.mdns_capture.specs.declared.moment.Moment.{Moment}
-use Rattle.mdns_message.specs.declared.hearing.Hearing.{Hearing}
-use Rattle.mdns_message.specs.RecordSet.{RecordSet}
-use Rattle.mdns_join.specs.declared.latest.Latest.{Latest}
-use Rattle.mdns_join.specs.laws.Latest.{moment-same}
-use Rattle.join_map.specs.Entries.{joined_at}
-use Rattle.mdns_join.specs.Kept.{kept_union}
-use Rattle.join_map.specs.laws.Entries.{same_entries}
+use Rattle.mdns_message.specs.{declared.hearing.Hearing.{Hearing}, RecordSet.{RecordSet}}
 use Rattle.mdns_message.specs.laws.Resource.{key_cmp-exact, key_cmp-total, set_key_cmp-total, set_key_cmp-exact}
+use Rattle.mdns_join.specs.{declared.latest.Latest.{Latest}, laws.Latest.{moment-same}, Kept.{kept_union}}
+use Rattle.join_map.specs.{Entries.{joined_at}, laws.Entries.{same_entries}}
 use Rattle.mdns_cache.specs.Live.{IsUnheard, IsLast, IsNewest, SameHearings, flush_moments}
 use Rattle.mdns_cache.specs.Contents.{Contents, MapLaws, later_moment, join_of, last_at, flushes_at, kept_of, StandsFor}
 use Rattle.mdns_cache.proofs.StandsPartLemmas.{lasts-append, lasts-same, kept_of-append, kept_of-same, Contains-nil}
 use Rattle.mdns_cache.proofs.StandsPartLemmas.{flush_moments-append, IsFlushedAt-in, IsFlushedAt-from_has, has-from_flushed}
 use Rattle.mdns_cache.proofs.ContentsLemmas.{newer, last_at-join, flushes_at-join, newest-join, IsContents-join, same_contents, nanos-later}
-use Rattle.std.proofs.lemmas.List.Elements.{Contains-append_left, Contains-append_right, Contains-append_cases}
 
 -- ---- newest moments
 

@@ -1,30 +1,19 @@
 -- The hearings that contents stand for: none, one, and those of both sides of a join.
 use Rattle.std.proofs.Common.{◌≡◌, ◌≢◌, ℕ, true, false, List, [], ◌∷◌, ◌++◌, Option, None, Some, Contains}
 use Rattle.std.proofs.Common.{MatchOption, refl, sym, ap, ◌==◌, append-nil, ◌∙◌, subst, inl, inr, ◌⊎◌, arith, if◌then◌else◌, map}
-use Rattle.std.specs.List.{flat_map}
-use Rattle.std.specs.declared.cmp.Ordering.{Ordering}
-use Rattle.std.specs.declared.cmp.Ordering.TheVariants.{Less, Equal, Greater}
+use Rattle.std.specs.{List.{flat_map}, declared.cmp.Ordering.{Ordering}, declared.cmp.Ordering.TheVariants.{Less, Equal, Greater}}
 use Rattle.std.specs.Ordering.{is_eq, is_gt, ordering_reverse, match_ordering}
-use Rattle.std.proofs.lemmas.Cmp.{upto, tied_itself}
-use Rattle.std.proofs.lemmas.List.{get_or-map, length-map}
-use Rattle.std.proofs.lemmas.List.Elements.{Contains-append_left, Contains-append_right, Contains-append_cases}
-use Rattle.std.proofs.lemmas.List.Elements.{Contains-push, Contains-push_cases}
-use Rattle.std.proofs.lemmas.Bool.{false≢true, and_parts, and_from, or_cases, or_right, eqb-true}
+use Rattle.std.proofs.lemmas.{Cmp.{upto, tied_itself}, List.{get_or-map, length-map}}
+use Rattle.std.proofs.lemmas.List.Elements.{Contains-append_left, Contains-append_right, Contains-append_cases, Contains-push}
+use Rattle.std.proofs.lemmas.{List.Elements.{Contains-push_cases}, Bool.{false≢true, and_parts, and_from, or_cases, or_right, eqb-true}}
 use Rattle.std.proofs.lemmas.Bool.Decides.{nat_tests}
-use Rattle.mdns_message.specs.Resource.{set_key_of, set_key_cmp, IsOf, IsFlushOf}
-use Rattle.mdns_message.specs.declared.hearing.Hearing.{Hearing}
-use Rattle.mdns_message.specs.declared.key.Key.{Key}
-use Rattle.mdns_message.specs.RecordSet.{RecordSet}
-use Rattle.mdns_join.specs.declared.latest.Latest.{Latest}
-use Rattle.mdns_join.specs.Latest.{latest_cmp, later, latest_of}
-use Rattle.mdns_join.specs.laws.Latest.{latest_cmp-total, latest_cmp-exact}
-use Rattle.join_map.specs.Entries.{joined_at}
-use Rattle.join_map.specs.laws.Entries.{is_Equal}
-use Rattle.mdns_join.specs.Kept.{has, newest, kept, union, kept_union, IsStale}
+use Rattle.mdns_message.specs.{Resource.{set_key_of, set_key_cmp, IsOf, IsFlushOf}, declared.hearing.Hearing.{Hearing}}
+use Rattle.mdns_message.specs.{declared.key.Key.{Key}, RecordSet.{RecordSet}, laws.Resource.{set_key_cmp-total, set_key_cmp-exact}}
+use Rattle.mdns_join.specs.{declared.latest.Latest.{Latest}, Latest.{latest_cmp, later, latest_of}}
+use Rattle.mdns_join.specs.{laws.Latest.{latest_cmp-total, latest_cmp-exact}, Kept.{has, newest, kept, union, kept_union, IsStale}}
 use Rattle.mdns_join.specs.laws.Kept.{has-union, has-append, has-newest, has-le-newest, kept-same, kept_between, kept_union-kept}
-use Rattle.mdns_message.specs.laws.Resource.{set_key_cmp-total, set_key_cmp-exact}
-use Rattle.mdns_cache.specs.Live.{is_flush_of, flush_moments, IsFlushedAt, IsUnheard, IsLast, SameHearings}
-use Rattle.mdns_cache.specs.Contents.{kept_of}
+use Rattle.join_map.specs.{Entries.{joined_at}, laws.Entries.{is_Equal}}
+use Rattle.mdns_cache.specs.{Live.{is_flush_of, flush_moments, IsFlushedAt, IsUnheard, IsLast, SameHearings}, Contents.{kept_of}}
 
 -- ---- orders
 

@@ -1,23 +1,14 @@
 -- The contents after all steps of `hear` and of `merge`.
 use Rattle.std.proofs.Common.{◌≡◌, ℕ, List, [], ◌∷◌, ◌++◌, sym, ap, ◌∙◌, subst}
 use Rattle.mdns_capture.specs.declared.moment.Moment.{Moment}
-use Rattle.mdns_message.specs.declared.hearing.Hearing.{Hearing}
-use Rattle.mdns_message.specs.declared.key.Key.{Key}
-use Rattle.mdns_message.specs.RecordSet.{RecordSet}
+use Rattle.mdns_message.specs.{declared.hearing.Hearing.{Hearing}, declared.key.Key.{Key}, RecordSet.{RecordSet}}
 use Rattle.mdns_message.specs.Resource.{key_cmp, set_key_cmp}
-use Rattle.mdns_join.specs.declared.latest.Latest.{Latest}
-use Rattle.join_map.specs.Join.{IsPartOfJoin}
-use Rattle.join_map.specs.laws.Join.{IsPartOfJoin-old, IsPartOfJoin-join, join-again}
-use Rattle.mdns_join.specs.Latest.{later}
-use Rattle.join_map.specs.Entries.{joined}
-use Rattle.mdns_join.specs.Nanos.{nanos_of}
-use Rattle.mdns_join.specs.Kept.{kept_union, IsGreatest, IsKeptList}
+use Rattle.mdns_join.specs.{declared.latest.Latest.{Latest}, Latest.{later}, Nanos.{nanos_of}, Kept.{kept_union, IsGreatest, IsKeptList}}
+use Rattle.join_map.specs.{Join.{IsPartOfJoin}, laws.Join.{IsPartOfJoin-old, IsPartOfJoin-join, join-again}, Entries.{joined}}
 use Rattle.mdns_cache.specs.Contents.{Contents, contents, IsContents, MapLaws, join_of, contents_of, StandsFor}
 use Rattle.mdns_cache.specs.Repeats.{at_each, contents_at_each}
-use Rattle.mdns_cache.proofs.StandsForLemmas.{stands-join}
-use Rattle.mdns_cache.proofs.MeaningLemmas.{stands-each, stands-one}
-use Rattle.mdns_cache.proofs.ContentsLemmas.{newer, lasts-laws, flushes-laws, same_contents, join_of-laws}
-use Rattle.mdns_cache.proofs.BetweenLemmas.{part_of_join}
+use Rattle.mdns_cache.proofs.{StandsForLemmas.{stands-join}, MeaningLemmas.{stands-each, stands-one}}
+use Rattle.mdns_cache.proofs.{ContentsLemmas.{newer, lasts-laws, flushes-laws, same_contents, join_of-laws}, BetweenLemmas.{part_of_join}}
 
 -- ---- joining contents part by part: the newest moment, then the last hearings, then the flush moments
 

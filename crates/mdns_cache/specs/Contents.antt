@@ -1,15 +1,10 @@
 -- The contents of a cache, and the hearings that they stand for.
 use Rattle.std.specs.Prelude.{◌≡◌, ℕ, ◌≤◌, true, nat_lt, if◌then◌else◌, List, [], ◌∷◌, Option, None, Some, MatchOption, IsSomeAnd}
 use Rattle.mdns_capture.specs.declared.moment.Moment.{Moment}
-use Rattle.mdns_message.specs.declared.hearing.Hearing.{Hearing}
-use Rattle.mdns_message.specs.declared.key.Key.{Key}
-use Rattle.mdns_message.specs.RecordSet.{RecordSet}
+use Rattle.mdns_message.specs.{declared.hearing.Hearing.{Hearing}, declared.key.Key.{Key}, RecordSet.{RecordSet}}
 use Rattle.mdns_message.specs.Resource.{key_of, set_key_of, key_cmp, set_key_cmp}
-use Rattle.mdns_join.specs.declared.latest.Latest.{Latest}
-use Rattle.join_map.specs.Join.{JoinLaws}
-use Rattle.mdns_join.specs.Latest.{IsLatest, later, latest_of}
-use Rattle.join_map.specs.Entries.{value_at, joined_at, IsJoinMap, joined, one_entry}
-use Rattle.mdns_join.specs.Kept.{has, kept, kept_union, IsKeptList}
+use Rattle.mdns_join.specs.{declared.latest.Latest.{Latest}, Latest.{IsLatest, later, latest_of}, Kept.{has, kept, kept_union, IsKeptList}}
+use Rattle.join_map.specs.{Join.{JoinLaws}, Entries.{value_at, joined_at, IsJoinMap, joined, one_entry}}
 use Rattle.mdns_cache.specs.Live.{IsUnheard, IsLast, IsNewest, flush_moments}
 
 -- the contents of a cache: the last hearing of each record, the flush moments kept for each record set, both in key

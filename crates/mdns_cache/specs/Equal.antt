@@ -1,14 +1,9 @@
 -- When contents are equal, as a test.
 use Rattle.std.specs.Prelude.{ℕ, Bool, List, Option, nat_eq}
-use Rattle.std.specs.Option.{option_eq}
-use Rattle.std.specs.Ordering.{on, eq_by_cmp, eq_of_both}
-use Rattle.std.specs.Cmp.Lexicographic.{pointwise}
+use Rattle.std.specs.{Option.{option_eq}, Ordering.{on, eq_by_cmp, eq_of_both}, Cmp.Lexicographic.{pointwise}}
 use Rattle.mdns_capture.specs.declared.moment.Moment.{Moment}
-use Rattle.mdns_message.specs.declared.key.Key.{Key}
-use Rattle.mdns_message.specs.RecordSet.{RecordSet}
-use Rattle.mdns_message.specs.Resource.{key_cmp, set_key_cmp}
-use Rattle.mdns_join.specs.declared.latest.Latest.{Latest}
-use Rattle.mdns_join.specs.Latest.{latest_cmp}
+use Rattle.mdns_message.specs.{declared.key.Key.{Key}, RecordSet.{RecordSet}, Resource.{key_cmp, set_key_cmp}}
+use Rattle.mdns_join.specs.{declared.latest.Latest.{Latest}, Latest.{latest_cmp}}
 use Rattle.mdns_cache.specs.Contents.{Contents}
 
 abbrev pub eq_newest : Option Moment → Option Moment → Bool

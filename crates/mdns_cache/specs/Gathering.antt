@@ -1,13 +1,9 @@
 -- The contents of a `Gathering`: its entries, joined key by key.
 use Rattle.std.specs.Prelude.{ℕ, List, Option}
 use Rattle.mdns_capture.specs.declared.moment.Moment.{Moment}
-use Rattle.mdns_message.specs.declared.key.Key.{Key}
-use Rattle.mdns_message.specs.RecordSet.{RecordSet}
-use Rattle.mdns_message.specs.Resource.{key_cmp, set_key_cmp}
+use Rattle.mdns_message.specs.{declared.key.Key.{Key}, RecordSet.{RecordSet}, Resource.{key_cmp, set_key_cmp}}
 use Rattle.join_map.specs.Entries.{AllFit, gathered}
-use Rattle.mdns_join.specs.declared.latest.Latest.{Latest}
-use Rattle.mdns_join.specs.Latest.{IsKeyed, later}
-use Rattle.mdns_join.specs.Kept.{kept_union}
+use Rattle.mdns_join.specs.{declared.latest.Latest.{Latest}, Latest.{IsKeyed, later}, Kept.{kept_union}}
 use Rattle.mdns_cache.specs.Contents.{Contents, contents, IsContents}
 
 -- the contents of entries in any order

@@ -1,16 +1,11 @@
 -- The values of the rows that a cache lends, and the ends that it finds.
 use Rattle.std.specs.Prelude.{◌≡◌, ℕ, ◌+◌, min, true, false, nat_lt, nat_le, unwrap_or, if◌then◌else◌, List, [], ◌∷◌}
 use Rattle.std.specs.List.Sorted.{IsPartitionPoint}
-use Rattle.mdns_capture.specs.declared.moment.Moment.{Moment}
-use Rattle.mdns_capture.specs.Limits.{second}
-use Rattle.mdns_message.specs.declared.key.Key.{Key}
-use Rattle.mdns_message.specs.RecordSet.{RecordSet}
-use Rattle.mdns_message.specs.Resource.{set_key_cmp}
+use Rattle.mdns_capture.specs.{declared.moment.Moment.{Moment}, Limits.{second}}
+use Rattle.mdns_message.specs.{declared.key.Key.{Key}, RecordSet.{RecordSet}, Resource.{set_key_cmp}}
 use Rattle.mdns_join.specs.declared.latest.Latest.{Latest}
 use Rattle.join_map.specs.Entries.{value_at}
-use Rattle.mdns_cache.specs.declared.cache.Last.{Last}
-use Rattle.mdns_cache.specs.declared.live.LiveRecord.{LiveRecord}
-use Rattle.mdns_cache.specs.Live.{life_of}
+use Rattle.mdns_cache.specs.{declared.cache.Last.{Last}, declared.live.LiveRecord.{LiveRecord}, Live.{life_of}}
 
 -- the value of a lent last hearing
 abbrev pub last_lent : Last → Latest

@@ -2,17 +2,11 @@
 -- read as a set: only which hearings it contains counts. Moments are counted in nanoseconds.
 use Rattle.std.specs.Prelude.{◌≡◌, ◌≢◌, ◌⊎◌, ℕ, ◌+◌, ◌*◌, ◌<◌, ◌≤◌, ◌==◌, ◌↔◌, Bool, ◌&&◌, map, if◌then◌else◌, List, [], ◌∷◌}
 use Rattle.std.specs.Prelude.{length, Option, IfSome, Contains}
-use Rattle.std.specs.Ordering.{is_eq}
-use Rattle.std.specs.List.Sorted.{IsStrictlySortedBy}
-use Rattle.std.specs.declared.cmp.Ordering.TheVariants.{Greater}
-use Rattle.mdns_capture.specs.declared.moment.Moment.{Moment}
-use Rattle.mdns_message.specs.declared.hearing.Hearing.{Hearing}
-use Rattle.mdns_message.specs.declared.key.Key.{Key}
-use Rattle.mdns_message.specs.RecordSet.{RecordSet}
+use Rattle.std.specs.{Ordering.{is_eq}, List.Sorted.{IsStrictlySortedBy}, declared.cmp.Ordering.TheVariants.{Greater}}
+use Rattle.mdns_capture.specs.{declared.moment.Moment.{Moment}, Limits.{second}}
+use Rattle.mdns_message.specs.{declared.hearing.Hearing.{Hearing}, declared.key.Key.{Key}, RecordSet.{RecordSet}}
 use Rattle.mdns_message.specs.Resource.{IsOf, IsFlushOf, set_key_of, set_key_cmp, key_of, key_cmp}
-use Rattle.mdns_join.specs.declared.latest.Latest.{Latest}
-use Rattle.mdns_join.specs.Latest.{latest_cmp, latest_of}
-use Rattle.mdns_capture.specs.Limits.{second}
+use Rattle.mdns_join.specs.{declared.latest.Latest.{Latest}, Latest.{latest_cmp, latest_of}}
 
 -- the record was never heard
 abbrev pub IsUnheard : List Hearing → Key → Type 0

@@ -1,8 +1,7 @@
 -- Plans: how hearings are split over caches and merged.
 use Rattle.std.specs.Prelude.{List, ◌++◌}
 use Rattle.mdns_message.specs.declared.hearing.Hearing.{Hearing}
-use Rattle.mdns_cache.specs.declared.plan.Plan.{Plan}
-use Rattle.mdns_cache.specs.declared.plan.Plan.TheVariants.{Hear, Both'}
+use Rattle.mdns_cache.specs.declared.plan.{Plan.{Plan}, Plan.TheVariants.{Hear, Both'}}
 
 -- the hearings of a plan: those of its lists
 abbrev pub hearings_of : Plan → List Hearing

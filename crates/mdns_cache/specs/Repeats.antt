@@ -2,12 +2,9 @@
 -- the rule for flush moments keeps, and its hearings are heard at these moments at the end.
 use Rattle.std.specs.Prelude.{◌≡◌, ◌⊎◌, ℕ, ◌+◌, ◌<◌, ◌≤◌, true, List, [], ◌∷◌, ◌++◌, length, map, flat_map, sum_by, Contains}
 use Rattle.std.specs.Prelude.{if◌then◌else◌}
-use Rattle.mdns_capture.specs.Limits.{second}
-use Rattle.mdns_capture.specs.declared.moment.Moment.{Moment}
-use Rattle.mdns_message.specs.declared.hearing.Hearing.{Hearing}
-use Rattle.mdns_message.specs.RecordAt.{HeardRecord}
-use Rattle.mdns_message.specs.Message.{MessageReads, hearing_of, most_hearings}
-use Rattle.mdns_message.specs.Resource.{set_key_of}
+use Rattle.mdns_capture.specs.{Limits.{second}, declared.moment.Moment.{Moment}}
+use Rattle.mdns_message.specs.{declared.hearing.Hearing.{Hearing}, RecordAt.{HeardRecord}}
+use Rattle.mdns_message.specs.{Message.{MessageReads, hearing_of, most_hearings}, Resource.{set_key_of}}
 use Rattle.join_map.specs.Entries.{one_entry}
 use Rattle.mdns_join.specs.Kept.{has, kept_union}
 use Rattle.mdns_cache.specs.Contents.{Contents, StandsFor, contents_of}

@@ -2,19 +2,13 @@
 
 ghost use Rattle.std.specs.Prelude.{◌≡◌, ◌↔◌, ◌∷◌, ◌++◌, [], List, ℕ, length, IsTrue, OnOk, OnErr, MatchOption};
 ghost use Rattle.std.specs.Prelude.{option_copied, option_map, unwrap_or, true, Some};
-ghost use Rattle.std.specs.List.Sorted.{IsStrictlySortedBy};
-ghost use Rattle.std.specs.Map.{keys_of};
-ghost use Rattle.mdns_message.specs.declared.hearing.Hearing.{Hearing};
-ghost use Rattle.mdns_message.specs.Resource.{key_cmp};
-ghost use Rattle.mdns_message.specs.Borrowed.{hearing_lent};
-ghost use Rattle.join_map.specs.Join.{IsPartOfJoin};
-ghost use Rattle.join_map.specs.Entries.{joined_at};
-ghost use Rattle.mdns_join.specs.Kept.{IsAscending, IsKept, has};
-ghost use Rattle.mdns_join.specs.Nanos.{nanos_of};
-ghost use Rattle.mdns_cache.specs.Live.{IsUnheard, IsLast, IsNewest, CountsRecords, flush_moments};
-ghost use Rattle.mdns_cache.specs.LentRecords.{last_lent};
-ghost use Rattle.mdns_cache.specs.Contents.{IsContents, MapLaws, StandsFor, no_contents, contents_of};
-ghost use Rattle.mdns_cache.specs.Contents.{join_of, later_moment, last_at, flushes_at};
+ghost use Rattle.std.specs.{List.Sorted.{IsStrictlySortedBy}, Map.{keys_of}};
+ghost use Rattle.mdns_message.specs.{declared.hearing.Hearing.{Hearing}, Resource.{key_cmp}, Borrowed.{hearing_lent}};
+ghost use Rattle.join_map.specs.{Join.{IsPartOfJoin}, Entries.{joined_at}};
+ghost use Rattle.mdns_join.specs.{Kept.{IsAscending, IsKept, has}, Nanos.{nanos_of}};
+ghost use Rattle.mdns_cache.specs.{Live.{IsUnheard, IsLast, IsNewest, CountsRecords, flush_moments}, LentRecords.{last_lent}};
+ghost use Rattle.mdns_cache.specs.Contents.{IsContents, MapLaws, StandsFor, no_contents, contents_of, join_of, later_moment, last_at};
+ghost use Rattle.mdns_cache.specs.Contents.{flushes_at};
 
 use mdns_capture::Moment;
 use mdns_join::laws::join_laws;

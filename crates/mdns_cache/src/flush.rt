@@ -1,8 +1,7 @@
 //! Which records a flush strikes, and which it spares (RFC 6762, section 10.2).
 
 ghost use Rattle.std.specs.Prelude.{◌≤◌, length};
-ghost use Rattle.mdns_join.specs.Kept.{IsAscending};
-ghost use Rattle.mdns_join.specs.Nanos.{nanos_of};
+ghost use Rattle.mdns_join.specs.{Kept.{IsAscending}, Nanos.{nanos_of}};
 ghost use Rattle.mdns_cache.specs.LentRecords.{AreEarlyUpTo};
 
 use mdns_capture::Moment;

@@ -2,14 +2,9 @@
 
 ghost use Rattle.std.specs.Prelude.{◌≡◌, ◌++◌, ◌∷◌, [], List, Some, IfOk, OnOk, OnErr};
 ghost use Rattle.mdns_capture.specs.declared.moment.Moment.{Moment as moment};
-ghost use Rattle.mdns_message.specs.declared.hearing.Hearing.{Hearing};
-ghost use Rattle.mdns_message.specs.Resource.{key_cmp, set_key_cmp};
-ghost use Rattle.mdns_message.specs.Borrowed.{hearing_lent};
-ghost use Rattle.join_map.specs.Join.{IsPartOfJoin};
-ghost use Rattle.join_map.specs.Entries.{AllValid, joined, joined_at};
-ghost use Rattle.mdns_join.specs.Kept.{kept_union, IsGreatest, IsKeptList};
-ghost use Rattle.mdns_join.specs.Latest.{later};
-ghost use Rattle.mdns_join.specs.Nanos.{nanos_of};
+ghost use Rattle.mdns_message.specs.{declared.hearing.Hearing.{Hearing}, Resource.{key_cmp, set_key_cmp}, Borrowed.{hearing_lent}};
+ghost use Rattle.join_map.specs.{Join.{IsPartOfJoin}, Entries.{AllValid, joined, joined_at}};
+ghost use Rattle.mdns_join.specs.{Kept.{kept_union, IsGreatest, IsKeptList}, Latest.{later}, Nanos.{nanos_of}};
 ghost use Rattle.mdns_cache.specs.Contents.{IsContents, IsUpTo, StandsFor, no_contents, contents_of, join_of, later_moment};
 ghost use Rattle.mdns_cache.specs.Repeats.{at_each, contents_at_each};
 

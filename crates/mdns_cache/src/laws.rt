@@ -2,16 +2,12 @@
 //! that stand for it, and of their join. Each function does nothing: its contract is the law.
 
 ghost use Rattle.std.specs.Prelude.{◌≡◌, ◌↔◌, ◌≤◌, ◌<◌, ◌++◌, ◌∷◌, [], ℕ, List, Contains, true};
-ghost use Rattle.mdns_message.specs.declared.hearing.Hearing.{Hearing};
-ghost use Rattle.mdns_message.specs.declared.key.Key.{Key};
-ghost use Rattle.mdns_message.specs.RecordSet.{RecordSet};
-ghost use Rattle.mdns_join.specs.declared.latest.Latest.{Latest};
+ghost use Rattle.mdns_message.specs.{declared.hearing.Hearing.{Hearing}, declared.key.Key.{Key}, RecordSet.{RecordSet}};
+ghost use Rattle.mdns_join.specs.{declared.latest.Latest.{Latest}, Kept.{has, kept, IsStruckBy}};
 ghost use Rattle.join_map.specs.Join.{IsAtMost, IsPartOfJoin};
-ghost use Rattle.mdns_join.specs.Kept.{has, kept, IsStruckBy};
 ghost use Rattle.mdns_cache.specs.declared.plan.Plan.{Plan};
 ghost use Rattle.mdns_cache.specs.Live.{IsHeard, IsLast, SameHearings, IsFlushedAt, IsStruck, IsLive, flush_moments, IsEnd};
-ghost use Rattle.mdns_cache.specs.Plan.{hearings_of};
-ghost use Rattle.mdns_cache.specs.Contents.{Contents, IsContents, StandsFor, contents_of, join_of, no_contents};
+ghost use Rattle.mdns_cache.specs.{Plan.{hearings_of}, Contents.{Contents, IsContents, StandsFor, contents_of, join_of, no_contents}};
 
 use crate::cache::{Cache, map_laws};
 

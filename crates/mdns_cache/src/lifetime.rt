@@ -2,10 +2,8 @@
 //! less where a flush strikes it.
 
 ghost use Rattle.std.specs.Prelude.{◌≡◌, ◌≤◌, ◌+◌};
-ghost use Rattle.mdns_join.specs.Kept.{IsAscending};
-ghost use Rattle.mdns_join.specs.Nanos.{nanos_of};
-ghost use Rattle.mdns_cache.specs.Live.{life_of};
-ghost use Rattle.mdns_cache.specs.LentRecords.{end_of};
+ghost use Rattle.mdns_join.specs.{Kept.{IsAscending}, Nanos.{nanos_of}};
+ghost use Rattle.mdns_cache.specs.{Live.{life_of}, LentRecords.{end_of}};
 
 use crate::flush::count_early;
 use mdns_capture::Moment;

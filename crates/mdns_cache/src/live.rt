@@ -1,16 +1,11 @@
 //! Which records are live as of a moment, and until when (RFC 6762, sections 10.1 and 10.2).
 
 ghost use Rattle.std.specs.Prelude.{◌≡◌, ◌↔◌, ◌≤◌, ℕ, List, MatchOption, length, map, IsTrue, IfOk, IfSome};
-ghost use Rattle.std.specs.Iterator.{at_most};
-ghost use Rattle.std.specs.List.Sorted.{IsStrictlySortedBy};
-ghost use Rattle.std.specs.Map.{keys_of};
-ghost use Rattle.std.specs.Map.Iter.{TakesFirst};
-ghost use Rattle.mdns_message.specs.declared.hearing.Hearing.{Hearing};
-ghost use Rattle.mdns_message.specs.Resource.{key_cmp};
+ghost use Rattle.std.specs.{Iterator.{at_most}, List.Sorted.{IsStrictlySortedBy}, Map.{keys_of}, Map.Iter.{TakesFirst}};
+ghost use Rattle.mdns_message.specs.{declared.hearing.Hearing.{Hearing}, Resource.{key_cmp}};
 ghost use Rattle.mdns_join.specs.declared.latest.Latest.{Latest};
 ghost use Rattle.mdns_cache.specs.Live.{NoneLater, IsLive, AreLiveRows, IsEnd, AreLiveRecords};
-ghost use Rattle.mdns_cache.specs.LentRecords.{last_lent, live_record_lent, live_of};
-ghost use Rattle.mdns_cache.specs.Contents.{StandsFor};
+ghost use Rattle.mdns_cache.specs.{LentRecords.{last_lent, live_record_lent, live_of}, Contents.{StandsFor}};
 
 use crate::cache::{Cache, Last, all_of, borrowed_last};
 use crate::lifetime::end_of;

@@ -2,10 +2,8 @@
 
 ghost use Rattle.std.specs.Prelude.{◌≡◌, ◌++◌, ◌∷◌, [], IfNone, IfOk, IfSome, List, OnOk};
 ghost use Rattle.mdns_capture.specs.declared.moment.Moment.{Moment as moment};
-ghost use Rattle.mdns_message.specs.declared.hearing.Hearing.{Hearing};
-ghost use Rattle.mdns_message.specs.Message.{MessageReads};
-ghost use Rattle.mdns_cache.specs.Contents.{StandsFor};
-ghost use Rattle.mdns_cache.specs.Repeats.{ReadsAs, Remembered, StandsWith};
+ghost use Rattle.mdns_message.specs.{declared.hearing.Hearing.{Hearing}, Message.{MessageReads}};
+ghost use Rattle.mdns_cache.specs.{Contents.{StandsFor}, Repeats.{ReadsAs, Remembered, StandsWith}};
 
 use crate::cache::Cache;
 use crate::gathering::Gathering;

@@ -2,8 +2,7 @@
 
 ghost use Rattle.std.specs.Prelude.{◌≡◌, ◌++◌, List, IfOk};
 ghost use Rattle.mdns_message.specs.declared.hearing.Hearing.{Hearing};
-ghost use Rattle.mdns_cache.specs.Plan.{hearings_of};
-ghost use Rattle.mdns_cache.specs.Contents.{StandsFor};
+ghost use Rattle.mdns_cache.specs.{Plan.{hearings_of}, Contents.{StandsFor}};
 
 use crate::cache::Cache;
 use mdns_message::{Hearing, Want};

@@ -1,12 +1,9 @@
 //! The steps in which a hearing, or another cache, is joined into each part of a cache.
 
 ghost use Rattle.std.specs.Prelude.{◌≡◌, ℕ, IfOk, OnOk, OnErr};
-ghost use Rattle.mdns_message.specs.Resource.{key_of, key_cmp, set_key_of, set_key_cmp};
-ghost use Rattle.mdns_message.specs.Borrowed.{hearing_lent};
-ghost use Rattle.join_map.specs.Join.{IsPartOfJoin};
-ghost use Rattle.join_map.specs.Entries.{joined};
-ghost use Rattle.mdns_join.specs.Kept.{kept_union};
-ghost use Rattle.mdns_join.specs.Latest.{later};
+ghost use Rattle.mdns_message.specs.{Resource.{key_of, key_cmp, set_key_of, set_key_cmp}, Borrowed.{hearing_lent}};
+ghost use Rattle.join_map.specs.{Join.{IsPartOfJoin}, Entries.{joined}};
+ghost use Rattle.mdns_join.specs.{Kept.{kept_union}, Latest.{later}};
 ghost use Rattle.mdns_cache.specs.Contents.{IsContents, IsUpTo, contents_of};
 
 use crate::cache::{Cache, map_laws};

@@ -2,11 +2,8 @@
 use Rattle.std.proofs.Common.{◌≡◌, ◌≢◌, ◌≤◌, ℕ, ◌+◌, Bool, true, false, cond, eqb, List, [], ◌∷◌, ◌++◌}
 use Rattle.std.proofs.Common.{length, drop, take, map, Option, Some, None, refl, sym, ap, ◌∙◌, arith, append_assoc}
 use Rattle.std.specs.Option.{option_map, option_or}
-use Rattle.std.proofs.lemmas.Bool.{cond-false, ne_eqb, eq-eqb, cond-true}
-use Rattle.std.proofs.lemmas.List.{length-append, take_at, drop_at}
-use Rattle.mdns_capture.specs.declared.savefile.Format.{Format}
-use Rattle.mdns_capture.specs.declared.moment.Moment.{Moment}
-use Rattle.mdns_capture.specs.declared.savefile.Ending.{Ending}
+use Rattle.std.proofs.lemmas.{Bool.{cond-false, ne_eqb, eq-eqb, cond-true}, List.{length-append, take_at, drop_at}}
+use Rattle.mdns_capture.specs.declared.{savefile.Format.{Format}, moment.Moment.{Moment}, savefile.Ending.{Ending}}
 use Rattle.mdns_capture.specs.declared.savefile.Ending.TheVariants.{Whole, Cut, Fraction, Long, Many}
 use Rattle.mdns_capture.specs.Savefile.{PacketAt, CaptureReads, PacketsRead, ending_of, stop_of}
 use Rattle.mdns_capture.specs.Cut.{offset_after, moved_to, ending_at, content_of, part_before, part_from}

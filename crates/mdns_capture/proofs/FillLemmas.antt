@@ -1,10 +1,8 @@
 -- A buffer that is filled read by read.
-use Rattle.std.proofs.lemmas.Grind.{common_steps}
+use Rattle.std.proofs.{lemmas.Grind.{common_steps}, lemmas.Slice.{take-put_mid_below}, KnownBytes.{Consumes-trans}}
 use Rattle.std.proofs.Common.{◌≡◌, ℕ, ◌+◌, ◌-◌, ◌≤◌, List, ◌++◌, Option, arith, length, take, slice_range, sym, ap}
 use Rattle.std.proofs.Common.{◌∙◌, subst, le_refl, drop_at, length-take-le}
-use Rattle.std.proofs.lemmas.Slice.{take-put_mid_below}
 use Rattle.std.specs.Io.KnownBytes.{Consumes}
-use Rattle.std.proofs.KnownBytes.{Consumes-trans}
 use borrow.Rule.Slice.PartMut.{put_mid}
 use lib.Seq.{take-add}
 

@@ -7,18 +7,14 @@ use denote.Bor.{Bor}
 use Rattle.std.specs.Option.{option_map}
 use Rattle.std.proofs.lemmas.Bool.{eqb-true, le-leb, eq-eqb}
 use Rattle.std.proofs.lemmas.List.{length-drop, length-take-le, length-append, take_at, drop_at, take-append-drop, drop-drop}
-use Rattle.mdns_capture.specs.declared.cause.Cause.{Cause}
-use Rattle.mdns_capture.specs.declared.frame.Skip.{Skip}
-use Rattle.mdns_capture.specs.Savefile.{number_at}
+use Rattle.mdns_capture.specs.{declared.cause.Cause.{Cause}, declared.frame.Skip.{Skip}, Savefile.{number_at}}
 use Rattle.mdns_capture.specs.declared.savefile.Order.TheVariants.{Big}
-use Rattle.mdns_capture.specs.Frame.{word_at, ipv4_size, ipv4_data, ipv4_checks, ipv6_data, ipv6_checks}
-use Rattle.mdns_capture.specs.Frame.{ip_data, ip_checks, udp_checks, udp_payload, first_failing, cause_of, skip_of}
-use Rattle.mdns_capture.specs.Frame.{skip_of_cause, other_type_cause, IsIpv4Header, IsIpv6Header, IsUdpDatagram}
-use Rattle.mdns_capture.specs.Frame.{CarriesAfter, FrameCarries, in_ipv4, in_ipv6}
+use Rattle.mdns_capture.specs.Frame.{word_at, ipv4_size, ipv4_data, ipv4_checks, ipv6_data, ipv6_checks, ip_data, ip_checks, udp_checks}
+use Rattle.mdns_capture.specs.Frame.{udp_payload, first_failing, cause_of, skip_of, skip_of_cause, other_type_cause, IsIpv4Header}
+use Rattle.mdns_capture.specs.Frame.{IsIpv6Header, IsUdpDatagram, CarriesAfter, FrameCarries, in_ipv4, in_ipv6}
 use Rattle.mdns_capture.proofs.FrameCheckLemmas.{passed, both_passed, cause_by_layer}
-use Rattle.mdns_capture.proofs.FramePassLemmas.{PassesUdp, PassesIpv4, PassesIpv6, PassesUdp-from_none}
-use Rattle.mdns_capture.proofs.FramePassLemmas.{none_from_PassesUdp, PassesIpv4-from_none, none_from_PassesIpv4}
-use Rattle.mdns_capture.proofs.FramePassLemmas.{PassesIpv6-from_none, none_from_PassesIpv6}
+use Rattle.mdns_capture.proofs.FramePassLemmas.{PassesUdp, PassesIpv4, PassesIpv6, PassesUdp-from_none, none_from_PassesUdp}
+use Rattle.mdns_capture.proofs.FramePassLemmas.{PassesIpv4-from_none, none_from_PassesIpv4, PassesIpv6-from_none, none_from_PassesIpv6}
 use Rattle.mdns_capture.proofs.FramePartLemmas.{number-past, number-within, byte-past, byte-within}
 
 -- THE UDP DATAGRAM

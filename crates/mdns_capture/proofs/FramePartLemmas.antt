@@ -1,12 +1,8 @@
 -- Numbers and bytes of lists that are joined end to end.
 use Rattle.std.proofs.Common.{◌≡◌, ◌≤◌, ◌<◌, ℕ, ◌+◌, List, ◌++◌, length, drop, slice_index, ap, arith}
-use Rattle.std.proofs.Math.Seq.{drop-append-add}
-use Rattle.std.proofs.lemmas.List.{drop-append-le, get_or-append-add, get_or_append_left, length-drop}
-use Rattle.byteorder.specs.Endian.{big_number}
-use Rattle.byteorder.specs.Numbers.{big_from-append, little_from-append}
-use Rattle.mdns_capture.specs.declared.savefile.Order.{Order}
-use Rattle.mdns_capture.specs.declared.savefile.Order.TheVariants.{Little, Big}
-use Rattle.mdns_capture.specs.Savefile.{number_at}
+use Rattle.std.proofs.{Math.Seq.{drop-append-add}, lemmas.List.{drop-append-le, get_or-append-add, get_or_append_left, length-drop}}
+use Rattle.byteorder.specs.{Endian.{big_number}, Numbers.{big_from-append, little_from-append}}
+use Rattle.mdns_capture.specs.{declared.savefile.Order.{Order}, declared.savefile.Order.TheVariants.{Little, Big}, Savefile.{number_at}}
 
 pub drop_past : (front rest : List ℕ) (p q : ℕ) → q ≡ length front + p → drop q (front ++ rest) ≡ drop p rest
 drop_past front rest p q e = rw e (drop-append-add front rest p)

@@ -2,11 +2,9 @@
 use Rattle.std.proofs.Common.{arith, ◌≡◌, ◌≤◌, ℕ, ◌+◌, ◌/◌, List, length, slice_index, None}
 use Rattle.std.specs.Prelude.{bit_and}
 use Rattle.std.proofs.lemmas.Bool.{leb-true, eqb-true, le-leb, eq-eqb}
-use Rattle.mdns_capture.specs.Savefile.{number_at}
-use Rattle.mdns_capture.specs.declared.savefile.Order.TheVariants.{Big}
-use Rattle.mdns_capture.specs.Frame.{word_at, ipv4_group, ipv6_group, ipv4_size, ipv4_checks, ipv6_checks}
-use Rattle.mdns_capture.specs.Frame.{ipv4_size_checks, ipv4_kind_checks, ipv6_size_checks, ipv6_kind_checks}
-use Rattle.mdns_capture.specs.Frame.{udp_checks, first_failing}
+use Rattle.mdns_capture.specs.{Savefile.{number_at}, declared.savefile.Order.TheVariants.{Big}}
+use Rattle.mdns_capture.specs.Frame.{word_at, ipv4_group, ipv6_group, ipv4_size, ipv4_checks, ipv6_checks, ipv4_size_checks}
+use Rattle.mdns_capture.specs.Frame.{ipv4_kind_checks, ipv6_size_checks, ipv6_kind_checks, udp_checks, first_failing}
 use Rattle.mdns_capture.proofs.FrameCheckLemmas.{passed, pass}
 
 pub record PassesUdp (datagram : List ℕ) : Type 0 where

@@ -2,27 +2,18 @@
 use Rattle.std.proofs.Common.{◌≡◌, ◌⊎◌, inl, inr, ℕ, ◌<◌, ◌≤◌, Bool, true, false, cond, ltb, List, [], ◌++◌}
 use Rattle.std.proofs.Common.{Option, Some, None, IfSome, Result, Ok, Err, IfErr, arith, length, take, refl}
 use Rattle.std.proofs.Common.{sym, ap, ◌∙◌, subst, length-append, le-ltb, lt-ltb}
-use Rattle.std.specs.Option.{option_or}
-use Rattle.std.specs.Io.KnownBytes.{Consumes, IsAtEnd}
-use Rattle.std.proofs.KnownBytes.{Consumes-trans}
-use Rattle.std.proofs.lemmas.Bool.{cases_lt, ltb-true, ltb-false}
-use Rattle.std.proofs.lemmas.List.{append-nil, length-take, length-take-le, take-append-le, take_all}
-use Rattle.std.proofs.lemmas.Bool.Decides.{nat_tests}
-use Rattle.mdns_capture.specs.declared.savefile.Order.TheVariants.{Big}
-use Rattle.mdns_capture.specs.declared.savefile.Format.{Format}
-use Rattle.mdns_capture.specs.declared.savefile.FileHeader.{FileHeader}
-use Rattle.mdns_capture.specs.declared.savefile.Ending.{Ending}
-use Rattle.mdns_capture.specs.declared.savefile.Ending.TheVariants.{Cut}
-use Rattle.mdns_capture.specs.declared.savefile.BeginFault.{BeginFault}
+use Rattle.std.specs.{Option.{option_or}, Io.KnownBytes.{Consumes, IsAtEnd}}
+use Rattle.std.proofs.{KnownBytes.{Consumes-trans}, lemmas.Bool.{cases_lt, ltb-true, ltb-false}}
+use Rattle.std.proofs.lemmas.{List.{append-nil, length-take, length-take-le, take-append-le, take_all}, Bool.Decides.{nat_tests}}
+use Rattle.mdns_capture.specs.declared.savefile.{Order.TheVariants.{Big}, Format.{Format}, FileHeader.{FileHeader}, Ending.{Ending}}
+use Rattle.mdns_capture.specs.declared.savefile.{Ending.TheVariants.{Cut}, BeginFault.{BeginFault}}
 use Rattle.mdns_capture.specs.declared.savefile.BeginFault.TheVariants.{Memory, Read, ShortHeader, Magic, Version, Link}
-use Rattle.mdns_capture.specs.declared.savefile.PacketHeader.{PacketHeader}
-use Rattle.mdns_capture.specs.declared.savefile.PacketOrEnd.{PacketOrEnd}
+use Rattle.mdns_capture.specs.declared.savefile.{PacketHeader.{PacketHeader}, PacketOrEnd.{PacketOrEnd}}
 use Rattle.mdns_capture.specs.declared.savefile.PacketOrEnd.TheVariants.{Packet, End}
+use Rattle.mdns_capture.specs.{Capture.{HasFault, IsDamagedStep, IsPacketOrEnd, packet_by}, Stream.{TakesAtMost}}
+use Rattle.mdns_capture.specs.Savefile.{number_at, captured_of, format_of, format_fault, header_fault, head_stop, header_stop, stop_of}
+use Rattle.mdns_capture.specs.Savefile.{IsPacketHeader}
 use Rattle.mdns_capture.proofs.FramePartLemmas.{number-within}
-use Rattle.mdns_capture.specs.Capture.{HasFault, IsDamagedStep, IsPacketOrEnd, packet_by}
-use Rattle.mdns_capture.specs.Stream.{TakesAtMost}
-use Rattle.mdns_capture.specs.Savefile.{number_at, captured_of, format_of, format_fault, header_fault}
-use Rattle.mdns_capture.specs.Savefile.{head_stop, header_stop, stop_of, IsPacketHeader}
 
 -- the fault of a text is that of its first 24 bytes
 format_fault-append : (header rest : List ℕ) (format : Option Format) → length header ≡ 24

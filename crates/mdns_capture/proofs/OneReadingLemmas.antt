@@ -3,21 +3,14 @@ use Rattle.std.proofs.Common.{◌≡◌, ◌==◌, ◌&&◌, ◌%◌, eqb-true, 
 use Rattle.std.proofs.Common.{cond, not, eqb, ltb, List, [], ◌∷◌, ◌++◌, Option, Some, None, arith, length, take, drop}
 use Rattle.std.proofs.Common.{slice_index, refl, sym, ap, ◌∙◌, subst, length-append, le-ltb}
 use Rattle.std.specs.Option.{option_or}
-use Rattle.std.proofs.lemmas.List.{drop_at, take_at, get_or-drop, length-take-le, length-drop, take-append-drop}
-use Rattle.std.proofs.lemmas.Bool.{ltb-false}
-use Rattle.std.proofs.lemmas.Bool.Decides.{nat_tests}
-use Rattle.std.proofs.Math.Bridge.{le_prop}
+use Rattle.std.proofs.lemmas.{List.{drop_at, take_at, get_or-drop, length-take-le, length-drop, take-append-drop}, Bool.{ltb-false}}
+use Rattle.std.proofs.{lemmas.Bool.Decides.{nat_tests}, Math.Bridge.{le_prop}}
 use Rattle.byteorder.specs.Numbers.{big_from-lt, little_from-lt}
-use Rattle.mdns_capture.specs.declared.moment.Moment.{Moment}
-use Rattle.mdns_capture.specs.declared.savefile.Order.{Order}
-use Rattle.mdns_capture.specs.declared.savefile.Order.TheVariants.{Little, Big}
-use Rattle.mdns_capture.specs.declared.savefile.Format.{Format}
-use Rattle.mdns_capture.specs.declared.savefile.Ending.{Ending}
-use Rattle.mdns_capture.specs.Savefile.{PacketAt, number_at, seconds_of, fraction_of, captured_of, scale_of}
-use Rattle.mdns_capture.specs.Savefile.{format_of, format_fault, header_fault, stop_of, ending_of, IsFileHeader}
-use Rattle.mdns_capture.specs.Savefile.{BeginsWith, PacketsRead, CaptureReads}
-use Rattle.mdns_capture.proofs.HeaderLemmas.{header_fault-append, stop_of-append}
-use Rattle.mdns_capture.proofs.FramePartLemmas.{number-within}
+use Rattle.mdns_capture.specs.declared.{moment.Moment.{Moment}, savefile.Order.{Order}, savefile.Order.TheVariants.{Little, Big}}
+use Rattle.mdns_capture.specs.declared.savefile.{Format.{Format}, Ending.{Ending}}
+use Rattle.mdns_capture.specs.Savefile.{PacketAt, number_at, seconds_of, fraction_of, captured_of, scale_of, format_of, format_fault}
+use Rattle.mdns_capture.specs.Savefile.{header_fault, stop_of, ending_of, IsFileHeader, BeginsWith, PacketsRead, CaptureReads}
+use Rattle.mdns_capture.proofs.{HeaderLemmas.{header_fault-append, stop_of-append}, FramePartLemmas.{number-within}}
 
 -- two ways to cut a text at one offset are one
 pub append_parts : (front others rest more : List ℕ) → length front ≡ length others → front ++ rest ≡ others ++ more

@@ -11,8 +11,7 @@ use Rattle.std.proofs.lemmas.List.{
   take-append-le,
   drop-append-le,
 }
-use Rattle.mdns_capture.specs.declared.source_address.SourceAddress.{SourceAddress}
-use Rattle.mdns_capture.specs.declared.source_address.SourceAddress.TheVariants.{V4, V6}
+use Rattle.mdns_capture.specs.declared.source_address.{SourceAddress.{SourceAddress}, SourceAddress.TheVariants.{V4, V6}}
 use Rattle.mdns_capture.specs.Frame.{
   word_at,
   ipv4_type,
@@ -25,8 +24,7 @@ use Rattle.mdns_capture.specs.Frame.{
   in_ipv6,
 }
 use Rattle.mdns_capture.specs.Source.{HasSource, IsSourceOf, source_at}
-use Rattle.mdns_capture.proofs.FrameLemmas.{StandsIn-from_carries}
-use Rattle.mdns_capture.proofs.FramePartLemmas.{drop_past}
+use Rattle.mdns_capture.proofs.{FrameLemmas.{StandsIn-from_carries}, FramePartLemmas.{drop_past}}
 
 -- THE HEADER
 

@@ -1,7 +1,6 @@
 -- Numbers of nine digits.
 use Rattle.std.proofs.Common.{◌≡◌, ℕ, ◌-◌, ◌^◌, false, []}
-use Rattle.std.proofs.Math.Nat.{sub-zero}
-use Rattle.std.proofs.lemmas.List.{append-nil}
+use Rattle.std.proofs.{Math.Nat.{sub-zero}, lemmas.List.{append-nil}}
 use Rattle.std.specs.Fmt.{decimal, padded_integral, char_count, format_spec}
 use Rattle.mdns_capture.specs.Text.{nine_digits}
 

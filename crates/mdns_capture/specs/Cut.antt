@@ -1,10 +1,8 @@
 -- A capture that is cut in two where a packet header begins, the file header repeated.
 use Rattle.std.specs.Prelude.{ℕ, ◌+◌, List, [], ◌∷◌, ◌++◌, length, drop, take}
-use Rattle.mdns_capture.specs.declared.moment.Moment.{Moment}
-use Rattle.mdns_capture.specs.declared.savefile.Ending.{Ending}
+use Rattle.mdns_capture.specs.declared.{moment.Moment.{Moment}, savefile.Ending.{Ending}}
 use Rattle.mdns_capture.specs.declared.savefile.Ending.TheVariants.{Going, Whole, Cut, Fraction, Long, Many, Failed}
-use Rattle.mdns_capture.specs.Limits.{file_header_size, packet_header_size}
-use Rattle.mdns_capture.specs.Savefile.{PacketAt}
+use Rattle.mdns_capture.specs.{Limits.{file_header_size, packet_header_size}, Savefile.{PacketAt}}
 
 -- the offset after packets that begin at an offset: where the next header begins
 abbrev pub offset_after : ℕ → List PacketAt → ℕ

@@ -31,9 +31,7 @@ use Rattle.std.specs.Prelude.{
   bit_and,
 }
 use Rattle.std.specs.Option.{option_map}
-use Rattle.mdns_capture.specs.Savefile.{number_at}
-use Rattle.mdns_capture.specs.declared.savefile.Order.TheVariants.{Big}
-use Rattle.mdns_capture.specs.declared.cause.Cause.{Cause}
+use Rattle.mdns_capture.specs.{Savefile.{number_at}, declared.savefile.Order.TheVariants.{Big}, declared.cause.Cause.{Cause}}
 use Rattle.mdns_capture.specs.declared.cause.Cause.TheVariants.{
   EthernetCut,
   VlanTag,
@@ -50,8 +48,7 @@ use Rattle.mdns_capture.specs.declared.cause.Cause.TheVariants.{
   Port,
   UdpLength,
 }
-use Rattle.mdns_capture.specs.declared.frame.Skip.{Skip}
-use Rattle.mdns_capture.specs.declared.frame.Skip.TheVariants.{Short, Other, Fragment}
+use Rattle.mdns_capture.specs.declared.frame.{Skip.{Skip}, Skip.TheVariants.{Short, Other, Fragment}}
 
 -- the number in the two bytes at an offset, the most significant first
 abbrev pub word_at : ℕ → List ℕ → ℕ

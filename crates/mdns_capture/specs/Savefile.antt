@@ -4,16 +4,10 @@ use Rattle.std.specs.Prelude.{[], ◌∷◌, ◌++◌, length, drop, Option, Som
 use Rattle.std.specs.Option.{option_or}
 use Rattle.byteorder.specs.Endian.{big_number, little_number}
 use Rattle.mdns_capture.specs.Limits.{file_header_size, packet_header_size, longest_packet, most_packets, second}
-use Rattle.mdns_capture.specs.declared.moment.Moment.{Moment}
-use Rattle.mdns_capture.specs.declared.savefile.Order.{Order}
-use Rattle.mdns_capture.specs.declared.savefile.Order.TheVariants.{Little, Big}
-use Rattle.mdns_capture.specs.declared.savefile.Precision.{Precision}
-use Rattle.mdns_capture.specs.declared.savefile.Precision.TheVariants.{Microseconds, Nanoseconds}
-use Rattle.mdns_capture.specs.declared.savefile.Format.{Format}
-use Rattle.mdns_capture.specs.declared.savefile.Ending.{Ending}
-use Rattle.mdns_capture.specs.declared.savefile.Ending.TheVariants.{Whole, Cut, Fraction, Long, Many}
-use Rattle.mdns_capture.specs.declared.savefile.BeginFault.{BeginFault}
-use Rattle.mdns_capture.specs.declared.savefile.BeginFault.TheVariants.{ShortHeader, Magic, Version, Link}
+use Rattle.mdns_capture.specs.declared.{moment.Moment.{Moment}, savefile.Order.{Order}, savefile.Order.TheVariants.{Little, Big}}
+use Rattle.mdns_capture.specs.declared.savefile.{Precision.{Precision}, Precision.TheVariants.{Microseconds, Nanoseconds}, Format.{Format}}
+use Rattle.mdns_capture.specs.declared.savefile.{Ending.{Ending}, Ending.TheVariants.{Whole, Cut, Fraction, Long, Many}}
+use Rattle.mdns_capture.specs.declared.savefile.{BeginFault.{BeginFault}, BeginFault.TheVariants.{ShortHeader, Magic, Version, Link}}
 
 -- a packet of a capture: its moment, the offset of its header in the file, and its captured bytes
 pub record PacketAt : Type 0 where

@@ -1,7 +1,6 @@
 -- From which address the datagram in a frame was sent.
 use Rattle.std.specs.Prelude.{◌≡◌, ℕ, ◌==◌, if◌then◌else◌, List, ◌++◌, length, drop, take}
-use Rattle.mdns_capture.specs.declared.source_address.SourceAddress.{SourceAddress}
-use Rattle.mdns_capture.specs.declared.source_address.SourceAddress.TheVariants.{V4, V6}
+use Rattle.mdns_capture.specs.declared.source_address.{SourceAddress.{SourceAddress}, SourceAddress.TheVariants.{V4, V6}}
 use Rattle.mdns_capture.specs.Frame.{word_at, ipv4_type, ipv6_type, IsIpv4Header, IsIpv6Header, CarriesAfter}
 
 -- An IP header has its source address after so many bytes, and then the destination address, of the same size.

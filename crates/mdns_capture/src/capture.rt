@@ -1,9 +1,7 @@
 //! Reads a capture packet by packet.
 
 ghost use Rattle.std.specs.Prelude.{◌≡◌, ◌≢◌, ◌+◌, ◌<◌, ◌≤◌, IfOk, IfErr, OnOk, OnErr, IsTrue, MatchOption};
-ghost use Rattle.std.specs.Borrow.{sem};
-ghost use Rattle.std.specs.Option.{option_map};
-ghost use Rattle.std.specs.Io.BufRead.{Rests};
+ghost use Rattle.std.specs.{Borrow.{sem}, Option.{option_map}, Io.BufRead.{Rests}};
 ghost use Rattle.mdns_capture.specs.declared.savefile.Ending.TheVariants.{Going, Many, Failed};
 ghost use Rattle.mdns_capture.specs.Limits.{packet_header_size, most_packets, greatest_offset};
 ghost use Rattle.mdns_capture.specs.Capture.{HasFault, Begins, Moves, Advances, IsOver, IsShown, ending_after, packet_lent, answer_lent};

@@ -1,8 +1,7 @@
 //! The check of a frame that failed first.
 
 ghost use Rattle.std.specs.Prelude.{◌≡◌};
-ghost use Rattle.mdns_capture.specs.Frame.{skip_of_cause, other_type_cause, other_header_cause};
-ghost use Rattle.mdns_capture.specs.Frame.{is_before_fragments, leads_to_fragment};
+ghost use Rattle.mdns_capture.specs.Frame.{skip_of_cause, other_type_cause, other_header_cause, is_before_fragments, leads_to_fragment};
 
 use crate::frame::Skip;
 

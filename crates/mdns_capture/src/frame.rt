@@ -1,10 +1,9 @@
 //! Ethernet frames and the Multicast DNS payloads that they carry.
 
 ghost use Rattle.std.specs.Prelude.{◌≡◌, ◌<◌, ◌≤◌, ◌+◌, List, ℕ, length, Some, None, IfOk, IfErr, IsOkAnd, MatchResult};
-ghost use Rattle.mdns_capture.specs.Frame.{FrameCarries, first_failing, ip_checks, ip_data, ipv4_checks, ipv4_data};
-ghost use Rattle.mdns_capture.specs.Frame.{ipv4_kind_checks, ipv4_size, ipv4_size_checks, word_at, ipv6_checks};
-ghost use Rattle.mdns_capture.specs.Frame.{ipv6_data, ipv6_kind_checks, ipv6_size_checks, cause_of, skip_of};
-ghost use Rattle.mdns_capture.specs.Frame.{udp_checks, udp_payload};
+ghost use Rattle.mdns_capture.specs.Frame.{FrameCarries, first_failing, ip_checks, ip_data, ipv4_checks, ipv4_data, ipv4_kind_checks};
+ghost use Rattle.mdns_capture.specs.Frame.{ipv4_size, ipv4_size_checks, word_at, ipv6_checks, ipv6_data, ipv6_kind_checks};
+ghost use Rattle.mdns_capture.specs.Frame.{ipv6_size_checks, cause_of, skip_of, udp_checks, udp_payload};
 
 use crate::cause::Cause;
 use byteorder::{BigEndian, ByteOrder};

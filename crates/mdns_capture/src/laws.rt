@@ -2,13 +2,10 @@
 
 ghost use Rattle.std.specs.Prelude.{◌≡◌, ◌≢◌, ◌⊎◌, ◌<◌, List, ◌∷◌, ◌++◌, map, ℕ, None, Some, slice_index};
 ghost use Rattle.std.specs.Option.{option_map};
-ghost use Rattle.mdns_capture.specs.declared.frame.Skip.{Skip};
-ghost use Rattle.mdns_capture.specs.declared.savefile.Ending.{Ending};
-ghost use Rattle.mdns_capture.specs.declared.savefile.Ending.TheVariants.{Whole, Many};
+ghost use Rattle.mdns_capture.specs.declared.{frame.Skip.{Skip}, savefile.Ending.{Ending}, savefile.Ending.TheVariants.{Whole, Many}};
 ghost use Rattle.mdns_capture.specs.Savefile.{PacketAt, CaptureReads, header_fault};
 ghost use Rattle.mdns_capture.specs.Cut.{offset_after, moved_to, ending_at, content_of, part_before, part_from};
-ghost use Rattle.mdns_capture.specs.Frame.{FrameCarries, cause_of, skip_of, skip_of_cause};
-ghost use Rattle.mdns_capture.specs.Limits.{file_header_size};
+ghost use Rattle.mdns_capture.specs.{Frame.{FrameCarries, cause_of, skip_of, skip_of_cause}, Limits.{file_header_size}};
 
 /// The bytes of a file have at most one reading, a list of packets and an ending. They have one
 /// exactly where the file header has no fault.

@@ -1,8 +1,7 @@
 //! Moments, in nanoseconds.
 
 ghost use Rattle.std.specs.Prelude.{◌≡◌, ◌+◌, ◌*◌, ◌≤◌, IfSome, Some, ◌↔◌};
-ghost use Rattle.mdns_capture.specs.Limits.{second, greatest_moment};
-ghost use Rattle.mdns_capture.specs.Text.{moment_text};
+ghost use Rattle.mdns_capture.specs.{Limits.{second, greatest_moment}, Text.{moment_text}};
 
 use std::fmt;
 

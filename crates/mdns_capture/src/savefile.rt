@@ -3,12 +3,10 @@
 ghost use Rattle.std.specs.Prelude.{◌≡◌, ◌≢◌, ℕ, ◌+◌, ◌*◌, ◌≤◌, ◌↔◌, Some, None, Err, IfSome, IfOk, IfErr, OnOk};
 ghost use Rattle.std.specs.Prelude.{OnErr, is_ok, MatchResult, IsTrue, IsOk, List, length};
 ghost use Rattle.std.specs.Io.KnownBytes.{Consumes};
-ghost use Rattle.mdns_capture.specs.Limits.{file_header_size, packet_header_size, longest_packet, second};
-ghost use Rattle.mdns_capture.specs.Calls.{ReadsWell};
+ghost use Rattle.mdns_capture.specs.{Limits.{file_header_size, packet_header_size, longest_packet, second}, Calls.{ReadsWell}};
 ghost use Rattle.mdns_capture.specs.Stream.{TakesAtMost, OneMoreFailed};
-ghost use Rattle.mdns_capture.specs.Savefile.{number_at, scale_of, format_of, format_fault, header_fault, head_stop};
-ghost use Rattle.mdns_capture.specs.Savefile.{header_stop, snap_length_of, IsFileHeader, IsPacketHeader};
-ghost use Rattle.mdns_capture.specs.Text.{ending_text};
+ghost use Rattle.mdns_capture.specs.Savefile.{number_at, scale_of, format_of, format_fault, header_fault, head_stop, header_stop};
+ghost use Rattle.mdns_capture.specs.{Savefile.{snap_length_of, IsFileHeader, IsPacketHeader}, Text.{ending_text}};
 ghost use Rattle.mdns_capture.specs.Capture.{IsPacketOrEnd, HasFault, IsDamagedStep, IsHeaderFault, IsOver, packet_by};
 
 use crate::moment::Moment;

@@ -1,8 +1,7 @@
 //! Payloads of frames, with the addresses from which they were sent.
 
 ghost use Rattle.std.specs.Prelude.{◌≡◌, ℕ, List, IfErr, IfOk, IsOkAnd, Some};
-ghost use Rattle.mdns_capture.specs.Frame.{FrameCarries, cause_of};
-ghost use Rattle.mdns_capture.specs.Source.{IsSourceOf, source_at};
+ghost use Rattle.mdns_capture.specs.{Frame.{FrameCarries, cause_of}, Source.{IsSourceOf, source_at}};
 
 use crate::cause::Cause;
 use crate::frame::{IPV4, payload_or_cause};

@@ -1,11 +1,8 @@
 //! Reading until a buffer is full, and writing until a text is out.
 
 ghost use Rattle.std.specs.Prelude.{◌<◌, is_ok, IfOk, OnOk, OnErr, length, take};
-ghost use Rattle.std.specs.Io.{ReadsAtMost};
-ghost use Rattle.std.specs.Io.KnownBytes.{Appends, Consumes, IsAtEnd};
-ghost use Rattle.mdns_capture.specs.Calls.{ReadsWell, WritesWell};
-ghost use Rattle.mdns_capture.specs.Output.{AppendsPrefix};
-ghost use Rattle.mdns_capture.specs.Stream.{TakesAtMost};
+ghost use Rattle.std.specs.{Io.{ReadsAtMost}, Io.KnownBytes.{Appends, Consumes, IsAtEnd}};
+ghost use Rattle.mdns_capture.specs.{Calls.{ReadsWell, WritesWell}, Output.{AppendsPrefix}, Stream.{TakesAtMost}};
 
 use crate::stream::{Broken, Sink, Source};
 

@@ -1,8 +1,7 @@
 -- A list with free room before it, after an insertion.
 use Rattle.std.proofs.Common.{◌≡◌, ℕ, ◌+◌, ◌≤◌, List, length, drop, arith, append_assoc}
 use Rattle.std.specs.List.{insert}
-use Rattle.std.proofs.lemmas.List.{drop_at, drop-drop, length-take-le}
-use Rattle.std.proofs.Math.Seq.{take-add}
+use Rattle.std.proofs.{lemmas.List.{drop_at, drop-drop, length-take-le}, Math.Seq.{take-add}}
 
 module _ {X : Type 0} where
   pub inserted : (xs ys : List X) (first at : ℕ) (x : X) → first + at ≤ length xs

@@ -1,16 +1,9 @@
 -- Walking over flush moments in key order.
 use Rattle.std.proofs.Common.{◌≡◌, ◌≢◌, List, [], ◌∷◌, Option, None, Some, refl, sym, ap, ◌∙◌, subst}
-use Rattle.std.specs.Borrow.{Bor}
-use Rattle.std.specs.declared.cmp.Ordering.{Ordering}
-use Rattle.std.specs.declared.cmp.Ordering.TheVariants.{Less, Equal, Greater}
-use Rattle.std.specs.Ordering.{ordering_reverse}
-use Rattle.std.specs.Cmp.{tied_itself}
-use Rattle.std.specs.List.Sorted.{IsStrictlySortedBy}
-use Rattle.std.specs.Map.{keys_of}
+use Rattle.std.specs.{Borrow.{Bor}, declared.cmp.Ordering.{Ordering}, declared.cmp.Ordering.TheVariants.{Less, Equal, Greater}}
+use Rattle.std.specs.{Ordering.{ordering_reverse}, Cmp.{tied_itself}, List.Sorted.{IsStrictlySortedBy}, Map.{keys_of}}
 use Rattle.std.specs.Map.Iter.{TakesFirst, deref_pair}
-use Rattle.mdns_message.specs.RecordSet.{RecordSet}
-use Rattle.mdns_message.specs.Resource.{set_key_cmp}
-use Rattle.mdns_message.specs.laws.Resource.{set_key_cmp-total, set_key_cmp-exact}
+use Rattle.mdns_message.specs.{RecordSet.{RecordSet}, Resource.{set_key_cmp}, laws.Resource.{set_key_cmp-total, set_key_cmp-exact}}
 use Rattle.join_map.specs.Entries.{value_at}
 use Rattle.join_map.specs.laws.Entries.{greater_back, sorted_above, sorted_rest, above_trans, value_at-above}
 use Rattle.join_map.specs.laws.Entries.{value_at-equal, value_at-greater}

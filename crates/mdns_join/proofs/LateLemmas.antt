@@ -1,15 +1,11 @@
 -- Moments in no order: those that are kept depend only on which moments there are, however these are sorted or wait.
 use Rattle.std.proofs.Common.{rules, ◌≡◌, ℕ, suc, ◌<◌, ◌≤◌, Bool, true, false, ◌||◌, ◌==◌, List, [], ◌∷◌, ◌++◌}
 use Rattle.std.proofs.Common.{refl, sym, ap, ◌∙◌, subst, inl, inr, arith, true≢false, eqb-true}
-use Rattle.std.specs.Ordering.{nat_cmp}
-use Rattle.std.specs.List.{Contains, dedup, dedup_from}
-use Rattle.std.specs.List.Sorted.{IsPermutation, IsSortedByKey, IsNonDecreasingBy}
-use Rattle.std.proofs.lemmas.Bool.{or_cases, cond_both, eqb-false as unequal}
-use Rattle.std.proofs.lemmas.List.{map-append}
+use Rattle.std.specs.{Ordering.{nat_cmp}, List.{Contains, dedup, dedup_from}, List.Sorted.{IsPermutation, IsSortedByKey, IsNonDecreasingBy}}
+use Rattle.std.proofs.lemmas.{Bool.{or_cases, cond_both, eqb-false as unequal}, List.{map-append}}
 use Rattle.std.proofs.lemmas.List.Sorted.{IsPermutation-map, IsPermutation-sym, Contains-permutation, IsNonDecreasingBy-from_sort}
 use Rattle.mdns_capture.specs.declared.moment.Moment.{Moment}
-use Rattle.mdns_join.specs.Nanos.{nanos_of}
-use Rattle.mdns_join.specs.Kept.{has, IsAscending, IsAscendingAbove, union, kept, kept_union, IsKeptList}
+use Rattle.mdns_join.specs.{Nanos.{nanos_of}, Kept.{has, IsAscending, IsAscendingAbove, union, kept, kept_union, IsKeptList}}
 use Rattle.mdns_join.specs.laws.Kept.{has-append, has-union, kept-kept, kept-same, kept_union-left}
 use Rattle.mdns_join.proofs.MomentLemmas.{has-get_or}
 

@@ -1,7 +1,6 @@
 -- Comparisons one after another.
 use Rattle.std.proofs.Common.{◌≡◌, ap, refl}
-use Rattle.std.specs.declared.cmp.Ordering.{Ordering}
-use Rattle.std.specs.declared.cmp.Ordering.TheVariants.{Less, Equal, Greater}
+use Rattle.std.specs.declared.cmp.{Ordering.{Ordering}, Ordering.TheVariants.{Less, Equal, Greater}}
 use Rattle.std.specs.Ordering.{is_lt, ordering_then}
 
 then_equal : (o p : Ordering) → p ≡ Equal → is_lt (ordering_then o p) ≡ is_lt o

@@ -1,7 +1,6 @@
 -- Values that a refused join left as they were: they lie between the old ones and the join.
 use Rattle.std.proofs.Common.{◌≡◌, Result, Ok, Err, OnErr, subst, sym}
-use Rattle.join_map.specs.Join.{JoinLaws, IsPartOfJoin}
-use Rattle.join_map.specs.laws.Join.{IsPartOfJoin-old}
+use Rattle.join_map.specs.{Join.{JoinLaws, IsPartOfJoin}, laws.Join.{IsPartOfJoin-old}}
 
 module _ {A T E : Type 0} {Valid : A → Type 0} {join : A → A → A} (laws : JoinLaws Valid join) where
   pub part_nothing : (r : Result T E) (old other : A) → Valid old → Valid other → OnErr r (IsPartOfJoin join old other old)

@@ -1,11 +1,8 @@
 -- The last hearing of a record: the greatest by moment, then TTL, then spelling.
 use Rattle.std.specs.Prelude.{◌≡◌, ℕ}
-use Rattle.std.specs.declared.cmp.Ordering.{Ordering}
-use Rattle.std.specs.Ordering.{nat_cmp, on, then_cmp}
+use Rattle.std.specs.{declared.cmp.Ordering.{Ordering}, Ordering.{nat_cmp, on, then_cmp}}
 use Rattle.mdns_capture.specs.declared.moment.Moment.{Moment}
-use Rattle.mdns_message.specs.declared.hearing.Hearing.{Hearing}
-use Rattle.mdns_message.specs.declared.resource.Resource.{Resource}
-use Rattle.mdns_message.specs.declared.key.Key.{Key}
+use Rattle.mdns_message.specs.declared.{hearing.Hearing.{Hearing}, resource.Resource.{Resource}, key.Key.{Key}}
 use Rattle.mdns_message.specs.Resource.{key_of, resource_cmp}
 use Rattle.join_map.specs.Join.{greater_of}
 use Rattle.mdns_join.specs.declared.latest.Latest.{Latest}

@@ -2,8 +2,7 @@
 
 ghost use Rattle.std.specs.Prelude.{◌≡◌, ◌≢◌, option_copied};
 ghost use Rattle.std.specs.declared.cmp.Ordering.TheVariants.{Greater};
-ghost use Rattle.mdns_message.specs.RecordSet.{RecordSet};
-ghost use Rattle.mdns_message.specs.Resource.{set_key_cmp};
+ghost use Rattle.mdns_message.specs.{RecordSet.{RecordSet}, Resource.{set_key_cmp}};
 ghost use Rattle.join_map.specs.Entries.{value_at};
 
 use join_map::{JoinMap, Semilattice, Walk};

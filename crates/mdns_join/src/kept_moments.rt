@@ -1,11 +1,8 @@
 //! The flush moments that are kept of a record set.
 
 ghost use Rattle.std.specs.Prelude.{◌≡◌, [], ◌∷◌, true, IsOk, IfNone, IfOk, IfSome, OnOk, OnErr, nat_eq};
-ghost use Rattle.std.specs.Cmp.{partial_equiv_from_equiv};
-ghost use Rattle.std.specs.Cmp.Lexicographic.{pointwise, nat_list_eq_equiv};
-ghost use Rattle.mdns_join.specs.Kept.{has, kept_union, IsGreatest, IsKeptList};
-ghost use Rattle.mdns_join.specs.laws.Kept.{kept_union-laws};
-ghost use Rattle.mdns_join.specs.Nanos.{nanos_of};
+ghost use Rattle.std.specs.{Cmp.{partial_equiv_from_equiv}, Cmp.Lexicographic.{pointwise, nat_list_eq_equiv}};
+ghost use Rattle.mdns_join.specs.{Kept.{has, kept_union, IsGreatest, IsKeptList}, laws.Kept.{kept_union-laws}, Nanos.{nanos_of}};
 
 use crate::moment_list::MomentList;
 use crate::prune::{add, add_all, last_of};

@@ -2,9 +2,7 @@
 
 ghost use Rattle.std.specs.Prelude.{◌≡◌, ◌+◌, ◌≤◌, [], ◌∷◌, length, IfOk, OnOk, OnErr};
 ghost use Rattle.std.specs.Bool.{OnTrue};
-ghost use Rattle.mdns_join.specs.Kept.{kept_union, IsKeptList};
-ghost use Rattle.mdns_join.specs.Nanos.{nanos_of};
-ghost use Rattle.mdns_join.specs.laws.Kept.{kept_union-laws};
+ghost use Rattle.mdns_join.specs.{Kept.{kept_union, IsKeptList}, Nanos.{nanos_of}, laws.Kept.{kept_union-laws}};
 
 use crate::kept_moments::Moments;
 use join_map::{Join, JoinInto, JoinOwn, Semilattice};

@@ -2,8 +2,7 @@
 
 ghost use Rattle.std.specs.Prelude.{◌≡◌, ℕ, ◌+◌, ◌≤◌, ◌↔◌, List, true};
 ghost use Rattle.mdns_capture.specs.Limits.{second};
-ghost use Rattle.mdns_join.specs.Kept.{kept, union, has, IsAscending, IsKept, IsStruckBy, newest};
-ghost use Rattle.mdns_join.specs.Latest.{latest_cmp};
+ghost use Rattle.mdns_join.specs.{Kept.{kept, union, has, IsAscending, IsKept, IsStruckBy, newest}, Latest.{latest_cmp}};
 ghost use Rattle.mdns_join.specs.declared.latest.Latest.{Latest as ALatest};
 
 use crate::latest::Latest;

@@ -3,9 +3,7 @@ use Rattle.std.proofs.Common.{List, [], ◌∷◌, ◌++◌, append-nil, subst, 
 use Rattle.mdns_capture.specs.Savefile.{PacketAt}
 use Rattle.mdns_message.specs.declared.hearing.Hearing.{Hearing}
 use Rattle.mdns_survey.proofs.ListenedLemmas.{all_hearings-more}
-use Rattle.mdns_survey.specs.Listen.{HearsPackets}
-use Rattle.mdns_survey.specs.Outcomes.{Outcome}
-use Rattle.mdns_survey.specs.Surveys.{all_hearings}
+use Rattle.mdns_survey.specs.{Listen.{HearsPackets}, Outcomes.{Outcome}, Surveys.{all_hearings}}
 
 module _ {H : Type 0} (Stands : H → H → List Hearing → Type 0) where
   pub hears-nothing : (hearer : H) → HearsPackets Stands hearer hearer [] []

@@ -1,18 +1,12 @@
 -- How each different one of sorted messages gets a row.
-use Rattle.std.proofs.lemmas.Bool.Decides.{nat_tests}
+use Rattle.std.proofs.lemmas.{Bool.Decides.{nat_tests}, Bool.{cases_eq, cases_lt}}
+use Rattle.std.proofs.lemmas.List.{get_or_append_left, get_or-map, get_or_push, get_or-set_other, get_or-set_same, length-map, length_push}
+use Rattle.std.proofs.lemmas.{List.{map_push}, List.Elements.{All-nil, All-push, recursion_from_All}, List.Sorted.{ranks_by, sorted_far}}
+use Rattle.std.proofs.lemmas.Map.{Keys.{Less-from_sorted, sorted_from_all_adjacent}, Lookups.{exact_bytes}}
 use Rattle.std.proofs.Common.{◌≡◌, ℕ, suc, ◌+◌, ◌-◌, ◌<◌, ◌≤◌, ◌⊎◌, inl, inr, false, Ordering, Less, Equal, Greater, append_assoc}
 use Rattle.std.proofs.Common.{List, [], ◌∷◌, ◌++◌, length, map, get_or, set, refl, sym, ap, ◌∙◌, subst, arith, true≢false}
-use Rattle.std.specs.Cmp.Lexicographic.{slice_cmp, nat_list_cmp_total}
-use Rattle.std.specs.List.{All, AllByRecursion}
-use Rattle.std.specs.List.Sorted.{IsStrictlySortedBy}
+use Rattle.std.specs.{Cmp.Lexicographic.{slice_cmp, nat_list_cmp_total}, List.{All, AllByRecursion}, List.Sorted.{IsStrictlySortedBy}}
 use Rattle.std.specs.Ordering.{nat_cmp, is_lt, ordering_reverse}
-use Rattle.std.proofs.lemmas.Bool.{cases_eq, cases_lt}
-use Rattle.std.proofs.lemmas.List.{get_or_append_left, get_or-map, get_or_push, get_or-set_other}
-use Rattle.std.proofs.lemmas.List.{get_or-set_same, length-map, length_push, map_push}
-use Rattle.std.proofs.lemmas.List.Elements.{All-nil, All-push, recursion_from_All}
-use Rattle.std.proofs.lemmas.List.Sorted.{ranks_by, sorted_far}
-use Rattle.std.proofs.lemmas.Map.Keys.{Less-from_sorted, sorted_from_all_adjacent}
-use Rattle.std.proofs.lemmas.Map.Lookups.{exact_bytes}
 use Rattle.mdns_listeners.specs.Heard.{HeardRow, messages_of}
 use Rattle.mdns_listeners.specs.Kept.{AddsRow, ArePlaced, AreSorted, IsNumbered, KeptMessage, filled, is_below, last_message}
 use Rattle.mdns_listeners.proofs.RowLemmas.{all-front, all-middle}

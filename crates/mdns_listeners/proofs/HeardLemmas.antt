@@ -1,18 +1,11 @@
 -- Rows of heard messages as entries of a map from messages to times.
-use Rattle.std.proofs.lemmas.Bool.Decides.{nat_tests}
+use Rattle.std.proofs.lemmas.{Bool.Decides.{nat_tests}, List.{map-append}, List.Elements.{filter-append, All-head, All-tail}}
+use Rattle.std.proofs.lemmas.Map.Lookups.{exact_bytes}
 use Rattle.std.proofs.Common.{◌≡◌, ℕ, zero, suc, ◌<◌, ◌⊎◌, inl, inr, Bool, true, false, cond, List, [], ◌∷◌, ◌++◌, length, map, get_or}
 use Rattle.std.proofs.Common.{Some, None, refl, sym, ap, ◌∙◌, subst, arith}
-use Rattle.std.specs.Cmp.{unsigned_ties}
-use Rattle.std.specs.Cmp.Lexicographic.{slice_cmp, lists_ties, bytes_decides, nat_list_cmp_total}
-use Rattle.std.specs.List.{All, filter}
-use Rattle.std.specs.List.Sorted.{IsStrictlySortedBy}
-use Rattle.std.specs.Map.{keys_of}
-use Rattle.std.specs.Ordering.{nat_cmp, is_eq}
-use Rattle.std.proofs.lemmas.List.{map-append}
-use Rattle.std.proofs.lemmas.List.Elements.{filter-append, All-head, All-tail}
-use Rattle.std.proofs.lemmas.Map.Lookups.{exact_bytes}
-use Rattle.join_map.specs.Entries.{value_at, joined_at}
-use Rattle.join_map.specs.laws.Entries.{same_entries}
+use Rattle.std.specs.{Cmp.{unsigned_ties}, Cmp.Lexicographic.{slice_cmp, lists_ties, bytes_decides, nat_list_cmp_total}, List.{All, filter}}
+use Rattle.std.specs.{List.Sorted.{IsStrictlySortedBy}, Map.{keys_of}, Ordering.{nat_cmp, is_eq}}
+use Rattle.join_map.specs.{Entries.{value_at, joined_at}, laws.Entries.{same_entries}}
 use Rattle.mdns_listeners.specs.declared.heard.HeardAt.{HeardAt}
 use Rattle.mdns_listeners.specs.Heard.{AreHeardIn, HasWholeAddress, HeardRow, Told, is_same, messages_of, row_at, some_times, times_of}
 

@@ -1,29 +1,20 @@
 -- Messages that are kept, and what was told.
-use Rattle.std.proofs.lemmas.Bool.Decides.{nat_tests}
-use Rattle.std.proofs.Common.{◌≡◌, ℕ, ◌<◌, ◌-◌, ◌==◌, if◌then◌else◌, inl, inr, List, [], ◌∷◌, ◌++◌, drop, length, get_or, map, take, Result, Ok}
-use Rattle.std.proofs.Common.{Err, OnOk, OnErr, refl, sym, ap, ◌∙◌, subst, arith, length-append}
-use Rattle.std.specs.List.{All, cons_option}
-use Rattle.std.specs.List.Sorted.{IsPermutation}
-use Rattle.std.proofs.Math.Seq.{drop-append_seam}
-use Rattle.std.proofs.lemmas.Bool.{cases_lt}
+use Rattle.std.proofs.{lemmas.Bool.Decides.{nat_tests}, Math.Seq.{drop-append_seam}, lemmas.Bool.{cases_lt}}
 use Rattle.std.proofs.lemmas.List.{get_or_append_left, get_or-map, get_or_push, length-map, length_push, map_push, take-map}
 use Rattle.std.proofs.lemmas.List.Elements.{All-map, All-push, All-take, Contains-get_or}
 use Rattle.std.proofs.lemmas.List.Sorted.{All-permutation as all_permuted, Contains-permutation, length_permutation}
+use Rattle.std.proofs.Common.{◌≡◌, ℕ, ◌<◌, ◌-◌, ◌==◌, if◌then◌else◌, inl, inr, List, [], ◌∷◌, ◌++◌, drop, length, get_or, map, take, Result, Ok}
+use Rattle.std.proofs.Common.{Err, OnOk, OnErr, refl, sym, ap, ◌∙◌, subst, arith, length-append}
+use Rattle.std.specs.{List.{All, cons_option}, List.Sorted.{IsPermutation}}
 use Rattle.mdns_capture.specs.declared.moment.Moment.{Moment}
-use Rattle.mdns_message.specs.declared.hearing.Hearing.{Hearing}
-use Rattle.mdns_message.specs.Message.{MessageReads, hearing_of}
-use Rattle.mdns_message.specs.RecordAt.{HeardRecord}
+use Rattle.mdns_message.specs.{declared.hearing.Hearing.{Hearing}, Message.{MessageReads, hearing_of}, RecordAt.{HeardRecord}}
 use Rattle.mdns_message.proofs.MessageLawLemmas.{one_hearing_list}
 use Rattle.mdns_cache.specs.Repeats.{ReadsAs}
-use Rattle.mdns_cache.proofs.MemoryLemmas.{reads_as}
-use Rattle.mdns_cache.proofs.RepeatLemmas.{reads-at}
-use Rattle.mdns_listeners.specs.declared.kept.Noted.{Noted}
-use Rattle.mdns_listeners.specs.declared.names.SenderAddressName.{SenderAddressName}
-use Rattle.mdns_listeners.specs.Heard.{HasWholeAddress}
+use Rattle.mdns_cache.proofs.{MemoryLemmas.{reads_as}, RepeatLemmas.{reads-at}}
+use Rattle.mdns_listeners.specs.{declared.kept.Noted.{Noted}, declared.names.SenderAddressName.{SenderAddressName}, Heard.{HasWholeAddress}}
 use Rattle.mdns_listeners.specs.Kept.{AreKept, ArePlaced, IsRead, KeptMessage, kept_messages, next_kept, payload_in, told_by}
 use Rattle.mdns_listeners.specs.Names.{SufficeFor, named_in, told_in}
-use Rattle.mdns_listeners.proofs.HeldNameLemmas.{suffice-onward}
-use Rattle.mdns_listeners.proofs.RowLemmas.{map-agree}
+use Rattle.mdns_listeners.proofs.{HeldNameLemmas.{suffice-onward}, RowLemmas.{map-agree}}
 
 -- ---- whole addresses
 

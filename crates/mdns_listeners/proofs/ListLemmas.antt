@@ -1,9 +1,7 @@
 -- Steps of loops that make lists.
-use Rattle.std.proofs.lemmas.Bool.Decides.{nat_tests}
+use Rattle.std.proofs.lemmas.{Bool.Decides.{nat_tests}, List.{drop_more}, List.FromFn.{map-range_with_len_more}}
 use Rattle.std.proofs.Common.{◌≡◌, ℕ, ◌+◌, ◌<◌, List, [], ◌∷◌, ◌++◌, length, map, drop, get_or}
 use Rattle.std.proofs.Common.{arith, ap, sym, ◌∙◌, append_assoc}
-use Rattle.std.proofs.lemmas.List.{drop_more}
-use Rattle.std.proofs.lemmas.List.FromFn.{map-range_with_len_more}
 use Rattle.std.specs.List.{enumerate_from, range_with_len}
 
 -- what a function makes of so many numbers

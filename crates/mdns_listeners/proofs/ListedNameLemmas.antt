@@ -1,26 +1,18 @@
 -- The names of one sender: those beside its address among the names of all senders.
-use Rattle.std.proofs.lemmas.Bool.Decides.{nat_tests}
+use Rattle.std.proofs.{lemmas.Bool.Decides.{nat_tests}, Math.ListN.{get_or-map}, lemmas.Bool.{false≢true, cases_lt}}
+use Rattle.std.proofs.lemmas.Cmp.{nat_list_cmp_total, tied_itself, tied_back}
+use Rattle.std.proofs.lemmas.{List.{get_or_default, take-map, get_or-drop, length-drop, length-map}, List.Kept.{IsStrictlySortedBy-filter}}
+use Rattle.std.proofs.lemmas.{Map.Keys.{Less-from_sorted}, Option.{none-some, same_Some}}
 use Rattle.std.proofs.Common.{◌≡◌, ◌≢◌, ℕ, zero, suc, ◌+◌, ◌-◌, ◌<◌, ◌≤◌, ◌⊎◌, ⊎_elim, inl, inr, Bool, true, false, cond}
 use Rattle.std.proofs.Common.{List, [], ◌∷◌, length, map, take, drop, get_or, None, Some, Contains, refl, sym, ap, subst}
 use Rattle.std.proofs.Common.{◌∙◌, arith}
 use Rattle.std.specs.List.{AllByRecursion, AllWithin, filter, cons_option, drop-map}
-use Rattle.std.specs.List.Sorted.{IsStrictlySortedBy, IsPartitionPoint, IsPartitionedBy}
-use Rattle.std.specs.Option.{option_map}
-use Rattle.std.specs.Cmp.Lexicographic.{slice_cmp}
-use Rattle.std.specs.Ordering.{nat_cmp, is_lt, is_le, is_eq, ordering_then, ordering_reverse}
-use Rattle.std.specs.declared.cmp.Ordering.{Ordering}
-use Rattle.std.specs.declared.cmp.Ordering.TheVariants.{Less, Equal, Greater}
-use Rattle.std.proofs.Math.ListN.{get_or-map}
-use Rattle.std.proofs.lemmas.Bool.{false≢true, cases_lt}
-use Rattle.std.proofs.lemmas.Cmp.{nat_list_cmp_total, tied_itself, tied_back}
-use Rattle.std.proofs.lemmas.List.{get_or_default, take-map, get_or-drop, length-drop, length-map}
-use Rattle.std.proofs.lemmas.List.Kept.{IsStrictlySortedBy-filter}
-use Rattle.std.proofs.lemmas.Map.Keys.{Less-from_sorted}
-use Rattle.std.proofs.lemmas.Option.{none-some, same_Some}
+use Rattle.std.specs.{List.Sorted.{IsStrictlySortedBy, IsPartitionPoint, IsPartitionedBy}, Option.{option_map}}
+use Rattle.std.specs.{Cmp.Lexicographic.{slice_cmp}, Ordering.{nat_cmp, is_lt, is_le, is_eq, ordering_then, ordering_reverse}}
+use Rattle.std.specs.declared.cmp.{Ordering.{Ordering}, Ordering.TheVariants.{Less, Equal, Greater}}
 use Rattle.mdns_capture.specs.declared.source_address.SourceAddress.{SourceAddress}
 use Rattle.dns_name.specs.Name.{folded}
-use Rattle.mdns_message.specs.declared.hearing.Hearing.{Hearing}
-use Rattle.mdns_message.specs.laws.Resource.{bytes_cmp-exact}
+use Rattle.mdns_message.specs.{declared.hearing.Hearing.{Hearing}, laws.Resource.{bytes_cmp-exact}}
 use Rattle.mdns_cache.proofs.StandsPartLemmas.{Contains-nil, Contains-head, Contains-later, Contains-cases, Contains-map, from_map}
 use Rattle.mdns_lives.proofs.FilterLemmas.{from-filter, to-filter}
 use Rattle.mdns_browse.proofs.SearchLemmas.{NotAbove, below-before, eq_is, not_above-before}

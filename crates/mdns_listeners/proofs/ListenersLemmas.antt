@@ -1,31 +1,22 @@
 -- What captures tell, one packet and one capture more at a time.
-use Rattle.std.proofs.lemmas.Bool.Decides.{nat_tests}
+use Rattle.std.proofs.lemmas.{Bool.Decides.{nat_tests}, Grind.{flat_map-append}, List.{get_or_past, map-append, take_all, take_more}}
+use Rattle.std.proofs.lemmas.List.Elements.{All-append, All-cons, All-nil}
 use Rattle.std.proofs.Common.{◌≡◌, ◌∙◌, ℕ, ◌+◌, suc, refl, sym, ap, subst, List, [], ◌∷◌, ◌++◌, length, append_assoc, append-nil, arith}
 use Rattle.std.proofs.Common.{◌<◌, ◌≤◌, ◌-◌, get_or, map, take, Option}
-use Rattle.std.proofs.lemmas.Grind.{flat_map-append}
-use Rattle.std.proofs.lemmas.List.{get_or_past, map-append, take_all, take_more}
 use Rattle.std.specs.Prelude.{min}
-use Rattle.std.proofs.lemmas.List.Elements.{All-append, All-cons, All-nil}
-use Rattle.mdns_capture.specs.declared.source_address.SourceAddress.{SourceAddress}
-use Rattle.mdns_capture.specs.Frame.{FrameCarries}
-use Rattle.mdns_capture.specs.Savefile.{PacketAt}
+use Rattle.mdns_capture.specs.{declared.source_address.SourceAddress.{SourceAddress}, Frame.{FrameCarries}, Savefile.{PacketAt}}
 use Rattle.mdns_capture.specs.Source.{IsSourceOf}
 use Rattle.mdns_message.specs.declared.hearing.Hearing.{Hearing}
 use Rattle.mdns_browse.specs.declared.report.Form.{Form}
 use Rattle.mdns_survey.proofs.ListenedLemmas.{all_hearings-more}
-use Rattle.mdns_survey.specs.Outcomes.{Outcome, heard, hearings_in, hearings_of_outcome}
-use Rattle.mdns_survey.specs.Surveys.{all_hearings}
-use Rattle.mdns_listeners.specs.declared.listeners.MessageCollector.{MessageCollector}
-use Rattle.mdns_listeners.specs.declared.senders.SenderRow.{SenderRow}
+use Rattle.mdns_survey.specs.{Outcomes.{Outcome, heard, hearings_in, hearings_of_outcome}, Surveys.{all_hearings}}
 use Rattle.mdns_survey.specs.declared.reading.Span.{Span}
-use Rattle.mdns_listeners.specs.declared.heard.HeardAt.{HeardAt}
-use Rattle.mdns_listeners.specs.Heard.{HeardRow, Told, message_bytes}
-use Rattle.mdns_listeners.specs.Numbers.{FileSpans, spans_of_listeners}
-use Rattle.mdns_listeners.specs.Kept.{HeardSoFar, HearsMessage}
-use Rattle.mdns_listeners.specs.Listeners.{AreNamed, CapturesTell, Gathered, Gathers, NotesTime, SaysFacts, TellAll, Tells, heard_at, listener_at}
-use Rattle.mdns_listeners.specs.declared.named.NamedSender.{NamedSender as LentSender}
-use Rattle.mdns_listeners.specs.Named.{NamedSender, sender_lent}
-use Rattle.mdns_listeners.specs.Names.{AreNames, HoldsNames}
+use Rattle.mdns_listeners.specs.declared.{listeners.MessageCollector.{MessageCollector}, senders.SenderRow.{SenderRow}}
+use Rattle.mdns_listeners.specs.{declared.heard.HeardAt.{HeardAt}, Heard.{HeardRow, Told, message_bytes}}
+use Rattle.mdns_listeners.specs.{Numbers.{FileSpans, spans_of_listeners}, Kept.{HeardSoFar, HearsMessage}}
+use Rattle.mdns_listeners.specs.Listeners.{AreNamed, CapturesTell, Gathered, Gathers, NotesTime, SaysFacts, TellAll, Tells, heard_at}
+use Rattle.mdns_listeners.specs.{Listeners.{listener_at}, declared.named.NamedSender.{NamedSender as LentSender}}
+use Rattle.mdns_listeners.specs.{Named.{NamedSender, sender_lent}, Names.{AreNames, HoldsNames}}
 
 length-snoc : {X : Type 0} (xs : List X) (x : X) → length (xs ++ x ∷ []) ≡ suc (length xs)
 length-snoc [] x = refl

@@ -1,18 +1,12 @@
 -- Marks tell what the messages tell.
 use Rattle.std.proofs.Common.{◌≡◌, ℕ, ◌+◌, Bool, true, false, ◌&&◌, ◌||◌, cond, List, [], ◌∷◌, ◌++◌, map, drop, get_or}
 use Rattle.std.proofs.Common.{Option, Some, None, ℤ, arith, refl, ap, sym, ◌∙◌}
-use Rattle.std.proofs.lemmas.List.{get_or-drop, drop-drop}
-use Rattle.std.proofs.lemmas.List.Sums.{sum_by-append, sum_by-cons}
-use Rattle.std.proofs.lemmas.List.Elements.{filter_map-append}
+use Rattle.std.proofs.lemmas.{List.{get_or-drop, drop-drop}, List.Sums.{sum_by-append, sum_by-cons}, List.Elements.{filter_map-append}}
 use Rattle.std.specs.List.{count_by, cons_option, filter, filter_map, list_any}
 use Rattle.mdns_capture.specs.declared.moment.Moment.{Moment}
-use Rattle.mdns_listeners.specs.Heard.{HeardRow}
-use Rattle.mdns_listeners.specs.Marks.{is_seen, mark_at, marks_by, marks_from, only_of, seen_by, seen_more, seen_of}
-use Rattle.mdns_listeners.specs.Numbers.{has, is_of}
-use Rattle.mdns_listeners.specs.Pairs.{common, difference, differences, nanos_ahead, once, only_moment}
-use Rattle.mdns_listeners.specs.declared.heard.HeardAt.{HeardAt}
-use Rattle.mdns_listeners.specs.declared.marks.Mark.{Mark}
-use Rattle.mdns_listeners.specs.declared.marks.Seen.{Seen}
+use Rattle.mdns_listeners.specs.{Heard.{HeardRow}, Marks.{is_seen, mark_at, marks_by, marks_from, only_of, seen_by, seen_more, seen_of}}
+use Rattle.mdns_listeners.specs.{Numbers.{has, is_of}, Pairs.{common, difference, differences, nanos_ahead, once, only_moment}}
+use Rattle.mdns_listeners.specs.declared.{heard.HeardAt.{HeardAt}, marks.Mark.{Mark}, marks.Seen.{Seen}}
 use Rattle.mdns_listeners.specs.declared.marks.Seen.TheVariants.{Never, Once, Often}
 
 -- ---- how often a message was heard

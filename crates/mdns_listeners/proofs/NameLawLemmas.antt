@@ -1,9 +1,7 @@
 -- A sender has one list of names, whatever the order and the repeats of hearings.
 use Rattle.std.proofs.Common.{◌≡◌, ℕ, List, Contains, map, subst, sym}
-use Rattle.std.specs.List.Sorted.{IsStrictlySortedBy}
-use Rattle.std.specs.Cmp.{IsTotalOrder}
-use Rattle.std.proofs.lemmas.Cmp.{nat_list_cmp_total, on_total}
-use Rattle.std.proofs.lemmas.List.{map-id}
+use Rattle.std.specs.{List.Sorted.{IsStrictlySortedBy}, Cmp.{IsTotalOrder}}
+use Rattle.std.proofs.lemmas.{Cmp.{nat_list_cmp_total, on_total}, List.{map-id}}
 use Rattle.mdns_capture.specs.declared.source_address.SourceAddress.{SourceAddress}
 use Rattle.dns_name.specs.Name.{folded}
 use Rattle.mdns_message.specs.declared.hearing.Hearing.{Hearing}

@@ -2,13 +2,10 @@
 use Rattle.std.proofs.Common.{◌≡◌, ℕ, ◌+◌, ◌<◌, Bool, true, false, not, ◌&&◌, cond}
 use Rattle.std.proofs.Common.{eqb, ltb, List, [], ◌∷◌, ◌++◌, length, drop, get_or, zero, suc}
 use Rattle.std.proofs.Common.{append-nil, append_assoc, Option, Some, None, arith, refl, ap, sym, ◌∙◌, ◌||◌}
-use Rattle.std.proofs.lemmas.Bool.Decides.{nat_tests}
-use Rattle.std.proofs.lemmas.List.{drop_all, get_or_past}
+use Rattle.std.proofs.lemmas.{Bool.Decides.{nat_tests}, List.{drop_all, get_or_past}}
 use Rattle.std.proofs.lemmas.List.Sums.{fold_push, sum_by-cons, count_by-le-length}
-use Rattle.std.specs.List.{count_by, list_any}
-use Rattle.std.specs.Option.{option_to_list}
-use Rattle.mdns_survey.specs.declared.reading.Span.{Span}
-use Rattle.mdns_survey.specs.Span.{joined_spans}
+use Rattle.std.specs.{List.{count_by, list_any}, Option.{option_to_list}}
+use Rattle.mdns_survey.specs.{declared.reading.Span.{Span}, Span.{joined_spans}}
 use Rattle.mdns_listeners.specs.Heard.{HeardRow}
 use Rattle.mdns_listeners.specs.Numbers.{is_of, is_alone, is_missed, listened, times_heard}
 use Rattle.mdns_listeners.specs.Numbers.{FileSpans, file_spans, span_of_file, whole_span, spans_of_listener}

@@ -1,14 +1,11 @@
 -- Rows of pairs, one pair after another.
 use Rattle.std.proofs.Common.{arith}
-use Rattle.std.proofs.lemmas.Bool.Decides.{nat_tests}
+use Rattle.std.proofs.lemmas.{Bool.Decides.{nat_tests}, List.{drop_more}}
 use Rattle.std.proofs.Common.{◌≡◌, ℕ, ◌+◌, ◌<◌, Bool, List, [], ◌∷◌, ◌++◌, length, drop, get_or}
 use Rattle.std.proofs.Common.{ap, cond, append_assoc}
-use Rattle.std.proofs.lemmas.List.{drop_more}
 use Rattle.std.specs.List.{enumerate_from}
-use Rattle.mdns_listeners.specs.Heard.{HeardRow}
-use Rattle.mdns_listeners.specs.Numbers.{FileSpans}
-use Rattle.mdns_listeners.specs.Pairs.{is_pair, pair_row, pair_rows_at, pair_rows_of, pair_rows_with}
-use Rattle.mdns_listeners.specs.declared.pairs.PairRow.{PairRow}
+use Rattle.mdns_listeners.specs.{Heard.{HeardRow}, Numbers.{FileSpans}}
+use Rattle.mdns_listeners.specs.{Pairs.{is_pair, pair_row, pair_rows_at, pair_rows_of, pair_rows_with}, declared.pairs.PairRow.{PairRow}}
 
 -- the listener at a place, and those behind it
 pub listeners_more : (spans : List FileSpans) (i : ℕ) (d : FileSpans) → i < length spans

@@ -1,20 +1,14 @@
 -- How sorted messages are made rows, and their times are added.
-use Rattle.std.proofs.lemmas.Bool.Decides.{nat_tests}
+use Rattle.std.proofs.lemmas.{Bool.Decides.{nat_tests}, Bool.{cond_both}}
+use Rattle.std.proofs.lemmas.List.{append-nil, get_or_append_left, get_or_at, length-map, map_more}
+use Rattle.std.proofs.lemmas.List.{Elements.{All-contains, All-head, All-map, All-tail}, Folds.{list_any_at}}
+use Rattle.std.proofs.lemmas.Map.Keys.{Less-from_sorted, sorted_head, sorted_tail}
 use Rattle.std.proofs.Common.{◌≡◌, ℕ, zero, suc, ◌+◌, ◌<◌, Bool, true, false, cond, ◌||◌}
 use Rattle.std.proofs.Common.{List, [], ◌∷◌, ◌++◌, length, map, get_or, set, take, Option, Some, refl, sym, ap}
 use Rattle.std.proofs.Common.{◌∙◌, subst, arith, true≢false, length-append, Less, Equal}
-use Rattle.std.specs.Cmp.{tied_itself}
-use Rattle.std.specs.Cmp.Lexicographic.{slice_cmp, nat_list_cmp_total}
-use Rattle.std.specs.List.{All, AllByRecursion, filter, list_any}
-use Rattle.std.specs.List.Sorted.{IsStrictlySortedBy}
-use Rattle.std.specs.Ordering.{nat_cmp}
-use Rattle.std.proofs.lemmas.Bool.{cond_both}
-use Rattle.std.proofs.lemmas.List.{append-nil, get_or_append_left, get_or_at, length-map, map_more}
-use Rattle.std.proofs.lemmas.List.Elements.{All-contains, All-head, All-map, All-tail}
-use Rattle.std.proofs.lemmas.List.Folds.{list_any_at}
-use Rattle.std.proofs.lemmas.Map.Keys.{Less-from_sorted, sorted_head, sorted_tail}
-use Rattle.mdns_listeners.specs.declared.heard.HeardAt.{HeardAt}
-use Rattle.mdns_listeners.specs.declared.kept.Noted.{Noted}
+use Rattle.std.specs.{Cmp.{tied_itself}, Cmp.Lexicographic.{slice_cmp, nat_list_cmp_total}, List.{All, AllByRecursion, filter, list_any}}
+use Rattle.std.specs.{List.Sorted.{IsStrictlySortedBy}, Ordering.{nat_cmp}}
+use Rattle.mdns_listeners.specs.declared.{heard.HeardAt.{HeardAt}, kept.Noted.{Noted}}
 use Rattle.mdns_listeners.specs.Heard.{AreHeardIn, HeardRow, Told, has_times, is_same, messages_of, row_at, some_times, times_of}
 use Rattle.mdns_listeners.specs.Kept.{ArePlaced, IsNumbered, KeptMessage, filled, told_by, told_of_rows}
 use Rattle.mdns_listeners.proofs.HeardLemmas.{same-is, same-itself, times_of-append}

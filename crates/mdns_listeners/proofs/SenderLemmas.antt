@@ -2,16 +2,10 @@
 use Rattle.std.proofs.Common.{◌≡◌, ℕ, suc, zero, ◌+◌, ◌<◌, ◌≤◌, Bool, true, false, not}
 use Rattle.std.proofs.Common.{cond, eqb, List, [], ◌∷◌, ◌++◌, length, take, drop, get_or}
 use Rattle.std.proofs.Common.{◌-◌, Less, arith, refl, ap, sym, ◌∙◌, subst, inl, inr, append_assoc}
-use Rattle.std.proofs.lemmas.Bool.Decides.{nat_tests}
-use Rattle.std.proofs.lemmas.List.{length-drop, length-take-le, take-append-drop}
-use Rattle.std.proofs.lemmas.Slice.Eq.{bytes_eq-Decides}
-use Rattle.std.specs.Cmp.Lexicographic.{slice_cmp}
-use Rattle.std.specs.List.{All, AllByRecursion, filter, flat_map, prefix_len}
-use Rattle.std.specs.List.Sorted.{IsStrictlySortedBy}
-use Rattle.std.specs.Ordering.{nat_cmp}
-use Rattle.std.specs.Str.{bytes_eq}
-use Rattle.mdns_listeners.specs.Heard.{HasWholeAddress, HeardRow, messages_of}
-use Rattle.mdns_listeners.specs.Numbers.{FileSpans}
+use Rattle.std.proofs.lemmas.{Bool.Decides.{nat_tests}, List.{length-drop, length-take-le, take-append-drop}, Slice.Eq.{bytes_eq-Decides}}
+use Rattle.std.specs.{Cmp.Lexicographic.{slice_cmp}, List.{All, AllByRecursion, filter, flat_map, prefix_len}}
+use Rattle.std.specs.{List.Sorted.{IsStrictlySortedBy}, Ordering.{nat_cmp}, Str.{bytes_eq}}
+use Rattle.mdns_listeners.specs.{Heard.{HasWholeAddress, HeardRow, messages_of}, Numbers.{FileSpans}}
 use Rattle.mdns_listeners.specs.Senders.{is_from, rows_from, rows_of_sender, sender_in, sender_length, sender_rows, senders}
 use Rattle.mdns_listeners.specs.declared.senders.SenderRow.{SenderRow}
 

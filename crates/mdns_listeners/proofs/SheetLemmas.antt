@@ -1,16 +1,11 @@
 -- A sheet after rows.
 use Rattle.std.proofs.Common.{arith}
-use Rattle.std.proofs.lemmas.Bool.Decides.{nat_tests}
+use Rattle.std.proofs.lemmas.{Bool.Decides.{nat_tests}, Grind.{flat_map-append}, List.{at_drop_more, get_or_default}}
 use Rattle.std.proofs.Common.{◌≡◌, refl, sym, ap, ◌∙◌, ℕ, ◌+◌, ◌<◌, Bool, true, false, List, [], ◌∷◌, ◌++◌, length, map, drop, get_or}
 use Rattle.std.proofs.Common.{append_assoc, append-nil}
-use Rattle.std.proofs.lemmas.Grind.{flat_map-append}
-use Rattle.std.proofs.lemmas.List.{at_drop_more, get_or_default}
 use Rattle.std.specs.List.{flat_map, fold}
-use Rattle.mdns_browse.specs.declared.report.Form.{Form}
-use Rattle.mdns_browse.specs.declared.report.Form.TheVariants.{Pretty}
-use Rattle.mdns_listeners.specs.Fields.{Field}
-use Rattle.mdns_listeners.specs.Sheet.{SheetNow, cells_of, row_text, taken, widened}
-use Rattle.mdns_listeners.specs.Table.{table_text}
+use Rattle.mdns_browse.specs.declared.report.{Form.{Form}, Form.TheVariants.{Pretty}}
+use Rattle.mdns_listeners.specs.{Fields.{Field}, Sheet.{SheetNow, cells_of, row_text, taken, widened}, Table.{table_text}}
 use Rattle.mdns_listeners.proofs.TableLemmas.{table_written}
 
 -- a row taken of rows that are left

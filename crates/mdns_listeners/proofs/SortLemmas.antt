@@ -1,19 +1,12 @@
 -- A sort leaves the numbers in ascending order, and there is one such order.
-use Rattle.std.proofs.lemmas.Bool.Decides.{nat_tests}
+use Rattle.std.proofs.lemmas.{Bool.Decides.{nat_tests}, Int.{ints}, Cmp.{int_cmp_total}, List.Elements.{recursion_from_All}}
+use Rattle.std.proofs.lemmas.List.Sorted.{IsPermutation-cons, IsPermutation-middle, IsPermutation-refl, IsPermutation-trans, ranks_by}
+use Rattle.std.proofs.lemmas.List.{Sorted.{sorted_far, sum_by-IsPermutation}, Sums.{sum_by-cons}}
 use Rattle.std.proofs.Common.{◌≡◌, ℕ, suc, zero, ◌+◌, Bool, true, false, cond, List, [], ◌∷◌, length, get_or}
 use Rattle.std.proofs.Common.{ℤ, arith, refl, ap, sym, ◌∙◌, subst}
-use Rattle.std.specs.Ordering.{int_cmp, is_lt}
+use Rattle.std.specs.{Ordering.{int_cmp, is_lt}, List.{AllByRecursion, count_by}, List.Sorted.{IsPermutation, IsSorted}}
 use Rattle.std.specs.Prelude.{int_lt}
-use Rattle.std.specs.List.{AllByRecursion, count_by}
-use Rattle.std.specs.List.Sorted.{IsPermutation, IsSorted}
-use Rattle.std.proofs.lemmas.Int.{ints}
-use Rattle.std.proofs.lemmas.Cmp.{int_cmp_total}
-use Rattle.std.proofs.lemmas.List.Elements.{recursion_from_All}
-use Rattle.std.proofs.lemmas.List.Sorted.{IsPermutation-cons, IsPermutation-middle, IsPermutation-refl}
-use Rattle.std.proofs.lemmas.List.Sorted.{IsPermutation-trans, ranks_by, sorted_far, sum_by-IsPermutation}
-use Rattle.std.proofs.lemmas.List.Sums.{sum_by-cons}
-use Rattle.mdns_listeners.specs.Heard.{HeardRow}
-use Rattle.mdns_listeners.specs.Pairs.{AreAhead, ascending_of, differences, with_number}
+use Rattle.mdns_listeners.specs.{Heard.{HeardRow}, Pairs.{AreAhead, ascending_of, differences, with_number}}
 
 -- ---- order
 

@@ -1,15 +1,11 @@
 -- Columns that grow row by row, and rows that are written in them.
 use Rattle.std.proofs.Common.{◌≡◌, refl, sym, ap, ◌∙◌, ℕ, zero, suc, ◌+◌, ◌-◌, ◌<◌, ◌≤◌, Bool, true, false, cond, leb, List, [], ◌∷◌, ◌++◌}
 use Rattle.std.proofs.Common.{length, map, max, drop, get_or, append_assoc, append-nil, codes, arith}
-use Rattle.std.proofs.lemmas.Bool.{leb-false, leb-true}
-use Rattle.std.proofs.lemmas.List.{at_drop_more, drop_all, length-drop}
-use Rattle.std.proofs.lemmas.Bool.Decides.{nat_tests}
+use Rattle.std.proofs.lemmas.{Bool.{leb-false, leb-true}, List.{at_drop_more, drop_all, length-drop}, Bool.Decides.{nat_tests}}
 use Rattle.std.specs.List.{flat_map, fold}
 use Rattle.mdns_browse.specs.Columns.{padded, widest}
-use Rattle.mdns_listeners.specs.Fields.{Field, field_lent}
-use Rattle.mdns_listeners.specs.Sheet.{cells_of, columns_text, widened, widened_at}
-use Rattle.mdns_listeners.specs.Table.{cells_from, column_width, table_text}
-use Rattle.mdns_listeners.specs.Values.{cell_text, value_lent}
+use Rattle.mdns_listeners.specs.{Fields.{Field, field_lent}, Sheet.{cells_of, columns_text, widened, widened_at}}
+use Rattle.mdns_listeners.specs.{Table.{cells_from, column_width, table_text}, Values.{cell_text, value_lent}}
 use Rattle.mdns_listeners.specs.declared.fields.Field.{Field as LentField}
 
 -- ---- one cell more

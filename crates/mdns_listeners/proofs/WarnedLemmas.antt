@@ -1,17 +1,11 @@
 -- Lives after warnings, over the readers listened to.
 use Rattle.std.proofs.Common.{◌≡◌, ℕ, List, Option, Some, inl, inr, map}
-use Rattle.mdns_capture.specs.Output.{Writing}
-use Rattle.mdns_capture.specs.Savefile.{PacketAt}
-use Rattle.mdns_survey.specs.declared.reading.Reading.{Reading}
-use Rattle.mdns_survey.specs.declared.request.LivesRequest.{LivesRequest}
-use Rattle.mdns_survey.specs.declared.survey.SurveyFault.{SurveyFault}
-use Rattle.mdns_survey.specs.declared.survey.SurveyFault.TheVariants.{File, Early, Memory, Write}
-use Rattle.mdns_survey.specs.Outcomes.{Outcome}
-use Rattle.mdns_survey.specs.Question.{HearsReaders, Refuses, WritesAnswer, asked_after, asked_lives}
-use Rattle.mdns_survey.specs.Readings.{summaries_of}
+use Rattle.mdns_capture.specs.{Output.{Writing}, Savefile.{PacketAt}}
+use Rattle.mdns_survey.specs.declared.{reading.Reading.{Reading}, request.LivesRequest.{LivesRequest}, survey.SurveyFault.{SurveyFault}}
+use Rattle.mdns_survey.specs.{declared.survey.SurveyFault.TheVariants.{File, Early, Memory, Write}, Outcomes.{Outcome}}
+use Rattle.mdns_survey.specs.{Question.{HearsReaders, Refuses, WritesAnswer, asked_after, asked_lives}, Readings.{summaries_of}}
 use Rattle.mdns_survey.proofs.ListenedLemmas.{known-read}
-use Rattle.mdns_listeners.specs.Groups.{Grouped}
-use Rattle.mdns_listeners.specs.WarnedLives.{AreWarnings, WarnsOf, asked_warned}
+use Rattle.mdns_listeners.specs.{Groups.{Grouped}, WarnedLives.{AreWarnings, WarnsOf, asked_warned}}
 
 module _ {Heard : List (List PacketAt) → List (List Outcome) → Type 0} (groups : Grouped) (lives : LivesRequest)
     (lefts : List (Option (List ℕ))) (readings : List Reading) (hears : HearsReaders Heard lefts readings) (warnings : List ℕ)

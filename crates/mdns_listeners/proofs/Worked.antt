@@ -3,15 +3,10 @@ use Rattle.std.proofs.Common.{◌≡◌, refl, ℕ, List, [], ◌∷◌, Option,
 use Rattle.std.specs.Prelude.{ℤ, pos, negsuc}
 use Rattle.std.specs.Fmt.{digits}
 use Rattle.mdns_browse.specs.Columns.{padded, spaces, widest}
-use Rattle.mdns_capture.specs.Text.{moment_text}
-use Rattle.mdns_capture.specs.declared.source_address.SourceAddress.TheVariants.{V4, V6}
-use Rattle.mdns_listeners.specs.declared.pairs.PairRow.{PairRow}
-use Rattle.mdns_listeners.specs.declared.pairs.Quartiles.{Quartiles}
+use Rattle.mdns_capture.specs.{Text.{moment_text}, declared.source_address.SourceAddress.TheVariants.{V4, V6}}
+use Rattle.mdns_listeners.specs.declared.pairs.{PairRow.{PairRow}, Quartiles.{Quartiles}}
 use Rattle.mdns_listeners.specs.Clock.{ahead_words, by_words, clock_words, one_clock_words, shift_words, steady_words, unsteady_words}
-use Rattle.mdns_listeners.specs.Fields.{pair_fields}
-use Rattle.mdns_listeners.specs.Seconds.{signed_text}
-use Rattle.mdns_listeners.specs.Sheet.{line_text}
-use Rattle.mdns_listeners.specs.Table.{cells_from, table_text}
+use Rattle.mdns_listeners.specs.{Fields.{pair_fields}, Seconds.{signed_text}, Sheet.{line_text}, Table.{cells_from, table_text}}
 use Rattle.mdns_listeners.specs.Values.{groups_text, source_text}
 
 -- ---- signed durations

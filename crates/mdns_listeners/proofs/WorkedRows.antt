@@ -1,14 +1,10 @@
 -- Rows worked by hand: what the definitions give of a few messages.
 use Rattle.std.proofs.Common.{◌≡◌, ◌≤◌, ◌%◌, ℕ, ℤ, pos, negsuc, true, false, List, [], ◌∷◌, Option, Some, None, refl, arith}
-use Rattle.mdns_capture.specs.Limits.{greatest_moment}
-use Rattle.mdns_capture.specs.declared.moment.Moment.{Moment}
+use Rattle.mdns_capture.specs.{Limits.{greatest_moment}, declared.moment.Moment.{Moment}}
 use Rattle.mdns_survey.specs.declared.reading.Span.{Span}
-use Rattle.mdns_listeners.specs.Heard.{HeardRow}
-use Rattle.mdns_listeners.specs.Numbers.{alone, heard, missed, spans_of_listeners}
-use Rattle.mdns_listeners.specs.Pairs.{ascending_of, common, differences, meet, pair_rows, quartiles_of}
-use Rattle.mdns_listeners.specs.Senders.{heard_span, senders}
-use Rattle.mdns_listeners.specs.declared.heard.HeardAt.{HeardAt}
-use Rattle.mdns_listeners.specs.declared.pairs.Quartiles.{Quartiles}
+use Rattle.mdns_listeners.specs.{Heard.{HeardRow}, Numbers.{alone, heard, missed, spans_of_listeners}}
+use Rattle.mdns_listeners.specs.{Pairs.{ascending_of, common, differences, meet, pair_rows, quartiles_of}, Senders.{heard_span, senders}}
+use Rattle.mdns_listeners.specs.declared.{heard.HeardAt.{HeardAt}, pairs.Quartiles.{Quartiles}}
 
 small : (nanos : ℕ) → nanos % 100 ≤ greatest_moment
 small nanos = omega arith

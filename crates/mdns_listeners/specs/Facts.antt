@@ -1,18 +1,12 @@
 -- All that is written of listeners, in a form.
 use Rattle.std.specs.Prelude.{ℕ, List, ◌∷◌, ◌++◌, map, string_bytes}
 use Rattle.std.specs.List.{enumerate_from, flat_map}
-use Rattle.mdns_browse.specs.Columns.{unless_none}
-use Rattle.mdns_browse.specs.declared.report.Form.{Form}
-use Rattle.mdns_browse.specs.declared.report.Form.TheVariants.{Json, Lines, Pretty}
+use Rattle.mdns_browse.specs.{Columns.{unless_none}, declared.report.Form.{Form}, declared.report.Form.TheVariants.{Json, Lines, Pretty}}
 use Rattle.mdns_message.specs.TextData.{string_text}
-use Rattle.mdns_listeners.specs.declared.facts.Facts.{Facts as LentFacts}
-use Rattle.mdns_listeners.specs.declared.fields.Kind.{Kind}
-use Rattle.mdns_listeners.specs.declared.fields.Kind.TheVariants.{Listeners, Pairs, Senders}
-use Rattle.mdns_listeners.specs.declared.numbers.ListenerRow.{ListenerRow}
-use Rattle.mdns_listeners.specs.declared.pairs.PairRow.{PairRow}
-use Rattle.mdns_listeners.specs.Fields.{Field, heads_of, listener_fields, pair_row_in, sender_row_in}
-use Rattle.mdns_listeners.specs.Named.{NamedSender, listener_name_at, sender_lent}
-use Rattle.mdns_listeners.specs.Sheet.{cells_of, line_text, object_text}
+use Rattle.mdns_listeners.specs.declared.{facts.Facts.{Facts as LentFacts}, fields.Kind.{Kind}}
+use Rattle.mdns_listeners.specs.declared.{fields.Kind.TheVariants.{Listeners, Pairs, Senders}, numbers.ListenerRow.{ListenerRow}}
+use Rattle.mdns_listeners.specs.{declared.pairs.PairRow.{PairRow}, Fields.{Field, heads_of, listener_fields, pair_row_in, sender_row_in}}
+use Rattle.mdns_listeners.specs.{Named.{NamedSender, listener_name_at, sender_lent}, Sheet.{cells_of, line_text, object_text}}
 use Rattle.mdns_listeners.specs.Table.{table_text}
 
 -- the names of the listeners in their order, a row for each of them, and the rows of pairs and of senders

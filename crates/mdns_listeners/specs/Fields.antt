@@ -1,15 +1,10 @@
 -- The fields of rows of listeners, of pairs of listeners and of senders, in the order in which each form writes them.
 use Rattle.std.specs.Prelude.{ℕ, ℤ, List, [], ◌∷◌, ◌++◌, Option, codes, option_map}
-use Rattle.mdns_browse.specs.declared.report.Form.{Form}
-use Rattle.mdns_browse.specs.declared.report.Form.TheVariants.{Json, Lines, Pretty}
+use Rattle.mdns_browse.specs.declared.report.{Form.{Form}, Form.TheVariants.{Json, Lines, Pretty}}
 use Rattle.mdns_capture.specs.declared.moment.Moment.{Moment}
 use Rattle.mdns_survey.specs.declared.reading.Span.{Span}
-use Rattle.mdns_listeners.specs.declared.fields.Field.{Field as LentField}
-use Rattle.mdns_listeners.specs.declared.fields.Kind.{Kind}
-use Rattle.mdns_listeners.specs.declared.fields.Kind.TheVariants.{Listeners, Pairs, Senders}
-use Rattle.mdns_listeners.specs.declared.numbers.ListenerRow.{ListenerRow}
-use Rattle.mdns_listeners.specs.declared.pairs.PairRow.{PairRow}
-use Rattle.mdns_listeners.specs.declared.pairs.Quartiles.{Quartiles}
+use Rattle.mdns_listeners.specs.declared.fields.{Field.{Field as LentField}, Kind.{Kind}, Kind.TheVariants.{Listeners, Pairs, Senders}}
+use Rattle.mdns_listeners.specs.declared.{numbers.ListenerRow.{ListenerRow}, pairs.PairRow.{PairRow}, pairs.Quartiles.{Quartiles}}
 use Rattle.mdns_listeners.specs.declared.senders.SenderRow.{SenderRow}
 use Rattle.mdns_listeners.specs.Values.{Value, value_lent, Words, Count, Time, Ahead, Address, Names, Clock}
 

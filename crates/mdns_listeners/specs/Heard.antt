@@ -2,14 +2,9 @@
 -- their sender's addresses and their payloads are the same bytes.
 use Rattle.std.specs.Prelude.{◌≡◌, ℕ, ◌≤◌, Bool, if◌then◌else◌, ◌⊎◌, List, [], ◌∷◌, ◌++◌, length, map, slice_index}
 use Rattle.std.specs.Prelude.{Option, Some, None}
-use Rattle.std.specs.List.{filter}
-use Rattle.std.specs.Option.{is_some}
-use Rattle.std.specs.List.Sorted.{IsStrictlySortedBy}
-use Rattle.std.specs.Str.{bytes_eq}
-use Rattle.std.specs.Cmp.Lexicographic.{slice_cmp}
+use Rattle.std.specs.{List.{filter}, Option.{is_some}, List.Sorted.{IsStrictlySortedBy}, Str.{bytes_eq}, Cmp.Lexicographic.{slice_cmp}}
 use Rattle.std.specs.Ordering.{nat_cmp}
-use Rattle.mdns_capture.specs.declared.source_address.SourceAddress.{SourceAddress}
-use Rattle.mdns_capture.specs.declared.source_address.SourceAddress.TheVariants.{V4, V6}
+use Rattle.mdns_capture.specs.declared.source_address.{SourceAddress.{SourceAddress}, SourceAddress.TheVariants.{V4, V6}}
 use Rattle.mdns_listeners.specs.declared.heard.HeardAt.{HeardAt}
 
 -- The bytes of a message: 4 or 6 for the version of IP, the address, and the payload. In the order of these bytes IPv4 senders

@@ -2,18 +2,11 @@
 -- that are held with them.
 use Rattle.std.specs.Prelude.{◌≡◌, ℕ, ◌-◌, ◌<◌, ◌⊎◌, ◌≢◌, ◌==◌, Bool, List, [], ◌∷◌, ◌++◌, drop, length, map}
 use Rattle.std.specs.Prelude.{if◌then◌else◌, slice_index, slice_index_or}
-use Rattle.std.specs.List.{All, Contains}
-use Rattle.std.specs.List.Sorted.{IsSortedBy}
-use Rattle.std.specs.Cmp.Lexicographic.{slice_cmp}
-use Rattle.std.specs.Ordering.{is_lt, nat_cmp}
-use Rattle.mdns_capture.specs.declared.moment.Moment.{Moment}
-use Rattle.mdns_capture.specs.declared.source_address.SourceAddress.{SourceAddress}
-use Rattle.mdns_message.specs.declared.hearing.Hearing.{Hearing}
-use Rattle.mdns_message.specs.Message.{MessageReads}
+use Rattle.std.specs.{List.{All, Contains}, List.Sorted.{IsSortedBy}, Cmp.Lexicographic.{slice_cmp}, Ordering.{is_lt, nat_cmp}}
+use Rattle.mdns_capture.specs.declared.{moment.Moment.{Moment}, source_address.SourceAddress.{SourceAddress}}
+use Rattle.mdns_message.specs.{declared.hearing.Hearing.{Hearing}, Message.{MessageReads}}
 use Rattle.mdns_cache.specs.Repeats.{ReadsAs}
-use Rattle.mdns_listeners.specs.declared.heard.HeardAt.{HeardAt}
-use Rattle.mdns_listeners.specs.declared.kept.Noted.{Noted}
-use Rattle.mdns_listeners.specs.declared.names.SenderAddressName.{SenderAddressName}
+use Rattle.mdns_listeners.specs.declared.{heard.HeardAt.{HeardAt}, kept.Noted.{Noted}, names.SenderAddressName.{SenderAddressName}}
 use Rattle.mdns_listeners.specs.Heard.{Told, HasWholeAddress, HeardRow, message_bytes, messages_of, times_of}
 use Rattle.mdns_listeners.specs.Names.{HoldsNames, SufficeFor, told_in}
 

@@ -1,32 +1,17 @@
 -- What the captures of listeners tell, and the text that says it.
 use Rattle.std.specs.Prelude.{◌≡◌, ℕ, suc, List, [], ◌∷◌, ◌++◌, All, Option, length, map, min, slice_index_or}
-use Rattle.mdns_capture.specs.declared.source_address.SourceAddress.{SourceAddress}
-use Rattle.mdns_capture.specs.declared.moment.Moment.{Moment}
-use Rattle.mdns_capture.specs.Frame.{FrameCarries}
-use Rattle.mdns_capture.specs.Savefile.{PacketAt}
-use Rattle.mdns_capture.specs.Source.{IsSourceOf}
+use Rattle.mdns_capture.specs.{declared.source_address.SourceAddress.{SourceAddress}, declared.moment.Moment.{Moment}, Frame.{FrameCarries}}
+use Rattle.mdns_capture.specs.{Savefile.{PacketAt}, Source.{IsSourceOf}}
 use Rattle.mdns_message.specs.declared.hearing.Hearing.{Hearing}
 use Rattle.mdns_browse.specs.declared.report.Form.{Form}
-use Rattle.mdns_survey.specs.declared.request.AsOf.TheVariants.{Newest}
-use Rattle.mdns_survey.specs.declared.reading.Span.{Span}
-use Rattle.mdns_survey.specs.declared.summary.Summary.{Summary}
-use Rattle.mdns_survey.specs.Listen.{packet_moments}
-use Rattle.mdns_survey.specs.Outcomes.{AllRead, Outcome, heard, hearings_in}
-use Rattle.mdns_survey.specs.Question.{Asked, asked_at_once}
-use Rattle.mdns_survey.specs.Span.{span_of}
-use Rattle.mdns_survey.specs.Surveys.{all_hearings}
-use Rattle.mdns_listeners.specs.Facts.{listeners_text}
-use Rattle.mdns_listeners.specs.Named.{NamedSender}
-use Rattle.mdns_listeners.specs.Groups.{Grouped}
-use Rattle.mdns_listeners.specs.Heard.{AreHeardIn, HeardRow, Told, message_bytes}
-use Rattle.mdns_listeners.specs.Names.{AreNames, HoldsNames, ListsNames}
-use Rattle.mdns_listeners.specs.Numbers.{FileSpans, listener_rows, spans_of_listeners}
-use Rattle.mdns_listeners.specs.Pairs.{pair_rows}
-use Rattle.mdns_listeners.specs.Senders.{sender_rows}
-use Rattle.mdns_listeners.specs.declared.heard.HeardAt.{HeardAt}
-use Rattle.mdns_listeners.specs.declared.listeners.HeardByListeners.{HeardByListeners}
-use Rattle.mdns_listeners.specs.declared.listeners.MessageCollector.{MessageCollector}
-use Rattle.mdns_listeners.specs.declared.senders.SenderRow.{SenderRow}
+use Rattle.mdns_survey.specs.declared.{request.AsOf.TheVariants.{Newest}, reading.Span.{Span}, summary.Summary.{Summary}}
+use Rattle.mdns_survey.specs.{Listen.{packet_moments}, Outcomes.{AllRead, Outcome, heard, hearings_in}, Question.{Asked, asked_at_once}}
+use Rattle.mdns_survey.specs.{Span.{span_of}, Surveys.{all_hearings}}
+use Rattle.mdns_listeners.specs.{Facts.{listeners_text}, Named.{NamedSender}, Groups.{Grouped}}
+use Rattle.mdns_listeners.specs.{Heard.{AreHeardIn, HeardRow, Told, message_bytes}, Names.{AreNames, HoldsNames, ListsNames}}
+use Rattle.mdns_listeners.specs.{Numbers.{FileSpans, listener_rows, spans_of_listeners}, Pairs.{pair_rows}, Senders.{sender_rows}}
+use Rattle.mdns_listeners.specs.declared.{heard.HeardAt.{HeardAt}, listeners.HeardByListeners.{HeardByListeners}}
+use Rattle.mdns_listeners.specs.declared.{listeners.MessageCollector.{MessageCollector}, senders.SenderRow.{SenderRow}}
 
 -- ---- which messages were told
 

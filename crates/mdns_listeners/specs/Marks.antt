@@ -2,12 +2,8 @@
 use Rattle.std.specs.Prelude.{ℕ, ◌+◌, Bool, true, false, List, [], ◌∷◌, ◌++◌, map, Option, Some, None}
 use Rattle.std.specs.List.{filter}
 use Rattle.mdns_capture.specs.declared.moment.Moment.{Moment}
-use Rattle.mdns_listeners.specs.Heard.{HeardRow}
-use Rattle.mdns_listeners.specs.Numbers.{is_of}
-use Rattle.mdns_listeners.specs.declared.heard.HeardAt.{HeardAt}
-use Rattle.mdns_listeners.specs.declared.marks.Seen.{Seen}
-use Rattle.mdns_listeners.specs.declared.marks.Seen.TheVariants.{Never, Once, Often}
-use Rattle.mdns_listeners.specs.declared.marks.Mark.{Mark}
+use Rattle.mdns_listeners.specs.{Heard.{HeardRow}, Numbers.{is_of}, declared.heard.HeardAt.{HeardAt}, declared.marks.Seen.{Seen}}
+use Rattle.mdns_listeners.specs.declared.marks.{Seen.TheVariants.{Never, Once, Often}, Mark.{Mark}}
 
 -- how often these times are
 abbrev pub seen_of : List HeardAt → Seen

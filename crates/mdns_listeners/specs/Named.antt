@@ -1,7 +1,6 @@
 -- Rows of senders with the names that they go by, and the names of the listeners that rows give by their positions.
 use Rattle.std.specs.Prelude.{ℕ, List, [], slice_index_or}
-use Rattle.mdns_listeners.specs.declared.named.NamedSender.{NamedSender as LentSender}
-use Rattle.mdns_listeners.specs.declared.senders.SenderRow.{SenderRow}
+use Rattle.mdns_listeners.specs.declared.{named.NamedSender.{NamedSender as LentSender}, senders.SenderRow.{SenderRow}}
 
 -- a row of a sender, and the names that the sender goes by
 pub record NamedSender : Type 0 where

@@ -2,18 +2,12 @@
 -- 3596). Names that are equal once folded (RFC 6762, section 16) count once, in their least spelling. A list of hearings is
 -- read as a set: only which hearings it contains counts.
 use Rattle.std.specs.Prelude.{◌≡◌, ◌≢◌, ◌↔◌, ℕ, List, ◌∷◌, ◌++◌, Option, None, Some, map, option_map, Contains, if◌then◌else◌}
-use Rattle.std.specs.List.{filter_map}
-use Rattle.std.specs.List.Sorted.{IsStrictlySortedBy}
-use Rattle.std.specs.Cmp.Lexicographic.{slice_cmp}
-use Rattle.std.specs.Ordering.{nat_cmp, on, then_cmp, is_lt}
-use Rattle.std.specs.declared.cmp.Ordering.{Ordering}
+use Rattle.std.specs.{List.{filter_map}, List.Sorted.{IsStrictlySortedBy}, Cmp.Lexicographic.{slice_cmp}}
+use Rattle.std.specs.{Ordering.{nat_cmp, on, then_cmp, is_lt}, declared.cmp.Ordering.{Ordering}}
 use Rattle.std.specs.declared.cmp.Ordering.TheVariants.{Greater}
-use Rattle.mdns_capture.specs.declared.source_address.SourceAddress.{SourceAddress}
-use Rattle.mdns_capture.specs.declared.source_address.SourceAddress.TheVariants.{V4, V6}
+use Rattle.mdns_capture.specs.declared.source_address.{SourceAddress.{SourceAddress}, SourceAddress.TheVariants.{V4, V6}}
 use Rattle.dns_name.specs.Name.{folded}
-use Rattle.mdns_message.specs.declared.body.RecordData.TheVariants.{A, Aaaa}
-use Rattle.mdns_message.specs.declared.hearing.Hearing.{Hearing}
-use Rattle.mdns_message.specs.Resource.{Body}
+use Rattle.mdns_message.specs.{declared.body.RecordData.TheVariants.{A, Aaaa}, declared.hearing.Hearing.{Hearing}, Resource.{Body}}
 use Rattle.mdns_listeners.specs.declared.names.SenderAddressName.{SenderAddressName}
 
 -- the address that is the data of an A or AAAA record

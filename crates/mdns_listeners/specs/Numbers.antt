@@ -1,13 +1,9 @@
 -- How much each listener heard, alone or not, and missed. Listeners are counted from 0.
 use Rattle.std.specs.Prelude.{ℕ, ◌==◌, ◌&&◌, nat_le, not, if◌then◌else◌, Bool, List, [], map, Option, Some, None}
-use Rattle.std.specs.Option.{option_to_list}
-use Rattle.std.specs.List.{count_by, enumerate_from, flat_map, fold, list_any, range_with_len, sum_by, zip}
+use Rattle.std.specs.{Option.{option_to_list}, List.{count_by, enumerate_from, flat_map, fold, list_any, range_with_len, sum_by, zip}}
 use Rattle.mdns_capture.specs.declared.moment.Moment.{Moment}
-use Rattle.mdns_survey.specs.declared.reading.Span.{Span}
-use Rattle.mdns_survey.specs.Span.{joined_spans}
-use Rattle.mdns_listeners.specs.Heard.{HeardRow}
-use Rattle.mdns_listeners.specs.declared.heard.HeardAt.{HeardAt}
-use Rattle.mdns_listeners.specs.declared.numbers.ListenerRow.{ListenerRow}
+use Rattle.mdns_survey.specs.{declared.reading.Span.{Span}, Span.{joined_spans}}
+use Rattle.mdns_listeners.specs.{Heard.{HeardRow}, declared.heard.HeardAt.{HeardAt}, declared.numbers.ListenerRow.{ListenerRow}}
 
 -- whether the listener heard it then
 abbrev pub is_of : ℕ → HeardAt → Bool

@@ -1,16 +1,11 @@
 -- What each two listeners heard in common, and how far the clock of the other is ahead of the one's.
 use Rattle.std.specs.Prelude.{ℕ, ◌-◌, ◌/◌, ◌==◌, ◌&&◌, ◌||◌, nat_le, nat_lt, if◌then◌else◌, Bool, false, ℤ, pos, ◌-ℤ◌, int_lt}
 use Rattle.std.specs.Prelude.{List, [], ◌∷◌, ◌++◌, length, slice_index_or, Option, Some, None}
-use Rattle.std.specs.List.{count_by, enumerate_from, filter, filter_map}
-use Rattle.std.specs.List.Sorted.{IsPermutation, IsSorted}
-use Rattle.std.specs.Ordering.{int_cmp}
+use Rattle.std.specs.{List.{count_by, enumerate_from, filter, filter_map}, List.Sorted.{IsPermutation, IsSorted}, Ordering.{int_cmp}}
 use Rattle.mdns_capture.specs.declared.moment.Moment.{Moment}
 use Rattle.mdns_survey.specs.declared.reading.Span.{Span}
-use Rattle.mdns_listeners.specs.Heard.{HeardRow}
-use Rattle.mdns_listeners.specs.Numbers.{FileSpans, has, is_of}
-use Rattle.mdns_listeners.specs.declared.heard.HeardAt.{HeardAt}
-use Rattle.mdns_listeners.specs.declared.pairs.Quartiles.{Quartiles}
-use Rattle.mdns_listeners.specs.declared.pairs.PairRow.{PairRow}
+use Rattle.mdns_listeners.specs.{Heard.{HeardRow}, Numbers.{FileSpans, has, is_of}, declared.heard.HeardAt.{HeardAt}}
+use Rattle.mdns_listeners.specs.declared.pairs.{Quartiles.{Quartiles}, PairRow.{PairRow}}
 
 -- how many different messages both heard
 abbrev pub common : ℕ → ℕ → List HeardRow → ℕ

@@ -1,10 +1,8 @@
 -- The rows of what was told in two parts.
 use Rattle.std.specs.Prelude.{List, ◌++◌, map}
-use Rattle.std.specs.Cmp.Lexicographic.{slice_cmp}
-use Rattle.std.specs.Ordering.{nat_cmp}
+use Rattle.std.specs.{Cmp.Lexicographic.{slice_cmp}, Ordering.{nat_cmp}}
 use Rattle.join_map.specs.Entries.{joined}
-use Rattle.mdns_listeners.specs.declared.heard.HeardAt.{HeardAt}
-use Rattle.mdns_listeners.specs.Heard.{HeardRow}
+use Rattle.mdns_listeners.specs.{declared.heard.HeardAt.{HeardAt}, Heard.{HeardRow}}
 
 -- The rows of both lists, in order: a message that has a row in each has the times of the first, and then those of the second.
 abbrev pub joined_rows : List HeardRow → List HeardRow → List HeardRow

@@ -1,15 +1,10 @@
 -- What each listener heard of each sender.
 use Rattle.std.specs.Prelude.{ℕ, ◌==◌, not, if◌then◌else◌, Bool, List, []}
 use Rattle.std.specs.Prelude.{◌∷◌, map, slice_index, slice_range, take, Option, Some, None}
-use Rattle.std.specs.List.{enumerate_from, filter, flat_map, fold}
-use Rattle.std.specs.Str.{bytes_eq}
-use Rattle.mdns_capture.specs.declared.source_address.SourceAddress.{SourceAddress}
-use Rattle.mdns_capture.specs.declared.source_address.SourceAddress.TheVariants.{V4, V6}
-use Rattle.mdns_survey.specs.declared.reading.Span.{Span}
-use Rattle.mdns_survey.specs.Span.{joined_spans, span_at}
-use Rattle.mdns_listeners.specs.Heard.{HeardRow}
-use Rattle.mdns_listeners.specs.Numbers.{FileSpans, heard, is_of, missed}
-use Rattle.mdns_listeners.specs.declared.heard.HeardAt.{HeardAt}
+use Rattle.std.specs.{List.{enumerate_from, filter, flat_map, fold}, Str.{bytes_eq}}
+use Rattle.mdns_capture.specs.declared.source_address.{SourceAddress.{SourceAddress}, SourceAddress.TheVariants.{V4, V6}}
+use Rattle.mdns_survey.specs.{declared.reading.Span.{Span}, Span.{joined_spans, span_at}}
+use Rattle.mdns_listeners.specs.{Heard.{HeardRow}, Numbers.{FileSpans, heard, is_of, missed}, declared.heard.HeardAt.{HeardAt}}
 use Rattle.mdns_listeners.specs.declared.senders.SenderRow.{SenderRow}
 
 -- how many bytes at the front of a message name its sender: the version of IP and the address

@@ -1,12 +1,9 @@
 -- A sheet, and what it is after a row: each row is a line, an object or a row of a table, whose columns are measured first.
 use Rattle.std.specs.Prelude.{ℕ, Bool, max, List, [], ◌∷◌, ◌++◌, length, map, if◌then◌else◌, nat_lt, slice_index, slice_set}
 use Rattle.std.specs.List.{flat_map}
-use Rattle.mdns_browse.specs.Json.{json_member, json_object}
-use Rattle.mdns_browse.specs.declared.report.Form.{Form}
+use Rattle.mdns_browse.specs.{Json.{json_member, json_object}, declared.report.Form.{Form}}
 use Rattle.mdns_browse.specs.declared.report.Form.TheVariants.{Json, Lines, Pretty}
-use Rattle.mdns_listeners.specs.Fields.{Field}
-use Rattle.mdns_listeners.specs.Table.{cells_from}
-use Rattle.mdns_listeners.specs.Values.{cell_text, json_text, word_text}
+use Rattle.mdns_listeners.specs.{Fields.{Field}, Table.{cells_from}, Values.{cell_text, json_text, word_text}}
 
 -- ---- rows
 

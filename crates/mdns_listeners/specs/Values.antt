@@ -1,24 +1,15 @@
 -- Values of rows, as each form writes them. Lines and objects have every digit of a moment and all of an address. People read
 -- moments to the millisecond, addresses in their short form, and names as they were sent.
 use Rattle.std.specs.Prelude.{ℕ, ℤ, false, List, [], ◌∷◌, ◌++◌, map, Option, Some, None, codes}
-use Rattle.std.specs.Fmt.{decimal, digits}
-use Rattle.std.specs.List.{flat_map}
-use Rattle.std.specs.Net.Addr.{segments_of}
+use Rattle.std.specs.{Fmt.{decimal, digits}, List.{flat_map}, Net.Addr.{segments_of}}
 use Rattle.dns_name.specs.Name.{name_text}
-use Rattle.people_text.specs.Address.{ipv6_short}
-use Rattle.people_text.specs.MomentText.{millis_text}
-use Rattle.people_text.specs.Shown.{name_shown}
-use Rattle.mdns_browse.specs.Json.{json_array, json_string}
-use Rattle.mdns_browse.specs.RecordText.{ipv4_text}
-use Rattle.mdns_capture.specs.Text.{moment_text}
-use Rattle.mdns_capture.specs.declared.moment.Moment.{Moment}
-use Rattle.mdns_capture.specs.declared.source_address.SourceAddress.{SourceAddress}
+use Rattle.people_text.specs.{Address.{ipv6_short}, MomentText.{millis_text}, Shown.{name_shown}}
+use Rattle.mdns_browse.specs.{Json.{json_array, json_string}, RecordText.{ipv4_text}}
+use Rattle.mdns_capture.specs.{Text.{moment_text}, declared.moment.Moment.{Moment}, declared.source_address.SourceAddress.{SourceAddress}}
 use Rattle.mdns_capture.specs.declared.source_address.SourceAddress.TheVariants.{V4, V6}
-use Rattle.mdns_listeners.specs.declared.pairs.PairRow.{PairRow}
-use Rattle.mdns_listeners.specs.declared.values.Value.{Value as LentValue}
-use Rattle.mdns_listeners.specs.declared.values.Value.TheVariants as lent
-use Rattle.mdns_listeners.specs.Clock.{clock_words}
+use Rattle.mdns_listeners.specs.{declared.pairs.PairRow.{PairRow}, declared.values.Value.{Value as LentValue}, Clock.{clock_words}}
 use Rattle.mdns_listeners.specs.Seconds.{signed_text}
+use Rattle.mdns_listeners.specs.declared.values.Value.TheVariants as lent
 
 -- a value of a row; of a clock, the name of the second listener as it is written
 pub data Value : Type 0 where

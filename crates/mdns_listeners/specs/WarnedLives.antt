@@ -1,14 +1,9 @@
 -- The lives of records after warnings of listeners whose clocks don't agree.
 use Rattle.std.specs.Prelude.{◌≡◌, ℕ, false, List}
 use Rattle.mdns_capture.specs.Savefile.{PacketAt}
-use Rattle.mdns_survey.specs.declared.request.LivesRequest.{LivesRequest}
-use Rattle.mdns_survey.specs.declared.summary.Summary.{Summary}
-use Rattle.mdns_survey.specs.Outcomes.{AllRead, Outcome}
+use Rattle.mdns_survey.specs.{declared.request.LivesRequest.{LivesRequest}, declared.summary.Summary.{Summary}, Outcomes.{AllRead, Outcome}}
 use Rattle.mdns_survey.specs.Question.{Asked, asked_after, asked_lives}
-use Rattle.mdns_listeners.specs.Groups.{Grouped}
-use Rattle.mdns_listeners.specs.Heard.{HeardRow}
-use Rattle.mdns_listeners.specs.Listeners.{AreRowsOf, spans_by}
-use Rattle.mdns_listeners.specs.Together.{pairs_together}
+use Rattle.mdns_listeners.specs.{Groups.{Grouped}, Heard.{HeardRow}, Listeners.{AreRowsOf, spans_by}, Together.{pairs_together}}
 use Rattle.mdns_listeners.specs.Warnings.{warnings_text}
 
 -- The text warns of the listeners that recorded together, by captures that have these packets, which came to these outcomes: all

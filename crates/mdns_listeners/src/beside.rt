@@ -2,11 +2,8 @@
 
 ghost use Rattle.std.specs.Prelude.{◌≡◌, ◌++◌, ◌∷◌, [], List, OnOk};
 ghost use Rattle.std.specs.Bool.{OnFalse, OnTrue};
-ghost use Rattle.mdns_capture.specs.Capture.{packet_lent};
-ghost use Rattle.mdns_capture.specs.Savefile.{PacketAt};
-ghost use Rattle.mdns_survey.specs.Listen.{outcome_of};
-ghost use Rattle.mdns_survey.specs.Outcomes.{ComesTo, Outcome, ReadsTo};
-ghost use Rattle.mdns_survey.specs.Why.{IsPayloadOf, SaysWhy};
+ghost use Rattle.mdns_capture.specs.{Capture.{packet_lent}, Savefile.{PacketAt}};
+ghost use Rattle.mdns_survey.specs.{Listen.{outcome_of}, Outcomes.{ComesTo, Outcome, ReadsTo}, Why.{IsPayloadOf, SaysWhy}};
 
 use crate::listeners::MessageCollector;
 use mdns_capture::{Packet, Source};

@@ -3,13 +3,9 @@
 ghost use Rattle.std.specs.Prelude.{◌≡◌, ◌++◌, ◌∷◌, [], false, if◌then◌else◌, map, IfOk, OnOk, string_bytes};
 ghost use Rattle.std.specs.List.{enumerate_from, flat_map, fold};
 ghost use Rattle.mdns_message.specs.TextData.{string_text};
-ghost use Rattle.mdns_browse.specs.Columns.{unless_none};
-ghost use Rattle.mdns_browse.specs.declared.report.Form.TheVariants.{Pretty};
+ghost use Rattle.mdns_browse.specs.{Columns.{unless_none}, declared.report.Form.TheVariants.{Pretty}};
 ghost use Rattle.mdns_listeners.specs.Facts.{all_rows, facts_lent, listener_at, listeners_text, pair_at, rows_of, sender_at, table_of};
-ghost use Rattle.mdns_listeners.specs.Facts.{tables_text, text_in};
-ghost use Rattle.mdns_listeners.specs.Fields.{heads_of};
-ghost use Rattle.mdns_listeners.specs.Named.{sender_lent};
-ghost use Rattle.mdns_listeners.specs.Sheet.{row_text, taken};
+ghost use Rattle.mdns_listeners.specs.{Facts.{tables_text, text_in}, Fields.{heads_of}, Named.{sender_lent}, Sheet.{row_text, taken}};
 
 use crate::fields::{
     Kind, listener_fields, listener_heads, pair_cells, pair_fields, pair_heads, sender_count,

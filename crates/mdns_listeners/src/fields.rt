@@ -3,9 +3,8 @@
 ghost use Rattle.std.specs.Prelude.{◌≡◌, ◌≤◌, [], map, take};
 ghost use Rattle.mdns_browse.specs.declared.report.Form.TheVariants.{Json, Lines, Pretty};
 ghost use Rattle.mdns_listeners.specs.declared.fields.Kind.TheVariants.{Listeners, Pairs, Senders};
-ghost use Rattle.mdns_listeners.specs.Fields.{field_lent, first_of, high_of, last_of, listener_fields, low_of, middle_of};
-ghost use Rattle.mdns_listeners.specs.Fields.{head, heads_of, labelled, pair_cells, pair_fields, sender_count, sender_row_in};
-ghost use Rattle.mdns_listeners.specs.Values.{value_lent};
+ghost use Rattle.mdns_listeners.specs.Fields.{field_lent, first_of, high_of, last_of, listener_fields, low_of, middle_of, head, heads_of};
+ghost use Rattle.mdns_listeners.specs.{Fields.{labelled, pair_cells, pair_fields, sender_count, sender_row_in}, Values.{value_lent}};
 
 use crate::numbers::ListenerRow;
 use crate::pairs::{PairRow, Quartiles};

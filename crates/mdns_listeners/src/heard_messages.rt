@@ -3,8 +3,7 @@
 
 ghost use Rattle.std.specs.Prelude.{◌≡◌, ◌≢◌, ◌<◌, ◌-◌, ◌++◌, ◌∷◌, [], List, length, slice_index_or, take, IfNone, IfOk, IfSome, OnErr, OnOk};
 ghost use Rattle.std.specs.List.{All};
-ghost use Rattle.mdns_message.specs.declared.hearing.Hearing.{Hearing};
-ghost use Rattle.mdns_message.specs.Message.{MessageReads};
+ghost use Rattle.mdns_message.specs.{declared.hearing.Hearing.{Hearing}, Message.{MessageReads}};
 ghost use Rattle.mdns_cache.specs.Repeats.{ReadsAs};
 ghost use Rattle.mdns_listeners.specs.Heard.{message_bytes, AreHeardIn, HasWholeAddress};
 ghost use Rattle.mdns_listeners.specs.Kept.{HearsMessage, kept_messages, next_kept, payload_in, told_again};

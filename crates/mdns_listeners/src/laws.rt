@@ -1,16 +1,13 @@
 //! Laws of the definitions. Each function does nothing: its contract is the law.
 
 ghost use Rattle.std.specs.Prelude.{◌≡◌, ◌++◌, [], ℕ, List};
-ghost use Rattle.std.specs.List.{All, sum_by};
-ghost use Rattle.std.specs.List.Sorted.{IsPermutation};
+ghost use Rattle.std.specs.{List.{All, sum_by}, List.Sorted.{IsPermutation}};
 ghost use Rattle.mdns_listeners.specs.declared.heard.HeardAt.{HeardAt};
 ghost use Rattle.mdns_listeners.specs.Heard.{AreHeardIn, HasWholeAddress, HeardRow, Told, messages_of, times_of};
-ghost use Rattle.mdns_listeners.specs.Pairs.{AreAhead, ascending_of, differences};
-ghost use Rattle.mdns_listeners.specs.Parts.{joined_rows};
+ghost use Rattle.mdns_listeners.specs.{Pairs.{AreAhead, ascending_of, differences}, Parts.{joined_rows}, Names.{AreNames}};
 ghost use Rattle.mdns_capture.specs.declared.source_address.SourceAddress.{SourceAddress};
 ghost use Rattle.mdns_message.specs.declared.hearing.Hearing.{Hearing};
 ghost use Rattle.mdns_cache.specs.Live.{SameHearings};
-ghost use Rattle.mdns_listeners.specs.Names.{AreNames};
 
 /// There is one list of rows of what was told.
 pub fn one_list_of_rows()

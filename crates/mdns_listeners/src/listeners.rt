@@ -1,23 +1,14 @@
 //! The question which listener heard which messages.
 
 ghost use Rattle.std.specs.Prelude.{◌≡◌, ℕ, suc, ◌++◌, ◌∷◌, [], IfNone, IfOk, IfSome, List, length, map, min, string_bytes};
-ghost use Rattle.std.specs.Cmp.Lexicographic.{slice_cmp};
-ghost use Rattle.std.specs.List.{All};
-ghost use Rattle.std.specs.List.Sorted.{IsStrictlySortedBy};
-ghost use Rattle.std.specs.Ordering.{nat_cmp};
-ghost use Rattle.mdns_capture.specs.Capture.{packet_lent};
-ghost use Rattle.mdns_capture.specs.Frame.{FrameCarries};
-ghost use Rattle.mdns_capture.specs.Savefile.{PacketAt};
-ghost use Rattle.mdns_message.specs.declared.hearing.Hearing.{Hearing};
-ghost use Rattle.mdns_message.specs.Message.{MessageReads};
+ghost use Rattle.std.specs.{Cmp.Lexicographic.{slice_cmp}, List.{All}, List.Sorted.{IsStrictlySortedBy}, Ordering.{nat_cmp}};
+ghost use Rattle.mdns_capture.specs.{Capture.{packet_lent}, Frame.{FrameCarries}, Savefile.{PacketAt}};
+ghost use Rattle.mdns_message.specs.{declared.hearing.Hearing.{Hearing}, Message.{MessageReads}};
 ghost use Rattle.mdns_cache.specs.Repeats.{ReadsAs};
-ghost use Rattle.mdns_survey.specs.Outcomes.{Outcome, heard};
-ghost use Rattle.mdns_survey.specs.Readings.{HaveSpans};
+ghost use Rattle.mdns_survey.specs.{Outcomes.{Outcome, heard}, Readings.{HaveSpans}};
 ghost use Rattle.mdns_listeners.specs.Heard.{HasWholeAddress, messages_of};
 ghost use Rattle.mdns_listeners.specs.Listeners.{AreNamed, Gathered, Gathers, IsHeardBy, IsTextOf, NotesTime, SaysFacts, heard_at};
-ghost use Rattle.mdns_listeners.specs.Named.{sender_lent};
-ghost use Rattle.mdns_listeners.specs.Names.{ListsNames};
-ghost use Rattle.mdns_listeners.specs.declared.listeners.MessageCollector.{MessageCollector};
+ghost use Rattle.mdns_listeners.specs.{Named.{sender_lent}, Names.{ListsNames}, declared.listeners.MessageCollector.{MessageCollector}};
 
 use crate::facts::{Facts, listeners_text};
 use crate::groups::Groups;

@@ -2,8 +2,7 @@
 
 ghost use Rattle.std.specs.Prelude.{◌≡◌, ◌++◌, ◌∷◌, [], map, IfOk, OnOk};
 ghost use Rattle.std.specs.List.{filter};
-ghost use Rattle.mdns_listeners.specs.Marks.{is_seen, marks_by, seen_by, seen_more, seen_of};
-ghost use Rattle.mdns_listeners.specs.Numbers.{is_of};
+ghost use Rattle.mdns_listeners.specs.{Marks.{is_seen, marks_by, seen_by, seen_more, seen_of}, Numbers.{is_of}};
 
 use crate::heard::{HeardAt, HeardMessage};
 use mdns_capture::Moment;

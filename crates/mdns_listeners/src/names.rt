@@ -4,8 +4,7 @@ ghost use Rattle.std.specs.Prelude.{◌≡◌, ◌↔◌, ◌<◌, ◌++◌, ◌
 ghost use Rattle.std.specs.Prelude.{slice_set, slice_index_or};
 ghost use Rattle.std.specs.List.Sorted.{IsPermutation, IsSorted, IsStrictlySortedBy};
 ghost use Rattle.dns_name.specs.Name.{folded};
-ghost use Rattle.mdns_message.specs.declared.hearing.Hearing.{Hearing};
-ghost use Rattle.mdns_message.specs.Borrowed.{body_lent, hearing_lent};
+ghost use Rattle.mdns_message.specs.{declared.hearing.Hearing.{Hearing}, Borrowed.{body_lent, hearing_lent}};
 ghost use Rattle.mdns_listeners.specs.Names.{AddsNames, AreNames, Covers, HoldsNames, ListsNames, SufficeFor};
 ghost use Rattle.mdns_listeners.specs.Names.{address_cmp, address_in, by_name, by_spelling, named, respelled, told_in};
 

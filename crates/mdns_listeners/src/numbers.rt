@@ -1,8 +1,7 @@
 //! When each listener listened, and how much it heard, alone or not, and missed.
 
 ghost use Rattle.std.specs.Prelude.{◌≡◌, ◌<◌, ◌^◌, ◌++◌, ◌&&◌, [], if◌then◌else◌, nat_eq, nat_lt, length, slice_index_or, IfOk, OnOk, None};
-ghost use Rattle.std.specs.List.{count_by, list_any};
-ghost use Rattle.std.specs.Option.{option_to_list};
+ghost use Rattle.std.specs.{List.{count_by, list_any}, Option.{option_to_list}};
 ghost use Rattle.mdns_survey.specs.Span.{joined_spans};
 ghost use Rattle.mdns_listeners.specs.Numbers.{alone, heard, is_alone, is_missed, is_of, is_within, listened, listener_row, listener_rows};
 ghost use Rattle.mdns_listeners.specs.Numbers.{missed, span_of_file, spans_of_listener, spans_of_listeners, times_heard};

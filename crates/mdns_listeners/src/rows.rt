@@ -1,10 +1,7 @@
 //! The rows of sorted messages.
 
 ghost use Rattle.std.specs.Prelude.{◌≡◌, ◌↔◌, ◌<◌, ◌+◌, [], ℕ, List, length, map, slice_index, IsTrue, IfOk, OnOk};
-ghost use Rattle.std.specs.List.{All};
-ghost use Rattle.std.specs.List.Sorted.{IsStrictlySortedBy};
-ghost use Rattle.std.specs.Cmp.Lexicographic.{slice_cmp};
-ghost use Rattle.std.specs.Ordering.{nat_cmp};
+ghost use Rattle.std.specs.{List.{All}, List.Sorted.{IsStrictlySortedBy}, Cmp.Lexicographic.{slice_cmp}, Ordering.{nat_cmp}};
 ghost use Rattle.mdns_listeners.specs.Heard.{AreHeardIn, messages_of};
 ghost use Rattle.mdns_listeners.specs.Kept.{told_by, told_of_rows, filled, last_message, ArePlaced, AddsRow, AreSorted, IsNumbered};
 

@@ -1,8 +1,7 @@
 //! Sheets on which rows are written. After `Want` the contents of texts are not specified.
 
 ghost use Rattle.std.specs.Prelude.{◌≡◌, ◌++◌, ◌∷◌, [], codes, if◌then◌else◌, map, slice_index, true, false, OnOk, string_bytes};
-ghost use Rattle.mdns_browse.specs.Columns.{padded};
-ghost use Rattle.mdns_browse.specs.Json.{comma_unless};
+ghost use Rattle.mdns_browse.specs.{Columns.{padded}, Json.{comma_unless}};
 ghost use Rattle.mdns_listeners.specs.Fields.{field_lent};
 ghost use Rattle.mdns_listeners.specs.Sheet.{cells_of, columns_text, line_text, member_text, object_text, taken, widened, widened_at};
 ghost use Rattle.mdns_listeners.specs.Values.{cell_text, value_lent};

@@ -1,9 +1,7 @@
 //! Values of rows, as each form writes them. After `Want` the contents of `to` are not specified.
 
 ghost use Rattle.std.specs.Prelude.{◌≡◌, ◌++◌, ◌∷◌, map, true, OnOk, codes, string_bytes};
-ghost use Rattle.std.specs.Fmt.{decimal};
-ghost use Rattle.std.specs.List.{flat_map};
-ghost use Rattle.std.specs.Net.Addr.{segments_of};
+ghost use Rattle.std.specs.{Fmt.{decimal}, List.{flat_map}, Net.Addr.{segments_of}};
 ghost use Rattle.dns_name.specs.Name.{name_text};
 ghost use Rattle.mdns_browse.specs.Json.{comma_unless, json_array, json_string, parted};
 ghost use Rattle.people_text.specs.Shown.{name_shown};

@@ -2,10 +2,8 @@
 
 ghost use Rattle.std.specs.Prelude.{◌≡◌, IfOk, List, length, string_bytes};
 ghost use Rattle.mdns_capture.specs.Savefile.{PacketAt};
-ghost use Rattle.mdns_survey.specs.Outcomes.{Outcome};
-ghost use Rattle.mdns_survey.specs.Readings.{HaveSpans};
-ghost use Rattle.mdns_listeners.specs.Listeners.{Gathered};
-ghost use Rattle.mdns_listeners.specs.WarnedLives.{WarnsOf};
+ghost use Rattle.mdns_survey.specs.{Outcomes.{Outcome}, Readings.{HaveSpans}};
+ghost use Rattle.mdns_listeners.specs.{Listeners.{Gathered}, WarnedLives.{WarnsOf}};
 
 use crate::beside::Beside;
 use crate::groups::Groups;

@@ -1,16 +1,11 @@
 -- Accounts that were joined, or joined in part.
 use Rattle.std.proofs.Common.{arith, ◌≡◌, Result, OnErr, sym, subst}
-use Rattle.join_map.specs.Join.{IsPartOfJoin}
-use Rattle.join_map.specs.laws.Join.{IsPartOfJoin-old, IsPartOfJoin-join}
-use Rattle.mdns_join.specs.declared.latest.Latest.{Latest}
-use Rattle.mdns_join.specs.Latest.{later}
-use Rattle.mdns_join.specs.laws.Latest.{later-laws}
+use Rattle.join_map.specs.{Join.{IsPartOfJoin}, laws.Join.{IsPartOfJoin-old, IsPartOfJoin-join}}
+use Rattle.mdns_join.specs.{declared.latest.Latest.{Latest}, Latest.{later}, laws.Latest.{later-laws}}
 use Rattle.mdns_cache.proofs.BetweenLemmas.{on_err_any}
 use Rattle.std.proofs.lemmas.Result.{on_err_weaker}
-use Rattle.mdns_lives.specs.declared.account.Account.{Account}
-use Rattle.mdns_lives.specs.Account.{account, join_account, IsAccount}
-use Rattle.mdns_lives.specs.Seconds.{Seconds, join_seconds}
-use Rattle.mdns_lives.specs.laws.Seconds.{seconds-laws}
+use Rattle.mdns_lives.specs.{declared.account.Account.{Account}, Account.{account, join_account, IsAccount}}
+use Rattle.mdns_lives.specs.{Seconds.{Seconds, join_seconds}, laws.Seconds.{seconds-laws}}
 
 -- a part of the join of two accounts, by its parts
 part_of_both : (old other : Account) (l : Latest) (h : Seconds) → IsPartOfJoin later old.latest other.latest l

@@ -3,24 +3,15 @@ use Rattle.std.proofs.Common.{rules, ◌≡◌, ◌≢◌, ℕ, ◌+◌, ◌<◌
 use Rattle.std.specs.Prelude.{nat_le}
 use Rattle.std.specs.declared.cmp.Ordering.TheVariants.{Greater}
 use Rattle.std.proofs.lemmas.Bool.{cases_lt}
-use Rattle.mdns_capture.specs.Limits.{second}
-use Rattle.mdns_message.specs.declared.hearing.Hearing.{Hearing}
-use Rattle.mdns_message.specs.declared.key.Key.{Key}
-use Rattle.mdns_join.specs.declared.latest.Latest.{Latest}
-use Rattle.mdns_join.specs.Latest.{latest_cmp, latest_of}
-use Rattle.mdns_join.specs.Kept.{IsStruckBy}
+use Rattle.mdns_capture.specs.{Limits.{second}, declared.moment.Moment.{Moment}}
+use Rattle.mdns_message.specs.declared.{hearing.Hearing.{Hearing}, key.Key.{Key}}
+use Rattle.mdns_join.specs.{declared.latest.Latest.{Latest}, Latest.{latest_cmp, latest_of}, Kept.{IsStruckBy}, laws.Latest.{moment-same}}
 use Rattle.mdns_cache.specs.Live.{IsHeard, IsLast, life_of, IsStruck}
-use Rattle.mdns_lives.specs.declared.life.RecordHearing.{RecordHearing}
-use Rattle.mdns_lives.specs.declared.life.Life.{Life}
-use Rattle.mdns_lives.specs.declared.life.EndReason.{EndReason}
+use Rattle.mdns_lives.specs.declared.life.{RecordHearing.{RecordHearing}, Life.{Life}, EndReason.{EndReason}}
 use Rattle.mdns_lives.specs.declared.life.EndReason.TheVariants.{Expired, Goodbye, Flushed}
 use Rattle.mdns_lives.specs.Lives.{heard_until, IsLiveThen, IsStruckAt, IsEndFor, EndsThen, AreLives}
-use Rattle.mdns_lives.specs.History.{heard_of, IsHistory, AreFlushes, IsUpTo, IsLastAt, IsLiveAt, IsFlushEnd, IsEndBy}
-use Rattle.mdns_lives.specs.History.{EndsBy, AreLivesBy}
-use Rattle.mdns_lives.proofs.FilterLemmas.{from-filter, to-filter}
-use Rattle.mdns_lives.proofs.OrderLemmas.{heard-same, same_moment, same_ttl}
-use Rattle.mdns_capture.specs.declared.moment.Moment.{Moment}
-use Rattle.mdns_join.specs.laws.Latest.{moment-same}
+use Rattle.mdns_lives.specs.History.{heard_of, IsHistory, AreFlushes, IsUpTo, IsLastAt, IsLiveAt, IsFlushEnd, IsEndBy, EndsBy, AreLivesBy}
+use Rattle.mdns_lives.proofs.{FilterLemmas.{from-filter, to-filter}, OrderLemmas.{heard-same, same_moment, same_ttl}}
 
 -- ---- the hearings until a moment
 

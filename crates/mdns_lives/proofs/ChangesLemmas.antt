@@ -3,11 +3,8 @@ use Rattle.std.proofs.Common.{◌≡◌, ◌∙◌, ℕ, ◌<◌, ◌≤◌, Boo
 use Rattle.std.proofs.Common.{List, [], ◌∷◌, refl, sym, subst, arith, true≢false, eqb-true, le-leb}
 use Rattle.std.specs.List.{AllByRecursion, list_all, list_any}
 use Rattle.std.proofs.lemmas.Bool.Decides.{nat_tests}
-use Rattle.mdns_join.specs.Kept.{has, IsAscending, IsAscendingAbove}
-use Rattle.mdns_join.specs.laws.Kept.{IsAscending-from_above, IsAscendingAbove-has}
-use Rattle.mdns_lives.specs.declared.life.Life.{Life}
-use Rattle.mdns_lives.specs.Lives.{AreApart, AreApartAfter}
-use Rattle.mdns_lives.specs.Changes.{is_between, strays}
+use Rattle.mdns_join.specs.{Kept.{has, IsAscending, IsAscendingAbove}, laws.Kept.{IsAscending-from_above, IsAscendingAbove-has}}
+use Rattle.mdns_lives.specs.{declared.life.Life.{Life}, Lives.{AreApart, AreApartAfter}, Changes.{is_between, strays}}
 
 -- lives that begin later don't count
 all-later : (from m low : ℕ) (lives : List Life) → from ≤ low → AreApartAfter low lives

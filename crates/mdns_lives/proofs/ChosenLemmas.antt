@@ -2,35 +2,22 @@
 use Rattle.std.proofs.Common.{◌≡◌, ◌≢◌, Bool, true, false, ◌&&◌, ◌||◌, ◌==◌, not, nat_le, nat_lt, if◌then◌else◌, cond, IsTrue, ◌↔◌, ℕ, ◌<◌}
 use Rattle.std.proofs.Common.{List, [], ◌∷◌, ◌++◌, map, slice_get, Option, None, Some, unwrap_or}
 use Rattle.std.proofs.Common.{refl, sym, ap, ◌∙◌, subst, true≢false, append_assoc, append-nil, arith}
-use Rattle.std.specs.List.{AllByRecursion, filter, list_all, list_any}
-use Rattle.std.specs.List.Sorted.{IsStrictlySortedBy}
-use Rattle.std.specs.declared.cmp.Ordering.{Ordering}
-use Rattle.std.specs.declared.cmp.Ordering.TheVariants.{Less, Equal, Greater}
-use Rattle.std.specs.Ordering.{is_eq}
-use Rattle.std.specs.Cmp.{tied_itself}
-use Rattle.std.proofs.lemmas.Bool.{and_parts, or_left, or_right}
-use Rattle.std.proofs.lemmas.Bool.Decides.{nat_tests}
-use Rattle.std.proofs.lemmas.List.{map-append}
+use Rattle.std.specs.{List.{AllByRecursion, filter, list_all, list_any}, List.Sorted.{IsStrictlySortedBy}, declared.cmp.Ordering.{Ordering}}
+use Rattle.std.specs.{declared.cmp.Ordering.TheVariants.{Less, Equal, Greater}, Ordering.{is_eq}, Cmp.{tied_itself}}
+use Rattle.std.proofs.lemmas.{Bool.{and_parts, or_left, or_right}, Bool.Decides.{nat_tests}, List.{map-append}}
 use Rattle.std.proofs.lemmas.List.Elements.{filter-append}
-use Rattle.mdns_message.specs.RecordSet.{RecordSet}
-use Rattle.mdns_message.specs.Resource.{key_cmp, set_key_cmp, set_key_of}
+use Rattle.mdns_message.specs.{RecordSet.{RecordSet}, Resource.{key_cmp, set_key_cmp, set_key_of}}
 use Rattle.mdns_message.specs.laws.Resource.{set_key_cmp-exact, set_key_cmp-total}
 use Rattle.join_map.specs.laws.Entries.{is_Equal}
-use Rattle.mdns_join.specs.declared.latest.Latest.{Latest}
-use Rattle.mdns_join.specs.Kept.{ascending, has, put, IsAscending}
+use Rattle.mdns_join.specs.{declared.latest.Latest.{Latest}, Kept.{ascending, has, put, IsAscending}}
 use Rattle.mdns_join.specs.laws.Kept.{has-append, has-ascending, IsAscending-ascending}
 use Rattle.mdns_cache.specs.LentRecords.{last_lent}
-use Rattle.mdns_lives.specs.declared.life.Life.{Life}
-use Rattle.mdns_lives.specs.declared.life.Which.{Which}
-use Rattle.mdns_lives.specs.declared.life.Which.TheVariants.{All, Changes}
+use Rattle.mdns_lives.specs.declared.life.{Life.{Life}, Which.{Which}, Which.TheVariants.{All, Changes}}
 use Rattle.mdns_lives.specs.declared.lives.RecordLives.{RecordLives}
 use Rattle.mdns_lives.specs.Changes.{AreOf, AreOfOne, begins_in, begins_of, by_sets, changes_in, chosen, comes_back, goes_on, has_change}
-use Rattle.mdns_lives.specs.Changes.{has_changed, is_between, is_of_set, is_pointer_record, kept_if, left_after, left_of, maybe_next, maybe_row}
-use Rattle.mdns_lives.specs.Changes.{strays}
-use Rattle.mdns_lives.specs.Lives.{AreApart}
-use Rattle.mdns_lives.specs.LentLives.{row_lent}
-use Rattle.mdns_lives.proofs.ChangesLemmas.{BeganAt, changes-stray}
-use Rattle.mdns_lives.proofs.LiveLifeLemmas.{Row, row_record}
+use Rattle.mdns_lives.specs.Changes.{has_changed, is_between, is_of_set, is_pointer_record, kept_if, left_after, left_of, maybe_next}
+use Rattle.mdns_lives.specs.{Changes.{maybe_row, strays}, Lives.{AreApart}, LentLives.{row_lent}}
+use Rattle.mdns_lives.proofs.{ChangesLemmas.{BeganAt, changes-stray}, LiveLifeLemmas.{Row, row_record}}
 use Rattle.mdns_cache.proofs.LiveWalkLemmas.{key_after}
 
 abbrev set_in : Row → RecordSet

@@ -2,43 +2,27 @@
 use Rattle.std.proofs.Common.{inl, inr, rules, Contains, MatchOption, Result, OnOk, OnErr, refl, sym, ap, ◌∙◌, subst, arith}
 use Rattle.std.proofs.Common.{◌≡◌, ◌≢◌, ◌↔◌, ℕ, ◌≤◌, Bool, true, false, ◌&&◌, cond, List, [], ◌∷◌, ◌++◌, Option, None, Some}
 use Rattle.std.proofs.Common.{if◌then◌else◌, true≢false}
-use Rattle.std.specs.declared.cmp.Ordering.TheVariants.{Greater}
-use Rattle.std.specs.Ordering.{nat_cmp, is_eq}
-use Rattle.std.specs.Cmp.{tied_itself}
+use Rattle.std.specs.{declared.cmp.Ordering.TheVariants.{Greater}, Ordering.{nat_cmp, is_eq}, Cmp.{tied_itself}}
 use Rattle.std.proofs.lemmas.Result.{on_err_weaker}
 use Rattle.mdns_capture.specs.declared.moment.Moment.{Moment}
-use Rattle.mdns_message.specs.declared.hearing.Hearing.{Hearing}
-use Rattle.mdns_message.specs.declared.key.Key.{Key}
-use Rattle.mdns_message.specs.RecordSet.{RecordSet}
+use Rattle.mdns_message.specs.{declared.hearing.Hearing.{Hearing}, declared.key.Key.{Key}, RecordSet.{RecordSet}}
 use Rattle.mdns_message.specs.Resource.{key_of, key_cmp, set_key_of, set_key_cmp}
 use Rattle.mdns_message.specs.laws.Resource.{key_cmp-total, key_cmp-exact, set_key_cmp-total, set_key_cmp-exact}
 use Rattle.join_map.specs.Entries.{AllFit, value_at, joined, gathered, one_entry, IsJoinMap}
 use Rattle.join_map.specs.laws.Entries.{is_Equal, IsJoinMap-none, IsJoinMap-one}
-use Rattle.mdns_join.specs.Latest.{latest_cmp, latest_of}
-use Rattle.mdns_join.specs.Kept.{has, union, ascending, IsAscending}
-use Rattle.mdns_join.specs.laws.Kept.{has-ascending, IsAscending-ascending}
-use Rattle.mdns_join.specs.Nanos.{nanos_of}
-use Rattle.mdns_cache.specs.Live.{IsUnheard, IsLast, IsFlushedAt, is_flush_of}
-use Rattle.mdns_cache.specs.Repeats.{at_each}
-use Rattle.mdns_cache.proofs.StandsPartLemmas.{Contains-nil, Contains-head, Contains-cases, Contains-map, from_map}
-use Rattle.mdns_cache.proofs.StandsPartLemmas.{IsFlushedAt-from_has, has-from_flushed}
-use Rattle.mdns_cache.proofs.MeaningLemmas.{flushed}
-use Rattle.mdns_cache.proofs.RepeatLemmas.{no_greater}
+use Rattle.mdns_join.specs.{Latest.{latest_cmp, latest_of}, Kept.{has, union, ascending, IsAscending}}
+use Rattle.mdns_join.specs.{laws.Kept.{has-ascending, IsAscending-ascending}, Nanos.{nanos_of}}
+use Rattle.mdns_cache.specs.{Live.{IsUnheard, IsLast, IsFlushedAt, is_flush_of}, Repeats.{at_each}}
+use Rattle.mdns_cache.proofs.StandsPartLemmas.{Contains-nil, Contains-head, Contains-cases, Contains-map, from_map, IsFlushedAt-from_has}
+use Rattle.mdns_cache.proofs.{StandsPartLemmas.{has-from_flushed}, MeaningLemmas.{flushed}, RepeatLemmas.{no_greater}}
 use Rattle.mdns_cache.proofs.GatheringLemmas.{valid_after}
-use Rattle.mdns_lives.specs.declared.account.Account.{Account}
-use Rattle.mdns_lives.specs.declared.life.RecordHearing.{RecordHearing}
-use Rattle.mdns_lives.specs.Account.{join_account, IsAccount, IsOwnAccount}
-use Rattle.mdns_lives.specs.History.{heard_of, IsHeardAs}
-use Rattle.mdns_lives.specs.Seconds.{AreEndsIn, IsRoomFor, seconds_of, ends_at}
-use Rattle.mdns_lives.specs.laws.Account.{account-laws}
-use Rattle.mdns_lives.specs.laws.Flushes.{union-laws}
-use Rattle.mdns_lives.specs.Chronicle.{Accounts, AreAccounts, AreGathered, Chronicles, accounts_of, join_accounts, latest_in, history_in, IsFlushIn}
-use Rattle.mdns_lives.specs.Each.{IsLatestIn, heard_with, heard_each, account_each, flushes_each, accounts_each}
-use Rattle.mdns_lives.proofs.ChronicleLemmas.{chronicles-join}
-use Rattle.mdns_lives.proofs.PartLemmas.{records-laws, flushes-laws}
-use Rattle.mdns_lives.proofs.HearingLemmas.{heard_at}
-use Rattle.mdns_lives.proofs.RoomLemmas.{length-join}
-use Rattle.mdns_lives.proofs.SecondsLemmas.{ends-alike, at-seconds_of, IsSeconds-of, seconds_of-append}
+use Rattle.mdns_lives.specs.declared.{account.Account.{Account}, life.RecordHearing.{RecordHearing}}
+use Rattle.mdns_lives.specs.{Account.{join_account, IsAccount, IsOwnAccount}, History.{heard_of, IsHeardAs}}
+use Rattle.mdns_lives.specs.{Seconds.{AreEndsIn, IsRoomFor, seconds_of, ends_at}, laws.Account.{account-laws}, laws.Flushes.{union-laws}}
+use Rattle.mdns_lives.specs.Chronicle.{Accounts, AreAccounts, AreGathered, Chronicles, accounts_of, join_accounts, latest_in, history_in}
+use Rattle.mdns_lives.specs.{Chronicle.{IsFlushIn}, Each.{IsLatestIn, heard_with, heard_each, account_each, flushes_each, accounts_each}}
+use Rattle.mdns_lives.proofs.{ChronicleLemmas.{chronicles-join}, PartLemmas.{records-laws, flushes-laws}, HearingLemmas.{heard_at}}
+use Rattle.mdns_lives.proofs.{RoomLemmas.{length-join}, SecondsLemmas.{ends-alike, at-seconds_of, IsSeconds-of, seconds_of-append}}
 
 -- more hearings in the same room
 pub room_appended : (hs gs more : List RecordHearing) (held room same : ℕ) → gs ≡ hs ++ more → same ≡ room

@@ -1,16 +1,12 @@
 -- The lives by the ends of each second are those by all hearings.
 use Rattle.std.proofs.Common.{◌≡◌, ℕ, zero, suc, ◌+◌, ◌<◌, ◌≤◌, ◌⊎◌, List, [], ◌∷◌, Contains, sym, ◌∙◌, subst, inl, inr, arith}
-use Rattle.std.proofs.lemmas.Bool.{cases_lt}
-use Rattle.std.proofs.lemmas.Bool.Decides.{nat_tests}
+use Rattle.std.proofs.lemmas.{Bool.{cases_lt}, Bool.Decides.{nat_tests}}
 use Rattle.mdns_capture.specs.Limits.{second}
 use Rattle.mdns_cache.specs.Live.{life_of}
 use Rattle.mdns_cache.proofs.StandsPartLemmas.{Contains-nil, Contains-head, Contains-later, Contains-cases}
-use Rattle.mdns_lives.specs.declared.life.RecordHearing.{RecordHearing}
-use Rattle.mdns_lives.specs.declared.life.Life.{Life}
-use Rattle.mdns_lives.specs.declared.life.EndReason.{EndReason}
+use Rattle.mdns_lives.specs.declared.life.{RecordHearing.{RecordHearing}, Life.{Life}, EndReason.{EndReason}}
 use Rattle.mdns_lives.specs.declared.life.EndReason.TheVariants.{Expired, Goodbye, Flushed}
-use Rattle.mdns_lives.specs.History.{IsUpTo, IsLastAt, IsLiveAt, IsEndBy, EndsBy, AreLivesBy}
-use Rattle.mdns_lives.specs.Seconds.{second_of, AreEndsOf}
+use Rattle.mdns_lives.specs.{History.{IsUpTo, IsLastAt, IsLiveAt, IsEndBy, EndsBy, AreLivesBy}, Seconds.{second_of, AreEndsOf}}
 use Rattle.mdns_lives.proofs.OrderLemmas.{IsUpTo-itself, IsUpTo-onward, either_order, no_later, same_heard}
 
 -- hearings of one second are less than a second apart

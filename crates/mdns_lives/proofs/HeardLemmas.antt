@@ -1,24 +1,16 @@
 -- The seconds that a walk over hearings in order gives, and those that are held.
 use Rattle.std.proofs.Common.{rules, ◌≡◌, ℕ, ◌<◌, ◌≤◌, true, false, Bool, ◌==◌, List, [], ◌∷◌, map, Option, None, Some, Contains}
 use Rattle.std.proofs.Common.{◌⊎◌, refl, sym, ap, ◌∙◌, subst, inl, inr, arith, if◌then◌else◌, eqb-true, eq-eqb}
-use Rattle.std.specs.declared.cmp.Ordering.TheVariants.{Less}
-use Rattle.std.specs.Ordering.{nat_cmp}
-use Rattle.std.specs.Cmp.{nat_cmp_is}
-use Rattle.std.specs.List.{AllByRecursion}
+use Rattle.std.specs.{declared.cmp.Ordering.TheVariants.{Less}, Ordering.{nat_cmp}, Cmp.{nat_cmp_is}, List.{AllByRecursion}}
 use Rattle.std.specs.List.Sorted.{IsStrictlySortedBy}
 use Rattle.std.proofs.lemmas.Bool.Decides.{nat_tests}
 use Rattle.join_map.specs.Entries.{value_at}
-use Rattle.mdns_message.specs.declared.hearing.Hearing.{Hearing}
-use Rattle.mdns_message.specs.declared.key.Key.{Key}
-use Rattle.mdns_message.specs.Resource.{key_cmp}
+use Rattle.mdns_message.specs.{declared.hearing.Hearing.{Hearing}, declared.key.Key.{Key}, Resource.{key_cmp}}
 use Rattle.mdns_cache.proofs.StandsPartLemmas.{Contains-nil, Contains-head, Contains-later, Contains-cases}
-use Rattle.mdns_lives.specs.declared.account.Account.{Account}
-use Rattle.mdns_lives.specs.declared.life.RecordHearing.{RecordHearing}
-use Rattle.mdns_lives.specs.declared.seconds_heard.SecondHeard.{SecondHeard}
-use Rattle.mdns_lives.specs.Chronicle.{Accounts, Chronicles, history_in}
-use Rattle.mdns_lives.specs.Heard.{number_of, AreSecondsOf, AreSecondsHeard, AreSecondsHeld, heard_once, heard_again}
-use Rattle.mdns_lives.specs.Heard.{seconds_from, seconds_walked}
-use Rattle.mdns_lives.specs.History.{IsUpTo, AreInOrder, IsHeardAs}
+use Rattle.mdns_lives.specs.declared.{account.Account.{Account}, life.RecordHearing.{RecordHearing}}
+use Rattle.mdns_lives.specs.{declared.seconds_heard.SecondHeard.{SecondHeard}, Chronicle.{Accounts, Chronicles, history_in}}
+use Rattle.mdns_lives.specs.Heard.{number_of, AreSecondsOf, AreSecondsHeard, AreSecondsHeld, heard_once, heard_again, seconds_from}
+use Rattle.mdns_lives.specs.{Heard.{seconds_walked}, History.{IsUpTo, AreInOrder, IsHeardAs}}
 use Rattle.mdns_lives.specs.Seconds.{second_of, IsBetween, Ends, ends, ends_at, AreEnds, AreEndsIn, Seconds, seconds_of}
 use Rattle.mdns_lives.proofs.OrderLemmas.{IsUpTo-itself, IsUpTo-onward, no_later, first_least}
 use Rattle.mdns_lives.proofs.SecondsLemmas.{between-itself, same_ends_in, at-seconds_of}

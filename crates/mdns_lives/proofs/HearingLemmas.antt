@@ -2,20 +2,16 @@
 use Rattle.std.proofs.Common.{◌≡◌, ◌↔◌, ℕ, List, [], ◌∷◌, ◌++◌, Option, None, Some, Contains, refl}
 use Rattle.std.proofs.Common.{ap, ◌∙◌, subst, map, MatchOption}
 use Rattle.mdns_capture.specs.declared.moment.Moment.{Moment}
-use Rattle.mdns_message.specs.declared.hearing.Hearing.{Hearing}
-use Rattle.mdns_message.specs.declared.key.Key.{Key}
-use Rattle.mdns_message.specs.Message.{MessageReads, hearing_of}
+use Rattle.mdns_message.specs.{declared.hearing.Hearing.{Hearing}, declared.key.Key.{Key}, Message.{MessageReads, hearing_of}}
 use Rattle.mdns_message.specs.RecordAt.{HeardRecord}
 use Rattle.mdns_join.specs.declared.latest.Latest.{Latest}
-use Rattle.mdns_cache.specs.Live.{IsUnheard, IsLast, IsNewest, SameHearings}
-use Rattle.mdns_cache.specs.Repeats.{at_each, all_at_each}
+use Rattle.mdns_cache.specs.{Live.{IsUnheard, IsLast, IsNewest, SameHearings}, Repeats.{at_each, all_at_each}}
 use Rattle.mdns_cache.proofs.RepeatLemmas.{moment_in, nothing}
 use Rattle.mdns_cache.proofs.StandsPartLemmas.{Contains-nil, Contains-head, Contains-map}
 use Rattle.mdns_cache.proofs.StandsPartLemmas.{Contains-flat_map, from_flat_map, from_map, IsLast-among}
-use Rattle.mdns_lives.specs.History.{IsHeardAs}
-use Rattle.mdns_lives.specs.Chronicle.{Accounts, Chronicles, ends_held, last_held}
-use Rattle.mdns_lives.proofs.SecondsLemmas.{ends-alike}
+use Rattle.mdns_lives.specs.{History.{IsHeardAs}, Chronicle.{Accounts, Chronicles, ends_held, last_held}}
 use Rattle.mdns_lives.specs.MessageChronicle.{IsHearingAt, ChroniclesAt}
+use Rattle.mdns_lives.proofs.SecondsLemmas.{ends-alike}
 
 -- ---- the same hearings
 

@@ -2,18 +2,12 @@
 use Rattle.std.proofs.Common.{◌≡◌, ℕ, zero, suc, ◌+◌, ◌-◌, ◌<◌, ◌≤◌, true, false, nat_lt, min, List, [], ◌∷◌, length, get_or}
 use Rattle.std.proofs.Common.{take, drop, refl, sym, ap, subst, ◌∙◌, arith, if◌then◌else◌, leb-true, leb-false}
 use Rattle.std.specs.Prelude.{nat_le}
-use Rattle.std.proofs.lemmas.Bool.{ltb-true}
-use Rattle.std.proofs.lemmas.List.{take_rest}
-use Rattle.mdns_capture.specs.declared.moment.Moment.{Moment}
-use Rattle.mdns_capture.specs.Limits.{second}
-use Rattle.mdns_join.specs.Kept.{IsAscending, IsAscendingAbove}
-use Rattle.mdns_join.specs.laws.Kept.{IsAscending-from_above}
-use Rattle.mdns_join.specs.Nanos.{nanos_of}
+use Rattle.std.proofs.lemmas.{Bool.{ltb-true}, List.{take_rest}}
+use Rattle.mdns_capture.specs.{declared.moment.Moment.{Moment}, Limits.{second}}
+use Rattle.mdns_join.specs.{Kept.{IsAscending, IsAscendingAbove}, laws.Kept.{IsAscending-from_above}, Nanos.{nanos_of}}
 use Rattle.mdns_cache.specs.LentRecords.{AreEarlyUpTo, end_of}
 use Rattle.mdns_cache.proofs.FirstLaterLemmas.{first_later}
-use Rattle.mdns_lives.specs.declared.life.RecordHearing.{RecordHearing}
-use Rattle.mdns_lives.specs.declared.life.Life.{Life}
-use Rattle.mdns_lives.specs.History.{AreInOrder}
+use Rattle.mdns_lives.specs.{declared.life.RecordHearing.{RecordHearing}, declared.life.Life.{Life}, History.{AreInOrder}}
 use Rattle.mdns_lives.specs.LifeWalk.{GiveSameEnds, out_of, life_after, carried_on, lives_from, walked}
 use Rattle.mdns_lives.proofs.OrderLemmas.{IsUpTo-itself, no_later}
 

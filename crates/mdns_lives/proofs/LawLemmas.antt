@@ -2,23 +2,16 @@
 use Rattle.std.proofs.Common.{◌≡◌, ◌≢◌, ℕ, ◌+◌, ◌<◌, ◌≤◌, List, [], ◌∷◌, Contains, refl, sym, ap, subst, inl, inr, arith, ◌↔◌, ◌∙◌}
 use Rattle.std.specs.Prelude.{nat_lt}
 use Rattle.std.proofs.lemmas.Bool.{cases_lt, ltb-true, lt-ltb}
-use Rattle.mdns_capture.specs.Limits.{second}
-use Rattle.mdns_message.specs.declared.hearing.Hearing.{Hearing}
-use Rattle.mdns_message.specs.declared.key.Key.{Key}
-use Rattle.mdns_message.specs.Resource.{IsOf}
+use Rattle.mdns_capture.specs.{Limits.{second}, declared.moment.Moment.{Moment}}
+use Rattle.mdns_message.specs.{declared.hearing.Hearing.{Hearing}, declared.key.Key.{Key}, Resource.{IsOf}}
 use Rattle.mdns_join.specs.declared.latest.Latest.{Latest}
 use Rattle.mdns_cache.specs.Live.{IsHeard, IsLast, SameHearings, life_of, IsLive, IsEnd}
 use Rattle.mdns_cache.proofs.StandsPartLemmas.{IsLast-same, IsLast-among, Contains-cases, Contains-nil}
-use Rattle.mdns_lives.specs.declared.life.Life.{Life}
-use Rattle.mdns_lives.specs.declared.life.EndReason.{EndReason}
-use Rattle.mdns_lives.specs.declared.life.EndReason.TheVariants.{Expired, Goodbye, Flushed}
-use Rattle.mdns_lives.specs.Lives.{heard_until, heard_before, IsLiveThen, IsDuring, IsInOne, AreApart, AreApartAfter, IsEndFor}
-use Rattle.mdns_lives.specs.Lives.{EndsThen, AreLives}
-use Rattle.mdns_lives.proofs.FilterLemmas.{from-filter, to-filter}
-use Rattle.mdns_lives.proofs.BridgeLemmas.{until-in, until-from}
-use Rattle.mdns_lives.proofs.OneListLemmas.{IsEndAlike, same_lives, end-out, apart-rest}
-use Rattle.mdns_lives.proofs.OrderLemmas.{heard-same}
-use Rattle.mdns_capture.specs.declared.moment.Moment.{Moment}
+use Rattle.mdns_lives.specs.declared.life.{Life.{Life}, EndReason.{EndReason}, EndReason.TheVariants.{Expired, Goodbye, Flushed}}
+use Rattle.mdns_lives.specs.Lives.{heard_until, heard_before, IsLiveThen, IsDuring, IsInOne, AreApart, AreApartAfter, IsEndFor, EndsThen}
+use Rattle.mdns_lives.specs.Lives.{AreLives}
+use Rattle.mdns_lives.proofs.{FilterLemmas.{from-filter, to-filter}, BridgeLemmas.{until-in, until-from}}
+use Rattle.mdns_lives.proofs.{OneListLemmas.{IsEndAlike, same_lives, end-out, apart-rest}, OrderLemmas.{heard-same}}
 
 -- ---- the same hearings
 

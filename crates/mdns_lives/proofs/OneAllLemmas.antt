@@ -1,18 +1,12 @@
 -- The same hearings give the same rows of lives.
 use Rattle.std.proofs.Common.{rules, arith, ◌≡◌, List, [], ◌∷◌, map, Contains, refl, sym, ◌∙◌, subst, inl, inr}
-use Rattle.std.specs.List.{AllByRecursion}
-use Rattle.std.specs.List.Sorted.{IsStrictlySortedBy}
-use Rattle.std.specs.declared.cmp.Ordering.TheVariants.{Less}
-use Rattle.mdns_message.specs.declared.hearing.Hearing.{Hearing}
-use Rattle.mdns_message.specs.declared.key.Key.{Key}
-use Rattle.mdns_message.specs.Resource.{key_cmp}
+use Rattle.std.specs.{List.{AllByRecursion}, List.Sorted.{IsStrictlySortedBy}, declared.cmp.Ordering.TheVariants.{Less}}
+use Rattle.mdns_message.specs.{declared.hearing.Hearing.{Hearing}, declared.key.Key.{Key}, Resource.{key_cmp}}
 use Rattle.mdns_message.specs.laws.Resource.{key_cmp-total}
 use Rattle.mdns_cache.specs.Live.{SameHearings, key_of_last}
 use Rattle.mdns_cache.proofs.StandsPartLemmas.{Contains-nil, Contains-head, Contains-later, Contains-cases, IsLast-among}
-use Rattle.mdns_lives.specs.declared.life.Life.{Life}
-use Rattle.mdns_lives.specs.Chronicle.{AreAllLives}
-use Rattle.mdns_lives.proofs.LawLemmas.{lives-among, one_list_among}
-use Rattle.mdns_lives.proofs.LiveLifeLemmas.{Row, row_record}
+use Rattle.mdns_lives.specs.{declared.life.Life.{Life}, Chronicle.{AreAllLives}}
+use Rattle.mdns_lives.proofs.{LawLemmas.{lives-among, one_list_among}, LiveLifeLemmas.{Row, row_record}}
 
 abbrev AllAfter : Key → List Key → Type 0
 AllAfter key keys = AllByRecursion (λ k. key_cmp key k ≡ Less) keys

@@ -2,11 +2,8 @@
 use Rattle.std.proofs.Common.{◌≡◌, ℕ, ◌<◌, ◌≤◌, List, [], ◌∷◌, Contains, refl, sym, subst, inl, inr, arith}
 use Rattle.std.proofs.lemmas.Bool.{cases_lt}
 use Rattle.mdns_join.specs.laws.Latest.{moment-same}
-use Rattle.mdns_lives.specs.declared.life.RecordHearing.{RecordHearing}
-use Rattle.mdns_lives.specs.declared.life.Life.{Life}
-use Rattle.mdns_lives.specs.declared.life.EndReason.{EndReason}
-use Rattle.mdns_lives.specs.History.{IsEndBy, EndsBy, AreLivesBy}
-use Rattle.mdns_lives.specs.Lives.{IsInOne, AreApartAfter, AreApart}
+use Rattle.mdns_lives.specs.declared.life.{RecordHearing.{RecordHearing}, Life.{Life}, EndReason.{EndReason}}
+use Rattle.mdns_lives.specs.{History.{IsEndBy, EndsBy, AreLivesBy}, Lives.{IsInOne, AreApartAfter, AreApart}}
 use Rattle.mdns_cache.proofs.StandsPartLemmas.{Contains-head, Contains-later}
 use Rattle.mdns_lives.proofs.OrderLemmas.{heard-same, same_moment, same_ttl}
 

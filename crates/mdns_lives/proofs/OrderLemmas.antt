@@ -4,9 +4,7 @@ use Rattle.std.specs.Ordering.{is_lt}
 use Rattle.std.proofs.lemmas.Bool.{cases_lt}
 use Rattle.mdns_cache.proofs.StandsPartLemmas.{Contains-nil, Contains-cases}
 use Rattle.mdns_join.specs.laws.Latest.{moment-same}
-use Rattle.mdns_lives.specs.declared.life.RecordHearing.{RecordHearing}
-use Rattle.mdns_lives.specs.History.{IsUpTo, AreInOrder}
-use Rattle.mdns_lives.specs.Seconds.{heard_cmp}
+use Rattle.mdns_lives.specs.{declared.life.RecordHearing.{RecordHearing}, History.{IsUpTo, AreInOrder}, Seconds.{heard_cmp}}
 
 pub IsUpTo-itself : (h : RecordHearing) → IsUpTo h h
 IsUpTo-itself h = inr (refl, omega arith)

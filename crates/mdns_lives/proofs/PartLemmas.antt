@@ -1,19 +1,13 @@
 -- The contents of a chronicle after a hearing that was refused.
 use Rattle.std.proofs.Common.{arith, ◌≡◌, ℕ, List, [], Option, sym, ap, ◌∙◌, subst}
 use Rattle.mdns_capture.specs.declared.moment.Moment.{Moment}
-use Rattle.mdns_message.specs.declared.key.Key.{Key}
-use Rattle.mdns_message.specs.RecordSet.{RecordSet}
-use Rattle.mdns_message.specs.Resource.{key_cmp, set_key_cmp}
+use Rattle.mdns_message.specs.{declared.key.Key.{Key}, RecordSet.{RecordSet}, Resource.{key_cmp, set_key_cmp}}
 use Rattle.mdns_message.specs.laws.Resource.{key_cmp-total, key_cmp-exact, set_key_cmp-total, set_key_cmp-exact}
-use Rattle.join_map.specs.Entries.{IsJoinMap, joined}
-use Rattle.join_map.specs.Join.{JoinLaws, IsPartOfJoin}
-use Rattle.join_map.specs.laws.Entries.{joined-laws}
+use Rattle.join_map.specs.{Entries.{IsJoinMap, joined}, Join.{JoinLaws, IsPartOfJoin}, laws.Entries.{joined-laws}}
 use Rattle.join_map.specs.laws.Join.{IsAtMost-left, IsPartOfJoin-join, IsPartOfJoin-old}
 use Rattle.mdns_join.specs.Kept.{union, IsAscending}
 use Rattle.mdns_cache.proofs.ContentsLemmas.{newer-same, newer-comm, newer-assoc, newer}
-use Rattle.mdns_lives.specs.declared.account.Account.{Account}
-use Rattle.mdns_lives.specs.Account.{join_account, IsAccount}
-use Rattle.mdns_lives.specs.laws.Account.{account-laws}
+use Rattle.mdns_lives.specs.{declared.account.Account.{Account}, Account.{join_account, IsAccount}, laws.Account.{account-laws}}
 use Rattle.mdns_lives.specs.laws.Flushes.{union-laws}
 use Rattle.mdns_lives.specs.Chronicle.{Accounts, accounts, accounts_gathered, AreAccounts, AreGathered, join_accounts}
 use Rattle.mdns_lives.proofs.ChronicleLemmas.{chronicles-none}

@@ -1,22 +1,14 @@
 -- How many hearings are left of a list that was thinned.
-use Rattle.std.proofs.lemmas.Grind.{common_steps}
+use Rattle.std.proofs.lemmas.{Grind.{common_steps}, Bool.{cases_lt}, List.{take_more, take_more_set, length-take-le, length-set}}
 use Rattle.std.proofs.Common.{◌≡◌, ◌≢◌, ℕ, ◌+◌, ◌-◌, ◌*◌, ◌<◌, ◌≤◌, List, [], ◌∷◌, ◌++◌, Contains, length, get_or, take, drop}
 use Rattle.std.proofs.Common.{slice_set, refl, sym, ap, ◌∙◌, subst, inl, inr, arith, append_assoc}
-use Rattle.std.specs.declared.cmp.Ordering.{Ordering}
-use Rattle.std.specs.declared.cmp.Ordering.TheVariants.{Less, Equal, Greater}
-use Rattle.std.specs.Ordering.{nat_cmp, match_ordering}
-use Rattle.std.specs.Cmp.{nat_cmp_is}
-use Rattle.std.specs.List.{AllByRecursion}
-use Rattle.std.specs.Map.{keys_of}
-use Rattle.std.proofs.lemmas.Bool.{cases_lt}
-use Rattle.std.proofs.lemmas.List.{take_more, take_more_set, length-take-le, length-set}
+use Rattle.std.specs.declared.cmp.{Ordering.{Ordering}, Ordering.TheVariants.{Less, Equal, Greater}}
+use Rattle.std.specs.{Ordering.{nat_cmp, match_ordering}, Cmp.{nat_cmp_is}, List.{AllByRecursion}, Map.{keys_of}}
 use Rattle.join_map.specs.Entries.{put_entry}
 use Rattle.mdns_cache.proofs.StandsPartLemmas.{Contains-nil, Contains-head, Contains-later}
-use Rattle.mdns_lives.specs.declared.life.RecordHearing.{RecordHearing}
-use Rattle.mdns_lives.specs.History.{AreInOrder}
+use Rattle.mdns_lives.specs.{declared.life.RecordHearing.{RecordHearing}, History.{AreInOrder}}
 use Rattle.mdns_lives.specs.Seconds.{second_of, IsSparse, Ends, ends, Seconds, join_ends, join_seconds, only, seconds_of, IsRoomFor}
-use Rattle.mdns_lives.proofs.OrderLemmas.{no_later, first_least, in_order-rest}
-use Rattle.mdns_lives.proofs.SecondsLemmas.{seconds_of-push}
+use Rattle.mdns_lives.proofs.{OrderLemmas.{no_later, first_least, in_order-rest}, SecondsLemmas.{seconds_of-push}}
 use Rattle.mdns_lives.proofs.ThinLemmas.{between_ends, take_next, drop_next}
 
 -- ---- how many seconds are held

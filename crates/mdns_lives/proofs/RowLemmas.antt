@@ -1,42 +1,24 @@
 -- The rows of a chronicle are the records that were heard, with their lives.
 use Rattle.std.proofs.Common.{arith, ◌≡◌, ◌↔◌, ℕ, true, List, [], ◌∷◌, map, Option, None, Some, Contains, MatchOption, refl, sym}
 use Rattle.std.proofs.Common.{ap, ◌∙◌, subst, unwrap_or, true≢false}
-use Rattle.std.specs.List.{AllByRecursion}
-use Rattle.std.specs.List.Sorted.{IsStrictlySortedBy}
-use Rattle.std.specs.declared.cmp.Ordering.TheVariants.{Less}
-use Rattle.std.specs.Map.{keys_of}
-use Rattle.std.proofs.lemmas.Cmp.{eq_by_cmp_equiv}
-use Rattle.std.proofs.lemmas.Map.Views.{Contains-from_lookup, lookup-from_Contains}
+use Rattle.std.specs.{List.{AllByRecursion}, List.Sorted.{IsStrictlySortedBy}, declared.cmp.Ordering.TheVariants.{Less}, Map.{keys_of}}
+use Rattle.std.proofs.lemmas.{Cmp.{eq_by_cmp_equiv}, Map.Views.{Contains-from_lookup, lookup-from_Contains}}
 use Rattle.std.proofs.lemmas.Map.Keys.{IsDistinct-from_sorted}
-use Rattle.mdns_message.specs.declared.hearing.Hearing.{Hearing}
-use Rattle.mdns_message.specs.declared.key.Key.{Key}
-use Rattle.mdns_message.specs.RecordSet.{RecordSet}
-use Rattle.mdns_message.specs.Resource.{key_cmp, set_key_cmp}
-use Rattle.mdns_message.specs.laws.Resource.{key_cmp-total, key_cmp-exact}
-use Rattle.mdns_join.specs.declared.latest.Latest.{Latest}
-use Rattle.mdns_join.specs.Kept.{has}
-use Rattle.join_map.specs.Entries.{value_at}
-use Rattle.join_map.specs.laws.Entries.{ValidAt, valid_at, sorted_above, sorted_rest}
+use Rattle.mdns_message.specs.{declared.hearing.Hearing.{Hearing}, declared.key.Key.{Key}, RecordSet.{RecordSet}}
+use Rattle.mdns_message.specs.{Resource.{key_cmp, set_key_cmp}, laws.Resource.{key_cmp-total, key_cmp-exact}}
+use Rattle.mdns_join.specs.{declared.latest.Latest.{Latest}, Kept.{has}}
+use Rattle.join_map.specs.{Entries.{value_at}, laws.Entries.{ValidAt, valid_at, sorted_above, sorted_rest}}
 use Rattle.mdns_cache.specs.Live.{IsUnheard, IsLast, key_of_last}
 use Rattle.mdns_cache.proofs.StandsPartLemmas.{same-itself, IsLast-same, Contains-head, Contains-later, Contains-map, from_map}
-use Rattle.mdns_cache.proofs.MeaningLemmas.{key_eq-exact}
+use Rattle.mdns_cache.proofs.{MeaningLemmas.{key_eq-exact}, LiveWalkLemmas.{key_after}}
 use Rattle.mdns_join.proofs.FlushWalkLemmas.{HasLater}
-use Rattle.mdns_cache.proofs.LiveWalkLemmas.{key_after}
-use Rattle.mdns_lives.specs.declared.account.Account.{Account}
-use Rattle.mdns_lives.specs.declared.life.RecordHearing.{RecordHearing}
-use Rattle.mdns_lives.specs.declared.life.Life.{Life}
-use Rattle.mdns_lives.specs.Account.{IsAccount}
-use Rattle.mdns_lives.specs.Lives.{AreLives}
-use Rattle.mdns_lives.specs.History.{IsHeardAs, IsHistory, AreFlushes, AreLivesBy}
-use Rattle.mdns_lives.specs.Seconds.{AreEndsOf, AreEndsIn, ends_at, listed_ends}
-use Rattle.mdns_lives.specs.laws.Account.{account-laws}
-use Rattle.mdns_lives.specs.LentLives.{flushes_held, row_held, rows_by}
-use Rattle.mdns_lives.specs.LifeWalk.{walked}
+use Rattle.mdns_lives.specs.declared.{account.Account.{Account}, life.RecordHearing.{RecordHearing}, life.Life.{Life}}
+use Rattle.mdns_lives.specs.{Account.{IsAccount}, Lives.{AreLives}, History.{IsHeardAs, IsHistory, AreFlushes, AreLivesBy}}
+use Rattle.mdns_lives.specs.{Seconds.{AreEndsOf, AreEndsIn, ends_at, listed_ends}, laws.Account.{account-laws}}
+use Rattle.mdns_lives.specs.{LentLives.{flushes_held, row_held, rows_by}, LifeWalk.{walked}}
 use Rattle.mdns_lives.specs.Chronicle.{Accounts, Chronicles, AreAllLives, latest_in, history_in, IsFlushIn, rows_of}
-use Rattle.mdns_lives.proofs.EndsLemmas.{AreLivesBy-from_ends}
-use Rattle.mdns_lives.proofs.ListedLemmas.{listed-in_order, listed-among, listed-between}
-use Rattle.mdns_lives.proofs.SomeLivesLemmas.{some_history}
-use Rattle.mdns_lives.proofs.WalkLemmas.{AreLivesBy-walked}
+use Rattle.mdns_lives.proofs.{EndsLemmas.{AreLivesBy-from_ends}, ListedLemmas.{listed-in_order, listed-among, listed-between}}
+use Rattle.mdns_lives.proofs.{SomeLivesLemmas.{some_history}, WalkLemmas.{AreLivesBy-walked}}
 
 -- a row: the last hearing of a record, and its lives
 abbrev pub Row : Type 0

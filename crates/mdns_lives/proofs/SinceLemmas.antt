@@ -1,19 +1,15 @@
 -- The lives that go on after a moment say since when each live record has been live.
-use Rattle.std.proofs.lemmas.Grind.{common_steps, flat_map-append}
+use Rattle.std.proofs.lemmas.{Grind.{common_steps, flat_map-append}, Bool.{lt-ltb, le-ltb}}
+use Rattle.std.proofs.lemmas.{List.{append-nil, append_assoc, map-append, take_more, take_all}, List.Elements.{filter-append}}
 use Rattle.std.proofs.Common.{rules, ◌≡◌, refl, sym, ap, ◌∙◌, subst, ℕ, ◌+◌, ◌<◌, ◌≤◌, nat_lt}
 use Rattle.std.proofs.Common.{List, [], ◌∷◌, ◌++◌, map, length, take, get_or, Contains, Option, None, Some, MatchOption, arith}
-use Rattle.std.proofs.lemmas.Bool.{lt-ltb, le-ltb}
-use Rattle.std.proofs.lemmas.List.{append-nil, append_assoc, map-append, take_more, take_all}
-use Rattle.std.proofs.lemmas.List.Elements.{filter-append}
-use Rattle.std.specs.List.{filter}
-use Rattle.std.specs.Map.Iter.{TakesFirst}
+use Rattle.std.specs.{List.{filter}, Map.Iter.{TakesFirst}}
 use Rattle.mdns_capture.specs.declared.moment.Moment.{Moment}
 use Rattle.mdns_message.specs.declared.hearing.Hearing.{Hearing}
 use Rattle.mdns_join.specs.declared.latest.Latest.{Latest}
 use Rattle.mdns_cache.specs.Live.{AreLiveRecords, IsNewest, NoneLater, key_of_last}
 use Rattle.mdns_cache.proofs.StandsPartLemmas.{Contains-nil}
-use Rattle.mdns_lives.specs.declared.life.Life.{Life}
-use Rattle.mdns_lives.specs.Chronicle.{AreAllLives, live_rows}
+use Rattle.mdns_lives.specs.{declared.life.Life.{Life}, Chronicle.{AreAllLives, live_rows}}
 use Rattle.mdns_lives.specs.Since.{AreLiveSince, IsLiveSince, all_since_rows, live_row, since_row, since_rows}
 use Rattle.mdns_lives.proofs.LawLemmas.{NoneAfter, SomeEnd, UntilEnd}
 use Rattle.mdns_lives.proofs.LiveLifeLemmas.{AreLiveRecords-lives, OneEnd, Row, from_rows, goes_on}

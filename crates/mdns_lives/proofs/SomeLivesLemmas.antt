@@ -1,22 +1,15 @@
 -- Each record has a list of lives.
 use Rattle.std.proofs.Common.{arith, ◌≡◌, ◌↔◌, ◌⊎◌, Bool, true, false, List, [], ◌∷◌, Contains, refl, sym, ap, ◌∙◌, subst}
 use Rattle.std.proofs.Common.{inl, inr, true≢false}
-use Rattle.std.specs.Ordering.{is_eq}
-use Rattle.std.specs.Cmp.{tied_itself}
-use Rattle.mdns_message.specs.declared.hearing.Hearing.{Hearing}
-use Rattle.mdns_message.specs.declared.key.Key.{Key}
-use Rattle.mdns_message.specs.Resource.{key_of, key_cmp}
+use Rattle.std.specs.{Ordering.{is_eq}, Cmp.{tied_itself}}
+use Rattle.mdns_message.specs.{declared.hearing.Hearing.{Hearing}, declared.key.Key.{Key}, Resource.{key_of, key_cmp}}
 use Rattle.mdns_message.specs.laws.Resource.{key_cmp-total, key_cmp-exact}
 use Rattle.join_map.specs.laws.Entries.{is_Equal}
 use Rattle.mdns_cache.specs.Live.{flush_moments}
-use Rattle.mdns_lives.specs.declared.life.RecordHearing.{RecordHearing}
-use Rattle.mdns_lives.specs.declared.life.Life.{Life}
-use Rattle.mdns_lives.specs.Lives.{AreLives}
-use Rattle.mdns_lives.specs.History.{heard_of, IsHeardAs, IsHistory, AreFlushes, IsUpTo, AreInOrder}
-use Rattle.mdns_lives.specs.LifeWalk.{walked}
+use Rattle.mdns_lives.specs.{declared.life.RecordHearing.{RecordHearing}, declared.life.Life.{Life}, Lives.{AreLives}}
+use Rattle.mdns_lives.specs.{History.{heard_of, IsHeardAs, IsHistory, AreFlushes, IsUpTo, AreInOrder}, LifeWalk.{walked}}
 use Rattle.mdns_cache.proofs.StandsPartLemmas.{Contains-nil, Contains-head, Contains-later, Contains-cases}
-use Rattle.mdns_lives.proofs.OrderLemmas.{IsUpTo-onward, either_order, first_least, in_order-rest}
-use Rattle.mdns_lives.proofs.WalkLemmas.{AreLivesBy-walked}
+use Rattle.mdns_lives.proofs.{OrderLemmas.{IsUpTo-onward, either_order, first_least, in_order-rest}, WalkLemmas.{AreLivesBy-walked}}
 use Rattle.mdns_lives.proofs.BridgeLemmas.{SomeLast, AreLives-from_history}
 
 -- hearings in order with one more at its place

@@ -1,21 +1,14 @@
 -- Sorted hearings are in order, and sorted moments without repeats are the same moments.
 use Rattle.std.proofs.Common.{◌≡◌, ◌↔◌, ℕ, suc, ◌+◌, get_or, Bool, true, false, List, [], ◌∷◌, Contains, sym}
 use Rattle.std.proofs.Common.{subst, arith, true≢false, eqb-true, eq-eqb}
-use Rattle.std.specs.Ordering.{on, is_lt}
-use Rattle.std.specs.Cmp.{IsEquivalence, on_equiv, nat_eq_equiv}
-use Rattle.std.specs.Prelude.{nat_eq}
-use Rattle.std.specs.List.{dedup}
-use Rattle.std.proofs.lemmas.List.Kept.{Contains-dedup, Contains-from_dedup}
-use Rattle.mdns_join.specs.laws.Latest.{moment-same}
+use Rattle.std.specs.{Ordering.{on, is_lt}, Cmp.{IsEquivalence, on_equiv, nat_eq_equiv}, List.{dedup}}
 use Rattle.std.specs.List.Sorted.{IsPermutation, IsSorted}
-use Rattle.std.proofs.lemmas.List.Sorted.{IsPermutation-sym, Contains-permutation}
-use Rattle.mdns_capture.specs.declared.moment.Moment.{Moment}
-use Rattle.mdns_join.specs.Nanos.{nanos_of}
-use Rattle.mdns_lives.specs.declared.life.RecordHearing.{RecordHearing}
-use Rattle.mdns_lives.specs.History.{AreInOrder}
-use Rattle.mdns_lives.specs.Seconds.{heard_cmp}
-use Rattle.mdns_join.specs.Kept.{has}
+use Rattle.std.specs.Prelude.{nat_eq}
+use Rattle.std.proofs.lemmas.List.{Kept.{Contains-dedup, Contains-from_dedup}, Sorted.{IsPermutation-sym, Contains-permutation}}
 use Rattle.std.proofs.lemmas.Bool.{or_cases, or_left, or_right}
+use Rattle.mdns_join.specs.{laws.Latest.{moment-same}, Nanos.{nanos_of}, Kept.{has}}
+use Rattle.mdns_capture.specs.declared.moment.Moment.{Moment}
+use Rattle.mdns_lives.specs.{declared.life.RecordHearing.{RecordHearing}, History.{AreInOrder}, Seconds.{heard_cmp}}
 use Rattle.mdns_lives.proofs.OrderLemmas.{IsUpTo-from_lt}
 use Rattle.mdns_cache.proofs.StandsPartLemmas.{Contains-nil, Contains-head, Contains-later, Contains-cases, Contains-map, from_map}
 

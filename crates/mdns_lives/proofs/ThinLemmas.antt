@@ -6,11 +6,9 @@ use Rattle.std.proofs.lemmas.List.{drop_all, drop_more, drop-set-lt, take_more, 
 use Rattle.std.proofs.lemmas.List.Elements.{Contains-append_left, Contains-append_right, Contains-append_cases}
 use Rattle.std.proofs.lemmas.List.Sorted.{IsPermutation-sym, Contains-permutation}
 use Rattle.mdns_cache.proofs.StandsPartLemmas.{Contains-head, Contains-later, Contains-cases}
-use Rattle.mdns_lives.specs.declared.life.RecordHearing.{RecordHearing}
-use Rattle.mdns_lives.specs.History.{IsUpTo, AreInOrder}
+use Rattle.mdns_lives.specs.{declared.life.RecordHearing.{RecordHearing}, History.{IsUpTo, AreInOrder}}
 use Rattle.mdns_lives.specs.Seconds.{second_of, IsBetween, AreEndsOf, IsThinned}
-use Rattle.mdns_lives.proofs.OrderLemmas.{IsUpTo-onward, no_later, in_order-rest}
-use Rattle.mdns_lives.proofs.SecondsLemmas.{between-itself}
+use Rattle.mdns_lives.proofs.{OrderLemmas.{IsUpTo-onward, no_later, in_order-rest}, SecondsLemmas.{between-itself}}
 
 -- ---- what lies between what is left
 

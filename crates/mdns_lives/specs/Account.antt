@@ -1,11 +1,7 @@
 -- What is kept of one record: its last hearing, and the ends of each second in which it was heard.
-use Rattle.mdns_message.specs.declared.hearing.Hearing.{Hearing}
-use Rattle.mdns_message.specs.declared.key.Key.{Key}
-use Rattle.mdns_join.specs.declared.latest.Latest.{Latest}
-use Rattle.mdns_join.specs.Latest.{IsKeyed, later, latest_of}
-use Rattle.mdns_lives.specs.declared.account.Account.{Account}
-use Rattle.mdns_lives.specs.History.{heard_of}
-use Rattle.mdns_lives.specs.Seconds.{Seconds, IsSeconds, join_seconds, only}
+use Rattle.mdns_message.specs.declared.{hearing.Hearing.{Hearing}, key.Key.{Key}}
+use Rattle.mdns_join.specs.{declared.latest.Latest.{Latest}, Latest.{IsKeyed, later, latest_of}}
+use Rattle.mdns_lives.specs.{declared.account.Account.{Account}, History.{heard_of}, Seconds.{Seconds, IsSeconds, join_seconds, only}}
 
 -- an account by its parts
 abbrev pub account : Latest → Seconds → Account

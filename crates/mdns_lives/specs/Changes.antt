@@ -2,17 +2,11 @@
 -- are listed for them.
 use Rattle.std.specs.Prelude.{◌≡◌, ℕ, Bool, true, false, ◌&&◌, ◌||◌, ◌==◌, not, nat_le, nat_lt, if◌then◌else◌}
 use Rattle.std.specs.Prelude.{List, [], ◌∷◌, ◌++◌, map, Option, None, Some, unwrap_or}
-use Rattle.std.specs.List.{filter, flat_map, list_all, list_any}
-use Rattle.std.specs.Ordering.{is_eq}
-use Rattle.mdns_message.specs.RecordSet.{RecordSet}
-use Rattle.mdns_message.specs.Resource.{number_of, set_key_cmp, set_key_of}
+use Rattle.std.specs.{List.{filter, flat_map, list_all, list_any}, Ordering.{is_eq}}
+use Rattle.mdns_message.specs.{RecordSet.{RecordSet}, Resource.{number_of, set_key_cmp, set_key_of}}
 use Rattle.mdns_join.specs.declared.latest.Latest.{Latest}
-use Rattle.mdns_lives.specs.declared.life.Life.{Life}
-use Rattle.mdns_lives.specs.declared.life.Which.{Which}
-use Rattle.mdns_lives.specs.declared.life.Which.TheVariants.{All, Changes}
-use Rattle.mdns_lives.specs.declared.lives.RecordLives.{RecordLives}
-use Rattle.mdns_lives.specs.Lives.{AreApart}
-use Rattle.mdns_lives.specs.LentLives.{row_lent}
+use Rattle.mdns_lives.specs.declared.life.{Life.{Life}, Which.{Which}, Which.TheVariants.{All, Changes}}
+use Rattle.mdns_lives.specs.{declared.lives.RecordLives.{RecordLives}, Lives.{AreApart}, LentLives.{row_lent}}
 
 -- when these lives began
 abbrev pub begins_of : List Life → List ℕ

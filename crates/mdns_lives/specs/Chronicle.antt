@@ -1,24 +1,15 @@
 -- The contents of a chronicle, the hearings that they stand for, and the lives of all records.
 use Rattle.std.specs.Prelude.{◌≡◌, ℕ, ◌↔◌, true, nat_lt, List, [], ◌∷◌, map, Option, None, Some, MatchOption, Contains, if◌then◌else◌}
-use Rattle.std.specs.List.{filter, flat_map}
-use Rattle.std.specs.List.Sorted.{IsStrictlySortedBy}
+use Rattle.std.specs.{List.{filter, flat_map}, List.Sorted.{IsStrictlySortedBy}}
 use Rattle.mdns_capture.specs.declared.moment.Moment.{Moment}
-use Rattle.mdns_message.specs.declared.hearing.Hearing.{Hearing}
-use Rattle.mdns_message.specs.declared.key.Key.{Key}
-use Rattle.mdns_message.specs.RecordSet.{RecordSet}
+use Rattle.mdns_message.specs.{declared.hearing.Hearing.{Hearing}, declared.key.Key.{Key}, RecordSet.{RecordSet}}
 use Rattle.mdns_message.specs.Resource.{key_of, key_cmp, set_key_of, set_key_cmp}
 use Rattle.join_map.specs.Entries.{AllFit, value_at, joined, joined_at, gathered, one_entry, IsJoinMap}
-use Rattle.mdns_join.specs.declared.latest.Latest.{Latest}
-use Rattle.mdns_join.specs.Kept.{has, union, IsAscending}
-use Rattle.mdns_cache.specs.Contents.{later_moment}
-use Rattle.mdns_cache.specs.Live.{IsUnheard, IsLast, IsNewest, IsFlushedAt, key_of_last}
-use Rattle.mdns_lives.specs.declared.account.Account.{Account}
-use Rattle.mdns_lives.specs.declared.life.Life.{Life}
-use Rattle.mdns_lives.specs.Account.{IsAccount, IsOwnAccount, account_of, join_account}
-use Rattle.mdns_lives.specs.History.{IsHeardAs}
-use Rattle.mdns_lives.specs.Lives.{AreLives}
-use Rattle.mdns_lives.specs.LentLives.{rows_by}
-use Rattle.mdns_lives.specs.Seconds.{Seconds, Ends, AreEndsIn, ends_at}
+use Rattle.mdns_join.specs.{declared.latest.Latest.{Latest}, Kept.{has, union, IsAscending}}
+use Rattle.mdns_cache.specs.{Contents.{later_moment}, Live.{IsUnheard, IsLast, IsNewest, IsFlushedAt, key_of_last}}
+use Rattle.mdns_lives.specs.declared.{account.Account.{Account}, life.Life.{Life}}
+use Rattle.mdns_lives.specs.{Account.{IsAccount, IsOwnAccount, account_of, join_account}, History.{IsHeardAs}, Lives.{AreLives}}
+use Rattle.mdns_lives.specs.{LentLives.{rows_by}, Seconds.{Seconds, Ends, AreEndsIn, ends_at}}
 
 -- ---- the lives of all records
 

@@ -1,18 +1,11 @@
 -- A hearing at each of some moments, of which its own is the latest.
 use Rattle.std.specs.Prelude.{◌≤◌, ℕ, List, [], map, Some, Contains, if◌then◌else◌}
 use Rattle.mdns_capture.specs.declared.moment.Moment.{Moment}
-use Rattle.mdns_message.specs.declared.hearing.Hearing.{Hearing}
-use Rattle.mdns_message.specs.RecordSet.{RecordSet}
-use Rattle.mdns_message.specs.Resource.{key_of, set_key_of}
+use Rattle.mdns_message.specs.{declared.hearing.Hearing.{Hearing}, RecordSet.{RecordSet}, Resource.{key_of, set_key_of}}
 use Rattle.join_map.specs.Entries.{one_entry}
-use Rattle.mdns_join.specs.Latest.{latest_of}
-use Rattle.mdns_join.specs.Kept.{ascending}
-use Rattle.mdns_join.specs.Nanos.{nanos_of}
-use Rattle.mdns_lives.specs.declared.account.Account.{Account}
-use Rattle.mdns_lives.specs.declared.life.RecordHearing.{RecordHearing}
-use Rattle.mdns_lives.specs.Account.{account}
-use Rattle.mdns_lives.specs.Chronicle.{Accounts, accounts}
-use Rattle.mdns_lives.specs.Seconds.{seconds_of}
+use Rattle.mdns_join.specs.{Latest.{latest_of}, Kept.{ascending}, Nanos.{nanos_of}}
+use Rattle.mdns_lives.specs.{declared.account.Account.{Account}, declared.life.RecordHearing.{RecordHearing}, Account.{account}}
+use Rattle.mdns_lives.specs.{Chronicle.{Accounts, accounts}, Seconds.{seconds_of}}
 
 -- the latest of some moments
 pub record IsLatestIn (moments : List Moment) (latest : Moment) : Type 0 where

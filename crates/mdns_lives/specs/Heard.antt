@@ -1,14 +1,10 @@
 -- The whole seconds in which a record was heard.
 use Rattle.std.specs.Prelude.{◌≡◌, ◌==◌, if◌then◌else◌, ℕ, List, [], ◌∷◌, map, Some, Contains}
-use Rattle.std.specs.List.Sorted.{IsStrictlySortedBy}
-use Rattle.std.specs.Ordering.{nat_cmp}
+use Rattle.std.specs.{List.Sorted.{IsStrictlySortedBy}, Ordering.{nat_cmp}}
 use Rattle.join_map.specs.Entries.{value_at}
-use Rattle.mdns_message.specs.declared.hearing.Hearing.{Hearing}
-use Rattle.mdns_message.specs.declared.key.Key.{Key}
-use Rattle.mdns_lives.specs.declared.life.RecordHearing.{RecordHearing}
-use Rattle.mdns_lives.specs.declared.seconds_heard.SecondHeard.{SecondHeard}
-use Rattle.mdns_lives.specs.History.{IsHeardAs}
-use Rattle.mdns_lives.specs.Seconds.{AreEnds, Ends, Seconds, ends, second_of}
+use Rattle.mdns_message.specs.declared.{hearing.Hearing.{Hearing}, key.Key.{Key}}
+use Rattle.mdns_lives.specs.declared.{life.RecordHearing.{RecordHearing}, seconds_heard.SecondHeard.{SecondHeard}}
+use Rattle.mdns_lives.specs.{History.{IsHeardAs}, Seconds.{AreEnds, Ends, Seconds, ends, second_of}}
 
 -- the whole second, counted since 1970
 abbrev pub number_of : SecondHeard → ℕ

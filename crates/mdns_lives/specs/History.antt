@@ -1,17 +1,11 @@
 -- The lives of a record by its own hearings and the flush moments of its set alone.
 use Rattle.std.specs.Prelude.{◌≡◌, ℕ, ◌+◌, ◌<◌, ◌≤◌, ◌↔◌, ◌⊎◌, true, List, [], ◌∷◌, Contains}
 use Rattle.mdns_capture.specs.Limits.{second}
-use Rattle.mdns_message.specs.declared.hearing.Hearing.{Hearing}
-use Rattle.mdns_message.specs.declared.key.Key.{Key}
-use Rattle.mdns_message.specs.RecordSet.{RecordSet}
-use Rattle.mdns_message.specs.Resource.{IsOf}
+use Rattle.mdns_message.specs.{declared.hearing.Hearing.{Hearing}, declared.key.Key.{Key}, RecordSet.{RecordSet}, Resource.{IsOf}}
 use Rattle.mdns_join.specs.Kept.{has, IsStruckBy}
 use Rattle.mdns_cache.specs.Live.{life_of, IsFlushedAt}
-use Rattle.mdns_lives.specs.declared.life.RecordHearing.{RecordHearing}
-use Rattle.mdns_lives.specs.declared.life.Life.{Life}
-use Rattle.mdns_lives.specs.declared.life.EndReason.{EndReason}
-use Rattle.mdns_lives.specs.declared.life.EndReason.TheVariants.{Expired, Goodbye, Flushed}
-use Rattle.mdns_lives.specs.Lives.{IsInOne, AreApart}
+use Rattle.mdns_lives.specs.declared.life.{RecordHearing.{RecordHearing}, Life.{Life}, EndReason.{EndReason}}
+use Rattle.mdns_lives.specs.{declared.life.EndReason.TheVariants.{Expired, Goodbye, Flushed}, Lives.{IsInOne, AreApart}}
 
 -- ---- what is kept of the hearings
 

@@ -1,16 +1,11 @@
 -- The rows that a chronicle lends: of each record its last hearing and its lives.
 use Rattle.std.specs.Prelude.{◌≡◌, ℕ, List, [], ◌∷◌, map, unwrap_or}
-use Rattle.mdns_message.specs.declared.key.Key.{Key}
-use Rattle.mdns_message.specs.RecordSet.{RecordSet}
-use Rattle.mdns_message.specs.Resource.{set_key_cmp}
+use Rattle.mdns_message.specs.{declared.key.Key.{Key}, RecordSet.{RecordSet}, Resource.{set_key_cmp}}
 use Rattle.mdns_join.specs.declared.latest.Latest.{Latest}
 use Rattle.join_map.specs.Entries.{value_at}
 use Rattle.mdns_cache.specs.LentRecords.{last_lent}
-use Rattle.mdns_lives.specs.declared.account.Account.{Account}
-use Rattle.mdns_lives.specs.declared.life.Life.{Life}
-use Rattle.mdns_lives.specs.declared.lives.RecordLives.{RecordLives}
-use Rattle.mdns_lives.specs.Seconds.{listed_ends}
-use Rattle.mdns_lives.specs.LifeWalk.{walked}
+use Rattle.mdns_lives.specs.declared.{account.Account.{Account}, life.Life.{Life}, lives.RecordLives.{RecordLives}}
+use Rattle.mdns_lives.specs.{Seconds.{listed_ends}, LifeWalk.{walked}}
 
 -- the value of a lent row: the record's last hearing and its lives
 abbrev pub row_lent : RecordLives → Latest × List Life

@@ -1,11 +1,8 @@
 -- The lives of a record by a walk over its hearings in order.
 use Rattle.std.specs.Prelude.{◌≡◌, ℕ, ◌+◌, ◌≤◌, ◌==◌, nat_lt, nat_le, if◌then◌else◌, List, [], ◌∷◌}
-use Rattle.mdns_lives.specs.declared.life.RecordHearing.{RecordHearing}
-use Rattle.mdns_lives.specs.declared.life.Life.{Life}
-use Rattle.mdns_lives.specs.declared.life.EndReason.{EndReason}
+use Rattle.mdns_lives.specs.declared.life.{RecordHearing.{RecordHearing}, Life.{Life}, EndReason.{EndReason}}
 use Rattle.mdns_lives.specs.declared.life.EndReason.TheVariants.{Expired, Goodbye, Flushed}
-use Rattle.mdns_cache.specs.Live.{life_of}
-use Rattle.mdns_cache.specs.LentRecords.{end_of}
+use Rattle.mdns_cache.specs.{Live.{life_of}, LentRecords.{end_of}}
 
 -- when the life of a hearing runs out
 abbrev pub out_of : RecordHearing → ℕ

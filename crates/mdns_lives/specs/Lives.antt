@@ -2,14 +2,11 @@
 -- Moments are counted in nanoseconds.
 use Rattle.std.specs.Prelude.{◌≡◌, ℕ, ◌+◌, ◌<◌, ◌≤◌, ◌↔◌, ◌⊎◌, nat_le, nat_lt, List, [], ◌∷◌, Contains}
 use Rattle.std.specs.List.{filter}
-use Rattle.mdns_message.specs.declared.hearing.Hearing.{Hearing}
-use Rattle.mdns_message.specs.declared.key.Key.{Key}
+use Rattle.mdns_message.specs.declared.{hearing.Hearing.{Hearing}, key.Key.{Key}}
 use Rattle.mdns_join.specs.declared.latest.Latest.{Latest}
 use Rattle.mdns_capture.specs.Limits.{second}
 use Rattle.mdns_cache.specs.Live.{IsLast, IsLive, Strikes, life_of}
-use Rattle.mdns_lives.specs.declared.life.Life.{Life}
-use Rattle.mdns_lives.specs.declared.life.EndReason.{EndReason}
-use Rattle.mdns_lives.specs.declared.life.EndReason.TheVariants.{Expired, Goodbye, Flushed}
+use Rattle.mdns_lives.specs.declared.life.{Life.{Life}, EndReason.{EndReason}, EndReason.TheVariants.{Expired, Goodbye, Flushed}}
 
 -- ---- when a record was live
 

@@ -2,8 +2,7 @@
 -- which it came whose hearings aren't in the chronicle yet.
 use Rattle.std.specs.Prelude.{◌⊎◌, ◌↔◌, ℕ, List, [], ◌∷◌, ◌++◌, Contains}
 use Rattle.mdns_capture.specs.declared.moment.Moment.{Moment}
-use Rattle.mdns_message.specs.declared.hearing.Hearing.{Hearing}
-use Rattle.mdns_message.specs.Message.{MessageReads}
+use Rattle.mdns_message.specs.{declared.hearing.Hearing.{Hearing}, Message.{MessageReads}}
 use Rattle.mdns_cache.specs.Repeats.{Remembered}
 use Rattle.mdns_lives.specs.Chronicle.{Accounts, Chronicles}
 

@@ -4,8 +4,7 @@ use Rattle.std.proofs.Common.{arith}
 use mathlib.Core.HLevel.{is_prop→PathP}
 use native.Mathlib.Bridge.{le_prop}
 use Rattle.mdns_capture.specs.Limits.{second, greatest_moment}
-use Rattle.mdns_lives.specs.declared.life.RecordHearing.{RecordHearing}
-use Rattle.mdns_lives.specs.declared.packed.Packed.TheInside.{Inside}
+use Rattle.mdns_lives.specs.declared.{life.RecordHearing.{RecordHearing}, packed.Packed.TheInside.{Inside}}
 
 -- the hearing that is kept
 abbrev pub heard_in : Inside → RecordHearing

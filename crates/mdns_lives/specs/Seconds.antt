@@ -1,13 +1,10 @@
 -- The hearings of a record by whole seconds: of each second the least and the greatest, by their moments, then TTLs.
 use Rattle.std.specs.Prelude.{◌≡◌, ◌≢◌, ◌<◌, ◌≤◌, ◌⊎◌, ℕ, ◌*◌, ◌/◌, length, take, List, [], ◌∷◌, Option, None, Some}
 use Rattle.std.specs.Prelude.{MatchOption, Contains}
-use Rattle.std.specs.declared.cmp.Ordering.{Ordering}
-use Rattle.std.specs.Ordering.{nat_cmp, on, then_cmp, flip_args}
-use Rattle.join_map.specs.Entries.{value_at, put_entry, joined, one_entry, IsJoinMap}
-use Rattle.join_map.specs.Join.{greater_of}
+use Rattle.std.specs.{declared.cmp.Ordering.{Ordering}, Ordering.{nat_cmp, on, then_cmp, flip_args}}
+use Rattle.join_map.specs.{Entries.{value_at, put_entry, joined, one_entry, IsJoinMap}, Join.{greater_of}}
 use Rattle.mdns_capture.specs.Limits.{second}
-use Rattle.mdns_lives.specs.declared.life.RecordHearing.{RecordHearing}
-use Rattle.mdns_lives.specs.History.{IsUpTo, AreInOrder}
+use Rattle.mdns_lives.specs.{declared.life.RecordHearing.{RecordHearing}, History.{IsUpTo, AreInOrder}}
 
 -- hearings of a record in the order of their moments, then TTLs
 abbrev pub heard_cmp : RecordHearing → RecordHearing → Ordering

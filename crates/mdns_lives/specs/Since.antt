@@ -1,14 +1,10 @@
 -- Live records, and since when each has been live.
 use Rattle.std.specs.Prelude.{◌≡◌, ℕ, nat_lt, List, map, Contains}
 use Rattle.std.specs.List.{filter, flat_map}
-use Rattle.mdns_message.specs.declared.hearing.Hearing.{Hearing}
-use Rattle.mdns_message.specs.declared.key.Key.{Key}
+use Rattle.mdns_message.specs.declared.{hearing.Hearing.{Hearing}, key.Key.{Key}}
 use Rattle.mdns_join.specs.declared.latest.Latest.{Latest}
-use Rattle.mdns_cache.specs.Live.{AreLiveRecords, key_of_last}
-use Rattle.mdns_cache.specs.LentRecords.{last_lent}
-use Rattle.mdns_lives.specs.declared.life.Life.{Life}
-use Rattle.mdns_lives.specs.declared.live_since.LiveSince.{LiveSince}
-use Rattle.mdns_lives.specs.Lives.{AreLives, IsDuring}
+use Rattle.mdns_cache.specs.{Live.{AreLiveRecords, key_of_last}, LentRecords.{last_lent}}
+use Rattle.mdns_lives.specs.{declared.life.Life.{Life}, declared.live_since.LiveSince.{LiveSince}, Lives.{AreLives, IsDuring}}
 
 -- the record has been live since `from`: there the life begins in which the moment `now` is
 pub record IsLiveSince (heard : List Hearing) (now : ℕ) (key : Key) (from : ℕ) : Type 0 where

@@ -1,15 +1,12 @@
 //! The lives of record sets that changed: in which a record came, or came back, after another had come.
 
 ghost use Rattle.std.specs.Prelude.{◌≡◌, ◌≢◌, ◌↔◌, ◌++◌, ◌∷◌, [], false, true, List, IfNone, IfOk, IfSome, IsTrue, OnOk, OnErr, map};
-ghost use Rattle.std.specs.List.{list_any};
-ghost use Rattle.std.specs.Map.Iter.{TakesFirst};
-ghost use Rattle.mdns_message.specs.Resource.{set_key_of};
-ghost use Rattle.mdns_message.specs.declared.hearing.Hearing.{Hearing};
+ghost use Rattle.std.specs.{List.{list_any}, Map.Iter.{TakesFirst}};
+ghost use Rattle.mdns_message.specs.{Resource.{set_key_of}, declared.hearing.Hearing.{Hearing}};
 ghost use Rattle.mdns_join.specs.Nanos.{nanos_of};
 ghost use Rattle.mdns_cache.specs.LentRecords.{last_lent};
-ghost use Rattle.mdns_lives.specs.Changes.{AreOfOne, begins_in, begins_of, by_sets, changes_in, chosen, goes_on};
-ghost use Rattle.mdns_lives.specs.Changes.{is_pointer_record, kept_if, maybe_next, maybe_row, strays};
-ghost use Rattle.mdns_lives.specs.Chronicle.{AreAllLives, Chronicles, rows_of};
+ghost use Rattle.mdns_lives.specs.Changes.{AreOfOne, begins_in, begins_of, by_sets, changes_in, chosen, goes_on, is_pointer_record};
+ghost use Rattle.mdns_lives.specs.{Changes.{kept_if, maybe_next, maybe_row, strays}, Chronicle.{AreAllLives, Chronicles, rows_of}};
 ghost use Rattle.mdns_lives.specs.LentLives.{row_lent};
 
 use crate::flush_moments::sort;

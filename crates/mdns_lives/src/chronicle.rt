@@ -1,17 +1,11 @@
 //! What was heard of records, to tell when each was live.
 
 ghost use Rattle.std.specs.Prelude.{◌≡◌, ◌++◌, ◌∷◌, [], List, Some, IfOk, MatchOption, OnOk, OnErr};
-ghost use Rattle.mdns_message.specs.declared.hearing.Hearing.{Hearing};
-ghost use Rattle.mdns_message.specs.Borrowed.{hearing_lent};
-ghost use Rattle.mdns_message.specs.Resource.{key_cmp, set_key_cmp};
-ghost use Rattle.join_map.specs.Entries.{AllValid, joined, joined_at};
-ghost use Rattle.join_map.specs.Join.{IsPartOfJoin};
+ghost use Rattle.mdns_message.specs.{declared.hearing.Hearing.{Hearing}, Borrowed.{hearing_lent}, Resource.{key_cmp, set_key_cmp}};
+ghost use Rattle.join_map.specs.{Entries.{AllValid, joined, joined_at}, Join.{IsPartOfJoin}};
 ghost use Rattle.mdns_join.specs.Kept.{union, IsAscending};
-ghost use Rattle.mdns_cache.specs.Contents.{later_moment};
-ghost use Rattle.mdns_cache.specs.Live.{IsNewest};
-ghost use Rattle.mdns_cache.specs.Repeats.{at_each};
-ghost use Rattle.mdns_lives.specs.Account.{join_account};
-ghost use Rattle.mdns_lives.specs.Each.{accounts_each, flushes_each};
+ghost use Rattle.mdns_cache.specs.{Contents.{later_moment}, Live.{IsNewest}, Repeats.{at_each}};
+ghost use Rattle.mdns_lives.specs.{Account.{join_account}, Each.{accounts_each, flushes_each}};
 ghost use Rattle.mdns_lives.specs.Chronicle.{AreAccounts, Chronicles, accounts, accounts_of, join_accounts, no_accounts};
 
 use crate::account::Account;

@@ -2,8 +2,7 @@
 
 ghost use Rattle.std.specs.Prelude.{◌≡◌, [], option_copied, unwrap_or, vec_capacity};
 ghost use Rattle.std.specs.List.Sorted.{IsPermutation, IsSorted};
-ghost use Rattle.mdns_join.specs.Kept.{ascending, union, IsAscending};
-ghost use Rattle.mdns_join.specs.Nanos.{nanos_of};
+ghost use Rattle.mdns_join.specs.{Kept.{ascending, union, IsAscending}, Nanos.{nanos_of}};
 ghost use Rattle.mdns_lives.specs.laws.Flushes.{union-laws};
 
 use join_map::{Join, Semilattice};

@@ -1,8 +1,7 @@
 //! All flush moments of a record set, while they are being added.
 
 ghost use Rattle.std.specs.Prelude.{◌≡◌, IfOk, OnOk, OnErr};
-ghost use Rattle.mdns_join.specs.Kept.{ascending, union, IsAscending};
-ghost use Rattle.mdns_join.specs.Nanos.{nanos_of};
+ghost use Rattle.mdns_join.specs.{Kept.{ascending, union, IsAscending}, Nanos.{nanos_of}};
 ghost use Rattle.mdns_lives.specs.laws.Flushes.{union-laws};
 
 use crate::flush_moments::FlushMoments;

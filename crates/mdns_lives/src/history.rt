@@ -2,15 +2,11 @@
 
 ghost use Rattle.std.specs.Prelude.{◌≡◌, ◌+◌, ◌-◌, ◌*◌, ◌<◌, ◌≤◌, ◌⊎◌, ◌++◌, max, length, take, drop, vec_len, vec_capacity};
 ghost use Rattle.std.specs.Prelude.{IfNone, IfOk, IfSome, IsErr, IsTrue, OnOk, OnErr};
-ghost use Rattle.mdns_message.specs.Borrowed.{hearing_lent};
-ghost use Rattle.mdns_message.specs.Resource.{key_of};
+ghost use Rattle.mdns_message.specs.{Borrowed.{hearing_lent}, Resource.{key_of}};
 ghost use Rattle.mdns_join.specs.Latest.{IsKeyed, later, latest_of};
-ghost use Rattle.mdns_lives.specs.declared.life.RecordHearing.{RecordHearing};
-ghost use Rattle.mdns_lives.specs.History.{AreInOrder};
-ghost use Rattle.mdns_lives.specs.Each.{heard_each};
-ghost use Rattle.mdns_lives.specs.Seconds.{HasRoomAfter, IsRoomFor, IsSeconds, IsThin, IsThinned, JoinsFirst};
-ghost use Rattle.mdns_lives.specs.Seconds.{join_seconds, only, seconds_of};
-ghost use Rattle.mdns_lives.specs.laws.Seconds.{seconds-laws};
+ghost use Rattle.mdns_lives.specs.{declared.life.RecordHearing.{RecordHearing}, History.{AreInOrder}, Each.{heard_each}};
+ghost use Rattle.mdns_lives.specs.Seconds.{HasRoomAfter, IsRoomFor, IsSeconds, IsThin, IsThinned, JoinsFirst, join_seconds, only};
+ghost use Rattle.mdns_lives.specs.{Seconds.{seconds_of}, laws.Seconds.{seconds-laws}};
 
 use crate::flush_moments::sort_runs;
 use crate::life::RecordHearing;

@@ -1,18 +1,12 @@
 //! Laws of lives. Each function does nothing: its contract is the law.
 
 ghost use Rattle.std.specs.Prelude.{◌≡◌, ◌≢◌, ◌↔◌, ◌<◌, ◌≤◌, ℕ, List, Contains};
-ghost use Rattle.mdns_message.specs.declared.hearing.Hearing.{Hearing};
-ghost use Rattle.mdns_message.specs.declared.key.Key.{Key};
-ghost use Rattle.mdns_lives.specs.declared.life.RecordHearing.{RecordHearing};
-ghost use Rattle.mdns_lives.specs.declared.life.Life.{Life};
-ghost use Rattle.mdns_lives.specs.History.{IsHistory, AreFlushes, AreLivesBy};
-ghost use Rattle.mdns_lives.specs.Seconds.{AreEndsOf};
-ghost use Rattle.mdns_message.specs.Resource.{IsOf};
+ghost use Rattle.mdns_message.specs.{declared.hearing.Hearing.{Hearing}, declared.key.Key.{Key}, Resource.{IsOf}};
+ghost use Rattle.mdns_lives.specs.declared.life.{RecordHearing.{RecordHearing}, Life.{Life}};
+ghost use Rattle.mdns_lives.specs.{History.{IsHistory, AreFlushes, AreLivesBy}, Seconds.{AreEndsOf}, Chronicle.{AreAllLives, live_rows}};
+ghost use Rattle.mdns_lives.specs.{Lives.{AreLives, IsDuring, IsLiveThen, heard_before}, Since.{AreLiveSince, all_since_rows}};
 ghost use Rattle.mdns_join.specs.declared.latest.Latest.{Latest};
 ghost use Rattle.mdns_cache.specs.Live.{AreLiveRecords, IsEnd, IsLive, SameHearings};
-ghost use Rattle.mdns_lives.specs.Chronicle.{AreAllLives, live_rows};
-ghost use Rattle.mdns_lives.specs.Lives.{AreLives, IsDuring, IsLiveThen, heard_before};
-ghost use Rattle.mdns_lives.specs.Since.{AreLiveSince, all_since_rows};
 
 use mdns_cache::laws::{live_until_end, no_flush_is_missed, one_end, one_last_hearing};
 

@@ -2,12 +2,10 @@
 
 ghost use Rattle.std.specs.Prelude.{◌≡◌, ◌+◌, ◌++◌, ◌∷◌, ℕ, List, IfOk, OnOk};
 ghost use Rattle.mdns_capture.specs.Limits.{second};
-ghost use Rattle.mdns_lives.specs.declared.life.RecordHearing.{RecordHearing};
-ghost use Rattle.mdns_join.specs.Kept.{IsAscending, IsAscendingAbove};
-ghost use Rattle.mdns_join.specs.Nanos.{nanos_of};
-ghost use Rattle.mdns_cache.specs.LentRecords.{end_of};
-ghost use Rattle.mdns_lives.specs.History.{AreInOrder, AreLivesBy};
+ghost use Rattle.mdns_lives.specs.{declared.life.RecordHearing.{RecordHearing}, History.{AreInOrder, AreLivesBy}};
 ghost use Rattle.mdns_lives.specs.LifeWalk.{GiveSameEnds, life_after, lives_from, walked};
+ghost use Rattle.mdns_join.specs.{Kept.{IsAscending, IsAscendingAbove}, Nanos.{nanos_of}};
+ghost use Rattle.mdns_cache.specs.LentRecords.{end_of};
 
 use crate::life::{EndReason, Life, RecordHearing};
 use crate::packed::Packed;

@@ -2,10 +2,8 @@
 
 ghost use Rattle.std.specs.Prelude.{◌≡◌, ◌++◌, ◌∷◌, [], List, map, IfOk, OnOk};
 ghost use Rattle.mdns_message.specs.declared.hearing.Hearing.{Hearing};
-ghost use Rattle.mdns_cache.specs.Live.{NoneLater};
-ghost use Rattle.mdns_cache.specs.LentRecords.{last_lent};
-ghost use Rattle.mdns_lives.specs.Chronicle.{Chronicles, rows_of};
-ghost use Rattle.mdns_lives.specs.Since.{AreLiveSince, all_since_rows, live_since_lent, since_rows};
+ghost use Rattle.mdns_cache.specs.{Live.{NoneLater}, LentRecords.{last_lent}};
+ghost use Rattle.mdns_lives.specs.{Chronicle.{Chronicles, rows_of}, Since.{AreLiveSince, all_since_rows, live_since_lent, since_rows}};
 
 use crate::laws::live_lives_are_since;
 use crate::life::Life;

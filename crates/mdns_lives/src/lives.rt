@@ -1,23 +1,14 @@
 //! The lives of all records, in key order, and those of several chronicles together.
 
 ghost use Rattle.std.specs.Prelude.{◌≡◌, ◌++◌, [], false, List, IfOk, IfSome, MatchOption, OnErr, OnOk};
-ghost use Rattle.join_map.specs.Entries.{joined, joined_at};
-ghost use Rattle.join_map.specs.Join.{IsPartOfJoin};
+ghost use Rattle.join_map.specs.{Entries.{joined, joined_at}, Join.{IsPartOfJoin}};
 ghost use Rattle.std.specs.Map.Iter.{TakesFirst};
-ghost use Rattle.mdns_message.specs.Resource.{key_cmp, set_key_cmp};
-ghost use Rattle.mdns_message.specs.declared.hearing.Hearing.{Hearing};
-ghost use Rattle.mdns_cache.specs.Contents.{later_moment};
-ghost use Rattle.mdns_cache.specs.Live.{IsNewest};
-ghost use Rattle.mdns_cache.specs.LentRecords.{last_lent};
-ghost use Rattle.mdns_lives.specs.Account.{join_account};
-ghost use Rattle.mdns_lives.specs.Changes.{kept_if};
-ghost use Rattle.mdns_lives.specs.Chronicle.{AreAccounts, AreAllLives, Chronicles, accounts, join_accounts, rows_of};
-ghost use Rattle.mdns_join.specs.Kept.{IsAscending, union};
-ghost use Rattle.mdns_join.specs.Nanos.{nanos_of};
-ghost use Rattle.mdns_lives.specs.Lives.{AreApart};
-ghost use Rattle.mdns_lives.specs.LentLives.{LosesFirst, row_lent};
-ghost use Rattle.mdns_lives.specs.Seconds.{listed_ends};
-ghost use Rattle.mdns_lives.specs.LifeWalk.{walked};
+ghost use Rattle.mdns_message.specs.{Resource.{key_cmp, set_key_cmp}, declared.hearing.Hearing.{Hearing}};
+ghost use Rattle.mdns_cache.specs.{Contents.{later_moment}, Live.{IsNewest}, LentRecords.{last_lent}};
+ghost use Rattle.mdns_lives.specs.{Account.{join_account}, Changes.{kept_if}};
+ghost use Rattle.mdns_lives.specs.{Chronicle.{AreAccounts, AreAllLives, Chronicles, accounts, join_accounts, rows_of}, Lives.{AreApart}};
+ghost use Rattle.mdns_lives.specs.{LentLives.{LosesFirst, row_lent}, Seconds.{listed_ends}, LifeWalk.{walked}};
+ghost use Rattle.mdns_join.specs.{Kept.{IsAscending, union}, Nanos.{nanos_of}};
 
 use crate::account::Account;
 use crate::chronicle::newer;

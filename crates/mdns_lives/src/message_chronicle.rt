@@ -2,11 +2,9 @@
 
 ghost use Rattle.std.specs.Prelude.{◌≡◌, ◌+◌, ◌++◌, ◌∷◌, [], drop, IfNone, IfOk, IfSome, List, OnOk, if◌then◌else◌};
 ghost use Rattle.mdns_capture.specs.declared.moment.Moment.{Moment as moment};
-ghost use Rattle.mdns_message.specs.declared.hearing.Hearing.{Hearing};
-ghost use Rattle.mdns_message.specs.Message.{MessageReads};
+ghost use Rattle.mdns_message.specs.{declared.hearing.Hearing.{Hearing}, Message.{MessageReads}};
 ghost use Rattle.mdns_cache.specs.Repeats.{ReadsAs, all_at_each};
-ghost use Rattle.mdns_lives.specs.Chronicle.{Chronicles};
-ghost use Rattle.mdns_lives.specs.MessageChronicle.{ChroniclesAt, RecordsAll, awaited, messages_with, recorded};
+ghost use Rattle.mdns_lives.specs.{Chronicle.{Chronicles}, MessageChronicle.{ChroniclesAt, RecordsAll, awaited, messages_with, recorded}};
 
 use crate::chronicle::Chronicle;
 use crate::waiting::Waiting;

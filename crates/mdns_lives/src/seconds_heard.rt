@@ -1,12 +1,9 @@
 //! In which seconds a record was heard.
 
 ghost use Rattle.std.specs.Prelude.{◌≡◌, ◌++◌, ◌∷◌, List, IfOk, OnOk};
-ghost use Rattle.mdns_message.specs.Resource.{key_of};
-ghost use Rattle.mdns_message.specs.declared.hearing.Hearing.{Hearing};
-ghost use Rattle.mdns_lives.specs.declared.life.RecordHearing.{RecordHearing};
-ghost use Rattle.mdns_lives.specs.Chronicle.{Chronicles};
-ghost use Rattle.mdns_lives.specs.Heard.{AreSecondsHeard, AreSecondsHeld, heard_once, seconds_from, seconds_walked};
-ghost use Rattle.mdns_lives.specs.History.{AreInOrder};
+ghost use Rattle.mdns_message.specs.{Resource.{key_of}, declared.hearing.Hearing.{Hearing}};
+ghost use Rattle.mdns_lives.specs.{declared.life.RecordHearing.{RecordHearing}, Chronicle.{Chronicles}};
+ghost use Rattle.mdns_lives.specs.{Heard.{AreSecondsHeard, AreSecondsHeld, heard_once, seconds_from, seconds_walked}, History.{AreInOrder}};
 ghost use Rattle.mdns_lives.specs.Seconds.{second_of};
 
 use crate::history::History;

@@ -3,29 +3,21 @@
 use Rattle.std.proofs.Common.{◌≡◌, ℕ, zero, suc, ◌+◌, ◌*◌, ◌<◌, ◌≤◌, List, Option, None, Some, length, get_or}
 use Rattle.std.proofs.Common.{sym, ap, subst, inl, inr, arith, length-append, get_or-drop}
 use Rattle.std.proofs.lemmas.List.{length-map}
-use Rattle.mdns_capture.specs.declared.moment.Moment.{Moment}
-use Rattle.mdns_message.specs.declared.hearing.Hearing.{Hearing}
-use Rattle.mdns_message.specs.declared.fault.MessageFault.{MessageFault}
+use Rattle.mdns_capture.specs.{declared.moment.Moment.{Moment}, Frame.{word_at}, Savefile.{number_at}}
+use Rattle.mdns_message.specs.declared.{hearing.Hearing.{Hearing}, fault.MessageFault.{MessageFault}}
 use Rattle.mdns_message.specs.declared.fault.MessageFault.TheVariants.{Header, Query, Ignored, Cut, Label, Pointer, LongName, Memory}
+use Rattle.mdns_message.specs.declared.record_at.{Section.{Section}, Section.TheVariants.{Answer, Authority, Additional}}
+use Rattle.mdns_message.specs.declared.{record_type.RecordType.{RecordType}, record_at.RecordHeader.{RecordHeader}}
+use Rattle.mdns_message.specs.{Fault.{HasNameFault, fault_of_name}, Message.{Run, HasHeader, MessageReads, hearing_of}}
+use Rattle.mdns_message.specs.RecordAt.{DataFails, DataNameFails, HeardRecord, IsCut, LastNameFails, MemoryOr, NamedFails, QuestionFails}
+use Rattle.mdns_message.specs.RecordAt.{QuestionStands, RecordFails, RecordRestFails, RecordStands, RecordTells, RecordTellingFails}
+use Rattle.mdns_message.specs.{RecordAt.{header_of, wanted}, FirstMessageFault.{HasFirstFault, SectionsFail}}
 use Rattle.mdns_message.specs.declared.fault.MessageFault.TheVariants as fault
-use Rattle.dns_name.specs.declared.fault.NameReadFault.{NameReadFault}
+use Rattle.dns_name.specs.{declared.fault.NameReadFault.{NameReadFault}, FirstFault.{NameFailsUnder}}
+use Rattle.dns_name.specs.FirstFault.NameFailsUnder.{no_octet, label_cut, label_long, label_form, pointer_cut, pointer_target, after_label}
+use Rattle.dns_name.specs.FirstFault.NameFailsUnder.{after_pointer}
 use Rattle.dns_name.specs.declared.fault.NameReadFault.TheVariants as name
-use Rattle.mdns_message.specs.declared.record_at.Section.{Section}
-use Rattle.mdns_message.specs.declared.record_at.Section.TheVariants.{Answer, Authority, Additional}
-use Rattle.mdns_message.specs.declared.record_type.RecordType.{RecordType}
 use Rattle.mdns_message.specs.declared.record_type.RecordType.TheVariants as kind
-use Rattle.mdns_message.specs.declared.record_at.RecordHeader.{RecordHeader}
-use Rattle.dns_name.specs.FirstFault.{NameFailsUnder}
-use Rattle.dns_name.specs.FirstFault.NameFailsUnder.{no_octet, label_cut, label_long, label_form, pointer_cut}
-use Rattle.dns_name.specs.FirstFault.NameFailsUnder.{pointer_target, after_label, after_pointer}
-use Rattle.mdns_message.specs.Fault.{HasNameFault, fault_of_name}
-use Rattle.mdns_message.specs.Message.{Run, HasHeader, MessageReads, hearing_of}
-use Rattle.mdns_message.specs.RecordAt.{DataFails, DataNameFails, HeardRecord, IsCut, LastNameFails, MemoryOr}
-use Rattle.mdns_message.specs.RecordAt.{NamedFails, QuestionFails, QuestionStands, RecordFails, RecordRestFails}
-use Rattle.mdns_capture.specs.Frame.{word_at}
-use Rattle.mdns_capture.specs.Savefile.{number_at}
-use Rattle.mdns_message.specs.RecordAt.{RecordStands, RecordTells, RecordTellingFails, header_of, wanted}
-use Rattle.mdns_message.specs.FirstMessageFault.{HasFirstFault, SectionsFail}
 
 -- a fault with an offset
 abbrev IsPlaced : MessageFault → Type 0

@@ -1,10 +1,8 @@
 -- Faults of names as faults of their messages: each offset has a name or such a fault, never both, and one of them.
 use Rattle.std.proofs.Common.{◌≡◌, ◌⊎◌, ◌∙◌, ℕ, List, ap, inl, inr, refl, sym}
 use Rattle.dns_name.specs.NameAt.{NameReads}
-use Rattle.dns_name.proofs.NameFaultLemmas.{name_not_both, name_fault_unique}
-use Rattle.dns_name.proofs.NameOutcomeLemmas.{name_outcome}
-use Rattle.mdns_message.specs.Fault.{HasNameFault, fault_of_name}
-use Rattle.mdns_message.specs.declared.fault.MessageFault.{MessageFault}
+use Rattle.dns_name.proofs.{NameFaultLemmas.{name_not_both, name_fault_unique}, NameOutcomeLemmas.{name_outcome}}
+use Rattle.mdns_message.specs.{Fault.{HasNameFault, fault_of_name}, declared.fault.MessageFault.{MessageFault}}
 
 pub name_fault_not_both : (m : List ℕ) (p : ℕ) (n : List ℕ) (q : ℕ) (f : MessageFault) → NameReads m p n q → HasNameFault m p f → ⊥
 name_fault_not_both m p n q f reads (named, fails, e) = name_not_both m p n q named reads fails

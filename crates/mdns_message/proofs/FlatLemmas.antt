@@ -3,15 +3,12 @@ use Rattle.std.proofs.Common.{◌≡◌, ◌∙◌, ℕ, ◌+◌, List, [], ◌�
 use Rattle.std.specs.List.{All}
 use Rattle.std.proofs.lemmas.List.{drop_at, length_push, take_all, take-append-le, drop-append-le, map-append}
 use Rattle.std.proofs.lemmas.List.Elements.{All-head, All-tail, All-push, All-weaker}
-use Rattle.dns_name.specs.Name.{Extends}
-use Rattle.dns_name.specs.NameAt.{ReadsOnto}
+use Rattle.dns_name.specs.{Name.{Extends}, NameAt.{ReadsOnto}}
 use Rattle.dns_name.proofs.ReadNameLemmas.{name_wire}
 use Rattle.mdns_message.specs.declared.body.RecordData.TheVariants as body
-use Rattle.mdns_message.specs.declared.hearing.Hearing.{Hearing}
-use Rattle.mdns_message.specs.declared.flat.ByteRange.{ByteRange}
+use Rattle.mdns_message.specs.declared.{hearing.Hearing.{Hearing}, flat.ByteRange.{ByteRange}}
 use Rattle.mdns_message.specs.Flat.{FlatBody, AddsFlat, BodyFits, Fits, IsNameIn, IsWithin, body_in, bytes_in, hearing_in}
-use Rattle.mdns_message.specs.declared.flat.FlatHearing.{FlatHearing}
-use Rattle.mdns_message.specs.FlatRecord.{HoldsName}
+use Rattle.mdns_message.specs.{declared.flat.FlatHearing.{FlatHearing}, FlatRecord.{HoldsName}}
 
 -- a part stays what it is
 part_kept : (bytes more : List ℕ) (s : ByteRange) → IsWithin bytes s → bytes_in (bytes ++ more) s ≡ bytes_in bytes s

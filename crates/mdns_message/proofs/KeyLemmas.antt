@@ -1,8 +1,7 @@
 -- Where two comparisons together tell that two keys are equal, each does; and resources that compare equal are equal.
 use Rattle.std.proofs.Common.{arith, ◌≡◌, ◌↔◌, IsTrue, Bool, true, false, ◌&&◌, refl, ap, ◌∙◌}
 use Rattle.std.specs.Ordering.{is_eq}
-use Rattle.mdns_message.specs.declared.resource.Resource.{Resource}
-use Rattle.mdns_message.specs.Resource.{resource_cmp}
+use Rattle.mdns_message.specs.{declared.resource.Resource.{Resource}, Resource.{resource_cmp}}
 use Rattle.mdns_message.specs.laws.Resource.{resource_cmp-exact, resource_cmp-total}
 
 pub both_true : (x y : Bool) → (x && y) ≡ true → (x ≡ true) × (y ≡ true)

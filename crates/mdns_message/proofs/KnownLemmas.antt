@@ -1,14 +1,10 @@
 -- Known names stay known while bytes are added, and a pointer to one of them is that name.
-use Rattle.std.proofs.lemmas.Grind.{common_steps}
+use Rattle.std.proofs.lemmas.{Grind.{common_steps}, List.Elements.{All-contains, All-push, All-weaker}}
 use Rattle.std.proofs.Common.{arith, ◌≡◌, ℕ, ◌+◌, List, [], ◌∷◌, ◌++◌, sym, subst}
 use Rattle.std.specs.List.{All, Contains}
-use Rattle.std.proofs.lemmas.List.Elements.{All-contains, All-push, All-weaker}
-use Rattle.dns_name.specs.Name.{Extends}
-use Rattle.dns_name.specs.NameAt.{PointerLeads}
+use Rattle.dns_name.specs.{Name.{Extends}, NameAt.{PointerLeads}}
 use Rattle.dns_name.proofs.NameLemmas.{name_at_target, name_pointed}
-use Rattle.mdns_message.specs.declared.flat.KnownName.{KnownName}
-use Rattle.mdns_message.specs.declared.flat.ByteRange.{ByteRange}
-use Rattle.mdns_message.specs.FlatRecord.{HoldsName}
+use Rattle.mdns_message.specs.{declared.flat.KnownName.{KnownName}, declared.flat.ByteRange.{ByteRange}, FlatRecord.{HoldsName}}
 use Rattle.mdns_message.specs.Known.{BeginsAt, IsKnown}
 use Rattle.mdns_message.proofs.FlatLemmas.{bytes_kept, name_kept}
 

@@ -2,28 +2,23 @@
 use Rattle.std.proofs.Common.{◌≡◌, ◌≢◌, ◌⊎◌, ◌∙◌, ℕ, ◌+◌, List, [], ◌∷◌, Option, None, Some, length, map, refl, sym}
 use Rattle.std.proofs.Common.{ap, subst, inl, inr, arith}
 use Rattle.std.proofs.lemmas.Bool.{cases_lt}
-use Rattle.mdns_message.specs.Resource.{Body}
-use Rattle.mdns_message.specs.declared.body.RecordData.TheVariants as body
-use Rattle.mdns_message.specs.declared.fault.MessageFault.{MessageFault}
-use Rattle.mdns_message.specs.declared.fault.MessageFault.TheVariants as fault
-use Rattle.mdns_message.specs.declared.record_at.Section.{Section}
-use Rattle.mdns_message.specs.declared.record_at.Section.TheVariants.{Answer, Authority, Additional}
-use Rattle.mdns_message.specs.declared.record_type.RecordType.{RecordType}
-use Rattle.mdns_message.specs.declared.record_type.RecordType.TheVariants as kind
+use Rattle.mdns_message.specs.{Resource.{Body}, declared.fault.MessageFault.{MessageFault}, declared.record_at.Section.{Section}}
+use Rattle.mdns_message.specs.declared.{record_at.Section.TheVariants.{Answer, Authority, Additional}, record_type.RecordType.{RecordType}}
 use Rattle.mdns_message.specs.declared.record_at.RecordHeader.{RecordHeader}
-use Rattle.dns_name.specs.NameAt.{NameReads}
-use Rattle.mdns_message.specs.RecordAt.{DataFails, DataNameFails, DataNameReads, DataReads, HeaderFails, HeaderStands}
-use Rattle.mdns_message.specs.RecordAt.{HeardRecord, IsCut, LastNameFails, Named, NamedFails, QuestionFails}
-use Rattle.mdns_message.specs.RecordAt.{QuestionRest, QuestionStands, RecordFails, RecordRest, RecordRestFails}
-use Rattle.mdns_message.specs.RecordAt.{RecordStands, RecordTells, RecordTellingFails, data_in, header_of, heard_record, wanted}
-use Rattle.mdns_capture.specs.Frame.{word_at}
+use Rattle.mdns_message.specs.RecordAt.{DataFails, DataNameFails, DataNameReads, DataReads, HeaderFails, HeaderStands, HeardRecord, IsCut}
+use Rattle.mdns_message.specs.RecordAt.{LastNameFails, Named, NamedFails, QuestionFails, QuestionRest, QuestionStands, RecordFails}
+use Rattle.mdns_message.specs.RecordAt.{RecordRest, RecordRestFails, RecordStands, RecordTells, RecordTellingFails, data_in, header_of}
+use Rattle.mdns_message.specs.RecordAt.{heard_record, wanted}
 use Rattle.mdns_message.specs.Message.{HasHeader, MessageReads, RecordSection, Sections, count_offset, hearing_of}
-use Rattle.mdns_message.specs.FirstMessageFault.{MessageFails, RecordSectionFails, SectionsFail}
+use Rattle.mdns_message.specs.{FirstMessageFault.{MessageFails, RecordSectionFails, SectionsFail}, declared.hearing.Hearing.{Hearing}}
+use Rattle.mdns_message.specs.declared.body.RecordData.TheVariants as body
+use Rattle.mdns_message.specs.declared.fault.MessageFault.TheVariants as fault
+use Rattle.mdns_message.specs.declared.record_type.RecordType.TheVariants as kind
+use Rattle.dns_name.specs.NameAt.{NameReads}
+use Rattle.mdns_capture.specs.{Frame.{word_at}, declared.moment.Moment.{Moment}}
 use Rattle.dns_name.proofs.NameLemmas.{name_unique}
 use Rattle.mdns_message.proofs.FaultLemmas.{name_fault_not_both, name_or_fault, one_name_fault}
 use Rattle.mdns_message.proofs.RunOutcomeLemmas.{IsDecided, pair_decided, run_decided}
-use Rattle.mdns_capture.specs.declared.moment.Moment.{Moment}
-use Rattle.mdns_message.specs.declared.hearing.Hearing.{Hearing}
 
 same_or_not : (a b : ℕ) → (a ≡ b) ⊎ (a ≢ b)
 same_or_not a b = grind (arith, cases_lt)

@@ -2,10 +2,8 @@
 use Rattle.std.proofs.Common.{arith, ◌≡◌, ◌∙◌, ℕ, ◌+◌, ◌<◌, List, ◌++◌, map, refl, sym, ap, inl, inr, append_assoc, add-one}
 use Rattle.std.proofs.lemmas.List.{map-append}
 use Rattle.mdns_capture.specs.declared.moment.Moment.{Moment}
-use Rattle.mdns_message.specs.declared.hearing.Hearing.{Hearing}
-use Rattle.mdns_message.specs.declared.fault.MessageFault.{MessageFault}
-use Rattle.mdns_message.specs.Message.{Run, RunFails, Pair, PairFails, Adds, hearing_of}
-use Rattle.mdns_message.specs.RecordAt.{HeardRecord, MemoryOr}
+use Rattle.mdns_message.specs.declared.{hearing.Hearing.{Hearing}, fault.MessageFault.{MessageFault}}
+use Rattle.mdns_message.specs.{Message.{Run, RunFails, Pair, PairFails, Adds, hearing_of}, RecordAt.{HeardRecord, MemoryOr}}
 
 -- one item more
 pub Run-more : {A : Type 0} (Item : ℕ → List A → ℕ → Type 0) (count start offset next : ℕ) (front last : List A)

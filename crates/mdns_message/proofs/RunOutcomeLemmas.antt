@@ -1,8 +1,7 @@
 -- Items that read or fail, never both, each with one outcome; and runs and pairs of such items.
 use Rattle.std.proofs.Common.{◌≡◌, ◌⊎◌, ◌∙◌, ℕ, zero, suc, ◌<◌, List, [], ◌++◌, refl, sym, subst, inl, inr, arith}
 use Rattle.std.proofs.lemmas.Bool.{cases_lt}
-use Rattle.mdns_message.specs.declared.fault.MessageFault.{MessageFault}
-use Rattle.mdns_message.specs.Message.{Run, RunFails, Pair, PairFails}
+use Rattle.mdns_message.specs.{declared.fault.MessageFault.{MessageFault}, Message.{Run, RunFails, Pair, PairFails}}
 
 -- at each offset is an item, with one list of values and one end, or a fault of it, and never both
 pub record IsDecided {A : Type 0} (Item : ℕ → List A → ℕ → Type 0) (Fails : ℕ → MessageFault → Type 0) : Type 0 where

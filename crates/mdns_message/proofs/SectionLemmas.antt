@@ -1,13 +1,10 @@
 -- The four sections, one after another.
 use Rattle.std.proofs.Common.{arith, ◌≡◌, ℕ, List, [], refl, subst}
-use Rattle.mdns_capture.specs.declared.moment.Moment.{Moment}
-use Rattle.mdns_message.specs.declared.hearing.Hearing.{Hearing}
-use Rattle.mdns_message.specs.declared.fault.MessageFault.{MessageFault}
+use Rattle.mdns_capture.specs.{declared.moment.Moment.{Moment}, Frame.{word_at}}
+use Rattle.mdns_message.specs.declared.{hearing.Hearing.{Hearing}, fault.MessageFault.{MessageFault}}
 use Rattle.mdns_message.specs.declared.record_at.Section.TheVariants.{Answer, Authority, Additional}
 use Rattle.mdns_message.specs.Message.{Run, Pair, Adds, HasHeader, MessageReads, QuestionSection, RecordSection}
-use Rattle.mdns_capture.specs.Frame.{word_at}
-use Rattle.mdns_message.specs.RecordAt.{MemoryOr, QuestionStands}
-use Rattle.mdns_message.specs.FirstMessageFault.{RecordSectionFails, SectionsFail}
+use Rattle.mdns_message.specs.{RecordAt.{MemoryOr, QuestionStands}, FirstMessageFault.{RecordSectionFails, SectionsFail}}
 use Rattle.mdns_message.proofs.RunLemmas.{Adds-pair, second_fails}
 
 -- the sections before the additional records

@@ -1,7 +1,6 @@
 -- The strings of TXT data, one at a time.
 use Rattle.std.proofs.Common.{arith, ◌≡◌, refl, ap, ℕ, zero, suc, ◌≤◌, List, [], ◌∷◌, ◌++◌, length, take, drop, min}
-use Rattle.std.proofs.Math.Seq.{take-append_seam, drop-append_seam}
-use Rattle.std.proofs.lemmas.List.{take_all, take_min, drop_all, drop_min}
+use Rattle.std.proofs.{Math.Seq.{take-append_seam, drop-append_seam}, lemmas.List.{take_all, take_min, drop_all, drop_min}}
 use Rattle.mdns_message.specs.TextData.{strings_from, strings_of, with_first}
 
 -- the first string, and the strings after it

@@ -1,13 +1,9 @@
 -- The values of borrowed records and hearings.
 use Rattle.std.specs.Prelude.{ℕ, List}
 use Rattle.std.specs.Borrow.{Bor}
-use Rattle.mdns_message.specs.Resource.{Body, data_by, data_of}
-use Rattle.mdns_message.specs.declared.body.RecordData.{RecordData}
-use Rattle.mdns_message.specs.declared.body.RecordData.TheVariants.{Srv}
-use Rattle.mdns_message.specs.declared.resource.Resource.{Resource}
-use Rattle.mdns_message.specs.declared.hearing.Hearing.{Hearing}
-use Rattle.mdns_message.specs.declared.borrowed.BorrowedResource.{BorrowedResource}
-use Rattle.mdns_message.specs.declared.borrowed.BorrowedHearing.{BorrowedHearing}
+use Rattle.mdns_message.specs.{Resource.{Body, data_by, data_of}, declared.body.RecordData.{RecordData}}
+use Rattle.mdns_message.specs.declared.{body.RecordData.TheVariants.{Srv}, resource.Resource.{Resource}, hearing.Hearing.{Hearing}}
+use Rattle.mdns_message.specs.declared.borrowed.{BorrowedResource.{BorrowedResource}, BorrowedHearing.{BorrowedHearing}}
 
 -- the data of a record, borrowed
 abbrev pub BorrowedBody : Type 0

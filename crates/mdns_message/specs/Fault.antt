@@ -1,7 +1,6 @@
 -- Faults of names as faults of their messages.
 use Rattle.std.specs.Prelude.{◌≡◌, ℕ, List}
-use Rattle.dns_name.specs.FirstFault.{NameFails}
-use Rattle.dns_name.specs.declared.fault.NameReadFault.{NameReadFault}
+use Rattle.dns_name.specs.{FirstFault.{NameFails}, declared.fault.NameReadFault.{NameReadFault}}
 use Rattle.dns_name.specs.declared.fault.NameReadFault.TheVariants as name
 use Rattle.mdns_message.specs.declared.fault.MessageFault.{MessageFault}
 use Rattle.mdns_message.specs.declared.fault.MessageFault.TheVariants as message

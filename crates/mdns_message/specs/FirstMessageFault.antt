@@ -1,13 +1,11 @@
 -- The first fault of a message, in reading order.
 use Rattle.std.specs.Prelude.{ℕ, List}
-use Rattle.mdns_message.specs.declared.fault.MessageFault.{MessageFault}
-use Rattle.mdns_message.specs.declared.fault.MessageFault.TheVariants as fault
-use Rattle.mdns_message.specs.declared.record_at.Section.{Section}
+use Rattle.mdns_message.specs.declared.{fault.MessageFault.{MessageFault}, record_at.Section.{Section}}
 use Rattle.mdns_message.specs.declared.record_at.Section.TheVariants.{Answer, Authority, Additional}
-use Rattle.mdns_message.specs.Message.{header_size, RunFails, Pair, PairFails}
+use Rattle.mdns_message.specs.Message.{header_size, RunFails, Pair, PairFails, IsShort, IsQuery, IsIgnored, HasHeader, QuestionSection}
+use Rattle.mdns_message.specs.{Message.{RecordSection, count_offset}, RecordAt.{QuestionStands, QuestionFails, RecordStands, RecordFails}}
+use Rattle.mdns_message.specs.declared.fault.MessageFault.TheVariants as fault
 use Rattle.mdns_capture.specs.Frame.{word_at}
-use Rattle.mdns_message.specs.RecordAt.{QuestionStands, QuestionFails, RecordStands, RecordFails}
-use Rattle.mdns_message.specs.Message.{IsShort, IsQuery, IsIgnored, HasHeader, QuestionSection, RecordSection, count_offset}
 
 -- an item of a section fails with f, and those before it are whole
 abbrev pub QuestionSectionFails : List ℕ → ℕ → MessageFault → Type 0

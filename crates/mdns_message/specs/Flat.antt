@@ -2,13 +2,9 @@
 use Rattle.std.specs.Prelude.{◌≡◌, ℕ, ◌≤◌, List, [], ◌∷◌, ◌++◌, length, slice_range}
 use Rattle.std.specs.List.{All}
 use Rattle.dns_name.specs.Name.{IsWire}
-use Rattle.mdns_message.specs.Resource.{Body, data_by}
-use Rattle.mdns_message.specs.declared.hearing.Hearing.{Hearing}
-use Rattle.mdns_message.specs.declared.flat.ByteRange.{ByteRange}
-use Rattle.mdns_message.specs.declared.body.RecordData.{RecordData}
+use Rattle.mdns_message.specs.{Resource.{Body, data_by}, declared.hearing.Hearing.{Hearing}, declared.flat.ByteRange.{ByteRange}}
+use Rattle.mdns_message.specs.declared.{body.RecordData.{RecordData}, flat.FlatHearing.{FlatHearing}, flat.KnownName.{KnownName}}
 use Rattle.mdns_message.specs.declared.body.RecordData.TheVariants as body
-use Rattle.mdns_message.specs.declared.flat.FlatHearing.{FlatHearing}
-use Rattle.mdns_message.specs.declared.flat.KnownName.{KnownName}
 
 -- the data of a record, its name and text as ranges of bytes
 abbrev pub FlatBody : Type 0

@@ -1,15 +1,11 @@
 -- What a record of a message adds to hearings in flat buffers.
 use Rattle.std.specs.Prelude.{◌≡◌, ◌⊎◌, ℕ, List, [], ◌∷◌}
 use Rattle.mdns_capture.specs.declared.moment.Moment.{Moment}
-use Rattle.mdns_message.specs.declared.flat.ByteRange.{ByteRange}
-use Rattle.mdns_message.specs.Flat.{FlatBody, AddsFlat, BodyFits, IsNameIn, body_in, bytes_in}
-use Rattle.mdns_message.specs.declared.flat.FlatHearing.{FlatHearing}
-use Rattle.mdns_message.specs.declared.record_at.RecordHeader.{RecordHeader}
-use Rattle.mdns_message.specs.declared.record_at.Section.{Section}
-use Rattle.mdns_message.specs.declared.record_type.RecordType.{RecordType}
-use Rattle.dns_name.specs.NameAt.{NameReads}
-use Rattle.mdns_message.specs.Message.{hearing_of}
+use Rattle.mdns_message.specs.{declared.flat.ByteRange.{ByteRange}, Flat.{FlatBody, AddsFlat, BodyFits, IsNameIn, body_in, bytes_in}}
+use Rattle.mdns_message.specs.declared.{flat.FlatHearing.{FlatHearing}, record_at.RecordHeader.{RecordHeader}, record_at.Section.{Section}}
+use Rattle.mdns_message.specs.{declared.record_type.RecordType.{RecordType}, Message.{hearing_of}}
 use Rattle.mdns_message.specs.RecordAt.{DataNameReads, DataReads, HeardRecord, RecordStands}
+use Rattle.dns_name.specs.NameAt.{NameReads}
 
 -- the bytes of the span are the name that is read at `offset` of m; `after` is the offset after it
 pub record HoldsName (bytes m : List ℕ) (offset : ℕ) (span : ByteRange) (after : ℕ) : Type 0 where

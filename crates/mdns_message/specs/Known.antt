@@ -2,9 +2,7 @@
 use Rattle.std.specs.Prelude.{◌≡◌, ◌⊎◌, ℕ, List, ◌++◌}
 use Rattle.std.specs.List.{All}
 use Rattle.dns_name.specs.NameAt.{PointerLeads}
-use Rattle.mdns_message.specs.declared.flat.Buffer.{Buffer}
-use Rattle.mdns_message.specs.declared.flat.KnownName.{KnownName}
-use Rattle.mdns_message.specs.declared.hearing.Hearing.{Hearing}
+use Rattle.mdns_message.specs.declared.{flat.Buffer.{Buffer}, flat.KnownName.{KnownName}, hearing.Hearing.{Hearing}}
 use Rattle.mdns_message.specs.FlatRecord.{HoldsName}
 
 -- the bytes of a known name are the name that is read at its offset of m

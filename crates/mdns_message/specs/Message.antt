@@ -1,11 +1,9 @@
 -- Whole messages (RFC 1035, section 4.1; RFC 6762, section 18). Offsets count from 0, from the message's
 -- first byte.
 use Rattle.std.specs.Prelude.{◌≡◌, ◌≢◌, ◌⊎◌, ℕ, zero, suc, ◌<◌, ◌≤◌, List, [], ◌++◌, length, map, bit_and}
-use Rattle.mdns_capture.specs.declared.moment.Moment.{Moment}
-use Rattle.mdns_message.specs.declared.hearing.Hearing.{Hearing}
-use Rattle.mdns_message.specs.declared.record_at.Section.{Section}
+use Rattle.mdns_capture.specs.{declared.moment.Moment.{Moment}, Frame.{word_at}}
+use Rattle.mdns_message.specs.declared.{hearing.Hearing.{Hearing}, record_at.Section.{Section}}
 use Rattle.mdns_message.specs.declared.record_at.Section.TheVariants.{Answer, Authority, Additional}
-use Rattle.mdns_capture.specs.Frame.{word_at}
 use Rattle.mdns_message.specs.RecordAt.{HeardRecord, QuestionStands, RecordStands}
 
 -- the bytes of a message's header (RFC 1035, section 4.1.1)

@@ -1,14 +1,10 @@
 -- What data has, by its type; none where data of another type doesn't have it.
 use Rattle.std.specs.Prelude.{ℕ, List, Option, None, Some}
 use Rattle.std.specs.Borrow.{Bor}
-use Rattle.mdns_message.specs.declared.body.RecordData.{RecordData}
+use Rattle.mdns_message.specs.{declared.body.RecordData.{RecordData}, Resource.{Body}, declared.parts.Address.{Address}}
+use Rattle.mdns_message.specs.declared.parts.{Address.TheVariants.{V4, V6}, Content.{Content}, Service.{Service}}
 use Rattle.mdns_message.specs.declared.body.RecordData.TheVariants as body
-use Rattle.mdns_message.specs.Resource.{Body}
-use Rattle.mdns_message.specs.declared.parts.Address.{Address}
-use Rattle.mdns_message.specs.declared.parts.Address.TheVariants.{V4, V6}
-use Rattle.mdns_message.specs.declared.parts.Content.{Content}
 use Rattle.mdns_message.specs.declared.parts.Content.TheVariants as content
-use Rattle.mdns_message.specs.declared.parts.Service.{Service}
 
 -- the address of a host (RFC 1035, section 3.4.1; RFC 3596)
 abbrev pub address_of : {N T : Type 0} → RecordData N T → Option Address

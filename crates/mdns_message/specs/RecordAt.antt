@@ -1,21 +1,15 @@
 -- Questions and resource records at an offset of a message m (RFC 1035, sections 4.1.2 and 4.1.3).
 use Rattle.std.specs.Prelude.{◌≡◌, ◌≢◌, ◌⊎◌, ◌==◌, ℕ, ◌+◌, ◌<◌, ◌≤◌, List, [], ◌∷◌, length, drop, take, bit_and, Bool}
 use Rattle.std.specs.Prelude.{not, if◌then◌else◌, Option, None, Some}
-use Rattle.mdns_capture.specs.Savefile.{number_at}
-use Rattle.mdns_capture.specs.Frame.{word_at}
-use Rattle.mdns_capture.specs.declared.savefile.Order.TheVariants.{Big}
+use Rattle.mdns_capture.specs.{Savefile.{number_at}, Frame.{word_at}, declared.savefile.Order.TheVariants.{Big}}
 use Rattle.dns_name.specs.NameAt.{NameReads}
 use Rattle.mdns_message.specs.declared.body.RecordData.TheVariants as body
-use Rattle.mdns_message.specs.declared.resource.Resource.{Resource}
-use Rattle.mdns_message.specs.declared.fault.MessageFault.{MessageFault}
-use Rattle.mdns_message.specs.declared.fault.MessageFault.TheVariants as fault
-use Rattle.mdns_message.specs.Fault.{HasNameFault}
-use Rattle.mdns_message.specs.declared.record_at.Section.{Section}
-use Rattle.mdns_message.specs.declared.record_at.Section.TheVariants.{Authority}
-use Rattle.mdns_message.specs.declared.record_type.RecordType.{RecordType}
-use Rattle.mdns_message.specs.declared.record_type.RecordType.TheVariants as kind
-use Rattle.mdns_message.specs.Resource.{Body, numbered_type}
+use Rattle.mdns_message.specs.{declared.resource.Resource.{Resource}, declared.fault.MessageFault.{MessageFault}, Fault.{HasNameFault}}
+use Rattle.mdns_message.specs.declared.record_at.{Section.{Section}, Section.TheVariants.{Authority}}
+use Rattle.mdns_message.specs.{declared.record_type.RecordType.{RecordType}, Resource.{Body, numbered_type}}
 use Rattle.mdns_message.specs.declared.record_at.RecordHeader.{RecordHeader}
+use Rattle.mdns_message.specs.declared.fault.MessageFault.TheVariants as fault
+use Rattle.mdns_message.specs.declared.record_type.RecordType.TheVariants as kind
 
 -- the bytes of a question's type and class, and of a record's type, class, TTL and data length (RFC 1035, section 4.1)
 abbrev pub question_size : ℕ

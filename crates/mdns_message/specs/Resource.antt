@@ -1,17 +1,11 @@
 -- Resources: their types (RFC 1035, section 3.2; RFC 2782; RFC 3596) and data, which of them are the same record or of
 -- the same set (RFC 6762, section 10.2), and their orders.
 use Rattle.std.specs.Prelude.{◌≡◌, ◌==◌, ℕ, ◌/◌, ◌%◌, if◌then◌else◌, IsTrue, List, [], ◌∷◌, ◌++◌, Option, None, Some, codes}
-use Rattle.std.specs.Ordering.{nat_cmp, on, then_cmp}
-use Rattle.std.specs.declared.cmp.Ordering.{Ordering}
-use Rattle.std.specs.Cmp.Lexicographic.{slice_cmp}
-use Rattle.mdns_message.specs.declared.body.RecordData.{RecordData}
+use Rattle.std.specs.{Ordering.{nat_cmp, on, then_cmp}, declared.cmp.Ordering.{Ordering}, Cmp.Lexicographic.{slice_cmp}}
+use Rattle.mdns_message.specs.declared.{body.RecordData.{RecordData}, record_type.RecordType.{RecordType}, resource.Resource.{Resource}}
+use Rattle.mdns_message.specs.{declared.hearing.Hearing.{Hearing}, RecordSet.{RecordSet}, declared.key.Key.{Key}}
 use Rattle.mdns_message.specs.declared.body.RecordData.TheVariants as body
-use Rattle.mdns_message.specs.declared.record_type.RecordType.{RecordType}
 use Rattle.mdns_message.specs.declared.record_type.RecordType.TheVariants as kind
-use Rattle.mdns_message.specs.declared.resource.Resource.{Resource}
-use Rattle.mdns_message.specs.declared.hearing.Hearing.{Hearing}
-use Rattle.mdns_message.specs.RecordSet.{RecordSet}
-use Rattle.mdns_message.specs.declared.key.Key.{Key}
 use Rattle.dns_name.specs.Name.{folded}
 
 -- the number of a type

@@ -1,12 +1,10 @@
 //! The data of resource records.
 
 ghost use Rattle.std.specs.Prelude.{◌≡◌, ◌≤◌, ◌++◌, [], length, IfOk, OnOk, nat_eq, refl, Some};
-ghost use Rattle.std.specs.Ordering.{nat_cmp};
-ghost use Rattle.std.specs.Cmp.{partial_equiv_from_equiv};
+ghost use Rattle.std.specs.{Ordering.{nat_cmp}, Cmp.{partial_equiv_from_equiv}};
 ghost use Rattle.std.specs.Cmp.Lexicographic.{pointwise, slice_cmp, nat_list_eq_equiv, nat_list_cmp_total, texts_po, texts_ties};
 ghost use Rattle.dns_name.specs.Name.{folded};
-ghost use Rattle.mdns_message.specs.Resource.{number_of, type_of};
-ghost use Rattle.mdns_message.specs.Borrowed.{body_lent};
+ghost use Rattle.mdns_message.specs.{Resource.{number_of, type_of}, Borrowed.{body_lent}};
 
 use crate::borrowed::BorrowedBody;
 use crate::record_type::RecordType;

@@ -1,8 +1,7 @@
 //! Why a message is refused. A fault in a name is a fault of its message.
 
 ghost use Rattle.std.specs.Prelude.{◌≡◌};
-ghost use Rattle.mdns_message.specs.Fault.{fault_of_name};
-ghost use Rattle.mdns_message.specs.declared.fault.MessageFault.TheVariants.{Memory};
+ghost use Rattle.mdns_message.specs.{Fault.{fault_of_name}, declared.fault.MessageFault.TheVariants.{Memory}};
 
 use dns_name::NameReadFault;
 use memory::Want;

@@ -2,8 +2,7 @@
 
 ghost use Rattle.std.specs.Prelude.{◌≡◌, ◌<◌, ℕ, List, [], length, slice_get, IfOk, Some};
 ghost use Rattle.dns_name.specs.Name.{Extends};
-ghost use Rattle.mdns_message.specs.Borrowed.{body_lent, hearing_lent};
-ghost use Rattle.mdns_message.specs.Flat.{body_in, bytes_in, BodyFits, HoldsBytes, IsNameIn};
+ghost use Rattle.mdns_message.specs.{Borrowed.{body_lent, hearing_lent}, Flat.{body_in, bytes_in, BodyFits, HoldsBytes, IsNameIn}};
 ghost use Rattle.mdns_message.specs.Known.{IsBufferOf};
 
 use crate::body::RecordData;

@@ -2,8 +2,7 @@
 
 ghost use Rattle.std.specs.Prelude.{◌≡◌, ◌↔◌, ◌++◌, IfOk, IsTrue, OnOk};
 ghost use Rattle.dns_name.specs.Name.{folded};
-ghost use Rattle.mdns_message.specs.Resource.{key_of, set_of, set_key_of, folded_data_of};
-ghost use Rattle.mdns_message.specs.laws.Resource.{key_cmp-exact};
+ghost use Rattle.mdns_message.specs.{Resource.{key_of, set_of, set_key_of, folded_data_of}, laws.Resource.{key_cmp-exact}};
 ghost use Rattle.mdns_message.specs.Borrowed.{body_lent, resource_lent};
 
 use crate::body::Bytes;

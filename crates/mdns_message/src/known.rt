@@ -2,12 +2,8 @@
 
 ghost use Rattle.std.specs.Prelude.{◌≡◌, ◌+◌, ◌<◌, ◌≤◌, length, IfOk, IfErr, IfSome};
 ghost use Rattle.std.specs.List.{Contains};
-ghost use Rattle.dns_name.specs.Name.{Extends};
-ghost use Rattle.dns_name.specs.NameAt.{PointerLeads};
-ghost use Rattle.dns_name.specs.Pointer.{IsReaderOf};
-ghost use Rattle.mdns_message.specs.Fault.{HasNameFault};
-ghost use Rattle.mdns_message.specs.FlatRecord.{HoldsName};
-ghost use Rattle.mdns_message.specs.Known.{AddsKnown, BeginsAt, IsBufferOf};
+ghost use Rattle.dns_name.specs.{Name.{Extends}, NameAt.{PointerLeads}, Pointer.{IsReaderOf}};
+ghost use Rattle.mdns_message.specs.{Fault.{HasNameFault}, FlatRecord.{HoldsName}, Known.{AddsKnown, BeginsAt, IsBufferOf}};
 ghost use Rattle.mdns_message.specs.RecordAt.{MemoryOr};
 
 use crate::fault::MessageFault;

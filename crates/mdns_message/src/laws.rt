@@ -3,15 +3,11 @@
 
 ghost use Rattle.std.specs.Prelude.{◌≡◌, ◌≤◌, ◌↔◌, ◌⊎◌, ◌++◌, List, [], ◌∷◌, ℕ, length, IsTrue};
 ghost use Rattle.mdns_capture.specs.declared.moment.Moment.{Moment};
-ghost use Rattle.mdns_message.specs.declared.fault.MessageFault.{MessageFault};
-ghost use Rattle.mdns_message.specs.declared.hearing.Hearing.{Hearing};
-ghost use Rattle.mdns_message.specs.FirstMessageFault.{MessageFails};
-ghost use Rattle.mdns_message.specs.Message.{HasHeader, MessageReads};
+ghost use Rattle.mdns_message.specs.declared.{fault.MessageFault.{MessageFault}, hearing.Hearing.{Hearing}};
+ghost use Rattle.mdns_message.specs.{FirstMessageFault.{MessageFails}, Message.{HasHeader, MessageReads}};
 ghost use Rattle.mdns_message.specs.Resource.{key_of, set_key_of, set_of, key_cmp, set_key_cmp, resource_cmp, SameRecord, SameSet};
-ghost use Rattle.mdns_message.specs.TextData.{strings_of};
-ghost use Rattle.mdns_message.specs.declared.resource.Resource.{Resource as resource};
-ghost use Rattle.mdns_message.specs.declared.key.Key.{Key as key};
-ghost use Rattle.mdns_message.specs.RecordSet.{RecordSet};
+ghost use Rattle.mdns_message.specs.{TextData.{strings_of}, declared.resource.Resource.{Resource as resource}};
+ghost use Rattle.mdns_message.specs.{declared.key.Key.{Key as key}, RecordSet.{RecordSet}};
 
 use crate::key::Key;
 use crate::resource::Resource;

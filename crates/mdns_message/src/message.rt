@@ -17,9 +17,8 @@ ghost use Rattle.mdns_message.specs.Message.{
   RecordSection,
   count_offset,
 };
-ghost use Rattle.mdns_message.specs.FirstMessageFault.{HasFirstFault, RecordSectionFails, SectionsFail};
+ghost use Rattle.mdns_message.specs.{FirstMessageFault.{HasFirstFault, RecordSectionFails, SectionsFail}, Known.{IsBufferOf}};
 ghost use Rattle.dns_name.specs.Pointer.{IsReaderOf};
-ghost use Rattle.mdns_message.specs.Known.{IsBufferOf};
 
 use crate::borrowed::BorrowedHearing;
 use crate::fault::MessageFault;

@@ -2,11 +2,8 @@
 
 ghost use Rattle.std.specs.Prelude.{◌≡◌, ◌≢◌, ◌+◌, ◌<◌, ◌≤◌, ℕ, List, [], length, IfOk, IfErr, OnErr, OnOk};
 ghost use Rattle.mdns_capture.specs.Frame.{word_at};
-ghost use Rattle.dns_name.specs.Name.{Extends};
-ghost use Rattle.dns_name.specs.Pointer.{IsReaderOf};
-ghost use Rattle.mdns_message.specs.FlatRecord.{AddsRecord, HoldsData, HoldsLastName};
-ghost use Rattle.mdns_message.specs.Known.{AddsKnown, IsBufferOf};
-ghost use Rattle.mdns_message.specs.Message.{Adds};
+ghost use Rattle.dns_name.specs.{Name.{Extends}, Pointer.{IsReaderOf}};
+ghost use Rattle.mdns_message.specs.{FlatRecord.{AddsRecord, HoldsData, HoldsLastName}, Known.{AddsKnown, IsBufferOf}, Message.{Adds}};
 ghost use Rattle.mdns_message.specs.RecordAt.{
   data_in,
   header_of,

@@ -1,8 +1,7 @@
 //! Resource records.
 
 ghost use Rattle.std.specs.Prelude.{◌≡◌, IfOk};
-ghost use Rattle.mdns_message.specs.Resource.{key_of, set_key_of};
-ghost use Rattle.mdns_message.specs.Borrowed.{resource_lent};
+ghost use Rattle.mdns_message.specs.{Resource.{key_of, set_key_of}, Borrowed.{resource_lent}};
 
 use crate::body::Body;
 use crate::borrowed::BorrowedResource;

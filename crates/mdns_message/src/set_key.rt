@@ -1,9 +1,7 @@
 //! Keys that identify record sets.
 
 ghost use Rattle.std.specs.Prelude.{◌≡◌, ◌↔◌, IfOk, IsTrue, OnOk};
-ghost use Rattle.mdns_message.specs.Resource.{set_key_of, set_key_for};
-ghost use Rattle.mdns_message.specs.laws.Resource.{set_key_cmp-exact};
-ghost use Rattle.mdns_message.specs.Borrowed.{resource_lent};
+ghost use Rattle.mdns_message.specs.{Resource.{set_key_of, set_key_for}, laws.Resource.{set_key_cmp-exact}, Borrowed.{resource_lent}};
 
 use crate::body::Bytes;
 use crate::borrowed::BorrowedResource;

@@ -3,41 +3,27 @@ use Rattle.std.proofs.Common.{◌≡◌, refl, sym, ◌∙◌, ap, ℕ, ◌+◌,
 use Rattle.std.proofs.Common.{List, [], ◌∷◌, ◌++◌, ◌-◌, codes, length, map, arith}
 use Rattle.std.specs.Prelude.{◌&&◌, nat_lt, not, option_map, slice_get, string_bytes, unwrap_or}
 use Rattle.std.specs.List.{filter_map, find, flat_map, join_by}
-use Rattle.mdns_message.specs.Resource.{Body}
-use Rattle.mdns_message.specs.TextData.{strings_of}
-use Rattle.mdns_message.specs.Parts.{address_of, content_of}
+use Rattle.mdns_message.specs.{Resource.{Body}, TextData.{strings_of}, Parts.{address_of, content_of}, declared.parts.Address.{Address}}
 use Rattle.mdns_message.specs.declared.body.RecordData.TheVariants as body
-use Rattle.mdns_message.specs.declared.parts.Address.{Address}
-use Rattle.mdns_lives.specs.declared.life.Life.{Life}
-use Rattle.mdns_lives.specs.declared.life.EndReason.TheVariants.{Expired, Goodbye, Flushed}
-use Rattle.mdns_browse.specs.declared.about.Subject.{Subject}
+use Rattle.mdns_lives.specs.declared.life.{Life.{Life}, EndReason.TheVariants.{Expired, Goodbye, Flushed}}
+use Rattle.mdns_browse.specs.declared.{about.Subject.{Subject}, instance.Server.{Server}}
+use Rattle.mdns_browse.specs.{Services.{GivenRow, InstanceRow, instance_row_in}, RecordShown.{shown_address, shown_string, shown_strings}}
 use Rattle.mdns_listeners.specs.declared.pairs.PairRow.{PairRow}
-use Rattle.mdns_browse.specs.declared.instance.Server.{Server}
 use Rattle.mdns_join.specs.declared.latest.Latest.{Latest}
-use Rattle.mdns_browse.specs.Services.{GivenRow, InstanceRow, instance_row_in}
-use Rattle.people_text.specs.MomentText.{duration_text}
-use Rattle.people_text.specs.Shown.{shown}
-use Rattle.mdns_browse.specs.RecordShown.{shown_address, shown_string, shown_strings}
+use Rattle.people_text.specs.{MomentText.{duration_text}, Shown.{shown}}
 use Rattle.mdns_page.specs.declared.axis.Axis.{Axis}
-use Rattle.mdns_page.specs.Bare.{BareLive, BareRow, bare_capture, bare_end, bare_group, bare_groups, bare_instances, bare_live}
-use Rattle.mdns_page.specs.Bare.{bare_row, bare_server, bare_text, is_some_filled, unsaid}
+use Rattle.mdns_page.specs.Bare.{BareLive, BareRow, bare_capture, bare_end, bare_group, bare_groups, bare_instances, bare_live, bare_row}
+use Rattle.mdns_page.specs.Bare.{bare_server, bare_text, is_some_filled, unsaid}
 use Rattle.mdns_page.specs.Captures.{Comparison, Facts, alone_text, capture_text, captures_text, clock_text, compared_text, each_from}
-use Rattle.mdns_page.specs.Captures.{is_shared_by}
-use Rattle.mdns_page.specs.Axis.{drawn_if, short_text}
-use Rattle.mdns_page.specs.Group.{grouped, item}
-use Rattle.mdns_page.specs.OtherRows.{is_large}
+use Rattle.mdns_page.specs.{Captures.{is_shared_by}, Axis.{drawn_if, short_text}, Group.{grouped, item}, OtherRows.{is_large}}
 use Rattle.mdns_page.specs.Lanes.{base_line, base_text, bases_text, lane_top}
-use Rattle.mdns_page.specs.Lead.{about_line, ending_warning, is_ended, live_line, pair_warning}
-use Rattle.mdns_page.specs.Picture.{goes_on, is_for}
+use Rattle.mdns_page.specs.{Lead.{about_line, ending_warning, is_ended, live_line, pair_warning}, Picture.{goes_on, is_for}}
 use Rattle.mdns_page.specs.LiveSection.{address_html, live_group, live_row, live_text, server_html, text_html, type_of}
 use Rattle.mdns_page.specs.Document.{Shown, head, page}
 use Rattle.mdns_page.specs.Timeline.{Row, content_name, count_last, group_text, is_open, lives_in, owner_of, row_text, timeline}
-use Rattle.mdns_page.specs.declared.kept_records.TimelinePart.{TimelinePart}
-use Rattle.mdns_page.specs.declared.kept_records.TimelinePart.TheVariants.{Addresses, Instances, Names}
-use Rattle.mdns_page.specs.Ticks.{symbols_text}
-use Rattle.mdns_page.specs.declared.look.Look.{Look}
-use Rattle.mdns_page.proofs.GroupLemmas.{grouped-all}
-use Rattle.mdns_page.proofs.LiveWordLemmas.{some-items}
+use Rattle.mdns_page.specs.declared.kept_records.{TimelinePart.{TimelinePart}, TimelinePart.TheVariants.{Addresses, Instances, Names}}
+use Rattle.mdns_page.specs.{Ticks.{symbols_text}, declared.look.Look.{Look}}
+use Rattle.mdns_page.proofs.{GroupLemmas.{grouped-all}, LiveWordLemmas.{some-items}}
 use Rattle.mdns_page.proofs.SameLists.{append-same, count-same, flat_map-alike, flat_map-same, groups-same, length-same}
 
 -- ---- captures

@@ -6,19 +6,13 @@ use Rattle.mdns_survey.proofs.OutcomeLemmas.{OnePayload}
 use Rattle.mdns_survey.specs.Outcomes.{Outcome, heard, refused, skipped}
 use Rattle.mdns_listeners.specs.Heard.{AreHeardIn, HeardRow, Told, message_bytes}
 use Rattle.mdns_listeners.specs.Listeners.{AreRowsOf, CapturesTell, Gathered, Gathers, IsHeardBy, TellAll, Tells, listener_at, spans_by}
-use Rattle.mdns_listeners.specs.Numbers.{listener_rows}
-use Rattle.mdns_listeners.specs.Together.{pairs_together}
-use Rattle.mdns_listeners.specs.declared.listeners.MessageCollector.{MessageCollector}
-use Rattle.mdns_page.specs.Captures.{Comparison}
-use Rattle.std.specs.declared.result.Result.{Result}
-use Rattle.std.specs.declared.result.Result.TheVariants.{Ok, Err}
-use Rattle.std.specs.Prelude.{IfOk}
-use Rattle.mdns_listeners.specs.Groups.{Grouped}
-use Rattle.mdns_listeners.specs.Numbers.{FileSpans}
-use Rattle.mdns_listeners.specs.declared.listeners.HeardByListeners.{HeardByListeners}
-use Rattle.mdns_listeners.specs.declared.numbers.ListenerRow.{ListenerRow}
+use Rattle.mdns_listeners.specs.{Numbers.{listener_rows, FileSpans}, Together.{pairs_together}}
+use Rattle.mdns_listeners.specs.{declared.listeners.MessageCollector.{MessageCollector}, Groups.{Grouped}}
+use Rattle.mdns_listeners.specs.declared.{listeners.HeardByListeners.{HeardByListeners}, numbers.ListenerRow.{ListenerRow}}
 use Rattle.mdns_listeners.specs.declared.pairs.PairRow.{PairRow}
-use Rattle.mdns_page.specs.Collected.{AreCompared, AreGathered, Compares, GathersIf, GoesOn, each_apart}
+use Rattle.mdns_page.specs.{Captures.{Comparison}, Collected.{AreCompared, AreGathered, Compares, GathersIf, GoesOn, each_apart}}
+use Rattle.std.specs.declared.result.{Result.{Result}, Result.TheVariants.{Ok, Err}}
+use Rattle.std.specs.Prelude.{IfOk}
 
 -- ---- one comparison
 

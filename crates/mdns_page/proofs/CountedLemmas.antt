@@ -3,19 +3,14 @@ use Rattle.std.proofs.Common.{◌≡◌, refl, sym, ap, ◌∙◌, subst, ℕ, �
 use Rattle.std.proofs.Common.{get_or, length, map, take}
 use Rattle.std.specs.Prelude.{nat_lt}
 use Rattle.std.specs.List.{All, filter}
-use Rattle.std.proofs.lemmas.List.{map-append, take_more}
-use Rattle.std.proofs.lemmas.List.Elements.{All-append, All-cons, All-nil, All-same, filter-append}
-use Rattle.mdns_message.specs.declared.hearing.Hearing.{Hearing}
-use Rattle.mdns_message.specs.declared.key.Key.{Key}
+use Rattle.std.proofs.lemmas.{List.{map-append, take_more}, List.Elements.{All-append, All-cons, All-nil, All-same, filter-append}}
+use Rattle.mdns_message.specs.declared.{hearing.Hearing.{Hearing}, key.Key.{Key}}
 use Rattle.mdns_join.specs.declared.latest.Latest.{Latest}
-use Rattle.mdns_lives.specs.declared.life.Life.{Life}
-use Rattle.mdns_lives.specs.declared.seconds_heard.SecondHeard.{SecondHeard}
-use Rattle.mdns_lives.specs.Chronicle.{Accounts, Chronicles}
+use Rattle.mdns_lives.specs.{declared.life.Life.{Life}, declared.seconds_heard.SecondHeard.{SecondHeard}, Chronicle.{Accounts, Chronicles}}
 use Rattle.mdns_lives.specs.Heard.{AreSecondsHeard}
 use Rattle.mdns_cache.specs.Live.{key_of_last}
 use Rattle.mdns_browse.specs.Services.{AreEach}
-use Rattle.mdns_page.specs.TimelineRows.{AreShownBy, IsCounted}
-use Rattle.mdns_page.specs.Timeline.{Row, counted_lent}
+use Rattle.mdns_page.specs.{TimelineRows.{AreShownBy, IsCounted}, Timeline.{Row, counted_lent}}
 use Rattle.mdns_page.specs.declared.timeline_rows.CountedRow.{CountedRow}
 use Rattle.mdns_page.proofs.LiveLemmas.{each-count}
 

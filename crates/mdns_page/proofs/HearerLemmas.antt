@@ -2,36 +2,23 @@
 use Rattle.std.proofs.Common.{◌≡◌, refl, sym, ap, ◌∙◌, subst, ℕ, zero, suc, ◌+◌, ◌<◌, ◌≤◌, ◌⊎◌, inl, inr, Bool, true, false, cond, if◌then◌else◌}
 use Rattle.std.proofs.Common.{List, [], ◌∷◌, ◌++◌, Contains, get_or, length, map, set, take, Option, None, Some, arith}
 use Rattle.std.specs.Prelude.{◌≢◌, MatchOption, nat_lt}
-use Rattle.std.specs.List.{All, AllByRecursion, filter}
-use Rattle.std.specs.List.Sorted.{IsPartitionPoint, IsNonDecreasingBy, IsSortedBy, IsStrictlySortedBy}
-use Rattle.std.specs.Ordering.{is_lt, ordering_index, ordering_reverse}
-use Rattle.std.specs.declared.cmp.Ordering.{Ordering}
+use Rattle.std.specs.{List.{All, AllByRecursion, filter}, List.Sorted.{IsPartitionPoint, IsNonDecreasingBy, IsSortedBy, IsStrictlySortedBy}}
+use Rattle.std.specs.{Ordering.{is_lt, ordering_index, ordering_reverse}, declared.cmp.Ordering.{Ordering}}
 use Rattle.std.specs.declared.cmp.Ordering.TheVariants.{Less, Equal, Greater}
-use Rattle.std.proofs.lemmas.Bool.Decides.{nat_tests}
-use Rattle.std.proofs.lemmas.Cmp.{tied_itself}
-use Rattle.std.proofs.lemmas.List.{append-nil, length-map, map-set, take_more}
-use Rattle.std.proofs.lemmas.List.Elements.{All-cons, All-head, All-nil, All-tail}
-use Rattle.std.proofs.lemmas.List.Sorted.{searchable_from_sorted}
-use Rattle.std.proofs.lemmas.Simd.{map-map}
-use Rattle.mdns_message.specs.declared.hearing.Hearing.{Hearing}
-use Rattle.mdns_message.specs.declared.key.Key.{Key}
-use Rattle.mdns_message.specs.Resource.{key_cmp}
+use Rattle.std.proofs.lemmas.{Bool.Decides.{nat_tests}, Cmp.{tied_itself}, List.{append-nil, length-map, map-set, take_more}}
+use Rattle.std.proofs.lemmas.{List.Elements.{All-cons, All-head, All-nil, All-tail}, List.Sorted.{searchable_from_sorted}, Simd.{map-map}}
+use Rattle.mdns_message.specs.{declared.hearing.Hearing.{Hearing}, declared.key.Key.{Key}, Resource.{key_cmp}}
 use Rattle.mdns_message.specs.laws.Resource.{key_cmp-exact, key_cmp-total}
 use Rattle.mdns_join.specs.declared.latest.Latest.{Latest}
 use Rattle.mdns_cache.proofs.StandsPartLemmas.{Contains-nil}
 use Rattle.mdns_cache.specs.Live.{IsLast, IsUnheard, key_of_last}
-use Rattle.mdns_lives.specs.declared.life.Life.{Life}
-use Rattle.mdns_lives.specs.declared.seconds_heard.SecondHeard.{SecondHeard}
-use Rattle.mdns_lives.specs.Chronicle.{Accounts, AreAllLives, Chronicles, last_held}
-use Rattle.mdns_lives.specs.Heard.{AreSecondsHeard}
+use Rattle.mdns_lives.specs.declared.{life.Life.{Life}, seconds_heard.SecondHeard.{SecondHeard}}
+use Rattle.mdns_lives.specs.{Chronicle.{Accounts, AreAllLives, Chronicles, last_held}, Heard.{AreSecondsHeard}}
 use Rattle.mdns_browse.specs.Services.{AreEach}
 use Rattle.mdns_page.specs.TimelineRows.{AreShownBy, HearsCapture, HearsRecord, IsBegun, IsCounted, few_of, heard_too, unheard}
-use Rattle.mdns_page.specs.KeptRecords.{is_of}
-use Rattle.mdns_page.specs.Timeline.{Row, counted_lent}
-use Rattle.mdns_page.specs.declared.kept_records.TimelinePart.{TimelinePart}
+use Rattle.mdns_page.specs.{KeptRecords.{is_of}, Timeline.{Row, counted_lent}, declared.kept_records.TimelinePart.{TimelinePart}}
 use Rattle.mdns_page.specs.declared.timeline_rows.CountedRow.{CountedRow}
-use Rattle.mdns_page.proofs.CountedLemmas.{LastPair, each-last, each-more, record_in, shown-more}
-use Rattle.mdns_page.proofs.KeptLemmas.{sorted-filter}
+use Rattle.mdns_page.proofs.{CountedLemmas.{LastPair, each-last, each-more, record_in, shown-more}, KeptLemmas.{sorted-filter}}
 use Rattle.mdns_page.proofs.LiveLemmas.{each-count}
 
 -- ---- lists that belong together

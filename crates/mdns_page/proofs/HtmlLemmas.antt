@@ -1,14 +1,10 @@
 -- Markup, byte by byte.
 use Rattle.std.proofs.Common.{◌≡◌, refl, sym, ◌∙◌, ap, subst, ℕ, zero, suc, ◌+◌, ◌<◌, ◌==◌, ◌||◌, Bool, true, false, not, ◌&&◌, cond}
 use Rattle.std.proofs.Common.{List, [], ◌∷◌, ◌++◌, codes, length, take, drop, get_or, add-zero, arith, append_assoc}
-use Rattle.std.proofs.lemmas.Bool.Decides.{nat_tests}
-use Rattle.std.proofs.lemmas.Grind.{flat_map-append}
-use Rattle.std.proofs.lemmas.List.{get_or-drop, length-drop, take-append-drop, take_more}
-use Rattle.std.proofs.lemmas.List.Elements.{All-append, All-cons, All-nil}
+use Rattle.std.proofs.lemmas.{Bool.Decides.{nat_tests}, Grind.{flat_map-append}}
+use Rattle.std.proofs.lemmas.{List.{get_or-drop, length-drop, take-append-drop, take_more}, List.Elements.{All-append, All-cons, All-nil}}
 use Rattle.std.proofs.lemmas.Str.{IsCharBoundary-after_ascii}
-use Rattle.std.specs.Bool.{IsTrue}
-use Rattle.std.specs.List.{All}
-use Rattle.std.specs.Str.{IsCharBoundary, IsUtf8}
+use Rattle.std.specs.{Bool.{IsTrue}, List.{All}, Str.{IsCharBoundary, IsUtf8}}
 use Rattle.mdns_page.specs.Html.{html_byte, html_text, is_marked, references, BeginsReference, IsHarmless}
 
 pub html_text-append : (xs ys : List ℕ) → html_text (xs ++ ys) ≡ html_text xs ++ html_text ys

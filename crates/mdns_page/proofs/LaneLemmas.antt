@@ -2,23 +2,15 @@
 use Rattle.std.proofs.Common.{◌≡◌, refl, sym, ℕ, ◌/◌, ◌<◌, ◌≤◌, Bool, true, false, if◌then◌else◌, Option}
 use Rattle.std.proofs.Common.{None, Some, List, [], ◌∷◌, map, arith}
 use Rattle.std.specs.Prelude.{Contains, ◌==◌}
-use Rattle.std.specs.List.{AllByRecursion, cons_option, filter_map}
-use Rattle.std.specs.List.Sorted.{IsStrictlySortedBy}
-use Rattle.std.specs.Ordering.{nat_cmp}
+use Rattle.std.specs.{List.{AllByRecursion, cons_option, filter_map}, List.Sorted.{IsStrictlySortedBy}, Ordering.{nat_cmp}}
 use Rattle.std.specs.declared.cmp.Ordering.TheVariants.{Less}
 use Rattle.std.proofs.lemmas.Cmp.{ranked}
 use Rattle.mdns_capture.specs.Limits.{second}
 use Rattle.mdns_cache.proofs.StandsPartLemmas.{Contains-head, Contains-later}
-use Rattle.mdns_lives.specs.declared.life.RecordHearing.{RecordHearing}
-use Rattle.mdns_lives.specs.declared.seconds_heard.SecondHeard.{SecondHeard}
-use Rattle.mdns_lives.specs.Heard.{number_of}
-use Rattle.mdns_lives.specs.Seconds.{second_of}
-use Rattle.mdns_page.specs.Axis.{place}
-use Rattle.mdns_page.specs.Lanes.{goodbye_of, is_goodbye, point, second_mark}
-use Rattle.mdns_page.specs.Picture.{AreInOrder, differing, is_same}
-use Rattle.mdns_page.specs.declared.axis.Axis.{Axis}
-use Rattle.mdns_page.specs.declared.picture.Mark.{Mark}
-use Rattle.mdns_page.specs.declared.picture.Stroke.{Stroke}
+use Rattle.mdns_lives.specs.declared.{life.RecordHearing.{RecordHearing}, seconds_heard.SecondHeard.{SecondHeard}}
+use Rattle.mdns_lives.specs.{Heard.{number_of}, Seconds.{second_of}}
+use Rattle.mdns_page.specs.{Axis.{place}, Lanes.{goodbye_of, is_goodbye, point, second_mark}, Picture.{AreInOrder, differing, is_same}}
+use Rattle.mdns_page.specs.declared.{axis.Axis.{Axis}, picture.Mark.{Mark}, picture.Stroke.{Stroke}}
 use Rattle.mdns_page.specs.declared.picture.Stroke.TheVariants.{Bar, Server, Pin, Head, Tick, GoodbyeTick}
 use Rattle.mdns_page.proofs.MarkLemmas.{one-more, place-mono}
 

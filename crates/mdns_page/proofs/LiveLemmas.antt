@@ -1,25 +1,17 @@
 -- Live instances: their groups, and the text of a row by its pieces.
 use Rattle.std.proofs.Common.{◌≡◌, refl, sym, ◌∙◌, ap, subst, ℕ, suc, ◌+◌, ◌==◌, Bool, true, false, if◌then◌else◌, List, [], ◌∷◌, ◌++◌}
 use Rattle.std.proofs.Common.{length, map, take, arith, codes}
-use Rattle.std.proofs.lemmas.Bool.Decides.{nat_tests}
-use Rattle.std.proofs.lemmas.List.{append-nil, append_assoc}
-use Rattle.std.specs.List.{filter_map, flat_map, join_by}
-use Rattle.std.specs.String.{string_bytes}
+use Rattle.std.proofs.lemmas.{Bool.Decides.{nat_tests}, List.{append-nil, append_assoc}}
+use Rattle.std.specs.{List.{filter_map, flat_map, join_by}, String.{string_bytes}}
 use Rattle.mdns_message.specs.Resource.{Body}
 use Rattle.mdns_join.specs.declared.latest.Latest.{Latest}
 use Rattle.people_text.specs.MomentText.{millis_text}
-use Rattle.mdns_browse.specs.RecordShown.{shown_instance}
-use Rattle.mdns_browse.specs.Services.{AreEach, GivenRow, InstanceRow, instance_row_in}
-use Rattle.mdns_browse.specs.Sheet.{Piece, server_address, server_end, servers_end, instance_text, instance_end}
-use Rattle.mdns_browse.specs.Sheet.{server_pieces, servers_pieces, instance_pieces}
-use Rattle.mdns_browse.specs.declared.instance.Server.{Server}
-use Rattle.mdns_page.specs.declared.axis.Axis.{Axis}
-use Rattle.mdns_page.specs.declared.live_sheet.LiveSheet.{LiveSheet}
-use Rattle.mdns_page.specs.Group.{grouped}
-use Rattle.mdns_page.specs.Html.{isolated}
-use Rattle.mdns_page.specs.LiveSection.{live_text}
-use Rattle.mdns_page.specs.LiveSection.{address_html, given_words, live_group, live_row, server_html, server_line, text_html, type_of}
-use Rattle.mdns_page.specs.LiveSheet.{Adds, Grows, pieces_html, pieces_next, type_begin}
+use Rattle.mdns_browse.specs.{RecordShown.{shown_instance}, Services.{AreEach, GivenRow, InstanceRow, instance_row_in}}
+use Rattle.mdns_browse.specs.Sheet.{Piece, server_address, server_end, servers_end, instance_text, instance_end, server_pieces}
+use Rattle.mdns_browse.specs.{Sheet.{servers_pieces, instance_pieces}, declared.instance.Server.{Server}}
+use Rattle.mdns_page.specs.{declared.axis.Axis.{Axis}, declared.live_sheet.LiveSheet.{LiveSheet}, Group.{grouped}, Html.{isolated}}
+use Rattle.mdns_page.specs.LiveSection.{live_text, address_html, given_words, live_group, live_row, server_html, server_line, text_html}
+use Rattle.mdns_page.specs.{LiveSection.{type_of}, LiveSheet.{Adds, Grows, pieces_html, pieces_next, type_begin}}
 use Rattle.mdns_page.specs.laws.LiveSheet.{pieces-append}
 
 pub each-count : {X Y : Type 0} (Is : X → Y → Type 0) (xs : List X) (ys : List Y) → AreEach Is xs ys → length xs ≡ length ys

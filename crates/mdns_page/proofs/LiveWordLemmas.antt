@@ -1,15 +1,10 @@
 -- Strings of a text, one a line, and an address.
 use Rattle.std.proofs.Common.{◌≡◌, refl, sym, ◌∙◌, ap, arith, ℕ, ◌==◌, Bool, true, false, if◌then◌else◌, List, [], ◌∷◌, ◌++◌, codes, length}
-use Rattle.std.proofs.lemmas.Bool.Decides.{nat_tests}
-use Rattle.std.proofs.lemmas.List.{append-nil, append_assoc}
+use Rattle.std.proofs.lemmas.{Bool.Decides.{nat_tests}, List.{append-nil, append_assoc}}
 use Rattle.std.specs.List.{flat_map, join_by}
-use Rattle.mdns_message.specs.Borrowed.{BorrowedBody, body_lent}
-use Rattle.mdns_message.specs.Parts.{address_of}
+use Rattle.mdns_message.specs.{Borrowed.{BorrowedBody, body_lent}, Parts.{address_of}, TextData.{strings_of}}
 use Rattle.mdns_message.specs.declared.body.RecordData.TheVariants as body
-use Rattle.mdns_message.specs.TextData.{strings_of}
-use Rattle.mdns_browse.specs.Json.{first_after}
-use Rattle.mdns_browse.specs.RecordShown.{shown_string, shown_strings}
-use Rattle.mdns_browse.specs.laws.JsonPieces.{first_after-append}
+use Rattle.mdns_browse.specs.{Json.{first_after}, RecordShown.{shown_string, shown_strings}, laws.JsonPieces.{first_after-append}}
 use Rattle.mdns_page.specs.LiveSheet.{lines}
 
 -- the words of one string, and those of the others

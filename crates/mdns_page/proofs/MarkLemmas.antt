@@ -3,13 +3,9 @@ use Rattle.std.proofs.Common.{◌≡◌, refl, ℕ, ◌+◌, ◌-◌, ◌*◌, �
 use Rattle.std.proofs.Common.{Option, None, Some, List, [], ◌∷◌, arith, div-mul-le_self}
 use Rattle.std.proofs.lemmas.Nat.{le-div}
 use Rattle.std.specs.List.{cons_option, filter_map}
-use Rattle.mdns_lives.specs.Lives.{AreApart, AreApartAfter}
-use Rattle.mdns_lives.specs.declared.life.Life.{Life}
-use Rattle.mdns_page.specs.Axis.{place, place_end}
-use Rattle.mdns_page.specs.Picture.{AreInOrder, bar_mark, differing, goes_on, is_for, is_same, mark_of}
-use Rattle.mdns_page.specs.declared.axis.Axis.{Axis}
-use Rattle.mdns_page.specs.declared.picture.Mark.{Mark}
-use Rattle.mdns_page.specs.declared.picture.Stroke.{Stroke}
+use Rattle.mdns_lives.specs.{Lives.{AreApart, AreApartAfter}, declared.life.Life.{Life}}
+use Rattle.mdns_page.specs.{Axis.{place, place_end}, Picture.{AreInOrder, bar_mark, differing, goes_on, is_for, is_same, mark_of}}
+use Rattle.mdns_page.specs.declared.{axis.Axis.{Axis}, picture.Mark.{Mark}, picture.Stroke.{Stroke}}
 use Rattle.mdns_page.specs.declared.picture.Stroke.TheVariants.{Bar, Server, Pin, Head, Tick, GoodbyeTick}
 
 abbrev mark : ℕ → ℕ → Mark

@@ -4,23 +4,15 @@ use Rattle.std.proofs.Common.{option_map, refl, subst, sym}
 use Rattle.std.specs.Prelude.{codes, count_by, sum_by}
 use Rattle.std.specs.List.{flat_map}
 use Rattle.std.proofs.lemmas.List.Sums.{sum_by-cons}
-use Rattle.mdns_capture.specs.declared.cause.Cause.{Cause}
-use Rattle.mdns_capture.specs.Savefile.{PacketAt}
+use Rattle.mdns_capture.specs.{declared.cause.Cause.{Cause}, Savefile.{PacketAt}}
 use Rattle.mdns_message.specs.Message.{IsIgnored, IsQuery}
 use Rattle.mdns_browse.specs.Services.{AreEach}
-use Rattle.mdns_survey.specs.declared.outcome.SkipReason.{SkipReason}
+use Rattle.mdns_survey.specs.declared.{outcome.SkipReason.{SkipReason}, reading.Reading.{Reading}, summary.Summary.{Summary}}
+use Rattle.mdns_survey.specs.{Outcomes.{Outcome}, Readings.{lost_in, refused_in, skipped_in, summaries_of}}
+use Rattle.mdns_survey.specs.{Skips.{IsSkipOf, count_of, is_why}, Surveys.{AllLeft}, Reasons.{row_of}}
 use Rattle.mdns_survey.specs.declared.outcome.SkipReason.TheVariants as why
-use Rattle.mdns_survey.specs.declared.reading.Reading.{Reading}
-use Rattle.mdns_survey.specs.declared.summary.Summary.{Summary}
-use Rattle.mdns_survey.specs.Outcomes.{Outcome}
-use Rattle.mdns_survey.specs.Readings.{lost_in, refused_in, skipped_in, summaries_of}
-use Rattle.mdns_survey.specs.Skips.{IsSkipOf, count_of, is_why}
-use Rattle.mdns_survey.specs.Surveys.{AllLeft}
-use Rattle.mdns_survey.specs.Reasons.{row_of}
-use Rattle.mdns_survey.proofs.LossLemmas.{NeverBoth, SkipsByCause, no-cause}
-use Rattle.mdns_survey.proofs.OutcomeLemmas.{OnePayload}
-use Rattle.mdns_page.specs.SkippedSection.{skipped_text, others as reasons, row_text, table_text, warnings}
-use Rattle.mdns_page.specs.Page.{facts_of}
+use Rattle.mdns_survey.proofs.{LossLemmas.{NeverBoth, SkipsByCause, no-cause}, OutcomeLemmas.{OnePayload}}
+use Rattle.mdns_page.specs.{SkippedSection.{skipped_text, others as reasons, row_text, table_text, warnings}, Page.{facts_of}}
 
 -- ---- why packets are skipped
 

@@ -2,56 +2,28 @@
 use Rattle.std.proofs.Common.{◌≡◌, ◌∙◌, ℕ, ◌+◌, ◌<◌, Bool, false, List, [], ◌∷◌, Some, ap, arith, inl, inr, length, map}
 use Rattle.std.proofs.Common.{refl, subst, sym}
 use Rattle.std.specs.Prelude.{Contains, max, nat_lt}
-use Rattle.std.specs.List.{All, AllByRecursion}
-use Rattle.std.specs.List.Sorted.{IsStrictlySortedBy}
-use Rattle.std.specs.Ordering.{nat_cmp}
+use Rattle.std.specs.{List.{All, AllByRecursion}, List.Sorted.{IsStrictlySortedBy}, Ordering.{nat_cmp}}
 use Rattle.std.specs.declared.cmp.Ordering.TheVariants.{Less}
-use Rattle.std.proofs.lemmas.Cmp.{ranked}
-use Rattle.std.proofs.lemmas.List.Elements.{All-head, All-tail}
-use Rattle.std.proofs.lemmas.Option.{same_Some}
+use Rattle.std.proofs.lemmas.{Cmp.{ranked}, List.Elements.{All-head, All-tail}, Option.{same_Some}}
 use Rattle.mdns_capture.specs.Savefile.{PacketAt}
-use Rattle.mdns_join.specs.declared.latest.Latest.{Latest}
-use Rattle.mdns_join.specs.laws.Latest.{moment-same}
+use Rattle.mdns_join.specs.{declared.latest.Latest.{Latest}, laws.Latest.{moment-same}}
 use Rattle.mdns_message.specs.declared.hearing.Hearing.{Hearing}
 use Rattle.mdns_cache.specs.Live.{key_of_last}
-use Rattle.mdns_lives.specs.declared.life.RecordHearing.{RecordHearing}
-use Rattle.mdns_lives.specs.declared.life.Life.{Life}
-use Rattle.mdns_lives.specs.declared.seconds_heard.SecondHeard.{SecondHeard}
-use Rattle.mdns_lives.specs.Heard.{AreSecondsHeard, AreSecondsOf, number_of}
-use Rattle.mdns_lives.specs.Seconds.{AreEnds, Ends, ends}
+use Rattle.mdns_lives.specs.declared.{life.RecordHearing.{RecordHearing}, life.Life.{Life}, seconds_heard.SecondHeard.{SecondHeard}}
+use Rattle.mdns_lives.specs.{Heard.{AreSecondsHeard, AreSecondsOf, number_of}, Seconds.{AreEnds, Ends, ends}}
 use Rattle.mdns_lives.proofs.SecondsLemmas.{between-itself, same_ends_in}
-use Rattle.mdns_browse.specs.declared.about.Subject.{Subject}
-use Rattle.mdns_browse.specs.Services.{AreEach, body_of}
-use Rattle.mdns_survey.specs.declared.reading.Reading.{Reading}
-use Rattle.mdns_survey.specs.declared.request.AsOf.{AsOf}
-use Rattle.mdns_survey.specs.declared.summary.Summary.{Summary}
-use Rattle.mdns_survey.specs.Outcomes.{Outcome}
-use Rattle.mdns_survey.specs.LivesAnswer.{captures_begin, captures_end, latest_nanos}
-use Rattle.mdns_survey.specs.Readings.{all_moments, summaries_of}
-use Rattle.mdns_survey.specs.Filter.{counted, counted_each, filter_of}
-use Rattle.mdns_survey.specs.Surveys.{AllLeft}
+use Rattle.mdns_browse.specs.{declared.about.Subject.{Subject}, Services.{AreEach, body_of}}
+use Rattle.mdns_survey.specs.declared.{reading.Reading.{Reading}, request.AsOf.{AsOf}, summary.Summary.{Summary}}
+use Rattle.mdns_survey.specs.{Outcomes.{Outcome}, LivesAnswer.{captures_begin, captures_end, latest_nanos}}
+use Rattle.mdns_survey.specs.{Readings.{all_moments, summaries_of}, Filter.{counted, counted_each, filter_of}, Surveys.{AllLeft}}
 use Rattle.mdns_cache.proofs.StandsPartLemmas.{Contains-cases, Contains-head, Contains-later}
-use Rattle.mdns_survey.proofs.ListenedLemmas.{known-read}
-use Rattle.mdns_survey.proofs.LivesLawLemmas.{OneLives, same_itself}
-use Rattle.mdns_survey.proofs.LossLemmas.{NeverBoth, SkipsByCause}
-use Rattle.mdns_survey.proofs.OneSurveyLemmas.{one-read}
-use Rattle.mdns_survey.proofs.OutcomeLemmas.{OnePayload, OneReading, OneTelling}
-use Rattle.mdns_page.specs.Axis.{dates_of}
-use Rattle.mdns_page.specs.Captures.{Comparison}
-use Rattle.mdns_page.specs.Collected.{Compares}
-use Rattle.mdns_page.specs.declared.axis.Axis.{Axis}
-use Rattle.mdns_page.specs.declared.kept_records.TimelinePart.{TimelinePart}
-use Rattle.mdns_page.specs.declared.kept_records.TimelinePart.TheVariants.{Addresses, Instances, Names}
-use Rattle.mdns_page.specs.TimelineRows.{IsCounted}
-use Rattle.mdns_page.specs.OtherRows.{is_large}
-use Rattle.mdns_page.specs.Html.{isolated}
-use Rattle.mdns_page.specs.Document.{page}
-use Rattle.mdns_page.specs.Servers.{servers_of}
-use Rattle.mdns_page.specs.KeptRecords.{AreRows, kept_of}
-use Rattle.mdns_page.specs.Page.{SurveysPage, WritesPage, live_at_end}
-use Rattle.mdns_page.specs.Timeline.{Row, is_open}
-use Rattle.mdns_page.proofs.ComparedLemmas.{OneListOfRows, one-comparison}
-use Rattle.mdns_page.proofs.CountedLemmas.{record_in, shown_seconds}
+use Rattle.mdns_survey.proofs.{ListenedLemmas.{known-read}, LivesLawLemmas.{OneLives, same_itself}, LossLemmas.{NeverBoth, SkipsByCause}}
+use Rattle.mdns_survey.proofs.{OneSurveyLemmas.{one-read}, OutcomeLemmas.{OnePayload, OneReading, OneTelling}}
+use Rattle.mdns_page.specs.{Axis.{dates_of}, Captures.{Comparison}, Collected.{Compares}, declared.axis.Axis.{Axis}}
+use Rattle.mdns_page.specs.declared.kept_records.{TimelinePart.{TimelinePart}, TimelinePart.TheVariants.{Addresses, Instances, Names}}
+use Rattle.mdns_page.specs.{TimelineRows.{IsCounted}, OtherRows.{is_large}, Html.{isolated}, Document.{page}, Servers.{servers_of}}
+use Rattle.mdns_page.specs.{KeptRecords.{AreRows, kept_of}, Page.{SurveysPage, WritesPage, live_at_end}, Timeline.{Row, is_open}}
+use Rattle.mdns_page.proofs.{ComparedLemmas.{OneListOfRows, one-comparison}, CountedLemmas.{record_in, shown_seconds}}
 use Rattle.mdns_page.proofs.OneCaptureLemmas.{IsAlike, are-alike, facts-alike, lost-alike, section-alike, one-each}
 
 -- ---- the seconds in which a record was heard

@@ -1,8 +1,7 @@
 -- A text by the parts that were written of it, one after another.
 use Rattle.std.proofs.Common.{◌≡◌, ℕ, zero, suc, refl, List, [], ◌∷◌, ◌++◌, append_assoc, map, option_map}
 use Rattle.std.specs.Prelude.{slice_get}
-use Rattle.mdns_page.specs.Captures.{facts_lent}
-use Rattle.mdns_page.specs.declared.captures.CaptureFacts.{CaptureFacts}
+use Rattle.mdns_page.specs.{Captures.{facts_lent}, declared.captures.CaptureFacts.{CaptureFacts}}
 
 -- the facts of the capture with an index
 pub get_lent : (captures : List CaptureFacts) (index : ℕ)

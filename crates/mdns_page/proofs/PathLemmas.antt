@@ -3,8 +3,7 @@ use Rattle.std.proofs.Common.{◌≡◌, refl, ◌∙◌, ap, sym, Bool, true, f
 use Rattle.std.proofs.Common.{◌++◌, ℕ, ◌+◌, ◌<◌, ◌≤◌, append_assoc, codes, drop, get_or, length}
 use Rattle.std.proofs.lemmas.List.{drop_all, drop_more}
 use Rattle.std.specs.List.{cons_option, filter_map, flat_map}
-use Rattle.mdns_page.specs.Picture.{differing, is_same, mark_text, path_begin, path_last, path_rest}
-use Rattle.mdns_page.specs.declared.picture.Mark.{Mark}
+use Rattle.mdns_page.specs.{Picture.{differing, is_same, mark_text, path_begin, path_last, path_rest}, declared.picture.Mark.{Mark}}
 use Rattle.mdns_page.specs.declared.picture.Stroke.{Stroke}
 
 in_pairs : (a b c d : List ℕ) → a ++ (b ++ c) ++ d ≡ (a ++ b) ++ (c ++ d)

@@ -1,7 +1,6 @@
 -- Lists whose items agree in one respect, and what is made of that respect alone.
 use Rattle.std.proofs.Common.{◌≡◌, refl, sym, ◌∙◌, ap, ℕ, Bool, cond, List, [], ◌∷◌, ◌++◌, length, map, arith}
-use Rattle.std.proofs.lemmas.List.{map-append}
-use Rattle.std.proofs.lemmas.List.Sums.{sum_by-cons}
+use Rattle.std.proofs.lemmas.{List.{map-append}, List.Sums.{sum_by-cons}}
 use Rattle.std.specs.List.{count_by, flat_map, sum_by}
 
 module _ {X Y : Type 0} (bare : X → Y) where

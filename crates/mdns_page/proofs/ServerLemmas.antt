@@ -1,14 +1,11 @@
 -- SRV records of a name among rows in key order.
 use Rattle.std.proofs.Common.{◌≡◌, refl, sym, ◌∙◌, ap, subst, Bool, true, false, cond, List, [], ◌∷◌, map}
 use Rattle.std.proofs.lemmas.Simd.{map-map}
-use Rattle.std.specs.List.{filter}
-use Rattle.std.specs.List.Sorted.{IsStrictlySortedBy}
+use Rattle.std.specs.{List.{filter}, List.Sorted.{IsStrictlySortedBy}}
 use Rattle.mdns_message.specs.Resource.{key_cmp}
 use Rattle.mdns_join.specs.declared.latest.Latest.{Latest}
 use Rattle.mdns_cache.specs.Live.{key_of_last}
-use Rattle.mdns_lives.specs.LentLives.{row_lent}
-use Rattle.mdns_lives.specs.declared.life.Life.{Life}
-use Rattle.mdns_lives.specs.declared.lives.RecordLives.{RecordLives}
+use Rattle.mdns_lives.specs.{LentLives.{row_lent}, declared.life.Life.{Life}, declared.lives.RecordLives.{RecordLives}}
 use Rattle.mdns_page.specs.Timeline.{lives_lent}
 
 -- what passes after a function is applied

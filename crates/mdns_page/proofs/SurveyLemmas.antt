@@ -4,29 +4,16 @@ use Rattle.std.proofs.lemmas.Simd.{map-map}
 use Rattle.std.specs.Prelude.{Contains}
 use Rattle.std.specs.List.Sorted.{IsStrictlySortedBy}
 use Rattle.mdns_capture.specs.Savefile.{PacketAt}
-use Rattle.mdns_message.specs.declared.hearing.Hearing.{Hearing}
-use Rattle.mdns_message.specs.Resource.{key_cmp}
+use Rattle.mdns_message.specs.{declared.hearing.Hearing.{Hearing}, Resource.{key_cmp}}
 use Rattle.mdns_join.specs.declared.latest.Latest.{Latest}
 use Rattle.mdns_cache.specs.Live.{AreLiveRecords, key_of_last}
-use Rattle.mdns_lives.specs.Chronicle.{Chronicles}
-use Rattle.mdns_lives.specs.Since.{AreLiveSince, all_since_rows, live_row}
-use Rattle.mdns_lives.specs.declared.life.Life.{Life}
-use Rattle.mdns_browse.specs.declared.about.Subject.{Subject}
-use Rattle.mdns_browse.specs.Services.{AreAscending, AreEach, GivenRow}
-use Rattle.mdns_survey.specs.declared.each_capture.EachChronicling.{EachChronicling}
-use Rattle.mdns_survey.specs.declared.reading.Reading.{Reading}
-use Rattle.mdns_survey.specs.declared.request.AsOf.{AsOf}
-use Rattle.mdns_survey.specs.Outcomes.{Outcome}
-use Rattle.mdns_survey.specs.Chronicling.{EachChronicled, all_of}
-use Rattle.mdns_survey.specs.Filter.{counted, counted_each, filter_of}
-use Rattle.mdns_survey.specs.Question.{HearsReaders, IsAnswer}
-use Rattle.mdns_survey.specs.Readings.{all_moments, summaries_of}
-use Rattle.mdns_survey.specs.Surveys.{AllLeft}
+use Rattle.mdns_lives.specs.{Chronicle.{Chronicles}, Since.{AreLiveSince, all_since_rows, live_row}, declared.life.Life.{Life}}
+use Rattle.mdns_browse.specs.{declared.about.Subject.{Subject}, Services.{AreAscending, AreEach, GivenRow}}
+use Rattle.mdns_survey.specs.declared.{each_capture.EachChronicling.{EachChronicling}, reading.Reading.{Reading}, request.AsOf.{AsOf}}
+use Rattle.mdns_survey.specs.{Outcomes.{Outcome}, Chronicling.{EachChronicled, all_of}, Filter.{counted, counted_each, filter_of}}
+use Rattle.mdns_survey.specs.{Question.{HearsReaders, IsAnswer}, Readings.{all_moments, summaries_of}, Surveys.{AllLeft}}
 use Rattle.mdns_cache.proofs.StandsPartLemmas.{Contains-cases, Contains-head, Contains-later}
-use Rattle.mdns_page.specs.Axis.{IsAxis}
-use Rattle.mdns_page.specs.Captures.{Comparison}
-use Rattle.mdns_page.specs.Collected.{Compares}
-use Rattle.mdns_page.specs.declared.axis.Axis.{Axis}
+use Rattle.mdns_page.specs.{Axis.{IsAxis}, Captures.{Comparison}, Collected.{Compares}, declared.axis.Axis.{Axis}}
 use Rattle.mdns_page.specs.Page.{AreLiveGiven, IsSinceKnown, WritesPage, asked_page, given_of_since, live_given, record_given}
 
 -- what holds of the value of each element

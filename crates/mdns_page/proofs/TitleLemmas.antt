@@ -1,13 +1,10 @@
 -- Whether all rows have few lives.
 use Rattle.std.proofs.Common.{◌≡◌, sym, ◌∙◌, ap, subst, ℕ, ◌+◌, ◌-◌, ◌<◌, ◌≤◌, Bool, nat_le, is_some, Option, None, Some}
 use Rattle.std.proofs.Common.{List, ◌++◌, length, map, take, get_or, arith}
-use Rattle.std.proofs.lemmas.Bool.Decides.{nat_tests}
-use Rattle.std.proofs.lemmas.List.{length-append}
-use Rattle.std.proofs.lemmas.List.Folds.{flat_map-map, length-flat_map-take}
+use Rattle.std.proofs.lemmas.{Bool.Decides.{nat_tests}, List.{length-append}, List.Folds.{flat_map-map, length-flat_map-take}}
 use Rattle.std.specs.List.{flat_map}
 use Rattle.mdns_lives.specs.declared.life.Life.{Life}
-use Rattle.mdns_page.specs.Timeline.{Row, lives_in}
-use Rattle.mdns_page.specs.BarTitles.{IsLess}
+use Rattle.mdns_page.specs.{Timeline.{Row, lives_in}, BarTitles.{IsLess}}
 
 module _ {X : Type 0} (lives : X → List Life) (xs : List X) (i left count : ℕ) (x : X) (within : i < length xs) (at : x ≡ get_or xs i x)
     (counted : left + length (flat_map lives (take i xs)) ≡ count) where

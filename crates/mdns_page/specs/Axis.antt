@@ -2,13 +2,10 @@
 use Rattle.std.specs.Prelude.{◌≡◌, ℕ, ◌+◌, ◌-◌, ◌/◌, ◌==◌, nat_le, min, max, Bool, if◌then◌else◌}
 use Rattle.std.specs.Prelude.{Option, None, Some, List, [], ◌∷◌, ◌++◌}
 use Rattle.mdns_capture.specs.declared.moment.Moment.{Moment}
-use Rattle.mdns_survey.specs.declared.reading.Span.{Span}
-use Rattle.mdns_survey.specs.declared.request.AsOf.{AsOf}
+use Rattle.mdns_survey.specs.declared.{reading.Span.{Span}, request.AsOf.{AsOf}}
 use Rattle.mdns_survey.specs.LivesAnswer.{captures_begin, captures_end, latest_nanos}
 use Rattle.people_text.specs.MomentText.{clock_text, date_text, month_day_text, seconds_of, year_at}
-use Rattle.mdns_page.specs.declared.axis.Axis.{Axis}
-use Rattle.mdns_page.specs.declared.axis.Dates.{Dates}
-use Rattle.mdns_page.specs.declared.axis.Dates.TheVariants.{Omitted, WithoutYear, Whole}
+use Rattle.mdns_page.specs.declared.axis.{Axis.{Axis}, Dates.{Dates}, Dates.TheVariants.{Omitted, WithoutYear, Whole}}
 
 -- the place of a moment, from 0 on, of fewer than 1000; one after the end has the place of the end, one before the start that of the start
 unfoldable pub place : Axis → ℕ → ℕ

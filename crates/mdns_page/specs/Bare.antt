@@ -1,20 +1,12 @@
 -- What a page has apart from names.
 use Rattle.std.specs.Prelude.{ℕ, ◌==◌, if◌then◌else◌, Bool, true, false, Option, None, Some, List, [], ◌∷◌, map}
 use Rattle.std.specs.List.{filter_map}
-use Rattle.mdns_message.specs.Parts.{address_of}
-use Rattle.mdns_message.specs.TextData.{strings_of}
-use Rattle.mdns_message.specs.declared.parts.Address.{Address}
+use Rattle.mdns_message.specs.{Parts.{address_of}, TextData.{strings_of}, declared.parts.Address.{Address}}
 use Rattle.mdns_join.specs.declared.latest.Latest.{Latest}
-use Rattle.mdns_lives.specs.declared.life.Life.{Life}
-use Rattle.mdns_lives.specs.declared.seconds_heard.SecondHeard.{SecondHeard}
-use Rattle.mdns_browse.specs.declared.instance.Server.{Server}
-use Rattle.mdns_browse.specs.Services.{GivenRow, InstanceRow, instance_row_in}
-use Rattle.mdns_survey.specs.declared.reading.Span.{Span}
-use Rattle.mdns_survey.specs.declared.summary.Summary.{Summary}
-use Rattle.mdns_page.specs.Captures.{Facts}
-use Rattle.mdns_page.specs.Group.{grouped}
-use Rattle.mdns_page.specs.LiveSection.{type_of}
-use Rattle.mdns_page.specs.Timeline.{Row, owner_of}
+use Rattle.mdns_lives.specs.declared.{life.Life.{Life}, seconds_heard.SecondHeard.{SecondHeard}}
+use Rattle.mdns_browse.specs.{declared.instance.Server.{Server}, Services.{GivenRow, InstanceRow, instance_row_in}}
+use Rattle.mdns_survey.specs.declared.{reading.Span.{Span}, summary.Summary.{Summary}}
+use Rattle.mdns_page.specs.{Captures.{Facts}, Group.{grouped}, LiveSection.{type_of}, Timeline.{Row, owner_of}}
 
 -- text of the network isn't written at all
 abbrev pub unsaid : List ℕ → List ℕ

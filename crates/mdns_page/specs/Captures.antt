@@ -1,25 +1,15 @@
 -- The captures of a page.
 use Rattle.std.specs.Prelude.{ℕ, ◌+◌, ◌==◌, ◌&&◌, Bool, true, if◌then◌else◌, nat_lt, Option, None, Some, option_map, unwrap_or}
 use Rattle.std.specs.Prelude.{List, [], ◌∷◌, ◌++◌, codes, length, slice_get}
-use Rattle.std.specs.Fmt.{decimal}
-use Rattle.std.specs.List.{find}
+use Rattle.std.specs.{Fmt.{decimal}, List.{find}}
 use Rattle.mdns_capture.specs.Text.{ending_text}
-use Rattle.mdns_survey.specs.ProgramLines.{is_whole}
-use Rattle.mdns_survey.specs.declared.reading.Span.{Span}
-use Rattle.mdns_survey.specs.declared.summary.Summary.{Summary}
+use Rattle.mdns_survey.specs.{ProgramLines.{is_whole}, declared.reading.Span.{Span}, declared.summary.Summary.{Summary}}
 use Rattle.mdns_survey.specs.declared.summary.Tally.{Tally}
-use Rattle.mdns_listeners.specs.declared.numbers.ListenerRow.{ListenerRow}
-use Rattle.mdns_listeners.specs.declared.pairs.PairRow.{PairRow}
-use Rattle.mdns_listeners.specs.Clock.{clock_words}
+use Rattle.mdns_listeners.specs.{declared.numbers.ListenerRow.{ListenerRow}, declared.pairs.PairRow.{PairRow}, Clock.{clock_words}}
 use Rattle.mdns_listeners.specs.Warnings.{warning_words, warns}
-use Rattle.people_text.specs.MomentText.{millis_text}
-use Rattle.people_text.specs.Shown.{shown}
-use Rattle.mdns_page.specs.Axis.{drawn_if, place, place_end, short_text}
-use Rattle.mdns_page.specs.Counts.{commas, count_text}
-use Rattle.mdns_page.specs.Group.{axis_picture, group, item}
-use Rattle.mdns_page.specs.declared.axis.Axis.{Axis}
-use Rattle.mdns_page.specs.declared.axis.Dates.{Dates}
-use Rattle.mdns_page.specs.declared.captures.CaptureFacts.{CaptureFacts}
+use Rattle.people_text.specs.{MomentText.{millis_text}, Shown.{shown}}
+use Rattle.mdns_page.specs.{Axis.{drawn_if, place, place_end, short_text}, Counts.{commas, count_text}, Group.{axis_picture, group, item}}
+use Rattle.mdns_page.specs.declared.{axis.Axis.{Axis}, axis.Dates.{Dates}, captures.CaptureFacts.{CaptureFacts}}
 use Rattle.mdns_page.specs.declared.captures.Comparison.{Comparison as LentComparison}
 
 -- what is known of a capture: the name of its file, its summary, and the span of its packets, if there are any

@@ -1,16 +1,11 @@
 -- How captures compare, and what a page collects of them.
 use Rattle.std.specs.Prelude.{◌≡◌, ◌⊎◌, ℕ, true, false, List, [], ◌∷◌, ◌++◌, length, Option, None, Some}
 use Rattle.mdns_capture.specs.Savefile.{PacketAt}
-use Rattle.mdns_survey.specs.Chronicling.{ChroniclesAll}
-use Rattle.mdns_survey.specs.Outcomes.{Outcome}
-use Rattle.mdns_listeners.specs.Groups.{Grouped, grouped}
-use Rattle.mdns_listeners.specs.Heard.{HeardRow}
-use Rattle.mdns_listeners.specs.Listeners.{AreRowsOf, Gathered, Gathers, GathersAll, spans_by}
-use Rattle.mdns_listeners.specs.Numbers.{listener_rows}
-use Rattle.mdns_listeners.specs.Together.{are_compared, pairs_together}
-use Rattle.mdns_listeners.specs.declared.listeners.MessageCollector.{MessageCollector}
-use Rattle.mdns_page.specs.Captures.{Comparison}
-use Rattle.mdns_page.specs.declared.collector.ComparisonRows.{ComparisonRows}
+use Rattle.mdns_survey.specs.{Chronicling.{ChroniclesAll}, Outcomes.{Outcome}}
+use Rattle.mdns_listeners.specs.{Groups.{Grouped, grouped}, Heard.{HeardRow}}
+use Rattle.mdns_listeners.specs.{Listeners.{AreRowsOf, Gathered, Gathers, GathersAll, spans_by}, Numbers.{listener_rows}}
+use Rattle.mdns_listeners.specs.{Together.{are_compared, pairs_together}, declared.listeners.MessageCollector.{MessageCollector}}
+use Rattle.mdns_page.specs.{Captures.{Comparison}, declared.collector.ComparisonRows.{ComparisonRows}}
 use Rattle.mdns_page.specs.declared.collector.PageCollector.{PageCollector}
 
 -- each capture is a listener by itself

@@ -1,19 +1,12 @@
 -- The whole page.
 use Rattle.std.specs.Prelude.{ℕ, nat_lt, if◌then◌else◌, List, [], ◌++◌, codes, length, map}
-use Rattle.std.specs.Fmt.{decimal}
-use Rattle.std.specs.List.{flat_map}
+use Rattle.std.specs.{Fmt.{decimal}, List.{flat_map}}
 use Rattle.people_text.specs.MomentText.{date_text}
 use Rattle.mdns_browse.specs.declared.about.Subject.{Subject}
-use Rattle.mdns_page.specs.Axis.{is_same_date}
-use Rattle.mdns_page.specs.Captures.{Comparison, Facts, captures_text, comparison_lent, facts_lent}
-use Rattle.mdns_page.specs.OtherRows.{is_large}
-use Rattle.mdns_page.specs.Lanes.{height}
-use Rattle.mdns_page.specs.Lead.{about_line, ending_warning, live_line, lost_warning, pair_warning}
-use Rattle.mdns_page.specs.Ticks.{symbols_text}
-use Rattle.mdns_page.specs.Timeline.{Row, counted_lent, timeline}
-use Rattle.mdns_page.specs.declared.axis.Axis.{Axis}
-use Rattle.mdns_page.specs.declared.document.PageParts.{PageParts}
-use Rattle.mdns_page.specs.declared.style.TheConstants.{STYLE}
+use Rattle.mdns_page.specs.{Axis.{is_same_date}, Captures.{Comparison, Facts, captures_text, comparison_lent, facts_lent}}
+use Rattle.mdns_page.specs.{OtherRows.{is_large}, Lanes.{height}, Lead.{about_line, ending_warning, live_line, lost_warning, pair_warning}}
+use Rattle.mdns_page.specs.{Ticks.{symbols_text}, Timeline.{Row, counted_lent, timeline}, declared.axis.Axis.{Axis}}
+use Rattle.mdns_page.specs.declared.{document.PageParts.{PageParts}, style.TheConstants.{STYLE}}
 
 -- ---- the head
 

@@ -2,9 +2,7 @@
 use Rattle.std.specs.Prelude.{ℕ, ◌==◌, nat_lt, false, if◌then◌else◌, List, [], ◌++◌, codes, length, sum_by}
 use Rattle.std.specs.List.{count_by}
 use Rattle.mdns_lives.specs.declared.seconds_heard.SecondHeard.{SecondHeard}
-use Rattle.mdns_page.specs.Captures.{each_from, number_text}
-use Rattle.mdns_page.specs.Counts.{commas}
-use Rattle.mdns_page.specs.Lanes.{is_goodbye}
+use Rattle.mdns_page.specs.{Captures.{each_from, number_text}, Counts.{commas}, Lanes.{is_goodbye}}
 
 -- how many of the seconds in which a record was heard have its goodbye; nothing where none has
 abbrev pub goodbyes_text : ℕ → List ℕ

@@ -1,18 +1,13 @@
 -- The records of a page.
 use Rattle.std.specs.Prelude.{◌≡◌, Bool, ◌||◌, if◌then◌else◌, is_some, List, [], ◌∷◌, map}
 use Rattle.std.specs.List.{All, filter}
-use Rattle.mdns_message.specs.Parts.{address_of, service_of}
-use Rattle.mdns_message.specs.declared.hearing.Hearing.{Hearing}
+use Rattle.mdns_message.specs.{Parts.{address_of, service_of}, declared.hearing.Hearing.{Hearing}}
 use Rattle.mdns_join.specs.declared.latest.Latest.{Latest}
 use Rattle.mdns_lives.specs.declared.life.Life.{Life}
-use Rattle.mdns_browse.specs.declared.about.Subject.{Subject}
-use Rattle.mdns_browse.specs.About.{keeps_heard, keeps_record}
+use Rattle.mdns_browse.specs.{declared.about.Subject.{Subject}, About.{keeps_heard, keeps_record}}
 use Rattle.mdns_browse.specs.Services.{body_of, instance_given, name_if, other_given}
-use Rattle.mdns_page.specs.declared.kept_records.TimelinePart.{TimelinePart}
-use Rattle.mdns_page.specs.declared.kept_records.TimelinePart.TheVariants.{Addresses, Instances, Names}
-use Rattle.mdns_page.specs.TimelineRows.{IsCounted}
-use Rattle.mdns_page.specs.Servers.{servers_of}
-use Rattle.mdns_page.specs.Timeline.{Row}
+use Rattle.mdns_page.specs.declared.kept_records.{TimelinePart.{TimelinePart}, TimelinePart.TheVariants.{Addresses, Instances, Names}}
+use Rattle.mdns_page.specs.{TimelineRows.{IsCounted}, Servers.{servers_of}, Timeline.{Row}}
 
 -- the last hearings in which instances are looked up: those of all records, live or not; none without subjects, where each is kept
 abbrev pub looked_up : List Subject → List (Latest × List Life) → List Latest

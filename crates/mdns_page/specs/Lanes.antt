@@ -1,16 +1,10 @@
 -- The lanes below the bars of a row: in which seconds each capture heard its record.
 use Rattle.std.specs.Prelude.{ℕ, ◌+◌, ◌*◌, ◌==◌, ◌||◌, nat_lt, Bool, if◌then◌else◌, Option, None, Some, List, [], ◌∷◌, ◌++◌, codes}
 use Rattle.std.specs.Fmt.{decimal}
-use Rattle.mdns_lives.specs.declared.life.RecordHearing.{RecordHearing}
-use Rattle.mdns_lives.specs.declared.seconds_heard.SecondHeard.{SecondHeard}
+use Rattle.mdns_lives.specs.declared.{life.RecordHearing.{RecordHearing}, seconds_heard.SecondHeard.{SecondHeard}}
 use Rattle.mdns_survey.specs.declared.reading.Span.{Span}
-use Rattle.mdns_page.specs.Axis.{drawn_if, place, place_end}
-use Rattle.mdns_page.specs.Captures.{Facts, each_from}
-use Rattle.mdns_page.specs.Picture.{path}
-use Rattle.mdns_page.specs.declared.axis.Axis.{Axis}
-use Rattle.mdns_page.specs.declared.picture.Mark.{Mark}
-use Rattle.mdns_page.specs.declared.picture.Stroke.{Stroke}
-use Rattle.mdns_page.specs.declared.picture.Stroke.TheVariants.{Tick, GoodbyeTick}
+use Rattle.mdns_page.specs.{Axis.{drawn_if, place, place_end}, Captures.{Facts, each_from}, Picture.{path}, declared.axis.Axis.{Axis}}
+use Rattle.mdns_page.specs.declared.picture.{Mark.{Mark}, Stroke.{Stroke}, Stroke.TheVariants.{Tick, GoodbyeTick}}
 
 -- the height of a picture with so many lanes
 abbrev pub height : ℕ → ℕ

@@ -2,19 +2,12 @@
 use Rattle.std.specs.Prelude.{ℕ, ◌+◌, ◌==◌, ◌&&◌, Bool, true, false, if◌then◌else◌, List, [], ◌++◌, ◌∷◌, codes, string_bytes}
 use Rattle.std.specs.List.{join_by}
 use Rattle.mdns_capture.specs.Text.{ending_text}
-use Rattle.mdns_lives.specs.declared.life.Life.{Life}
-use Rattle.mdns_lives.specs.declared.life.EndReason.{EndReason}
-use Rattle.mdns_lives.specs.declared.life.EndReason.TheVariants.{Expired, Goodbye, Flushed}
+use Rattle.mdns_lives.specs.declared.life.{Life.{Life}, EndReason.{EndReason}, EndReason.TheVariants.{Expired, Goodbye, Flushed}}
 use Rattle.mdns_browse.specs.declared.about.Subject.{Subject}
 use Rattle.mdns_survey.specs.ProgramLines.{is_whole}
-use Rattle.mdns_listeners.specs.declared.pairs.PairRow.{PairRow}
-use Rattle.mdns_listeners.specs.Warnings.{warning_words, warns}
-use Rattle.people_text.specs.MomentText.{millis_text}
-use Rattle.people_text.specs.Shown.{shown}
-use Rattle.mdns_page.specs.Captures.{Facts, name_at}
-use Rattle.mdns_page.specs.Counts.{commas, count_text}
-use Rattle.mdns_page.specs.Picture.{goes_on, is_for}
-use Rattle.mdns_page.specs.Timeline.{Row, count_last}
+use Rattle.mdns_listeners.specs.{declared.pairs.PairRow.{PairRow}, Warnings.{warning_words, warns}}
+use Rattle.people_text.specs.{MomentText.{millis_text}, Shown.{shown}}
+use Rattle.mdns_page.specs.{Captures.{Facts, name_at}, Counts.{commas, count_text}, Picture.{goes_on, is_for}, Timeline.{Row, count_last}}
 use Rattle.mdns_page.specs.declared.axis.Axis.{Axis}
 
 -- ---- how many instances ended

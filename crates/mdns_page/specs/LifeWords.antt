@@ -3,10 +3,7 @@ use Rattle.std.specs.Prelude.{ℕ, ◌-◌, ◌==◌, if◌then◌else◌, List,
 use Rattle.std.specs.List.{flat_map}
 use Rattle.mdns_lives.specs.declared.life.Life.{Life}
 use Rattle.mdns_browse.specs.LifeText.{open_text, reason_text}
-use Rattle.mdns_page.specs.Axis.{is_same_date, short_text}
-use Rattle.mdns_page.specs.Counts.{commas}
-use Rattle.mdns_page.specs.Picture.{goes_on}
-use Rattle.mdns_page.specs.declared.axis.Axis.{Axis}
+use Rattle.mdns_page.specs.{Axis.{is_same_date, short_text}, Counts.{commas}, Picture.{goes_on}, declared.axis.Axis.{Axis}}
 use Rattle.mdns_page.specs.declared.axis.Dates.TheVariants.{Omitted}
 
 -- a life: from when until when, and why it ended, without the date if that is the one of its begin, or that it goes on

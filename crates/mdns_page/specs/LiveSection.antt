@@ -1,18 +1,12 @@
 -- What was live at the end.
 use Rattle.std.specs.Prelude.{ℕ, ◌-◌, ◌==◌, if◌then◌else◌, Bool, List, [], ◌∷◌, ◌++◌, codes, length, option_map, unwrap_or}
-use Rattle.std.specs.Fmt.{decimal}
-use Rattle.std.specs.List.{filter_map, flat_map, join_by}
-use Rattle.mdns_message.specs.Resource.{Body}
-use Rattle.mdns_message.specs.Parts.{address_of}
-use Rattle.people_text.specs.MomentText.{duration_text, millis_text}
-use Rattle.people_text.specs.Shown.{name_shown}
-use Rattle.mdns_browse.specs.declared.instance.Server.{Server}
-use Rattle.mdns_join.specs.declared.latest.Latest.{Latest}
-use Rattle.mdns_browse.specs.Services.{GivenRow, InstanceRow, instance_row_in}
+use Rattle.std.specs.{Fmt.{decimal}, List.{filter_map, flat_map, join_by}}
+use Rattle.mdns_message.specs.{Resource.{Body}, Parts.{address_of}}
+use Rattle.people_text.specs.{MomentText.{duration_text, millis_text}, Shown.{name_shown}}
+use Rattle.mdns_browse.specs.{declared.instance.Server.{Server}, Services.{GivenRow, InstanceRow, instance_row_in}}
 use Rattle.mdns_browse.specs.RecordShown.{shown_address, shown_instance, shown_order, shown_strings, spaced_wide}
-use Rattle.mdns_page.specs.declared.axis.Axis.{Axis}
-use Rattle.mdns_page.specs.Axis.{short_text}
-use Rattle.mdns_page.specs.Group.{first_owner, group, grouped, item}
+use Rattle.mdns_join.specs.declared.latest.Latest.{Latest}
+use Rattle.mdns_page.specs.{declared.axis.Axis.{Axis}, Axis.{short_text}, Group.{first_owner, group, grouped, item}}
 
 -- ---- instances
 

@@ -5,31 +5,15 @@ use Rattle.mdns_capture.specs.Savefile.{PacketAt}
 use Rattle.mdns_message.specs.declared.hearing.Hearing.{Hearing}
 use Rattle.mdns_join.specs.declared.latest.Latest.{Latest}
 use Rattle.mdns_cache.specs.Live.{AreLiveRecords, key_of_last}
-use Rattle.mdns_lives.specs.declared.life.Life.{Life}
-use Rattle.mdns_lives.specs.Chronicle.{AreAllLives}
-use Rattle.mdns_lives.specs.Since.{IsLiveSince, all_since_rows}
-use Rattle.mdns_browse.specs.declared.about.Subject.{Subject}
-use Rattle.mdns_browse.specs.Services.{GivenRow}
-use Rattle.mdns_survey.specs.declared.reading.Reading.{Reading}
-use Rattle.mdns_survey.specs.declared.request.AsOf.{AsOf}
-use Rattle.mdns_survey.specs.declared.summary.Summary.{Summary}
-use Rattle.mdns_survey.specs.Outcomes.{Outcome}
-use Rattle.mdns_survey.specs.Filter.{counted, counted_each, filter_of}
-use Rattle.mdns_survey.specs.Readings.{all_moments, lost_in, summaries_of}
-use Rattle.mdns_survey.specs.Question.{Asked, asked_at_once}
-use Rattle.mdns_survey.specs.Surveys.{AllLeft}
-use Rattle.mdns_page.specs.declared.axis.Axis.{Axis}
-use Rattle.mdns_page.specs.declared.kept_records.TimelinePart.TheVariants.{Addresses, Instances, Names}
-use Rattle.mdns_page.specs.Axis.{IsAxis}
-use Rattle.mdns_page.specs.Captures.{Comparison, Facts}
-use Rattle.mdns_page.specs.Collected.{Compares}
-use Rattle.mdns_page.specs.OtherRows.{is_large}
-use Rattle.mdns_page.specs.Html.{isolated}
-use Rattle.mdns_page.specs.KeptRecords.{AreRows, is_drawn, kept_of, looked_up}
-use Rattle.mdns_page.specs.LiveSection.{live_text}
-use Rattle.mdns_page.specs.SkippedSection.{skipped_text}
-use Rattle.mdns_page.specs.Document.{page}
-use Rattle.mdns_page.specs.Timeline.{Row, is_open}
+use Rattle.mdns_lives.specs.{declared.life.Life.{Life}, Chronicle.{AreAllLives}, Since.{IsLiveSince, all_since_rows}}
+use Rattle.mdns_browse.specs.{declared.about.Subject.{Subject}, Services.{GivenRow}}
+use Rattle.mdns_survey.specs.declared.{reading.Reading.{Reading}, request.AsOf.{AsOf}, summary.Summary.{Summary}}
+use Rattle.mdns_survey.specs.{Outcomes.{Outcome}, Filter.{counted, counted_each, filter_of}, Readings.{all_moments, lost_in, summaries_of}}
+use Rattle.mdns_survey.specs.{Question.{Asked, asked_at_once}, Surveys.{AllLeft}}
+use Rattle.mdns_page.specs.declared.{axis.Axis.{Axis}, kept_records.TimelinePart.TheVariants.{Addresses, Instances, Names}}
+use Rattle.mdns_page.specs.{Axis.{IsAxis}, Captures.{Comparison, Facts}, Collected.{Compares}, OtherRows.{is_large}, Html.{isolated}}
+use Rattle.mdns_page.specs.{KeptRecords.{AreRows, is_drawn, kept_of, looked_up}, LiveSection.{live_text}, SkippedSection.{skipped_text}}
+use Rattle.mdns_page.specs.{Document.{page}, Timeline.{Row, is_open}}
 
 -- ---- what was live at the end
 

@@ -1,14 +1,9 @@
 -- The picture of a row.
 use Rattle.std.specs.Prelude.{ℕ, ◌==◌, if◌then◌else◌, List, [], ◌++◌, codes}
-use Rattle.std.specs.Fmt.{decimal}
-use Rattle.std.specs.List.{flat_map}
-use Rattle.mdns_lives.specs.declared.life.Life.{Life}
-use Rattle.mdns_lives.specs.declared.life.EndReason.TheVariants.{Expired, Goodbye, Flushed}
+use Rattle.std.specs.{Fmt.{decimal}, List.{flat_map}}
+use Rattle.mdns_lives.specs.declared.life.{Life.{Life}, EndReason.TheVariants.{Expired, Goodbye, Flushed}}
 use Rattle.mdns_lives.specs.declared.seconds_heard.SecondHeard.{SecondHeard}
-use Rattle.mdns_page.specs.Captures.{each_from}
-use Rattle.mdns_page.specs.Lanes.{height, lane_text}
-use Rattle.mdns_page.specs.Picture.{bars, mark_of, path}
-use Rattle.mdns_page.specs.declared.look.Look.{Look}
+use Rattle.mdns_page.specs.{Captures.{each_from}, Lanes.{height, lane_text}, Picture.{bars, mark_of, path}, declared.look.Look.{Look}}
 use Rattle.mdns_page.specs.declared.picture.Stroke.TheVariants.{Bar, Server, Pin, Head}
 
 -- the picture of some lives, in order of time: a bar for each, those of servers, for each that ended a pin that tells why, and in

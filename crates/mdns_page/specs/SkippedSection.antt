@@ -4,11 +4,8 @@ use Rattle.std.specs.List.{flat_map}
 use Rattle.mdns_capture.specs.declared.cause.Cause.TheVariants.{DatagramCut, EtherType, EthernetCut, ExtensionHeader, Fragment}
 use Rattle.mdns_capture.specs.declared.cause.Cause.TheVariants.{FragmentHeader, Group, HeaderCut, IpHeader, Port, Protocol}
 use Rattle.mdns_capture.specs.declared.cause.Cause.TheVariants.{TotalLength, UdpLength, VlanTag}
-use Rattle.mdns_survey.specs.declared.outcome.SkipReason.{SkipReason}
-use Rattle.mdns_survey.specs.declared.outcome.SkipReason.TheVariants.{Frame, Ignored, Query}
-use Rattle.mdns_survey.specs.declared.reading.Reading.{Reading}
-use Rattle.mdns_survey.specs.Readings.{refused_in, skipped_in}
-use Rattle.mdns_survey.specs.Reasons.{row_of}
+use Rattle.mdns_survey.specs.declared.outcome.{SkipReason.{SkipReason}, SkipReason.TheVariants.{Frame, Ignored, Query}}
+use Rattle.mdns_survey.specs.{declared.reading.Reading.{Reading}, Readings.{refused_in, skipped_in}, Reasons.{row_of}}
 use Rattle.mdns_page.specs.Counts.{commas}
 
 -- ---- the reasons

@@ -1,31 +1,19 @@
 -- The timeline.
 use Rattle.std.specs.Prelude.{ℕ, ◌+◌, ◌-◌, ◌==◌, nat_le, nat_lt, Bool, false, if◌then◌else◌, option_map, unwrap_or}
 use Rattle.std.specs.Prelude.{List, [], ◌++◌, codes, length, map, slice_get}
-use Rattle.std.specs.Global.{Vec}
-use Rattle.std.specs.List.{count_by, flat_map}
-use Rattle.mdns_message.specs.Parts.{content_of}
-use Rattle.mdns_message.specs.declared.parts.Content.{Content}
+use Rattle.std.specs.{Global.{Vec}, List.{count_by, flat_map}}
+use Rattle.mdns_message.specs.{Parts.{content_of}, declared.parts.Content.{Content}}
 use Rattle.mdns_message.specs.declared.parts.Content.TheVariants as content
 use Rattle.mdns_join.specs.declared.latest.Latest.{Latest}
-use Rattle.mdns_lives.specs.declared.life.Life.{Life}
-use Rattle.mdns_lives.specs.declared.lives.RecordLives.{RecordLives}
-use Rattle.mdns_lives.specs.declared.seconds_heard.SecondHeard.{SecondHeard}
+use Rattle.mdns_lives.specs.declared.{life.Life.{Life}, lives.RecordLives.{RecordLives}, seconds_heard.SecondHeard.{SecondHeard}}
 use Rattle.people_text.specs.Shown.{name_shown}
 use Rattle.mdns_browse.specs.RecordShown.{shown_address, shown_instance}
 use Rattle.mdns_cache.specs.LentRecords.{last_lent}
-use Rattle.mdns_page.specs.Counts.{commas, count_text}
-use Rattle.mdns_page.specs.Group.{axis_picture, first_owner, group, grouped, item}
-use Rattle.mdns_page.specs.HeardWords.{heard_text}
-use Rattle.mdns_page.specs.OtherRows.{is_large}
-use Rattle.mdns_page.specs.Legend.{key}
-use Rattle.mdns_page.specs.Picture.{goes_on}
-use Rattle.mdns_page.specs.RowPicture.{picture}
-use Rattle.mdns_page.specs.LifeWords.{lives_words}
-use Rattle.mdns_page.specs.declared.axis.Axis.{Axis}
-use Rattle.mdns_page.specs.declared.kept_records.TimelinePart.{TimelinePart}
+use Rattle.mdns_page.specs.{Counts.{commas, count_text}, Group.{axis_picture, first_owner, group, grouped, item}, HeardWords.{heard_text}}
+use Rattle.mdns_page.specs.{OtherRows.{is_large}, Legend.{key}, Picture.{goes_on}, RowPicture.{picture}, LifeWords.{lives_words}}
+use Rattle.mdns_page.specs.declared.{axis.Axis.{Axis}, kept_records.TimelinePart.{TimelinePart}}
 use Rattle.mdns_page.specs.declared.kept_records.TimelinePart.TheVariants.{Addresses, Instances, Names}
-use Rattle.mdns_page.specs.declared.timeline_rows.CountedRow.{CountedRow}
-use Rattle.mdns_page.specs.declared.look.Look.{Look}
+use Rattle.mdns_page.specs.declared.{timeline_rows.CountedRow.{CountedRow}, look.Look.{Look}}
 
 -- ---- rows of records
 

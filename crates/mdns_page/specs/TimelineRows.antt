@@ -1,12 +1,10 @@
 -- In which seconds captures heard a record.
 use Rattle.std.specs.Prelude.{◌≡◌, ◌≢◌, ◌⊎◌, nat_lt, Bool, false, if◌then◌else◌, List, [], ◌∷◌, ◌++◌, length}
 use Rattle.std.specs.List.{filter}
-use Rattle.mdns_message.specs.declared.hearing.Hearing.{Hearing}
-use Rattle.mdns_message.specs.declared.key.Key.{Key}
+use Rattle.mdns_message.specs.declared.{hearing.Hearing.{Hearing}, key.Key.{Key}}
 use Rattle.mdns_cache.specs.Live.{key_of_last}
 use Rattle.mdns_browse.specs.Services.{AreEach}
-use Rattle.mdns_lives.specs.Heard.{AreSecondsHeard}
-use Rattle.mdns_lives.specs.declared.seconds_heard.SecondHeard.{SecondHeard}
+use Rattle.mdns_lives.specs.{Heard.{AreSecondsHeard}, declared.seconds_heard.SecondHeard.{SecondHeard}}
 use Rattle.mdns_page.specs.Timeline.{Row}
 
 -- The seconds in which each capture heard the record, by its hearings; where there are many captures, only those of captures that

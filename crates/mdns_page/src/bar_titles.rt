@@ -1,11 +1,9 @@
 //! What bars say of lives.
 
 ghost use Rattle.std.specs.Prelude.{◌≡◌, ◌++◌, codes, if◌then◌else◌, length, map, nat_le, OnOk};
-ghost use Rattle.std.specs.List.{flat_map};
-ghost use Rattle.std.specs.String.{string_bytes};
+ghost use Rattle.std.specs.{List.{flat_map}, String.{string_bytes}};
 ghost use Rattle.mdns_browse.specs.LifeText.{open_text, reason_text};
-ghost use Rattle.mdns_page.specs.Timeline.{counted_lent, lives_in, lives_lent};
-ghost use Rattle.mdns_page.specs.BarTitles.{IsLess, life_title};
+ghost use Rattle.mdns_page.specs.{Timeline.{counted_lent, lives_in, lives_lent}, BarTitles.{IsLess, life_title}};
 
 use crate::timeline_rows::CountedRow;
 use mdns_lives::{EndReason, Life, RecordLives};

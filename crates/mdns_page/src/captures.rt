@@ -1,17 +1,14 @@
 //! The captures of a page: what each is, when it recorded, and how it ends.
 
 ghost use Rattle.std.specs.Prelude.{◌≡◌, ◌++◌, [], codes, if◌then◌else◌, length, map, nat_lt, option_map, slice_get, unwrap_or, OnOk};
-ghost use Rattle.std.specs.Fmt.{decimal};
-ghost use Rattle.std.specs.List.{find};
-ghost use Rattle.std.specs.String.{string_bytes};
+ghost use Rattle.std.specs.{Fmt.{decimal}, List.{find}, String.{string_bytes}};
 ghost use Rattle.mdns_capture.specs.Text.{ending_text};
 ghost use Rattle.mdns_survey.specs.ProgramLines.{is_whole};
 ghost use Rattle.people_text.specs.Shown.{shown};
 ghost use Rattle.mdns_page.specs.Axis.{drawn_if, place, place_end};
 ghost use Rattle.mdns_page.specs.Captures.{agreement_words, alone_text, capture_text, captures_text, clock_text, compared_text};
-ghost use Rattle.mdns_page.specs.Captures.{comparison_lent, each_from, facts_lent, is_shared_by, name_at, number_text};
-ghost use Rattle.mdns_page.specs.Captures.{outcomes_text, recorded_bar, recorded_picture, recorded_words, sizes_text};
-ghost use Rattle.mdns_page.specs.Html.{isolated};
+ghost use Rattle.mdns_page.specs.Captures.{comparison_lent, each_from, facts_lent, is_shared_by, name_at, number_text, outcomes_text};
+ghost use Rattle.mdns_page.specs.{Captures.{recorded_bar, recorded_picture, recorded_words, sizes_text}, Html.{isolated}};
 
 use crate::axis::{Axis, Dates, push_short};
 use crate::counts::{push_commas, push_count};

@@ -3,10 +3,7 @@
 ghost use Rattle.std.specs.Prelude.{◌≡◌, ◌++◌, ◌∷◌, [], IfOk, List, OnOk, map, string_bytes};
 ghost use Rattle.mdns_capture.specs.Savefile.{PacketAt};
 ghost use Rattle.mdns_lives.specs.MessageChronicle.{RecordsAll};
-ghost use Rattle.mdns_survey.specs.Chronicling.{ChroniclesAll};
-ghost use Rattle.mdns_survey.specs.Filter.{selected};
-ghost use Rattle.mdns_survey.specs.Outcomes.{Outcome, hearings_in};
-ghost use Rattle.mdns_survey.specs.Readings.{HaveSpans};
+ghost use Rattle.mdns_survey.specs.{Chronicling.{ChroniclesAll}, Filter.{selected}, Outcomes.{Outcome, hearings_in}, Readings.{HaveSpans}};
 ghost use Rattle.mdns_survey.specs.declared.each_capture.EachChronicling.{EachChronicling};
 ghost use Rattle.mdns_listeners.specs.Listeners.{Gathered};
 ghost use Rattle.mdns_page.specs.Captures.{comparison_lent};

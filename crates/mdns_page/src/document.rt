@@ -3,10 +3,7 @@
 ghost use Rattle.std.specs.Prelude.{◌≡◌, ◌++◌, [], codes, if◌then◌else◌, map, OnOk};
 ghost use Rattle.std.specs.String.{string_bytes};
 ghost use Rattle.people_text.specs.MomentText.{date_text};
-ghost use Rattle.mdns_page.specs.Axis.{is_same_date};
-ghost use Rattle.mdns_page.specs.Captures.{facts_lent};
-ghost use Rattle.mdns_page.specs.Html.{isolated};
-ghost use Rattle.mdns_page.specs.Document.{head, page, parts_lent, title};
+ghost use Rattle.mdns_page.specs.{Axis.{is_same_date}, Captures.{facts_lent}, Html.{isolated}, Document.{head, page, parts_lent, title}};
 
 use crate::axis::{Axis, is_same_date};
 use crate::captures::{CaptureFacts, Comparison, push_captures};

@@ -1,13 +1,9 @@
 //! How often captures heard a record, in words.
 
 ghost use Rattle.std.specs.Prelude.{◌≡◌, ◌<◌, ◌^◌, ◌==◌, [], ◌++◌, codes, if◌then◌else◌, length, map, nat_lt, sum_by, OnOk};
-ghost use Rattle.std.specs.String.{string_bytes};
-ghost use Rattle.std.specs.List.{count_by};
-ghost use Rattle.mdns_page.specs.Captures.{each_from};
-ghost use Rattle.mdns_page.specs.Counts.{commas};
-ghost use Rattle.mdns_page.specs.Lanes.{is_goodbye};
-ghost use Rattle.mdns_page.specs.HeardWords.{capture_times, goodbyes_text, heard_text, together_text};
-ghost use Rattle.mdns_page.specs.Timeline.{seconds_lent};
+ghost use Rattle.std.specs.{String.{string_bytes}, List.{count_by}};
+ghost use Rattle.mdns_page.specs.{Captures.{each_from}, Counts.{commas}, Lanes.{is_goodbye}};
+ghost use Rattle.mdns_page.specs.{HeardWords.{capture_times, goodbyes_text, heard_text, together_text}, Timeline.{seconds_lent}};
 
 use crate::captures::{FEW_CAPTURES, push_number};
 use crate::counts::push_commas;

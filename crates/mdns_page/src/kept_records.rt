@@ -1,12 +1,9 @@
 //! The records of a page.
 
 ghost use Rattle.std.specs.Prelude.{◌≡◌, ◌++◌, ◌||◌, ◌∷◌, [], if◌then◌else◌, is_some, IfOk, OnOk, map};
-ghost use Rattle.std.specs.List.{filter};
-ghost use Rattle.std.specs.List.Sorted.{IsStrictlySortedBy};
-ghost use Rattle.mdns_message.specs.Parts.{address_of};
-ghost use Rattle.mdns_message.specs.Resource.{key_cmp};
-ghost use Rattle.mdns_cache.specs.Live.{key_of_last};
-ghost use Rattle.mdns_cache.specs.LentRecords.{last_lent};
+ghost use Rattle.std.specs.{List.{filter}, List.Sorted.{IsStrictlySortedBy}};
+ghost use Rattle.mdns_message.specs.{Parts.{address_of}, Resource.{key_cmp}};
+ghost use Rattle.mdns_cache.specs.{Live.{key_of_last}, LentRecords.{last_lent}};
 ghost use Rattle.mdns_lives.specs.LentLives.{row_lent};
 ghost use Rattle.mdns_browse.specs.Services.{body_of, other_given};
 ghost use Rattle.mdns_page.specs.KeptRecords.{is_drawn, is_kept, is_of};

@@ -2,17 +2,13 @@
 //! captures lack.
 
 ghost use Rattle.std.specs.Prelude.{◌≡◌, ◌-◌, ◌&&◌, ◌∷◌, ◌++◌, codes, false, length, map, option_map, slice_get, unwrap_or, OnOk};
-ghost use Rattle.std.specs.List.{flat_map};
-ghost use Rattle.std.specs.String.{string_bytes};
+ghost use Rattle.std.specs.{List.{flat_map}, String.{string_bytes}};
 ghost use Rattle.mdns_capture.specs.Text.{ending_text};
 ghost use Rattle.mdns_lives.specs.declared.life.EndReason.TheVariants.{Goodbye};
 ghost use Rattle.people_text.specs.Shown.{shown};
-ghost use Rattle.mdns_page.specs.Captures.{comparison_lent, facts_lent};
-ghost use Rattle.mdns_page.specs.Html.{isolated};
-ghost use Rattle.mdns_page.specs.Lead.{about_line, ended_text, ending_warning, is_ended, live_line, lost_warning};
-ghost use Rattle.mdns_page.specs.Lead.{others_text, pair_warning, said_text};
-ghost use Rattle.mdns_page.specs.Picture.{goes_on, is_for};
-ghost use Rattle.mdns_page.specs.Timeline.{count_last, counted_lent};
+ghost use Rattle.mdns_page.specs.{Captures.{comparison_lent, facts_lent}, Html.{isolated}};
+ghost use Rattle.mdns_page.specs.Lead.{about_line, ended_text, ending_warning, is_ended, live_line, lost_warning, others_text};
+ghost use Rattle.mdns_page.specs.{Lead.{pair_warning, said_text}, Picture.{goes_on, is_for}, Timeline.{count_last, counted_lent}};
 
 use crate::axis::Axis;
 use crate::captures::{CaptureFacts, Comparison, name_at, push_shown_word};

@@ -2,8 +2,7 @@
 
 ghost use Rattle.std.specs.Prelude.{◌≡◌, OnOk};
 ghost use Rattle.std.specs.String.{string_bytes};
-ghost use Rattle.mdns_page.specs.Html.{isolated};
-ghost use Rattle.mdns_page.specs.LiveSheet.{Adds, type_begin};
+ghost use Rattle.mdns_page.specs.{Html.{isolated}, LiveSheet.{Adds, type_begin}};
 
 use crate::axis::Axis;
 use crate::group::push_group_begin;

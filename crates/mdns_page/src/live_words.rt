@@ -1,17 +1,12 @@
 //! What a page says of a live instance: since when it is live, its servers, its texts.
 
 ghost use Rattle.std.specs.Prelude.{◌≡◌, ◌-◌, ◌==◌, ◌∷◌, [], ◌++◌, codes, if◌then◌else◌, option_map, true, unwrap_or, IfOk, OnOk};
-ghost use Rattle.std.specs.Fmt.{decimal};
-ghost use Rattle.std.specs.String.{string_bytes};
-ghost use Rattle.mdns_message.specs.Borrowed.{body_lent};
-ghost use Rattle.mdns_message.specs.Parts.{address_of};
+ghost use Rattle.std.specs.{Fmt.{decimal}, String.{string_bytes}};
+ghost use Rattle.mdns_message.specs.{Borrowed.{body_lent}, Parts.{address_of}};
 ghost use Rattle.people_text.specs.MomentText.{duration_text};
-ghost use Rattle.mdns_browse.specs.Given.{given_lent, nanos_in};
-ghost use Rattle.mdns_browse.specs.Json.{first_after};
+ghost use Rattle.mdns_browse.specs.{Given.{given_lent, nanos_in}, Json.{first_after}};
 ghost use Rattle.mdns_browse.specs.RecordShown.{shown_address, shown_order, shown_string, shown_strings, spaced_wide};
-ghost use Rattle.mdns_page.specs.Html.{isolated};
-ghost use Rattle.mdns_page.specs.Axis.{short_text};
-ghost use Rattle.mdns_page.specs.LiveSection.{given_words, text_html};
+ghost use Rattle.mdns_page.specs.{Html.{isolated}, Axis.{short_text}, LiveSection.{given_words, text_html}};
 ghost use Rattle.mdns_page.specs.LiveSheet.{address_after, lines};
 
 use crate::axis::{Axis, Dates, push_short};

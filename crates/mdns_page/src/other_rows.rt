@@ -5,8 +5,7 @@ ghost use Rattle.std.specs.Prelude.{◌≡◌, ◌++◌, codes, is_some, OnOk};
 ghost use Rattle.std.specs.String.{string_bytes};
 ghost use Rattle.mdns_message.specs.Parts.{address_of};
 ghost use Rattle.mdns_browse.specs.RecordShown.{shown_address};
-ghost use Rattle.mdns_page.specs.OtherRows.{is_large};
-ghost use Rattle.mdns_page.specs.Html.{isolated};
+ghost use Rattle.mdns_page.specs.{OtherRows.{is_large}, Html.{isolated}};
 ghost use Rattle.people_text.specs.Shown.{name_shown};
 
 use crate::html::push_isolated;

@@ -3,16 +3,11 @@
 ghost use Rattle.std.specs.Prelude.{◌≡◌, ◌≤◌, ◌++◌, ◌∷◌, [], Contains, IfOk, List, OnOk, length, map, string_bytes};
 ghost use Rattle.std.specs.List.{filter};
 ghost use Rattle.mdns_message.specs.declared.hearing.Hearing.{Hearing};
-ghost use Rattle.mdns_cache.specs.Live.{NoneLater};
-ghost use Rattle.mdns_cache.specs.LentRecords.{last_lent};
-ghost use Rattle.mdns_lives.specs.Chronicle.{Chronicles, rows_of};
-ghost use Rattle.mdns_lives.specs.Since.{live_since_lent};
-ghost use Rattle.mdns_browse.specs.Given.{given_lent};
-ghost use Rattle.mdns_browse.specs.Services.{AreAscending, AreEach};
+ghost use Rattle.mdns_cache.specs.{Live.{NoneLater}, LentRecords.{last_lent}};
+ghost use Rattle.mdns_lives.specs.{Chronicle.{Chronicles, rows_of}, Since.{live_since_lent}};
+ghost use Rattle.mdns_browse.specs.{Given.{given_lent}, Services.{AreAscending, AreEach}};
 ghost use Rattle.mdns_survey.specs.Chronicling.{all_of};
-ghost use Rattle.mdns_page.specs.Captures.{facts_lent};
-ghost use Rattle.mdns_page.specs.Collected.{rows_lent};
-ghost use Rattle.mdns_page.specs.KeptRecords.{is_drawn, looked_up};
+ghost use Rattle.mdns_page.specs.{Captures.{facts_lent}, Collected.{rows_lent}, KeptRecords.{is_drawn, looked_up}};
 ghost use Rattle.mdns_page.specs.Page.{WritesPage, facts_of, given_of_since, live_at_end};
 
 use crate::about_heard::heard_rows;

@@ -1,13 +1,10 @@
 //! The strokes of pictures: a bar for each life, a thin one for each life of a server, and a pin where a life ended.
 
 ghost use Rattle.std.specs.Prelude.{◌≡◌, ◌++◌, codes, List, IfOk, OnOk, map};
-ghost use Rattle.std.specs.List.{cons_option, flat_map};
-ghost use Rattle.std.specs.String.{string_bytes};
-ghost use Rattle.mdns_page.specs.declared.picture.Mark.{Mark};
-ghost use Rattle.mdns_page.specs.declared.picture.Stroke.TheVariants.{Server};
-ghost use Rattle.mdns_page.specs.Picture.{bar_mark, bars, class_of, end_mark, goes_on, is_for, is_same, mark_of, mark_text};
-ghost use Rattle.mdns_page.specs.Picture.{path, path_begin, path_last, path_rest, title_word, titled_bar};
-ghost use Rattle.mdns_page.specs.Timeline.{lives_lent};
+ghost use Rattle.std.specs.{List.{cons_option, flat_map}, String.{string_bytes}};
+ghost use Rattle.mdns_page.specs.declared.picture.{Mark.{Mark}, Stroke.TheVariants.{Server}};
+ghost use Rattle.mdns_page.specs.Picture.{bar_mark, bars, class_of, end_mark, goes_on, is_for, is_same, mark_of, mark_text, path};
+ghost use Rattle.mdns_page.specs.{Picture.{path_begin, path_last, path_rest, title_word, titled_bar}, Timeline.{lives_lent}};
 
 use crate::axis::Axis;
 use crate::bar_titles::push_life_title;

@@ -1,11 +1,8 @@
 //! The picture of a row.
 
 ghost use Rattle.std.specs.Prelude.{◌≡◌, ◌++◌, codes, map, OnOk};
-ghost use Rattle.std.specs.Fmt.{decimal};
-ghost use Rattle.std.specs.String.{string_bytes};
-ghost use Rattle.mdns_page.specs.Lanes.{height};
-ghost use Rattle.mdns_page.specs.RowPicture.{picture};
-ghost use Rattle.mdns_page.specs.Timeline.{lives_lent, seconds_lent};
+ghost use Rattle.std.specs.{Fmt.{decimal}, String.{string_bytes}};
+ghost use Rattle.mdns_page.specs.{Lanes.{height}, RowPicture.{picture}, Timeline.{lives_lent, seconds_lent}};
 
 use crate::lanes::{push_height, push_lanes};
 use crate::look::Look;

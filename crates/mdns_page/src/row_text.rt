@@ -1,13 +1,10 @@
 //! The rows of the timeline: which of them are live, and their texts.
 
 ghost use Rattle.std.specs.Prelude.{◌≡◌, ◌-◌, ◌++◌, false, length, map, option_map, slice_get, unwrap_or, OnOk};
-ghost use Rattle.std.specs.List.{flat_map};
-ghost use Rattle.std.specs.String.{string_bytes};
+ghost use Rattle.std.specs.{List.{flat_map}, String.{string_bytes}};
 ghost use Rattle.mdns_message.specs.Parts.{content_lent, content_of};
 ghost use Rattle.mdns_browse.specs.RecordShown.{shown_instance};
-ghost use Rattle.mdns_page.specs.Html.{isolated};
-ghost use Rattle.mdns_page.specs.HeardWords.{heard_text};
-ghost use Rattle.mdns_page.specs.Picture.{goes_on};
+ghost use Rattle.mdns_page.specs.{Html.{isolated}, HeardWords.{heard_text}, Picture.{goes_on}};
 ghost use Rattle.mdns_page.specs.Timeline.{content_name, count_last, counted_lent, owner_of, row_text, seconds_lent};
 
 use crate::axis::Axis;

@@ -2,17 +2,13 @@
 
 ghost use Rattle.std.specs.Prelude.{◌≡◌, List, is_some, map};
 ghost use Rattle.std.specs.List.Sorted.{IsStrictlySortedBy};
-ghost use Rattle.mdns_message.specs.Parts.{service_of};
-ghost use Rattle.mdns_message.specs.Resource.{key_cmp, set_key_cmp, set_key_of, type_number};
+ghost use Rattle.mdns_message.specs.{Parts.{service_of}, Resource.{key_cmp, set_key_cmp, set_key_of, type_number}};
 ghost use Rattle.mdns_message.specs.declared.record_type.RecordType.TheVariants.{Srv};
 ghost use Rattle.mdns_join.specs.declared.latest.Latest.{Latest};
-ghost use Rattle.mdns_lives.specs.declared.life.Life.{Life};
-ghost use Rattle.mdns_cache.specs.Live.{key_of_last};
-ghost use Rattle.mdns_cache.specs.LentRecords.{last_lent};
-ghost use Rattle.mdns_lives.specs.LentLives.{row_lent};
+ghost use Rattle.mdns_lives.specs.{declared.life.Life.{Life}, LentLives.{row_lent}};
+ghost use Rattle.mdns_cache.specs.{Live.{key_of_last}, LentRecords.{last_lent}};
 ghost use Rattle.mdns_browse.specs.Services.{body_of, set_for};
-ghost use Rattle.mdns_page.specs.Servers.{servers_named, servers_of};
-ghost use Rattle.mdns_page.specs.Timeline.{lives_lent};
+ghost use Rattle.mdns_page.specs.{Servers.{servers_named, servers_of}, Timeline.{lives_lent}};
 
 use dns_name::fold::folded_cmp;
 use mdns_cache::Last;

@@ -1,8 +1,7 @@
 //! The table of the packets that told nothing: how many, why, and what that means.
 
 ghost use Rattle.std.specs.Prelude.{◌≡◌, ◌+◌, ◌==◌, ◌++◌, if◌then◌else◌, OnOk, codes, false, sum_by, true};
-ghost use Rattle.std.specs.List.{flat_map};
-ghost use Rattle.std.specs.String.{string_bytes};
+ghost use Rattle.std.specs.{List.{flat_map}, String.{string_bytes}};
 ghost use Rattle.mdns_survey.specs.Readings.{refused_in};
 ghost use Rattle.mdns_page.specs.SkippedSection.{skipped_text, others, row_text, skipped_row, table_text, warnings};
 

@@ -2,15 +2,11 @@
 //! name that isn't one label and its type.
 
 ghost use Rattle.std.specs.Prelude.{◌≡◌, ◌+◌, [], ◌++◌, ◌<◌, codes, if◌then◌else◌, length, map, OnOk};
-ghost use Rattle.std.specs.List.{flat_map};
-ghost use Rattle.std.specs.String.{string_bytes};
-ghost use Rattle.mdns_page.specs.Counts.{commas};
-ghost use Rattle.mdns_page.specs.Group.{first_owner, grouped};
-ghost use Rattle.mdns_page.specs.Html.{isolated};
-ghost use Rattle.people_text.specs.Shown.{name_shown};
+ghost use Rattle.std.specs.{List.{flat_map}, String.{string_bytes}};
+ghost use Rattle.mdns_page.specs.{Counts.{commas}, Group.{first_owner, grouped}, Html.{isolated}};
 ghost use Rattle.mdns_page.specs.Timeline.{counted_lent, group_count, group_name, group_text, is_open, others_text, owner_of, timeline};
-ghost use Rattle.mdns_page.specs.Timeline.{timeline_begin};
-ghost use Rattle.mdns_page.specs.declared.kept_records.TimelinePart.TheVariants.{Instances};
+ghost use Rattle.mdns_page.specs.{Timeline.{timeline_begin}, declared.kept_records.TimelinePart.TheVariants.{Instances}};
+ghost use Rattle.people_text.specs.Shown.{name_shown};
 
 use crate::axis::Axis;
 use crate::bar_titles::are_titled;

@@ -1,19 +1,13 @@
 //! The rows of the timeline: records with their lives, those of their servers, and the seconds in which captures heard them.
 
 ghost use Rattle.std.specs.Prelude.{◌≡◌, false, List, IfOk, map};
-ghost use Rattle.std.specs.List.{All, filter};
-ghost use Rattle.std.specs.List.Sorted.{IsStrictlySortedBy};
-ghost use Rattle.mdns_message.specs.Resource.{key_cmp, key_of};
-ghost use Rattle.mdns_message.specs.declared.hearing.Hearing.{Hearing};
+ghost use Rattle.std.specs.{List.{All, filter}, List.Sorted.{IsStrictlySortedBy}};
+ghost use Rattle.mdns_message.specs.{Resource.{key_cmp, key_of}, declared.hearing.Hearing.{Hearing}};
 ghost use Rattle.mdns_cache.specs.Live.{key_of_last};
 ghost use Rattle.mdns_browse.specs.Services.{AreEach, body_of};
 ghost use Rattle.mdns_join.specs.declared.latest.Latest.{Latest};
-ghost use Rattle.mdns_lives.specs.declared.life.Life.{Life};
-ghost use Rattle.mdns_lives.specs.Chronicle.{Chronicles};
-ghost use Rattle.mdns_lives.specs.LentLives.{row_lent};
-ghost use Rattle.mdns_page.specs.TimelineRows.{AreShownBy, IsBegun, IsCounted, few_of};
-ghost use Rattle.mdns_page.specs.KeptRecords.{is_of};
-ghost use Rattle.mdns_page.specs.Servers.{servers_of};
+ghost use Rattle.mdns_lives.specs.{declared.life.Life.{Life}, Chronicle.{Chronicles}, LentLives.{row_lent}};
+ghost use Rattle.mdns_page.specs.{TimelineRows.{AreShownBy, IsBegun, IsCounted, few_of}, KeptRecords.{is_of}, Servers.{servers_of}};
 ghost use Rattle.mdns_page.specs.Timeline.{Row, counted_lent, seconds_lent};
 
 use crate::captures::FEW_CAPTURES;

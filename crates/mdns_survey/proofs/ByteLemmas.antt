@@ -1,7 +1,6 @@
 -- Parts of a capture's bytes are bytes.
 use Rattle.std.proofs.Common.{rules, ℕ, zero, suc, ◌<◌, List, [], ◌∷◌, ◌++◌, drop, slice_index, take, arith}
-use Rattle.mdns_capture.specs.Savefile.{PacketAt}
-use Rattle.mdns_capture.specs.Cut.{part_before, part_from, offset_after}
+use Rattle.mdns_capture.specs.{Savefile.{PacketAt}, Cut.{part_before, part_from, offset_after}}
 
 -- each number is one of a byte
 abbrev pub AreBytes : List ℕ → Type 0

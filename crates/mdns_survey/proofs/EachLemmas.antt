@@ -1,19 +1,14 @@
 -- The chronicle of each of the readers listened to, one more at a time.
 use Rattle.std.proofs.Common.{◌≡◌, ◌∙◌, ℕ, List, [], ◌∷◌, ◌++◌, Option, ap, append-nil, refl, subst, sym}
 use Rattle.std.specs.List.{flat_map}
-use Rattle.std.proofs.lemmas.List.{map-append}
-use Rattle.std.proofs.lemmas.List.Concat.{flat_map-append}
+use Rattle.std.proofs.lemmas.{List.{map-append}, List.Concat.{flat_map-append}}
 use Rattle.mdns_capture.specs.Savefile.{PacketAt}
 use Rattle.mdns_message.specs.declared.hearing.Hearing.{Hearing}
 use Rattle.mdns_lives.specs.Chronicle.{Accounts, Chronicles}
 use Rattle.mdns_browse.specs.Services.{AreEach}
-use Rattle.mdns_survey.specs.declared.each_capture.EachChronicling.{EachChronicling}
-use Rattle.mdns_survey.specs.declared.reading.Reading.{Reading}
-use Rattle.mdns_survey.specs.declared.filter.Filter.{Filter}
-use Rattle.mdns_survey.specs.Outcomes.{Outcome, hearings_in}
-use Rattle.mdns_survey.specs.Chronicling.{ChroniclesAll, IsUnjoined, JoinsMore, all_in, all_of}
-use Rattle.mdns_survey.specs.Filter.{counted, counted_each, selected}
-use Rattle.mdns_survey.specs.Listen.{HearsCapture, ListensTo}
+use Rattle.mdns_survey.specs.declared.{each_capture.EachChronicling.{EachChronicling}, reading.Reading.{Reading}, filter.Filter.{Filter}}
+use Rattle.mdns_survey.specs.{Outcomes.{Outcome, hearings_in}, Chronicling.{ChroniclesAll, IsUnjoined, JoinsMore, all_in, all_of}}
+use Rattle.mdns_survey.specs.{Filter.{counted, counted_each, selected}, Listen.{HearsCapture, ListensTo}}
 
 -- ONE CAPTURE MORE
 

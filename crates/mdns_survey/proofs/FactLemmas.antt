@@ -3,19 +3,12 @@
 use Rattle.std.proofs.Common.{◌≡◌, ◌⊎◌, ℕ, List, [], ◌∷◌, ◌++◌, subst, sym, inl, inr, arith}
 use Rattle.std.specs.Prelude.{Contains}
 use Rattle.std.proofs.lemmas.List.Elements.{Contains-append_cases, Contains-append_left, Contains-append_right}
-use Rattle.mdns_capture.specs.declared.moment.Moment.{Moment}
-use Rattle.mdns_capture.specs.declared.savefile.Ending.{Ending}
-use Rattle.mdns_capture.specs.Savefile.{CaptureReads, PacketAt}
+use Rattle.mdns_capture.specs.{declared.moment.Moment.{Moment}, declared.savefile.Ending.{Ending}, Savefile.{CaptureReads, PacketAt}}
 use Rattle.mdns_message.specs.declared.hearing.Hearing.{Hearing}
 use Rattle.mdns_cache.proofs.StandsPartLemmas.{Contains-cases, Contains-head, Contains-later}
-use Rattle.mdns_survey.specs.declared.summary.Summary.{Summary}
-use Rattle.mdns_survey.specs.Outcomes.{AllCome, AllRead, CaptureTells, Counts, Outcome, hearings_in}
-use Rattle.mdns_survey.specs.Laws.{SameCaptures}
-use Rattle.mdns_survey.specs.Listen.{packet_moments}
-use Rattle.mdns_survey.specs.Readings.{all_moments}
-use Rattle.mdns_survey.specs.Surveys.{all_hearings}
-use Rattle.mdns_survey.proofs.OneSurveyLemmas.{one-read}
-use Rattle.mdns_survey.proofs.OutcomeLemmas.{OneReading, OneTelling}
+use Rattle.mdns_survey.specs.{declared.summary.Summary.{Summary}, Outcomes.{AllCome, AllRead, CaptureTells, Counts, Outcome, hearings_in}}
+use Rattle.mdns_survey.specs.{Laws.{SameCaptures}, Listen.{packet_moments}, Readings.{all_moments}, Surveys.{all_hearings}}
+use Rattle.mdns_survey.proofs.{OneSurveyLemmas.{one-read}, OutcomeLemmas.{OneReading, OneTelling}}
 
 -- a hearing, or the moment of a packet
 abbrev pub Fact : Type 0

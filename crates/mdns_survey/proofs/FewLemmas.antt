@@ -1,13 +1,10 @@
 -- The packets of a capture have few enough hearings: the header of a message counts its records in 16 bits.
 use Rattle.std.proofs.Common.{ℕ, ◌+◌, ◌*◌, ◌≤◌, List, [], ◌∷◌, ◌++◌, length, subst, arith}
-use Rattle.mdns_capture.specs.declared.savefile.Ending.{Ending}
-use Rattle.mdns_capture.specs.declared.savefile.Format.{Format}
-use Rattle.mdns_capture.specs.Frame.{CarriesAfter, FrameCarries, in_ipv4, in_ipv6}
-use Rattle.mdns_capture.specs.Savefile.{CaptureReads, PacketAt, PacketsRead}
+use Rattle.mdns_capture.specs.declared.savefile.{Ending.{Ending}, Format.{Format}}
+use Rattle.mdns_capture.specs.{Frame.{CarriesAfter, FrameCarries, in_ipv4, in_ipv6}, Savefile.{CaptureReads, PacketAt, PacketsRead}}
 use Rattle.mdns_message.proofs.FaultKindLemmas.{few_hearings}
 use Rattle.mdns_survey.specs.Outcomes.{AllCome, ComesTo, Outcome, heard, hearings_of_outcome, is_heard, refused, skipped}
-use Rattle.mdns_survey.proofs.ByteLemmas.{AreBytes, bytes_left, bytes_right}
-use Rattle.mdns_survey.proofs.CountLemmas.{AreFew, few-cons, one_if}
+use Rattle.mdns_survey.proofs.{ByteLemmas.{AreBytes, bytes_left, bytes_right}, CountLemmas.{AreFew, few-cons, one_if}}
 
 -- FRAMES
 

@@ -3,12 +3,9 @@ use Rattle.std.proofs.Common.{arith, ◌≡◌, ℕ, List, [], ◌∷◌, ◌++�
 use Rattle.std.proofs.lemmas.List.Concat.{flat_map-append}
 use Rattle.mdns_capture.specs.Savefile.{PacketAt, snap_length}
 use Rattle.mdns_message.specs.declared.hearing.Hearing.{Hearing}
-use Rattle.mdns_cache.specs.Contents.{Contents, StandsFor}
-use Rattle.mdns_cache.specs.Repeats.{Listened, StandsWith}
-use Rattle.mdns_survey.specs.declared.reading.Reading.{Reading}
-use Rattle.mdns_survey.specs.Outcomes.{Outcome, hearings_in, hearings_of_outcome}
-use Rattle.mdns_survey.specs.Listen.{HearsCapture, HearsPackets, Listens, TakesCapture}
-use Rattle.mdns_survey.specs.Reading.{ReadsCapture}
+use Rattle.mdns_cache.specs.{Contents.{Contents, StandsFor}, Repeats.{Listened, StandsWith}}
+use Rattle.mdns_survey.specs.{declared.reading.Reading.{Reading}, Outcomes.{Outcome, hearings_in, hearings_of_outcome}}
+use Rattle.mdns_survey.specs.{Listen.{HearsCapture, HearsPackets, Listens, TakesCapture}, Reading.{ReadsCapture}}
 
 module _ {H : Type 0} (Stands : H → H → List Hearing → Type 0) where
   -- a hearer takes these hearings

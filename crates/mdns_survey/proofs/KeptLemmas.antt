@@ -1,15 +1,11 @@
 -- The rows of the records that are about the subjects.
 use Rattle.std.proofs.Common.{◌≡◌, ◌∙◌, ℕ, true, false, List, [], ◌∷◌, ◌++◌, ◌⊎◌, Option, refl, sym, ap, subst, inl, inr}
 use Rattle.std.proofs.Common.{append_assoc}
-use Rattle.std.specs.List.{flat_map}
-use Rattle.std.specs.Io.KnownBytes.{Appends}
-use Rattle.std.proofs.lemmas.List.Concat.{flat_map-append}
-use Rattle.std.proofs.lemmas.List.Elements.{filter-append}
+use Rattle.std.specs.{List.{flat_map}, Io.KnownBytes.{Appends}}
+use Rattle.std.proofs.lemmas.List.{Concat.{flat_map-append}, Elements.{filter-append}}
 use Rattle.mdns_join.specs.declared.latest.Latest.{Latest}
 use Rattle.mdns_lives.specs.declared.life.Life.{Life}
-use Rattle.mdns_browse.specs.declared.about.Subject.{Subject}
-use Rattle.mdns_browse.specs.declared.life_text.Layout.{Layout}
-use Rattle.mdns_browse.specs.About.{keeps_record}
+use Rattle.mdns_browse.specs.{declared.about.Subject.{Subject}, declared.life_text.Layout.{Layout}, About.{keeps_record}}
 use Rattle.mdns_browse.specs.LifeText.{IsLayout}
 use Rattle.mdns_survey.specs.LivesAnswer.{kept_rows}
 use Rattle.mdns_survey.proofs.RowsLemmas.{FirstRows, RowsSoFar, rows-stop}

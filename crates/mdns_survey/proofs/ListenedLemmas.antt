@@ -2,20 +2,14 @@
 use Rattle.std.proofs.Common.{◌≡◌, ◌∙◌, ℕ, ◌+◌, List, [], ◌∷◌, ◌++◌, map, Option, Some, append_assoc, append-nil, ap, arith, refl}
 use Rattle.std.proofs.Common.{subst, sym}
 use Rattle.std.specs.Prelude.{sum_by}
-use Rattle.std.proofs.lemmas.List.{map-append}
-use Rattle.std.proofs.lemmas.List.Sums.{sum_by-cons}
+use Rattle.std.proofs.lemmas.{List.{map-append}, List.Sums.{sum_by-cons}}
 use Rattle.mdns_capture.specs.Savefile.{PacketAt}
 use Rattle.mdns_message.specs.declared.hearing.Hearing.{Hearing}
-use Rattle.mdns_browse.specs.declared.report.Form.{Form}
-use Rattle.mdns_browse.specs.declared.report.Form.TheVariants.{Pretty}
-use Rattle.mdns_survey.specs.declared.reading.Reading.{Reading}
-use Rattle.mdns_survey.specs.declared.summary.Summary.{Summary}
-use Rattle.mdns_survey.specs.Outcomes.{AllRead, Outcome, hearings_in}
-use Rattle.mdns_survey.specs.Head.{Heads, IsHead, lost_text, unheard_text}
-use Rattle.mdns_survey.specs.Listen.{HearsCapture, IsReadingOf, ListensTo}
-use Rattle.mdns_survey.specs.Reasons.{lost_frames}
-use Rattle.mdns_survey.specs.Readings.{CountLosses, HaveSpans, lost_in, summaries_of}
-use Rattle.mdns_survey.specs.Surveys.{AllLeft, HearsAll, Listened, all_hearings}
+use Rattle.mdns_browse.specs.declared.report.{Form.{Form}, Form.TheVariants.{Pretty}}
+use Rattle.mdns_survey.specs.declared.{reading.Reading.{Reading}, summary.Summary.{Summary}}
+use Rattle.mdns_survey.specs.{Outcomes.{AllRead, Outcome, hearings_in}, Head.{Heads, IsHead, lost_text, unheard_text}}
+use Rattle.mdns_survey.specs.{Listen.{HearsCapture, IsReadingOf, ListensTo}, Reasons.{lost_frames}}
+use Rattle.mdns_survey.specs.{Readings.{CountLosses, HaveSpans, lost_in, summaries_of}, Surveys.{AllLeft, HearsAll, Listened, all_hearings}}
 
 -- ONE READER MORE
 

@@ -6,21 +6,13 @@ use Rattle.mdns_capture.specs.declared.moment.Moment.{Moment}
 use Rattle.mdns_message.specs.declared.hearing.Hearing.{Hearing}
 use Rattle.mdns_join.specs.declared.latest.Latest.{Latest}
 use Rattle.mdns_cache.specs.Live.{SameHearings}
-use Rattle.mdns_lives.specs.declared.life.Life.{Life}
-use Rattle.mdns_lives.specs.Chronicle.{AreAllLives}
-use Rattle.mdns_browse.specs.declared.about.Subject.{Subject}
-use Rattle.mdns_browse.specs.declared.report.Form.{Form}
-use Rattle.mdns_lives.specs.declared.life.Which.{Which}
-use Rattle.mdns_lives.specs.Changes.{chosen}
-use Rattle.mdns_browse.specs.LifeText.{lives_report}
+use Rattle.mdns_lives.specs.{declared.life.Life.{Life}, Chronicle.{AreAllLives}, declared.life.Which.{Which}, Changes.{chosen}}
+use Rattle.mdns_browse.specs.{declared.about.Subject.{Subject}, declared.report.Form.{Form}, LifeText.{lives_report}}
 use Rattle.mdns_cache.proofs.StandsPartLemmas.{Contains-cases, Contains-head, Contains-later}
-use Rattle.mdns_survey.specs.declared.request.AsOf.{AsOf}
-use Rattle.mdns_survey.specs.declared.request.AsOf.TheVariants.{Newest, At, Before}
+use Rattle.mdns_survey.specs.declared.request.{AsOf.{AsOf}, AsOf.TheVariants.{Newest, At, Before}}
 use Rattle.mdns_survey.specs.LivesAnswer.{SurveysLives, WritesLives, captures_begin, earliest_nanos, captures_end, kept_rows, latest_nanos}
-use Rattle.mdns_survey.specs.Filter.{filter_of, selected}
-use Rattle.mdns_survey.specs.Readings.{all_moments}
-use Rattle.mdns_survey.proofs.FactLemmas.{IsByFacts}
-use Rattle.mdns_survey.proofs.SelectedLemmas.{counted-all, same_selected}
+use Rattle.mdns_survey.specs.{Filter.{filter_of, selected}, Readings.{all_moments}}
+use Rattle.mdns_survey.proofs.{FactLemmas.{IsByFacts}, SelectedLemmas.{counted-all, same_selected}}
 
 -- THE LAWS BELOW
 

@@ -3,13 +3,10 @@ use Rattle.std.proofs.Common.{◌≡◌, ◌∙◌, ℕ, ◌+◌, Bool, false, L
 use Rattle.std.proofs.lemmas.List.Sums.{sum_by_push}
 use Rattle.std.specs.Option.{option_map, option_map_or}
 use mathlib.Core.Bool.{cond}
-use Rattle.mdns_capture.specs.declared.cause.Cause.{Cause}
-use Rattle.mdns_capture.specs.declared.frame.Skip.{Skip}
-use Rattle.mdns_capture.specs.Frame.{FrameCarries, cause_of, skip_of, skip_of_cause}
-use Rattle.mdns_capture.specs.Savefile.{PacketAt}
+use Rattle.mdns_capture.specs.declared.{cause.Cause.{Cause}, frame.Skip.{Skip}}
+use Rattle.mdns_capture.specs.{Frame.{FrameCarries, cause_of, skip_of, skip_of_cause}, Savefile.{PacketAt}}
 use Rattle.mdns_survey.specs.declared.outcome.SkipReason.TheVariants as why
-use Rattle.mdns_survey.specs.Reasons.{loses_frame, row_of}
-use Rattle.mdns_survey.specs.Reading.{CountsLoss}
+use Rattle.mdns_survey.specs.{Reasons.{loses_frame, row_of}, Reading.{CountsLoss}}
 
 -- THE CHECK THAT A FRAME FAILS
 

@@ -1,12 +1,9 @@
 -- Captures are read in one way.
 use Rattle.std.proofs.Common.{◌≡◌, ◌∙◌, ℕ, ◌+◌, ◌*◌, ◌≤◌, List, [], ◌∷◌, refl, sym, subst}
 use mathlib.Core.HLevel.{is_prop→PathP}
-use Rattle.std.proofs.Math.Bridge.{le_prop}
-use Rattle.std.proofs.Math.Nat.{ℕ_set}
+use Rattle.std.proofs.Math.{Bridge.{le_prop}, Nat.{ℕ_set}}
 use Rattle.mdns_capture.specs.Savefile.{PacketAt}
-use Rattle.mdns_survey.specs.declared.summary.Summary.{Summary}
-use Rattle.mdns_survey.specs.declared.summary.Tally.{Tally}
-use Rattle.mdns_survey.specs.Outcomes.{AllRead, Counts, Outcome}
+use Rattle.mdns_survey.specs.{declared.summary.Summary.{Summary}, declared.summary.Tally.{Tally}, Outcomes.{AllRead, Counts, Outcome}}
 use Rattle.mdns_survey.proofs.OutcomeLemmas.{OneReading, OneTelling}
 
 same_tally : (outcomes : List Outcome) (a b : Tally) → Counts outcomes a → Counts outcomes b → a ≡ b

@@ -2,19 +2,12 @@
 use Rattle.std.proofs.Common.{◌≡◌, ◌⊎◌, ℕ, ◌<◌, List, [], ◌∷◌, None, Some, length, slice_index, refl, ap, subst, inl, inr, arith}
 use Rattle.std.specs.Prelude.{bit_and}
 use Rattle.std.proofs.lemmas.Bool.{cases_eq, cases_lt}
-use Rattle.mdns_capture.specs.declared.frame.Skip.{Skip}
-use Rattle.mdns_capture.specs.declared.moment.Moment.{Moment}
-use Rattle.mdns_capture.specs.declared.savefile.Ending.{Ending}
-use Rattle.mdns_capture.specs.Frame.{FrameCarries, skip_of}
-use Rattle.mdns_capture.specs.Savefile.{CaptureReads, PacketAt, header_fault}
-use Rattle.mdns_message.specs.declared.fault.MessageFault.{MessageFault}
+use Rattle.mdns_capture.specs.declared.{frame.Skip.{Skip}, moment.Moment.{Moment}, savefile.Ending.{Ending}}
+use Rattle.mdns_capture.specs.{Frame.{FrameCarries, skip_of, word_at}, Savefile.{CaptureReads, PacketAt, header_fault}}
+use Rattle.mdns_message.specs.declared.{fault.MessageFault.{MessageFault}, hearing.Hearing.{Hearing}}
+use Rattle.mdns_message.specs.{Message.{HasHeader, IsIgnored, IsQuery, IsShort, MessageReads}, FirstMessageFault.{MessageFails}}
 use Rattle.mdns_message.specs.declared.fault.MessageFault.TheVariants as fault
-use Rattle.mdns_message.specs.declared.hearing.Hearing.{Hearing}
-use Rattle.mdns_capture.specs.Frame.{word_at}
-use Rattle.mdns_message.specs.Message.{HasHeader, IsIgnored, IsQuery, IsShort, MessageReads}
-use Rattle.mdns_message.specs.FirstMessageFault.{MessageFails}
-use Rattle.mdns_survey.specs.Why.{IsDamagedBy}
-use Rattle.mdns_survey.specs.Outcomes.{AllCome, ComesTo, Outcome, CaptureTells, heard, refused, skipped}
+use Rattle.mdns_survey.specs.{Why.{IsDamagedBy}, Outcomes.{AllCome, ComesTo, Outcome, CaptureTells, heard, refused, skipped}}
 
 -- THE LAWS BELOW
 

@@ -1,17 +1,10 @@
 -- The survey of a question, and why it is refused.
 use Rattle.std.proofs.Common.{arith, ◌≡◌, ◌∙◌, ℕ, Bool, List, [], Option, sym, ap, subst}
-use Rattle.mdns_capture.specs.Output.{Writing}
-use Rattle.mdns_capture.specs.Savefile.{PacketAt}
-use Rattle.mdns_survey.specs.declared.reading.Reading.{Reading}
-use Rattle.mdns_survey.specs.declared.summary.Summary.{Summary}
-use Rattle.mdns_survey.specs.declared.survey.SurveyFault.{SurveyFault}
-use Rattle.mdns_survey.specs.declared.survey.SurveyFault.TheVariants.{File, Early, Memory, Write}
-use Rattle.mdns_survey.specs.Outcomes.{Outcome}
-use Rattle.mdns_survey.specs.ProgramLines.{IfFile}
-use Rattle.mdns_survey.specs.Question.{Asked, HearsReaders, WritesAnswer}
-use Rattle.mdns_survey.specs.Readings.{summaries_of}
-use Rattle.mdns_survey.specs.Refusals.{BlamesReaders}
-use Rattle.mdns_survey.specs.Surveys.{Listened}
+use Rattle.mdns_capture.specs.{Output.{Writing}, Savefile.{PacketAt}}
+use Rattle.mdns_survey.specs.declared.{reading.Reading.{Reading}, summary.Summary.{Summary}, survey.SurveyFault.{SurveyFault}}
+use Rattle.mdns_survey.specs.{declared.survey.SurveyFault.TheVariants.{File, Early, Memory, Write}, Outcomes.{Outcome}}
+use Rattle.mdns_survey.specs.{ProgramLines.{IfFile}, Question.{Asked, HearsReaders, WritesAnswer}, Readings.{summaries_of}}
+use Rattle.mdns_survey.specs.{Refusals.{BlamesReaders}, Surveys.{Listened}}
 
 -- the readers that were listened to for a question
 pub hears-readers : {L : Type 0} (HeardAll : L → L → List (List PacketAt) → List (List Outcome) → Type 0)

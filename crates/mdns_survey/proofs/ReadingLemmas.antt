@@ -1,21 +1,14 @@
 -- One packet more of a capture is taken.
 use Rattle.std.proofs.Common.{◌≡◌, ℕ, ◌+◌, Bool, List, [], ◌∷◌, ◌++◌, Option, Some, None, IfSome, refl, arith, length}
 use Rattle.std.proofs.Common.{sym, ap, ◌∙◌, ◌≤◌, subst, length-append, append_assoc}
-use Rattle.std.proofs.lemmas.List.{map-append}
-use Rattle.std.proofs.lemmas.List.Sums.{count_by-le-length}
+use Rattle.std.proofs.lemmas.{List.{map-append}, List.Sums.{count_by-le-length}}
 use Rattle.std.specs.Io.KnownBytes.{Consumes}
-use Rattle.mdns_capture.specs.Limits.{file_header_size, packet_header_size}
-use Rattle.mdns_capture.specs.declared.savefile.Format.{Format}
-use Rattle.mdns_capture.specs.Savefile.{PacketAt, BeginsWith, CaptureReads, IsPacketHeader}
-use Rattle.mdns_capture.specs.Capture.{Standing, Begins, Gives}
+use Rattle.mdns_capture.specs.{Limits.{file_header_size, packet_header_size}, declared.savefile.Format.{Format}}
+use Rattle.mdns_capture.specs.{Savefile.{PacketAt, BeginsWith, CaptureReads, IsPacketHeader}, Capture.{Standing, Begins, Gives}}
 use Rattle.mdns_capture.specs.Cut.{offset_after}
-use Rattle.mdns_survey.specs.declared.reading.Span.{Span}
-use Rattle.mdns_survey.specs.declared.skips.Skips.{Skips}
-use Rattle.mdns_survey.specs.declared.summary.Tally.{Tally}
-use Rattle.mdns_survey.specs.Outcomes.{Outcome, ComesTo, Counts, AllCome}
-use Rattle.mdns_survey.specs.Listen.{packet_moments}
-use Rattle.mdns_survey.specs.Reading.{CountsLoss, GoesOn, PacketsStand, ReadSoFar, TakesPacket}
-use Rattle.mdns_survey.specs.Skips.{CountsSkip, CountsSkips}
+use Rattle.mdns_survey.specs.declared.{reading.Span.{Span}, skips.Skips.{Skips}, summary.Tally.{Tally}}
+use Rattle.mdns_survey.specs.{Outcomes.{Outcome, ComesTo, Counts, AllCome}, Listen.{packet_moments}}
+use Rattle.mdns_survey.specs.{Reading.{CountsLoss, GoesOn, PacketsStand, ReadSoFar, TakesPacket}, Skips.{CountsSkip, CountsSkips}}
 use Rattle.mdns_survey.specs.Span.{joined_spans, span_at, span_of}
 use Rattle.mdns_survey.proofs.SpanLemmas.{span-more}
 

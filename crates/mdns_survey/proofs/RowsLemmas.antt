@@ -1,11 +1,8 @@
 -- Rows whose lines are written piece by piece, after a text that stands before them.
-use Rattle.std.proofs.lemmas.Grind.{common_steps}
+use Rattle.std.proofs.{lemmas.Grind.{common_steps}, KnownBytes.{Appends-trans}, lemmas.List.Concat.{flat_map-append}}
 use Rattle.std.proofs.Common.{arith, ◌≡◌, ◌∙◌, ℕ, List, [], ◌∷◌, ◌++◌, Option, ◌⊎◌, refl, sym, ap, subst, inl, inr}
 use Rattle.std.proofs.Common.{append_assoc, append-nil}
-use Rattle.std.specs.List.{flat_map}
-use Rattle.std.specs.Io.KnownBytes.{Appends}
-use Rattle.std.proofs.KnownBytes.{Appends-trans}
-use Rattle.std.proofs.lemmas.List.Concat.{flat_map-append}
+use Rattle.std.specs.{List.{flat_map}, Io.KnownBytes.{Appends}}
 use Rattle.mdns_capture.specs.Output.{AppendsPrefix}
 use Rattle.mdns_survey.specs.Chronicling.{IsTextOut}
 use Rattle.mdns_survey.proofs.SaidLemmas.{prefix-after, prefix-of-more}

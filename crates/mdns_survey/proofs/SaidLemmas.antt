@@ -3,20 +3,13 @@ use Rattle.std.proofs.Common.{map, length, arith, Bool, true, false, cond, IsTru
 use Rattle.std.proofs.Common.{◌⊎◌, inl, inr, ℕ, ◌<◌, List, [], ◌∷◌, ◌++◌, append_assoc, append-nil, Option, Result, Ok}
 use Rattle.std.proofs.Common.{Err, IfOk, String, string_bytes}
 use Rattle.std.specs.Prelude.{codes}
-use Rattle.std.proofs.lemmas.Bool.{false≢true}
-use Rattle.std.specs.Global.{Global}
-use Rattle.std.specs.Bool.{OnTrue, OnFalse}
+use Rattle.std.proofs.{lemmas.Bool.{false≢true}, KnownBytes.{Appends-trans}}
+use Rattle.std.specs.{Global.{Global}, Bool.{OnTrue, OnFalse}, Io.KnownBytes.{Appends}}
 use Rattle.memory.specs.declared.want.Want.{Want}
-use Rattle.std.specs.Io.KnownBytes.{Appends}
-use Rattle.std.proofs.KnownBytes.{Appends-trans}
-use Rattle.mdns_capture.specs.Stream.{OneMoreFailed}
-use Rattle.mdns_survey.specs.declared.summary.Summary.{Summary}
-use Rattle.mdns_survey.specs.declared.survey.SurveyFault.{SurveyFault}
-use Rattle.mdns_survey.specs.declared.survey.SurveyFault.TheVariants.{File, Early, Memory, Write}
-use Rattle.mdns_survey.specs.Refusals.{Leaves}
-use Rattle.mdns_survey.specs.ProgramLines.{ending_line_text, is_whole, said_text}
-use Rattle.mdns_survey.specs.Said.{AreSaid, Says, SaysAll, SaysPrefix, ending_lines}
-use Rattle.mdns_capture.specs.Output.{AppendsPrefix, Writing}
+use Rattle.mdns_capture.specs.{Stream.{OneMoreFailed}, Output.{AppendsPrefix, Writing}}
+use Rattle.mdns_survey.specs.declared.{summary.Summary.{Summary}, survey.SurveyFault.{SurveyFault}}
+use Rattle.mdns_survey.specs.{declared.survey.SurveyFault.TheVariants.{File, Early, Memory, Write}, Refusals.{Leaves}}
+use Rattle.mdns_survey.specs.{ProgramLines.{ending_line_text, is_whole, said_text}, Said.{AreSaid, Says, SaysAll, SaysPrefix, ending_lines}}
 
 longer : (rest more : List ℕ) → 0 < length rest → 0 < length (rest ++ more)
 longer [] more some = absurd (omega (arith, some))

@@ -3,27 +3,15 @@ use Rattle.std.proofs.Common.{rules, arith}
 use Rattle.std.proofs.Common.{◌≡◌, ◌↔◌, ℕ, ◌<◌, Bool, true, false, List, [], ◌∷◌, ◌++◌, refl, sym, ap, ◌∙◌, subst, append-nil}
 use Rattle.std.specs.Prelude.{Contains}
 use Rattle.std.specs.List.{filter}
-use Rattle.std.proofs.lemmas.Bool.{lt-ltb, ltb-true}
-use Rattle.std.proofs.lemmas.List.Elements.{filter-append}
-use Rattle.mdns_capture.specs.declared.moment.Moment.{Moment}
-use Rattle.mdns_capture.specs.Savefile.{PacketAt}
-use Rattle.mdns_message.specs.declared.hearing.Hearing.{Hearing}
-use Rattle.mdns_message.specs.Message.{MessageReads}
-use Rattle.mdns_cache.proofs.RepeatLemmas.{moment_in}
+use Rattle.std.proofs.lemmas.{Bool.{lt-ltb, ltb-true}, List.Elements.{filter-append}}
+use Rattle.mdns_capture.specs.{declared.moment.Moment.{Moment}, Savefile.{PacketAt}}
+use Rattle.mdns_message.specs.{declared.hearing.Hearing.{Hearing}, Message.{MessageReads}}
+use Rattle.mdns_cache.proofs.{RepeatLemmas.{moment_in}, StandsPartLemmas.{Contains-head, Contains-later}}
 use Rattle.mdns_cache.specs.Live.{SameHearings}
-use Rattle.mdns_browse.specs.declared.about.Subject.{Subject}
-use Rattle.mdns_browse.specs.declared.report.Ask.{Ask}
-use Rattle.mdns_browse.specs.declared.report.Form.{Form}
-use Rattle.mdns_browse.specs.Report.{IsReportIn}
-use Rattle.mdns_cache.proofs.StandsPartLemmas.{Contains-head, Contains-later}
-use Rattle.mdns_survey.specs.declared.filter.Filter.{Filter}
-use Rattle.mdns_survey.specs.declared.request.AsOf.{AsOf}
-use Rattle.mdns_survey.specs.declared.request.AsOf.TheVariants.{At, Before}
-use Rattle.mdns_survey.specs.declared.summary.Summary.{Summary}
-use Rattle.mdns_survey.specs.Laws.{AreBefore}
-use Rattle.mdns_survey.specs.Outcomes.{AllRead, Outcome}
-use Rattle.mdns_survey.specs.Filter.{counted, counts, filter_of, selected}
-use Rattle.mdns_survey.specs.Surveys.{IsAsOf, ReportsBy, SurveysBy, all_hearings}
+use Rattle.mdns_browse.specs.{declared.about.Subject.{Subject}, declared.report.Ask.{Ask}, declared.report.Form.{Form}, Report.{IsReportIn}}
+use Rattle.mdns_survey.specs.declared.{filter.Filter.{Filter}, request.AsOf.{AsOf}, request.AsOf.TheVariants.{At, Before}}
+use Rattle.mdns_survey.specs.{declared.summary.Summary.{Summary}, Laws.{AreBefore}, Outcomes.{AllRead, Outcome}}
+use Rattle.mdns_survey.specs.{Filter.{counted, counts, filter_of, selected}, Surveys.{IsAsOf, ReportsBy, SurveysBy, all_hearings}}
 use Rattle.mdns_lives.proofs.FilterLemmas.{from-filter, to-filter}
 
 -- the same hearings have the same ones that count

@@ -1,25 +1,16 @@
 -- Skipped packets are counted.
 use Rattle.std.proofs.Common.{◌≡◌, ℕ, ◌+◌, ◌<◌, List, [], ◌∷◌, ◌++◌, Option, Some, None, arith, get_or, set, length, refl}
-use Rattle.std.proofs.lemmas.Bool.{cases_eq, eq-eqb, ne_eqb}
-use Rattle.std.proofs.lemmas.List.{get_or-set_other, get_or-set_same}
+use Rattle.std.proofs.lemmas.{Bool.{cases_eq, eq-eqb, ne_eqb}, List.{get_or-set_other, get_or-set_same}}
 use Rattle.std.proofs.lemmas.List.Sums.{count_by-le-length, sum_by_push}
 use Rattle.std.specs.Prelude.{count_by}
 use mathlib.Core.Bool.{cond}
-use Rattle.mdns_capture.specs.Frame.{FrameCarries}
-use Rattle.mdns_capture.specs.Limits.{most_packets}
-use Rattle.mdns_capture.specs.Savefile.{PacketAt}
-use Rattle.mdns_message.specs.declared.hearing.Hearing.{Hearing}
-use Rattle.mdns_message.specs.Message.{MessageReads}
+use Rattle.mdns_capture.specs.{Frame.{FrameCarries}, Limits.{most_packets}, Savefile.{PacketAt}}
+use Rattle.mdns_message.specs.{declared.hearing.Hearing.{Hearing}, Message.{MessageReads}}
 use Rattle.mdns_browse.specs.Services.{AreEach}
-use Rattle.mdns_survey.specs.declared.outcome.PacketOutcome.{PacketOutcome}
-use Rattle.mdns_survey.specs.declared.outcome.PacketOutcome.TheVariants as found
-use Rattle.mdns_survey.specs.declared.outcome.SkipReason.{SkipReason}
-use Rattle.mdns_survey.specs.declared.skips.Skips.{Skips}
-use Rattle.mdns_survey.specs.Outcomes.{ComesTo}
-use Rattle.mdns_survey.specs.Listen.{outcome_of}
-use Rattle.mdns_survey.specs.Skips.{CountsSkip, IsSkipOf, is_why, why_of}
-use Rattle.mdns_survey.specs.Reasons.{row_of}
+use Rattle.mdns_survey.specs.declared.{outcome.PacketOutcome.{PacketOutcome}, outcome.SkipReason.{SkipReason}, skips.Skips.{Skips}}
+use Rattle.mdns_survey.specs.{Outcomes.{ComesTo}, Listen.{outcome_of}, Skips.{CountsSkip, IsSkipOf, is_why, why_of}, Reasons.{row_of}}
 use Rattle.mdns_survey.specs.Why.{SaysWhy}
+use Rattle.mdns_survey.specs.declared.outcome.PacketOutcome.TheVariants as found
 use Rattle.mdns_survey.proofs.OutcomeLemmas.{not_passed, not_passed_damaged}
 
 -- WHY A PACKET IS SKIPPED

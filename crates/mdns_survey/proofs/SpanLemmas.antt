@@ -1,23 +1,16 @@
 -- Spans of packets, joined.
 use Rattle.std.proofs.Common.{rules, ◌≡◌, ◌∙◌, ℕ, ◌≤◌, Bool, true, false, nat_lt, max, min, List, [], ◌∷◌, ◌++◌, Option, Some, None}
 use Rattle.std.proofs.Common.{refl, sym, ap, arith, if◌then◌else◌}
-use Rattle.std.proofs.lemmas.Bool.{ltb-false, ltb-true}
-use Rattle.std.proofs.lemmas.List.Elements.{All-cons, All-nil, All-weaker, Contains-append_right}
+use Rattle.std.proofs.lemmas.{Bool.{ltb-false, ltb-true}, List.Elements.{All-cons, All-nil, All-weaker, Contains-append_right}}
 use Rattle.std.specs.List.{Contains}
-use Rattle.mdns_capture.specs.declared.moment.Moment.{Moment}
-use Rattle.mdns_capture.specs.Savefile.{PacketAt}
+use Rattle.mdns_capture.specs.{declared.moment.Moment.{Moment}, Savefile.{PacketAt}}
 use Rattle.mdns_capture.proofs.OneReadingLemmas.{same_moment}
 use Rattle.mdns_cache.specs.Contents.{later_moment}
 use Rattle.mdns_cache.proofs.ContentsLemmas.{nanos-later}
-use Rattle.mdns_survey.specs.declared.reading.Reading.{Reading}
-use Rattle.mdns_survey.specs.declared.reading.Span.{Span}
-use Rattle.mdns_survey.specs.declared.request.AsOf.{AsOf}
-use Rattle.mdns_survey.specs.declared.request.AsOf.TheVariants.{Newest, At, Before}
-use Rattle.mdns_survey.specs.Listen.{packet_moments}
-use Rattle.mdns_survey.specs.LivesAnswer.{captures_begin, earliest_nanos, captures_end, latest_nanos}
-use Rattle.mdns_survey.specs.Readings.{HaveSpans, all_moments}
-use Rattle.mdns_survey.specs.Request.{moment_of}
-use Rattle.mdns_survey.specs.Span.{HasEnds, earlier_moment, joined_spans, span_at, span_of}
+use Rattle.mdns_survey.specs.declared.{reading.Reading.{Reading}, reading.Span.{Span}, request.AsOf.{AsOf}}
+use Rattle.mdns_survey.specs.{declared.request.AsOf.TheVariants.{Newest, At, Before}, Listen.{packet_moments}}
+use Rattle.mdns_survey.specs.{LivesAnswer.{captures_begin, earliest_nanos, captures_end, latest_nanos}, Readings.{HaveSpans, all_moments}}
+use Rattle.mdns_survey.specs.{Request.{moment_of}, Span.{HasEnds, earlier_moment, joined_spans, span_at, span_of}}
 
 -- BOTH SPANS
 

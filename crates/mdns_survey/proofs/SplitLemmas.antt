@@ -1,22 +1,15 @@
 -- A capture and its two parts have the same hearings, and packets at the same moments.
 use Rattle.std.proofs.Common.{arith, ◌≡◌, ◌≢◌, ◌↔◌, ◌⊎◌, ℕ, ◌+◌, ◌<◌, List, [], ◌∷◌, ◌++◌, length, slice_index}
 use Rattle.std.proofs.Common.{refl, sym, ap, subst, inl, inr}
-use Rattle.std.proofs.lemmas.List.{map-append}
-use Rattle.std.proofs.lemmas.List.Concat.{flat_map-append}
-use Rattle.mdns_capture.specs.declared.moment.Moment.{Moment}
-use Rattle.mdns_capture.specs.declared.savefile.Ending.{Ending}
-use Rattle.mdns_capture.specs.declared.savefile.Ending.TheVariants.{Many, Whole}
-use Rattle.mdns_capture.specs.Savefile.{CaptureReads, PacketAt}
-use Rattle.mdns_capture.specs.Cut.{ending_at, moved_to, part_before, part_from, offset_after}
+use Rattle.std.proofs.lemmas.{List.{map-append}, List.Concat.{flat_map-append}}
+use Rattle.mdns_capture.specs.declared.{moment.Moment.{Moment}, savefile.Ending.{Ending}, savefile.Ending.TheVariants.{Many, Whole}}
+use Rattle.mdns_capture.specs.{Savefile.{CaptureReads, PacketAt}, Cut.{ending_at, moved_to, part_before, part_from, offset_after}}
 use Rattle.mdns_message.specs.declared.hearing.Hearing.{Hearing}
-use Rattle.mdns_survey.specs.declared.summary.Summary.{Summary}
-use Rattle.mdns_survey.specs.Outcomes.{AllCome, Outcome, hearings_in}
-use Rattle.mdns_survey.specs.Laws.{with_both_parts, with_capture}
-use Rattle.mdns_survey.specs.Listen.{packet_moments}
+use Rattle.mdns_survey.specs.{declared.summary.Summary.{Summary}, Outcomes.{AllCome, Outcome, hearings_in}}
+use Rattle.mdns_survey.specs.{Laws.{with_both_parts, with_capture}, Listen.{packet_moments}}
 use Rattle.mdns_survey.proofs.CountLemmas.{AreFew, tallied, tallied_together}
 use Rattle.mdns_survey.proofs.FactLemmas.{AllTold, Fact, Has, IsByFacts, IsIn, IsTold, Told, has-cases, has-left, has-right, one-survey}
-use Rattle.mdns_survey.proofs.FactLemmas.{one-told, shared-survey, told-by}
-use Rattle.mdns_survey.proofs.FewLemmas.{few_come, frames_of_parts}
+use Rattle.mdns_survey.proofs.{FactLemmas.{one-told, shared-survey, told-by}, FewLemmas.{few_come, frames_of_parts}}
 use Rattle.mdns_survey.proofs.OutcomeLemmas.{OneReading, OneTelling, SomeOutcome, some_outcomes}
 
 abbrev pub NotMany : Ending → Type 0

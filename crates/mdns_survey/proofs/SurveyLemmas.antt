@@ -3,40 +3,24 @@ use Rattle.std.proofs.Common.{rules, ◌≡◌, Bool, IsTrue, ℕ, zero, suc, �
 use Rattle.std.proofs.Common.{sym, ap, ◌∙◌, subst, append_assoc, arith, length-append, Option, None, Some, ◌≤◌, ◌↔◌, inl, inr}
 use Rattle.std.proofs.Common.{IfSome, IsSomeAnd, MatchOption, unwrap_or, Contains, Ok, Err, Result, String, Global}
 use Rattle.std.specs.List.{All, HoldsAt}
-use Rattle.std.proofs.Math.Nat.{lt_of_not-le}
-use Rattle.std.proofs.Math.Seq.{get_or-append_seam}
-use Rattle.std.proofs.lemmas.List.{map-append, length-map}
+use Rattle.std.proofs.{Math.Nat.{lt_of_not-le}, Math.Seq.{get_or-append_seam}, lemmas.List.{map-append, length-map}}
 use Rattle.std.proofs.lemmas.List.Elements.{All-append}
 use Rattle.mdns_message.specs.declared.hearing.Hearing.{Hearing}
-use Rattle.mdns_capture.specs.declared.moment.Moment.{Moment}
-use Rattle.mdns_capture.specs.Savefile.{PacketAt, header_fault}
-use Rattle.mdns_cache.specs.Contents.{Contents, StandsFor}
-use Rattle.mdns_cache.specs.Live.{IsNewest}
+use Rattle.mdns_capture.specs.{declared.moment.Moment.{Moment}, Savefile.{PacketAt, header_fault}, Output.{Writing}}
+use Rattle.mdns_cache.specs.{Contents.{Contents, StandsFor}, Live.{IsNewest}}
 use Rattle.mdns_browse.specs.declared.report.ReportFault.{ReportFault}
 use Rattle.mdns_browse.specs.declared.report.ReportFault.TheVariants.{Early as ReportEarly, Memory as ReportMemory}
-use Rattle.mdns_browse.specs.Report.{IfEarly, IsReport, IsReportIn}
-use Rattle.mdns_browse.specs.declared.report.Ask.{Ask}
-use Rattle.mdns_browse.specs.declared.report.Form.TheVariants.{Lines}
-use Rattle.mdns_survey.specs.declared.survey.SurveyFault.{SurveyFault}
-use Rattle.mdns_survey.specs.declared.survey.SurveyFault.TheVariants.{File, Early, Memory, Write}
-use Rattle.mdns_survey.specs.declared.reading.Reading.{Reading}
-use Rattle.mdns_survey.specs.declared.summary.Summary.{Summary}
-use Rattle.mdns_survey.specs.Outcomes.{AllRead, Outcome}
-use Rattle.mdns_survey.specs.Listen.{IsNoReadFault}
-use Rattle.mdns_survey.specs.declared.listen.ListenFault.{ListenFault}
-use Rattle.mdns_survey.specs.declared.request.AsOf.{AsOf}
-use Rattle.mdns_survey.specs.declared.request.AsOf.TheVariants.{Newest, At, Before}
-use Rattle.mdns_survey.specs.declared.request.ReportRequest.{ReportRequest}
-use Rattle.mdns_survey.specs.Head.{Heads}
-use Rattle.mdns_survey.specs.Question.{HearsReaders, IsAnswer, IsTooEarly, Refuses, asked_report}
-use Rattle.mdns_survey.specs.Filter.{counted, filter_of}
-use Rattle.mdns_survey.specs.Request.{IsEarly, at_or_newest, moment_of, plain_request}
+use Rattle.mdns_browse.specs.{Report.{IfEarly, IsReport, IsReportIn}, declared.report.Ask.{Ask}, declared.report.Form.TheVariants.{Lines}}
+use Rattle.mdns_survey.specs.declared.survey.{SurveyFault.{SurveyFault}, SurveyFault.TheVariants.{File, Early, Memory, Write}}
+use Rattle.mdns_survey.specs.{declared.reading.Reading.{Reading}, declared.summary.Summary.{Summary}, Outcomes.{AllRead, Outcome}}
+use Rattle.mdns_survey.specs.{Listen.{IsNoReadFault}, declared.listen.ListenFault.{ListenFault}, declared.request.AsOf.{AsOf}}
+use Rattle.mdns_survey.specs.declared.request.{AsOf.TheVariants.{Newest, At, Before}, ReportRequest.{ReportRequest}}
+use Rattle.mdns_survey.specs.{Head.{Heads}, Question.{HearsReaders, IsAnswer, IsTooEarly, Refuses, asked_report}}
+use Rattle.mdns_survey.specs.{Filter.{counted, filter_of}, Request.{IsEarly, at_or_newest, moment_of, plain_request}}
 use Rattle.mdns_survey.specs.Readings.{summaries_of}
 use Rattle.mdns_survey.specs.Surveys.{all_hearings, IsAsOf, ReportsRequest, SurveysBy, SurveysReport, SurveysRequest}
-use Rattle.mdns_survey.proofs.ListenedLemmas.{known-head, known-read}
-use Rattle.mdns_survey.proofs.SelectedLemmas.{counted-at, is-earlier}
-use Rattle.mdns_capture.specs.Output.{Writing}
 use Rattle.mdns_survey.specs.Refusals.{RefusesBy, RefusesReaders, RefusesReader, BlamesReaders}
+use Rattle.mdns_survey.proofs.{ListenedLemmas.{known-head, known-read}, SelectedLemmas.{counted-at, is-earlier}}
 
 -- the file header of these bytes has no fault, where they are known
 abbrev pub IsSound : Option (List ℕ) → Type 0

@@ -4,17 +4,10 @@ use Rattle.std.specs.Prelude.{Contains}
 use Rattle.mdns_capture.specs.declared.moment.Moment.{Moment}
 use Rattle.mdns_message.specs.declared.hearing.Hearing.{Hearing}
 use Rattle.mdns_cache.specs.Live.{IsNewest, SameHearings}
-use Rattle.mdns_browse.specs.declared.about.Subject.{Subject}
-use Rattle.mdns_browse.specs.declared.report.Ask.{Ask}
-use Rattle.mdns_browse.specs.declared.report.Form.{Form}
-use Rattle.mdns_browse.specs.Report.{IsReportIn}
-use Rattle.mdns_survey.specs.declared.request.AsOf.{AsOf}
-use Rattle.mdns_survey.specs.declared.request.AsOf.TheVariants.{Newest, At, Before}
-use Rattle.mdns_survey.specs.declared.request.ReportRequest.{ReportRequest}
-use Rattle.mdns_survey.specs.Filter.{filter_of, selected}
-use Rattle.mdns_survey.specs.Surveys.{IsAsOf, ReportsRequest, SurveysReport}
-use Rattle.mdns_survey.proofs.FactLemmas.{IsByFacts}
-use Rattle.mdns_survey.proofs.SelectedLemmas.{counted-all, same_selected}
+use Rattle.mdns_browse.specs.{declared.about.Subject.{Subject}, declared.report.Ask.{Ask}, declared.report.Form.{Form}, Report.{IsReportIn}}
+use Rattle.mdns_survey.specs.declared.request.{AsOf.{AsOf}, AsOf.TheVariants.{Newest, At, Before}, ReportRequest.{ReportRequest}}
+use Rattle.mdns_survey.specs.{Filter.{filter_of, selected}, Surveys.{IsAsOf, ReportsRequest, SurveysReport}}
+use Rattle.mdns_survey.proofs.{FactLemmas.{IsByFacts}, SelectedLemmas.{counted-all, same_selected}}
 
 -- THE LAWS BELOW
 

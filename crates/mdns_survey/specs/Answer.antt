@@ -1,16 +1,10 @@
 -- The program's output, and its exit status.
 use Rattle.std.specs.Prelude.{◌≡◌, ℕ, Bool, true, false, MatchBool, if◌then◌else◌, List, [], ◌∷◌, codes, map}
-use Rattle.std.specs.List.{list_all}
-use Rattle.std.specs.Io.KnownBytes.{Appends}
-use Rattle.mdns_capture.specs.declared.stream.Source.{Ghosts}
-use Rattle.mdns_capture.specs.Output.{Writing}
-use Rattle.mdns_survey.specs.declared.request.Request.{Request}
-use Rattle.mdns_survey.specs.declared.request.Request.TheVariants.{Check}
-use Rattle.mdns_survey.specs.declared.summary.Summary.{Summary}
-use Rattle.mdns_survey.specs.declared.survey.SurveyFault.{SurveyFault}
-use Rattle.mdns_survey.specs.ProgramLines.{fault_line_text, is_whole}
-use Rattle.mdns_survey.specs.Question.{Asked, Refuses, asked_of}
-use Rattle.mdns_survey.specs.Refusals.{BlamesReaders, BlamesWriter, Leaves}
+use Rattle.std.specs.{List.{list_all}, Io.KnownBytes.{Appends}}
+use Rattle.mdns_capture.specs.{declared.stream.Source.{Ghosts}, Output.{Writing}}
+use Rattle.mdns_survey.specs.declared.{request.Request.{Request}, request.Request.TheVariants.{Check}, summary.Summary.{Summary}}
+use Rattle.mdns_survey.specs.{declared.survey.SurveyFault.{SurveyFault}, ProgramLines.{fault_line_text, is_whole}}
+use Rattle.mdns_survey.specs.{Question.{Asked, Refuses, asked_of}, Refusals.{BlamesReaders, BlamesWriter, Leaves}}
 use Rattle.mdns_survey.specs.Said.{Says, ending_lines}
 
 -- 0 where every capture is whole, else 1

@@ -1,25 +1,15 @@
 -- A chronicle of captures while it is filled, and while it is written.
 use Rattle.std.specs.Prelude.{◌≡◌, ◌⊎◌, ℕ, List, [], ◌∷◌, ◌++◌, Option}
-use Rattle.std.specs.List.{flat_map}
-use Rattle.std.specs.Io.KnownBytes.{Appends}
-use Rattle.mdns_capture.specs.Output.{AppendsPrefix, Writing}
-use Rattle.mdns_capture.specs.Savefile.{PacketAt}
+use Rattle.std.specs.{List.{flat_map}, Io.KnownBytes.{Appends}}
+use Rattle.mdns_capture.specs.{Output.{AppendsPrefix, Writing}, Savefile.{PacketAt}}
 use Rattle.mdns_message.specs.declared.hearing.Hearing.{Hearing}
 use Rattle.mdns_join.specs.declared.latest.Latest.{Latest}
-use Rattle.mdns_lives.specs.declared.life.Life.{Life}
-use Rattle.mdns_lives.specs.Chronicle.{Accounts, Chronicles}
-use Rattle.mdns_lives.specs.MessageChronicle.{Recorded, RecordsAll}
-use Rattle.mdns_browse.specs.declared.report.Form.{Form}
-use Rattle.mdns_browse.specs.declared.report.Form.TheVariants.{Pretty}
-use Rattle.mdns_browse.specs.declared.life_text.Layout.{Layout}
-use Rattle.mdns_browse.specs.LifeText.{IsLayout}
-use Rattle.mdns_browse.specs.Services.{AreEach}
-use Rattle.mdns_survey.specs.declared.each_capture.EachChronicling.{EachChronicling}
-use Rattle.mdns_survey.specs.declared.filter.Filter.{Filter}
-use Rattle.mdns_survey.specs.declared.survey.SurveyFault.{SurveyFault}
-use Rattle.mdns_survey.specs.declared.survey.SurveyFault.TheVariants.{File, Early, Memory, Write}
-use Rattle.mdns_survey.specs.Outcomes.{Outcome}
-use Rattle.mdns_survey.specs.Filter.{counted, counted_each}
+use Rattle.mdns_lives.specs.{declared.life.Life.{Life}, Chronicle.{Accounts, Chronicles}, MessageChronicle.{Recorded, RecordsAll}}
+use Rattle.mdns_browse.specs.declared.{report.Form.{Form}, report.Form.TheVariants.{Pretty}, life_text.Layout.{Layout}}
+use Rattle.mdns_browse.specs.{LifeText.{IsLayout}, Services.{AreEach}}
+use Rattle.mdns_survey.specs.declared.{each_capture.EachChronicling.{EachChronicling}, filter.Filter.{Filter}}
+use Rattle.mdns_survey.specs.declared.survey.{SurveyFault.{SurveyFault}, SurveyFault.TheVariants.{File, Early, Memory, Write}}
+use Rattle.mdns_survey.specs.{Outcomes.{Outcome}, Filter.{counted, counted_each}}
 
 -- those hearings of all captures that count, and no others, are recorded
 abbrev pub Chronicled : Filter → Recorded → List (List PacketAt) → List (List Outcome) → Type 0

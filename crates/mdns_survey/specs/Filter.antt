@@ -3,9 +3,7 @@ use Rattle.std.specs.Prelude.{Bool, true, nat_lt, List, Some, None, map, option_
 use Rattle.std.specs.List.{filter, flat_map}
 use Rattle.mdns_capture.specs.declared.moment.Moment.{Moment}
 use Rattle.mdns_message.specs.declared.hearing.Hearing.{Hearing}
-use Rattle.mdns_survey.specs.declared.filter.Filter.{Filter}
-use Rattle.mdns_survey.specs.declared.request.AsOf.{AsOf}
-use Rattle.mdns_survey.specs.declared.request.AsOf.TheVariants.{Before}
+use Rattle.mdns_survey.specs.declared.{filter.Filter.{Filter}, request.AsOf.{AsOf}, request.AsOf.TheVariants.{Before}}
 use Rattle.mdns_survey.specs.Outcomes.{Outcome, hearings_in}
 
 -- with `Before` the hearings earlier than its moment, and else all

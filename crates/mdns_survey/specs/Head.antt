@@ -1,13 +1,9 @@
 -- What a report for people begins with: how many packets were lost, and that nothing was heard.
 use Rattle.std.specs.Prelude.{◌≡◌, ℕ, ◌+◌, ◌==◌, if◌then◌else◌, List, [], ◌∷◌, ◌++◌, codes, decimal, sum_by}
-use Rattle.mdns_browse.specs.declared.report.Form.{Form}
-use Rattle.mdns_browse.specs.declared.report.Form.TheVariants.{Pretty}
+use Rattle.mdns_browse.specs.declared.report.{Form.{Form}, Form.TheVariants.{Pretty}}
 use Rattle.mdns_capture.specs.Savefile.{PacketAt}
-use Rattle.mdns_survey.specs.declared.reading.Reading.{Reading}
-use Rattle.mdns_survey.specs.declared.summary.Summary.{Summary}
-use Rattle.mdns_survey.specs.Outcomes.{AllRead, Outcome}
-use Rattle.mdns_survey.specs.Reasons.{lost_frames}
-use Rattle.mdns_survey.specs.Readings.{CountLosses, summaries_of}
+use Rattle.mdns_survey.specs.{declared.reading.Reading.{Reading}, declared.summary.Summary.{Summary}, Outcomes.{AllRead, Outcome}}
+use Rattle.mdns_survey.specs.{Reasons.{lost_frames}, Readings.{CountLosses, summaries_of}}
 
 -- THE TEXT
 

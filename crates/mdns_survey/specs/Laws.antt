@@ -1,13 +1,9 @@
 -- Definitions that the laws of captures and surveys use.
 use Rattle.std.specs.Prelude.{ℕ, ◌<◌, List, ◌∷◌, ◌++◌, Contains}
-use Rattle.mdns_capture.specs.Limits.{file_header_size}
-use Rattle.mdns_capture.specs.declared.moment.Moment.{Moment}
-use Rattle.mdns_capture.specs.Savefile.{PacketAt}
+use Rattle.mdns_capture.specs.{Limits.{file_header_size}, declared.moment.Moment.{Moment}, Savefile.{PacketAt}}
 use Rattle.mdns_capture.specs.Cut.{offset_after, part_before, part_from}
 use Rattle.mdns_message.specs.declared.hearing.Hearing.{Hearing}
-use Rattle.mdns_survey.specs.declared.summary.Summary.{Summary}
-use Rattle.mdns_survey.specs.Outcomes.{AllRead, Outcome}
-use Rattle.mdns_survey.specs.Surveys.{all_hearings}
+use Rattle.mdns_survey.specs.{declared.summary.Summary.{Summary}, Outcomes.{AllRead, Outcome}, Surveys.{all_hearings}}
 
 -- the same captures, in whatever order and however often
 pub record SameCaptures (captures others : List (List ℕ)) : Type 0 where

@@ -1,20 +1,14 @@
 -- The answers of `listen`.
 use Rattle.std.specs.Prelude.{◌≡◌, ℕ, List, [], ◌∷◌, ◌++◌, map, Option, Some, None, IfSome}
-use Rattle.mdns_capture.specs.declared.moment.Moment.{Moment}
-use Rattle.mdns_capture.specs.declared.savefile.BeginFault.TheVariants.{Memory as BeginMemory, Read as BeginRead}
+use Rattle.mdns_capture.specs.declared.{moment.Moment.{Moment}, savefile.BeginFault.TheVariants.{Memory as BeginMemory, Read as BeginRead}}
 use Rattle.mdns_capture.specs.Savefile.{header_fault, snap_length, CaptureReads, PacketAt}
 use Rattle.mdns_cache.specs.Contents.{StandsFor}
-use Rattle.mdns_survey.specs.declared.listen.ListenFault.{ListenFault}
-use Rattle.mdns_survey.specs.declared.listen.ListenFault.TheVariants.{Begin, Read}
-use Rattle.mdns_survey.specs.declared.outcome.PacketOutcome.{PacketOutcome}
-use Rattle.mdns_survey.specs.declared.outcome.PacketOutcome.TheVariants as found
-use Rattle.mdns_survey.specs.declared.listen.Heard.{Heard}
-use Rattle.mdns_message.specs.declared.hearing.Hearing.{Hearing}
-use Rattle.mdns_survey.specs.declared.reading.Reading.{Reading}
+use Rattle.mdns_survey.specs.declared.listen.{ListenFault.{ListenFault}, ListenFault.TheVariants.{Begin, Read}}
+use Rattle.mdns_survey.specs.declared.{outcome.PacketOutcome.{PacketOutcome}, listen.Heard.{Heard}, reading.Reading.{Reading}}
 use Rattle.mdns_survey.specs.Outcomes.{Outcome, skipped, refused, heard, AllCome, CaptureTells, Counts, hearings_in}
-use Rattle.mdns_survey.specs.Reasons.{lost_frames}
-use Rattle.mdns_survey.specs.Skips.{CountsSkips}
-use Rattle.mdns_survey.specs.Span.{span_of}
+use Rattle.mdns_survey.specs.{Reasons.{lost_frames}, Skips.{CountsSkips}, Span.{span_of}}
+use Rattle.mdns_survey.specs.declared.outcome.PacketOutcome.TheVariants as found
+use Rattle.mdns_message.specs.declared.hearing.Hearing.{Hearing}
 
 -- the outcome that was found
 abbrev pub outcome_of : PacketOutcome → Outcome

@@ -1,27 +1,14 @@
 -- The text of the lives of all records of captures, and why a survey of them is refused.
 use Rattle.std.specs.Prelude.{◌≡◌, ℕ, ◌≤◌, max, min, List, [], ◌∷◌, ◌++◌, length, Contains}
-use Rattle.std.specs.List.{filter, flat_map}
-use Rattle.std.specs.Io.KnownBytes.{Appends}
-use Rattle.mdns_capture.specs.declared.moment.Moment.{Moment}
-use Rattle.mdns_capture.specs.Output.{Writing}
-use Rattle.mdns_capture.specs.Savefile.{PacketAt}
+use Rattle.std.specs.{List.{filter, flat_map}, Io.KnownBytes.{Appends}}
+use Rattle.mdns_capture.specs.{declared.moment.Moment.{Moment}, Output.{Writing}, Savefile.{PacketAt}}
 use Rattle.mdns_message.specs.declared.hearing.Hearing.{Hearing}
 use Rattle.mdns_join.specs.declared.latest.Latest.{Latest}
-use Rattle.mdns_lives.specs.declared.life.Life.{Life}
-use Rattle.mdns_lives.specs.declared.life.Which.{Which}
-use Rattle.mdns_lives.specs.Changes.{chosen}
-use Rattle.mdns_lives.specs.Chronicle.{AreAllLives}
-use Rattle.mdns_browse.specs.declared.about.Subject.{Subject}
-use Rattle.mdns_browse.specs.declared.report.Form.{Form}
-use Rattle.mdns_browse.specs.About.{keeps_record}
+use Rattle.mdns_lives.specs.{declared.life.Life.{Life}, declared.life.Which.{Which}, Changes.{chosen}, Chronicle.{AreAllLives}}
+use Rattle.mdns_browse.specs.{declared.about.Subject.{Subject}, declared.report.Form.{Form}, About.{keeps_record}}
 use Rattle.mdns_browse.specs.LifeText.{end_width, lives_head, lives_in, lives_report, lives_text}
-use Rattle.mdns_survey.specs.declared.request.AsOf.{AsOf}
-use Rattle.mdns_survey.specs.declared.request.AsOf.TheVariants.{Newest, At, Before}
-use Rattle.mdns_survey.specs.declared.request.LivesRequest.{LivesRequest}
-use Rattle.mdns_survey.specs.declared.summary.Summary.{Summary}
-use Rattle.mdns_survey.specs.Outcomes.{AllRead, Outcome}
-use Rattle.mdns_survey.specs.Head.{IsHead}
-use Rattle.mdns_survey.specs.Filter.{counted, filter_of}
+use Rattle.mdns_survey.specs.declared.request.{AsOf.{AsOf}, AsOf.TheVariants.{Newest, At, Before}, LivesRequest.{LivesRequest}}
+use Rattle.mdns_survey.specs.{declared.summary.Summary.{Summary}, Outcomes.{AllRead, Outcome}, Head.{IsHead}, Filter.{counted, filter_of}}
 use Rattle.mdns_survey.specs.Readings.{all_moments}
 
 -- THE END OF CAPTURES

@@ -1,14 +1,10 @@
 -- The outcomes of captures: which hearings their packets carry, and how the packets are counted.
 use Rattle.std.specs.Prelude.{◌≡◌, ◌⊎◌, ℕ, Bool, true, false, List, [], ◌∷◌, length, count_by}
 use Rattle.std.specs.List.{flat_map}
-use Rattle.mdns_capture.specs.declared.moment.Moment.{Moment}
-use Rattle.mdns_capture.specs.declared.savefile.Ending.{Ending}
-use Rattle.mdns_capture.specs.Savefile.{PacketAt, CaptureReads}
+use Rattle.mdns_capture.specs.{declared.moment.Moment.{Moment}, declared.savefile.Ending.{Ending}, Savefile.{PacketAt, CaptureReads}}
 use Rattle.mdns_capture.specs.Frame.{FrameCarries}
-use Rattle.mdns_message.specs.declared.hearing.Hearing.{Hearing}
-use Rattle.mdns_message.specs.Message.{IsShort, IsQuery, IsIgnored, HasHeader, MessageReads}
-use Rattle.mdns_survey.specs.declared.summary.Summary.{Summary}
-use Rattle.mdns_survey.specs.declared.summary.Tally.{Tally}
+use Rattle.mdns_message.specs.{declared.hearing.Hearing.{Hearing}, Message.{IsShort, IsQuery, IsIgnored, HasHeader, MessageReads}}
+use Rattle.mdns_survey.specs.declared.summary.{Summary.{Summary}, Tally.{Tally}}
 
 -- the outcome of a packet
 pub data Outcome : Type 0 where

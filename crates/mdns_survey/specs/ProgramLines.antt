@@ -2,19 +2,15 @@
 use Rattle.std.specs.Prelude.{ℕ, Bool, true, false, List, [], ◌∷◌, ◌++◌, codes, decimal, slice_get, unwrap_or, Result}
 use Rattle.std.specs.Prelude.{Ok, Err, String, string_bytes}
 use Rattle.std.specs.Global.{Global}
-use Rattle.mdns_capture.specs.declared.savefile.Ending.{Ending}
-use Rattle.mdns_capture.specs.declared.savefile.Ending.TheVariants.{Whole}
+use Rattle.mdns_capture.specs.declared.savefile.{Ending.{Ending}, Ending.TheVariants.{Whole}}
+use Rattle.mdns_capture.specs.declared.savefile.BeginFault.TheVariants.{Memory as BeginMemory, Read as BeginRead, ShortHeader, Magic}
+use Rattle.mdns_capture.specs.declared.savefile.BeginFault.TheVariants.{Version, Link}
 pub use Rattle.mdns_capture.specs.Text.{ending_text}
-use Rattle.mdns_capture.specs.declared.savefile.BeginFault.TheVariants.{Memory as BeginMemory, Read as BeginRead}
-use Rattle.mdns_capture.specs.declared.savefile.BeginFault.TheVariants.{ShortHeader, Magic, Version, Link}
-use Rattle.mdns_survey.specs.declared.listen.ListenFault.{ListenFault}
-use Rattle.mdns_survey.specs.declared.listen.ListenFault.TheVariants.{Begin, Read, Memory as ListenMemory}
-use Rattle.mdns_survey.specs.declared.survey.SurveyFault.{SurveyFault}
-use Rattle.mdns_survey.specs.declared.survey.SurveyFault.TheVariants.{File, Early, Memory, Write}
+use Rattle.mdns_survey.specs.declared.listen.{ListenFault.{ListenFault}, ListenFault.TheVariants.{Begin, Read, Memory as ListenMemory}}
+use Rattle.mdns_survey.specs.declared.survey.{SurveyFault.{SurveyFault}, SurveyFault.TheVariants.{File, Early, Memory, Write}}
+use Rattle.mdns_survey.specs.declared.summary.{Tally.{Tally}, Summary.{Summary}}
 use Rattle.memory.specs.declared.want.Want.{Want}
 use Rattle.mdns_browse.specs.RecordText.{moment_text}
-use Rattle.mdns_survey.specs.declared.summary.Tally.{Tally}
-use Rattle.mdns_survey.specs.declared.summary.Summary.{Summary}
 
 infixr 10 ◌<>◌
 -- texts one after another

@@ -1,24 +1,13 @@
 -- A question on captures: what answers it, and why it is refused.
 use Rattle.std.specs.Prelude.{◌≡◌, ◌⊎◌, ℕ, Bool, true, false, List, ◌++◌, Option, Some, map, option_map}
 use Rattle.std.specs.Io.KnownBytes.{Appends}
-use Rattle.mdns_capture.specs.declared.moment.Moment.{Moment}
-use Rattle.mdns_capture.specs.Output.{AppendsPrefix, Writing}
-use Rattle.mdns_capture.specs.Savefile.{PacketAt}
-use Rattle.mdns_survey.specs.declared.reading.Reading.{Reading}
-use Rattle.mdns_survey.specs.declared.request.AsOf.{AsOf}
-use Rattle.mdns_survey.specs.declared.request.AsOf.TheVariants.{Newest}
-use Rattle.mdns_survey.specs.declared.request.LivesRequest.{LivesRequest}
-use Rattle.mdns_survey.specs.declared.request.ReportRequest.{ReportRequest}
-use Rattle.mdns_survey.specs.declared.request.Request.{Request}
-use Rattle.mdns_survey.specs.declared.request.Request.TheVariants.{Report, Lives, Check}
-use Rattle.mdns_survey.specs.declared.summary.Summary.{Summary}
-use Rattle.mdns_survey.specs.declared.survey.SurveyFault.{SurveyFault}
-use Rattle.mdns_survey.specs.declared.survey.SurveyFault.TheVariants.{File, Early, Memory, Write}
-use Rattle.mdns_survey.specs.Outcomes.{AllRead, Outcome}
-use Rattle.mdns_survey.specs.ProgramLines.{check_lines_text}
-use Rattle.mdns_survey.specs.LivesAnswer.{SurveysLivesWithHead, WritesFirstRecords}
-use Rattle.mdns_survey.specs.Refusals.{FirstFails, HasNewest}
-use Rattle.mdns_survey.specs.Request.{IsEarly}
+use Rattle.mdns_capture.specs.{declared.moment.Moment.{Moment}, Output.{AppendsPrefix, Writing}, Savefile.{PacketAt}}
+use Rattle.mdns_survey.specs.declared.{reading.Reading.{Reading}, request.AsOf.{AsOf}, request.AsOf.TheVariants.{Newest}}
+use Rattle.mdns_survey.specs.declared.request.{LivesRequest.{LivesRequest}, ReportRequest.{ReportRequest}, Request.{Request}}
+use Rattle.mdns_survey.specs.declared.{request.Request.TheVariants.{Report, Lives, Check}, summary.Summary.{Summary}}
+use Rattle.mdns_survey.specs.declared.survey.{SurveyFault.{SurveyFault}, SurveyFault.TheVariants.{File, Early, Memory, Write}}
+use Rattle.mdns_survey.specs.{Outcomes.{AllRead, Outcome}, ProgramLines.{check_lines_text}}
+use Rattle.mdns_survey.specs.{LivesAnswer.{SurveysLivesWithHead, WritesFirstRecords}, Refusals.{FirstFails, HasNewest}, Request.{IsEarly}}
 use Rattle.mdns_survey.specs.Surveys.{AllLeft, SurveysRequest}
 
 -- What is asked of captures: which text answers it over captures with these summaries; as of when; whether nothing is written

@@ -1,22 +1,12 @@
 -- A capture that is read packet by packet, for a consumer of its packets.
 use Rattle.std.specs.Prelude.{◌≡◌, ℕ, ◌+◌, List, [], ◌∷◌, ◌++◌, length, Option, Some, None, IfSome}
-use Rattle.mdns_capture.specs.Limits.{file_header_size, packet_header_size}
-use Rattle.mdns_capture.specs.declared.savefile.Ending.{Ending}
-use Rattle.mdns_capture.specs.declared.savefile.Format.{Format}
-use Rattle.mdns_capture.specs.Savefile.{header_fault, PacketAt, BeginsWith, CaptureReads, IsFileHeader}
-use Rattle.mdns_capture.specs.Capture.{Standing, Leads}
-use Rattle.mdns_capture.specs.Cut.{offset_after}
-use Rattle.mdns_survey.specs.declared.listen.ListenFault.TheVariants.{Begin}
-use Rattle.mdns_survey.specs.declared.reading.ReadingFault.{ReadingFault}
-use Rattle.mdns_survey.specs.declared.reading.ReadingFault.TheVariants.{Listen, Consumer}
-use Rattle.mdns_survey.specs.declared.reading.Reading.{Reading}
-use Rattle.mdns_survey.specs.declared.reading.Span.{Span}
-use Rattle.mdns_survey.specs.declared.skips.Skips.{Skips}
-use Rattle.mdns_survey.specs.declared.summary.Tally.{Tally}
-use Rattle.mdns_survey.specs.Outcomes.{Outcome, AllCome, ComesTo, Counts}
-use Rattle.mdns_survey.specs.Listen.{HasListenFault, IsNoReadFault, packet_moments}
-use Rattle.mdns_survey.specs.Reasons.{lost_frames}
-use Rattle.mdns_survey.specs.Skips.{CountsSkips}
+use Rattle.mdns_capture.specs.{Limits.{file_header_size, packet_header_size}, declared.savefile.Ending.{Ending}}
+use Rattle.mdns_capture.specs.{declared.savefile.Format.{Format}, Savefile.{header_fault, PacketAt, BeginsWith, CaptureReads, IsFileHeader}}
+use Rattle.mdns_capture.specs.{Capture.{Standing, Leads}, Cut.{offset_after}}
+use Rattle.mdns_survey.specs.declared.{listen.ListenFault.TheVariants.{Begin}, reading.ReadingFault.{ReadingFault}}
+use Rattle.mdns_survey.specs.declared.reading.{ReadingFault.TheVariants.{Listen, Consumer}, Reading.{Reading}, Span.{Span}}
+use Rattle.mdns_survey.specs.{declared.skips.Skips.{Skips}, declared.summary.Tally.{Tally}, Outcomes.{Outcome, AllCome, ComesTo, Counts}}
+use Rattle.mdns_survey.specs.{Listen.{HasListenFault, IsNoReadFault, packet_moments}, Reasons.{lost_frames}, Skips.{CountsSkips}}
 use Rattle.mdns_survey.specs.Span.{span_of}
 
 -- THE FRONT OF A CAPTURE

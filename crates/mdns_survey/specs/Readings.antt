@@ -1,15 +1,9 @@
 -- What the readings of several captures say together.
 use Rattle.std.specs.Prelude.{◌≡◌, ℕ, ◌+◌, List, map, sum_by}
 use Rattle.std.specs.List.{flat_map}
-use Rattle.mdns_capture.specs.declared.moment.Moment.{Moment}
-use Rattle.mdns_capture.specs.Savefile.{PacketAt}
-use Rattle.mdns_survey.specs.declared.outcome.SkipReason.{SkipReason}
-use Rattle.mdns_survey.specs.declared.reading.Reading.{Reading}
-use Rattle.mdns_survey.specs.declared.summary.Summary.{Summary}
-use Rattle.mdns_survey.specs.Listen.{packet_moments}
-use Rattle.mdns_survey.specs.Reasons.{lost_frames}
-use Rattle.mdns_survey.specs.Skips.{count_of}
-use Rattle.mdns_survey.specs.Span.{span_of}
+use Rattle.mdns_capture.specs.{declared.moment.Moment.{Moment}, Savefile.{PacketAt}}
+use Rattle.mdns_survey.specs.declared.{outcome.SkipReason.{SkipReason}, reading.Reading.{Reading}, summary.Summary.{Summary}}
+use Rattle.mdns_survey.specs.{Listen.{packet_moments}, Reasons.{lost_frames}, Skips.{count_of}, Span.{span_of}}
 
 -- the summaries of captures with these readings
 abbrev pub summaries_of : List Reading → List Summary

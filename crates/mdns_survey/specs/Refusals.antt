@@ -2,22 +2,14 @@
 use Rattle.std.specs.Prelude.{◌≡◌, ◌≢◌, ℕ, ◌<◌, Bool, true, false, IsTrue, List, ◌∷◌, ◌++◌, length, map}
 use Rattle.std.specs.Prelude.{Option, Some, None, IfSome, All, HoldsAt}
 use Rattle.std.specs.List.{AllPass}
-use Rattle.mdns_capture.specs.declared.moment.Moment.{Moment}
-use Rattle.mdns_capture.specs.Savefile.{PacketAt, header_fault}
-use Rattle.mdns_capture.specs.Stream.{OneMoreFailed}
+use Rattle.mdns_capture.specs.{declared.moment.Moment.{Moment}, Savefile.{PacketAt, header_fault}, Stream.{OneMoreFailed}}
+use Rattle.mdns_capture.specs.Output.{AppendsPrefix, Writing}
 use Rattle.mdns_cache.specs.Live.{IsNewest}
 use Rattle.mdns_message.specs.declared.hearing.Hearing.{Hearing}
-use Rattle.mdns_survey.specs.declared.listen.ListenFault.{ListenFault}
-use Rattle.mdns_survey.specs.declared.request.AsOf.{AsOf}
-use Rattle.mdns_survey.specs.declared.survey.SurveyFault.{SurveyFault}
-use Rattle.mdns_survey.specs.declared.survey.SurveyFault.TheVariants.{File, Early, Memory, Write}
-use Rattle.mdns_survey.specs.declared.summary.Summary.{Summary}
-use Rattle.mdns_survey.specs.Outcomes.{AllRead, Outcome}
-use Rattle.mdns_survey.specs.ProgramLines.{IfFile}
-use Rattle.mdns_survey.specs.Listen.{HasListenFault, IsNoReadFault}
-use Rattle.mdns_survey.specs.Request.{IsEarly}
+use Rattle.mdns_survey.specs.declared.{listen.ListenFault.{ListenFault}, request.AsOf.{AsOf}, survey.SurveyFault.{SurveyFault}}
+use Rattle.mdns_survey.specs.declared.{survey.SurveyFault.TheVariants.{File, Early, Memory, Write}, summary.Summary.{Summary}}
+use Rattle.mdns_survey.specs.{Outcomes.{AllRead, Outcome}, ProgramLines.{IfFile}, Listen.{HasListenFault, IsNoReadFault}, Request.{IsEarly}}
 use Rattle.mdns_survey.specs.Surveys.{all_hearings, SurveysBy}
-use Rattle.mdns_capture.specs.Output.{AppendsPrefix, Writing}
 
 -- The reader at `index`, of readers with these bytes left, has the fault, and no reader before it has a fault in its
 -- file header.

@@ -1,14 +1,10 @@
 -- What is asked of captures, and as of when.
 use Rattle.std.specs.Prelude.{◌<◌, [], Option, Some, None}
 use Rattle.mdns_capture.specs.declared.moment.Moment.{Moment}
-use Rattle.mdns_browse.specs.declared.report.Ask.{Ask}
-use Rattle.mdns_browse.specs.declared.report.Form.TheVariants.{Lines}
-use Rattle.mdns_survey.specs.declared.request.AsOf.{AsOf}
-use Rattle.mdns_survey.specs.declared.request.AsOf.TheVariants.{Newest, At, Before}
-use Rattle.mdns_survey.specs.declared.request.ReportRequest.{ReportRequest}
-use Rattle.mdns_survey.specs.declared.request.Request.{Request}
+use Rattle.mdns_browse.specs.declared.report.{Ask.{Ask}, Form.TheVariants.{Lines}}
+use Rattle.mdns_survey.specs.declared.request.{AsOf.{AsOf}, AsOf.TheVariants.{Newest, At, Before}, ReportRequest.{ReportRequest}}
+use Rattle.mdns_survey.specs.declared.request.{Request.{Request}, What.{What}}
 use Rattle.mdns_survey.specs.declared.request.Request.TheVariants as request
-use Rattle.mdns_survey.specs.declared.request.What.{What}
 use Rattle.mdns_survey.specs.declared.request.What.TheVariants as what
 
 -- at the moment, or without one as of the newest hearing

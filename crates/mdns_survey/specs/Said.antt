@@ -1,10 +1,8 @@
 -- The lines that the program writes to its error writer.
 use Rattle.std.specs.Prelude.{◌≡◌, ◌⊎◌, ℕ, IsTrue, if◌then◌else◌, List, [], ◌∷◌, ◌++◌, Option, codes}
 use Rattle.std.specs.Io.KnownBytes.{Appends}
-use Rattle.mdns_capture.specs.Stream.{OneMoreFailed}
-use Rattle.mdns_capture.specs.Output.{AppendsPrefix, Writing}
-use Rattle.mdns_survey.specs.declared.summary.Summary.{Summary}
-use Rattle.mdns_survey.specs.ProgramLines.{ending_line_text, is_whole}
+use Rattle.mdns_capture.specs.{Stream.{OneMoreFailed}, Output.{AppendsPrefix, Writing}}
+use Rattle.mdns_survey.specs.{declared.summary.Summary.{Summary}, ProgramLines.{ending_line_text, is_whole}}
 
 -- the text is these lines as a program writes them, each with its line feed; `out of memory` is said of one whose allocation failed
 abbrev pub AreSaid : List ℕ → List (List ℕ) → List ℕ → Type 0

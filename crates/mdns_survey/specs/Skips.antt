@@ -1,16 +1,11 @@
 -- How many packets of a capture were skipped for each reason.
 use Rattle.std.specs.Prelude.{◌≡◌, ◌⊎◌, ℕ, ◌<◌, ◌==◌, Bool, false, List, [], ◌∷◌, ◌++◌, length, slice_index, Option, Some, None, count_by}
-use Rattle.mdns_capture.specs.Frame.{FrameCarries}
-use Rattle.mdns_capture.specs.Limits.{most_packets}
-use Rattle.mdns_capture.specs.Savefile.{PacketAt}
+use Rattle.mdns_capture.specs.{Frame.{FrameCarries}, Limits.{most_packets}, Savefile.{PacketAt}}
 use Rattle.mdns_message.specs.Message.{IsQuery, IsIgnored}
 use Rattle.mdns_browse.specs.Services.{AreEach}
-use Rattle.mdns_survey.specs.declared.outcome.PacketOutcome.{PacketOutcome}
+use Rattle.mdns_survey.specs.declared.{outcome.PacketOutcome.{PacketOutcome}, outcome.SkipReason.{SkipReason}, skips.Skips.{Skips}}
+use Rattle.mdns_survey.specs.{Reasons.{row_of}, Why.{IsSkippedFor}}
 use Rattle.mdns_survey.specs.declared.outcome.PacketOutcome.TheVariants as found
-use Rattle.mdns_survey.specs.declared.outcome.SkipReason.{SkipReason}
-use Rattle.mdns_survey.specs.declared.skips.Skips.{Skips}
-use Rattle.mdns_survey.specs.Reasons.{row_of}
-use Rattle.mdns_survey.specs.Why.{IsSkippedFor}
 
 -- THE REASONS
 

@@ -1,19 +1,13 @@
 -- The text of a survey of captures: the report over the hearings of all of them.
 use Rattle.std.specs.Prelude.{◌≡◌, ◌⊎◌, ℕ, ◌≤◌, List, [], ◌∷◌, ◌++◌, Option, Contains}
 use Rattle.std.specs.List.{flat_map}
-use Rattle.mdns_capture.specs.declared.moment.Moment.{Moment}
-use Rattle.mdns_capture.specs.Savefile.{PacketAt}
+use Rattle.mdns_capture.specs.{declared.moment.Moment.{Moment}, Savefile.{PacketAt}}
 use Rattle.mdns_message.specs.declared.hearing.Hearing.{Hearing}
 use Rattle.mdns_cache.specs.Live.{IsNewest}
 use Rattle.mdns_browse.specs.Report.{IsReportIn}
-use Rattle.mdns_survey.specs.Outcomes.{AllRead, Outcome, hearings_in}
-use Rattle.mdns_survey.specs.declared.request.AsOf.{AsOf}
-use Rattle.mdns_survey.specs.declared.request.AsOf.TheVariants.{Newest, At, Before}
-use Rattle.mdns_survey.specs.declared.request.ReportRequest.{ReportRequest}
-use Rattle.mdns_survey.specs.declared.reading.Reading.{Reading}
-use Rattle.mdns_survey.specs.declared.summary.Summary.{Summary}
-use Rattle.mdns_survey.specs.Head.{IsHead}
-use Rattle.mdns_survey.specs.Listen.{IsReadingOf}
+use Rattle.mdns_survey.specs.{Outcomes.{AllRead, Outcome, hearings_in}, declared.request.AsOf.{AsOf}}
+use Rattle.mdns_survey.specs.declared.request.{AsOf.TheVariants.{Newest, At, Before}, ReportRequest.{ReportRequest}}
+use Rattle.mdns_survey.specs.{declared.reading.Reading.{Reading}, declared.summary.Summary.{Summary}, Head.{IsHead}, Listen.{IsReadingOf}}
 use Rattle.mdns_survey.specs.Filter.{counted, filter_of}
 
 -- the hearings of all captures, as often as they come

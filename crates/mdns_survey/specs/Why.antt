@@ -1,14 +1,11 @@
 -- Why a packet told nothing.
 use Rattle.std.specs.Prelude.{◌≡◌, ℕ, List, [], Some}
-use Rattle.mdns_capture.specs.Frame.{FrameCarries, cause_of}
-use Rattle.mdns_capture.specs.Source.{IsSourceOf}
-use Rattle.mdns_message.specs.declared.fault.MessageFault.{MessageFault}
-use Rattle.mdns_message.specs.declared.fault.MessageFault.TheVariants as fault
-use Rattle.mdns_message.specs.Message.{IsShort, IsQuery, IsIgnored}
+use Rattle.mdns_capture.specs.{Frame.{FrameCarries, cause_of}, Source.{IsSourceOf}}
+use Rattle.mdns_message.specs.{declared.fault.MessageFault.{MessageFault}, Message.{IsShort, IsQuery, IsIgnored}}
 use Rattle.mdns_message.specs.FirstMessageFault.{MessageFails}
-use Rattle.mdns_survey.specs.declared.outcome.PacketOutcome.{PacketOutcome}
+use Rattle.mdns_message.specs.declared.fault.MessageFault.TheVariants as fault
+use Rattle.mdns_survey.specs.declared.outcome.{PacketOutcome.{PacketOutcome}, SkipReason.{SkipReason}}
 use Rattle.mdns_survey.specs.declared.outcome.PacketOutcome.TheVariants as found
-use Rattle.mdns_survey.specs.declared.outcome.SkipReason.{SkipReason}
 use Rattle.mdns_survey.specs.declared.outcome.SkipReason.TheVariants as why
 
 -- Why a packet with that frame is skipped: the check that the frame fails first, or else that it carries a message

@@ -2,10 +2,8 @@
 
 ghost use Rattle.std.specs.Prelude.{◌≡◌, ◌≢◌, ◌≤◌, ℕ, List, map, length, string_bytes, Some, IfOk};
 ghost use Rattle.mdns_capture.specs.Output.{writing};
-ghost use Rattle.mdns_survey.specs.Answer.{Answers, IsRefused, IsRefusedOf, Reports};
-ghost use Rattle.mdns_survey.specs.ProgramLines.{check_lines_text};
-ghost use Rattle.mdns_survey.specs.Readings.{summaries_of};
-ghost use Rattle.mdns_survey.specs.Request.{request_of};
+ghost use Rattle.mdns_survey.specs.{Answer.{Answers, IsRefused, IsRefusedOf, Reports}, ProgramLines.{check_lines_text}};
+ghost use Rattle.mdns_survey.specs.{Readings.{summaries_of}, Request.{request_of}};
 
 use crate::error_lines::{refuse, say_endings};
 use crate::hearer::Forgetful;

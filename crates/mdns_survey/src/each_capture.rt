@@ -3,9 +3,7 @@
 ghost use Rattle.std.specs.Prelude.{◌≡◌, ◌++◌, ◌∷◌, [], List, IfOk, OnOk};
 ghost use Rattle.mdns_capture.specs.Savefile.{PacketAt};
 ghost use Rattle.mdns_lives.specs.Chronicle.{Chronicles};
-ghost use Rattle.mdns_survey.specs.Outcomes.{Outcome, hearings_in};
-ghost use Rattle.mdns_survey.specs.Chronicling.{ChroniclesAll, JoinsMore, all_of};
-ghost use Rattle.mdns_survey.specs.Filter.{selected};
+ghost use Rattle.mdns_survey.specs.{Outcomes.{Outcome, hearings_in}, Chronicling.{ChroniclesAll, JoinsMore, all_of}, Filter.{selected}};
 ghost use Rattle.mdns_survey.specs.declared.each_capture.EachChronicling.{EachChronicling};
 
 use crate::filter::{Filter, Filtered};

@@ -1,12 +1,9 @@
 //! The error lines that a program writes.
 
 ghost use Rattle.std.specs.Prelude.{◌≡◌, ◌<◌, ◌∷◌, ◌++◌, [], List, codes, is_ok, length, map, string_bytes, OnOk, OnErr};
-ghost use Rattle.std.specs.Bool.{OnTrue, OnFalse};
-ghost use Rattle.std.specs.Io.KnownBytes.{Appends};
-ghost use Rattle.mdns_capture.specs.Calls.{WritesWell};
-ghost use Rattle.mdns_capture.specs.Output.{AppendsPrefix, writing};
-ghost use Rattle.mdns_survey.specs.ProgramLines.{fault_line_text, said_text, IfFile};
-ghost use Rattle.mdns_survey.specs.Said.{Says, SaysAll, SaysPrefix, ending_lines};
+ghost use Rattle.std.specs.{Bool.{OnTrue, OnFalse}, Io.KnownBytes.{Appends}};
+ghost use Rattle.mdns_capture.specs.{Calls.{WritesWell}, Output.{AppendsPrefix, writing}};
+ghost use Rattle.mdns_survey.specs.{ProgramLines.{fault_line_text, said_text, IfFile}, Said.{Says, SaysAll, SaysPrefix, ending_lines}};
 
 use crate::program_lines::{ending_line_of, fault_line_of};
 use crate::status::{REFUSED, is_whole};

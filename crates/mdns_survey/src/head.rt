@@ -2,8 +2,7 @@
 
 ghost use Rattle.std.specs.Prelude.{◌≡◌, ℕ, ◌==◌, ◌++◌, if◌then◌else◌, codes, sum_by, IfOk, List, OnOk};
 ghost use Rattle.std.specs.String.{string_bytes};
-ghost use Rattle.mdns_survey.specs.Head.{Heads, lost_text, unheard_text};
-ghost use Rattle.mdns_survey.specs.Readings.{lost_in, summaries_of};
+ghost use Rattle.mdns_survey.specs.{Head.{Heads, lost_text, unheard_text}, Readings.{lost_in, summaries_of}};
 
 use crate::reading::Reading;
 use crate::readings::lost_packets;

@@ -3,11 +3,9 @@
 
 ghost use Rattle.std.specs.Prelude.{◌≡◌, ◌++◌, List, IfNone, IfOk, IfSome, OnOk};
 ghost use Rattle.mdns_capture.specs.declared.moment.Moment.{Moment};
-ghost use Rattle.mdns_message.specs.declared.hearing.Hearing.{Hearing};
-ghost use Rattle.mdns_message.specs.Message.{MessageReads};
+ghost use Rattle.mdns_message.specs.{declared.hearing.Hearing.{Hearing}, Message.{MessageReads}};
 ghost use Rattle.mdns_cache.specs.Repeats.{ReadsAs};
-ghost use Rattle.mdns_lives.specs.Chronicle.{Chronicles};
-ghost use Rattle.mdns_lives.specs.MessageChronicle.{RecordsAll};
+ghost use Rattle.mdns_lives.specs.{Chronicle.{Chronicles}, MessageChronicle.{RecordsAll}};
 
 use crate::outcome::PacketOutcome;
 use crate::reading::Consumer;

@@ -2,27 +2,16 @@
 //! the law; its body only cites the laws that this one follows from.
 
 ghost use Rattle.std.specs.Prelude.{◌≡◌, ◌≢◌, ◌<◌, ◌++◌, ◌↔◌, ℕ, List, None, Option, slice_index};
-ghost use Rattle.mdns_capture.specs.Limits.{file_header_size};
-ghost use Rattle.mdns_capture.specs.declared.moment.Moment.{Moment};
-ghost use Rattle.mdns_capture.specs.declared.savefile.Ending.{Ending};
-ghost use Rattle.mdns_capture.specs.declared.savefile.Ending.TheVariants.{Many};
-ghost use Rattle.mdns_capture.specs.Savefile.{CaptureReads, PacketAt, header_fault};
+ghost use Rattle.mdns_capture.specs.{Limits.{file_header_size}, declared.moment.Moment.{Moment}, declared.savefile.Ending.{Ending}};
+ghost use Rattle.mdns_capture.specs.{declared.savefile.Ending.TheVariants.{Many}, Savefile.{CaptureReads, PacketAt, header_fault}};
 ghost use Rattle.mdns_capture.specs.Cut.{part_before, part_from, offset_after};
 ghost use Rattle.mdns_lives.specs.declared.life.Which.{Which};
-ghost use Rattle.mdns_browse.specs.Report.{IsReport, IsReportIn};
-ghost use Rattle.mdns_browse.specs.declared.about.Subject.{Subject};
-ghost use Rattle.mdns_browse.specs.declared.report.Ask.{Ask};
+ghost use Rattle.mdns_browse.specs.{Report.{IsReport, IsReportIn}, declared.about.Subject.{Subject}, declared.report.Ask.{Ask}};
 ghost use Rattle.mdns_browse.specs.declared.report.Form.{Form};
-ghost use Rattle.mdns_survey.specs.declared.request.AsOf.{AsOf};
-ghost use Rattle.mdns_survey.specs.declared.request.AsOf.TheVariants.{At, Before};
-ghost use Rattle.mdns_survey.specs.declared.request.ReportRequest.{ReportRequest};
-ghost use Rattle.mdns_survey.specs.declared.summary.Summary.{Summary};
-ghost use Rattle.mdns_survey.specs.Outcomes.{ComesTo, Outcome, CaptureTells};
-ghost use Rattle.mdns_survey.specs.LivesAnswer.{SurveysLives};
-ghost use Rattle.mdns_survey.specs.Request.{at_or_newest, plain_request};
-ghost use Rattle.mdns_survey.specs.Span.{HasEnds, span_of};
-ghost use Rattle.mdns_survey.specs.Surveys.{SurveysBy, SurveysReport};
-ghost use Rattle.mdns_survey.specs.Laws.{AreBefore, SameCaptures, with_capture, with_both_parts};
+ghost use Rattle.mdns_survey.specs.declared.request.{AsOf.{AsOf}, AsOf.TheVariants.{At, Before}, ReportRequest.{ReportRequest}};
+ghost use Rattle.mdns_survey.specs.{declared.summary.Summary.{Summary}, Outcomes.{ComesTo, Outcome, CaptureTells}};
+ghost use Rattle.mdns_survey.specs.{LivesAnswer.{SurveysLives}, Request.{at_or_newest, plain_request}, Span.{HasEnds, span_of}};
+ghost use Rattle.mdns_survey.specs.{Surveys.{SurveysBy, SurveysReport}, Laws.{AreBefore, SameCaptures, with_capture, with_both_parts}};
 
 use mdns_browse::laws::{report_about_all, same_report_in};
 use mdns_capture::laws::{cut_at_a_packet_header, one_payload, one_reading, payload_or_skip};

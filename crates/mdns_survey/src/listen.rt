@@ -1,8 +1,7 @@
 //! Listening to one capture.
 
 ghost use Rattle.std.specs.Prelude.{◌≡◌, IsTrue, IfOk, IfErr, IfSome, List, None};
-ghost use Rattle.mdns_capture.specs.Capture.{IsOver};
-ghost use Rattle.mdns_capture.specs.Savefile.{PacketAt, header_fault};
+ghost use Rattle.mdns_capture.specs.{Capture.{IsOver}, Savefile.{PacketAt, header_fault}};
 ghost use Rattle.mdns_survey.specs.Outcomes.{Outcome};
 ghost use Rattle.mdns_survey.specs.Listen.{Listens, ListensTo, HearsCapture, TakesCapture, HasListenFault, IsNoReadFault};
 

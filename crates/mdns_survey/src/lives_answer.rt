@@ -2,24 +2,16 @@
 
 ghost use Rattle.std.specs.Prelude.{◌≡◌, ◌<◌, ◌≤◌, ◌++◌, ◌∷◌, [], ℕ, Contains, IfNone, IfOk, IfErr, IfSome, List, OnErr, OnOk, Option, Some};
 ghost use Rattle.std.specs.Prelude.{false, is_ok, string_bytes};
-ghost use Rattle.std.specs.List.{flat_map};
-ghost use Rattle.std.specs.Io.KnownBytes.{Appends};
-ghost use Rattle.mdns_capture.specs.Calls.{WritesWell};
-ghost use Rattle.mdns_capture.specs.Output.{AppendsPrefix, writing};
+ghost use Rattle.std.specs.{List.{flat_map}, Io.KnownBytes.{Appends}};
+ghost use Rattle.mdns_capture.specs.{Calls.{WritesWell}, Output.{AppendsPrefix, writing}};
 ghost use Rattle.mdns_message.specs.declared.hearing.Hearing.{Hearing};
 ghost use Rattle.mdns_join.specs.declared.latest.Latest.{Latest};
 ghost use Rattle.mdns_cache.specs.Live.{IsNewest, NoneLater};
-ghost use Rattle.mdns_lives.specs.Chronicle.{Chronicles};
-ghost use Rattle.mdns_lives.specs.LentLives.{row_lent};
-ghost use Rattle.mdns_lives.specs.declared.life.Life.{Life};
+ghost use Rattle.mdns_lives.specs.{Chronicle.{Chronicles}, LentLives.{row_lent}, declared.life.Life.{Life}};
 ghost use Rattle.mdns_browse.specs.LifeText.{IsLayout, lives_head, lives_text};
-ghost use Rattle.mdns_survey.specs.Chronicling.{Chronicled, FitsForm, IsTextOut, StopsRows};
-ghost use Rattle.mdns_survey.specs.Filter.{filter_of};
-ghost use Rattle.mdns_survey.specs.Head.{Heads};
-ghost use Rattle.mdns_survey.specs.LivesAnswer.{kept_rows};
-ghost use Rattle.mdns_survey.specs.ProgramLines.{IfFile};
-ghost use Rattle.mdns_survey.specs.Question.{HearsReaders, Refuses, WritesAnswer, asked_after, asked_lives};
-ghost use Rattle.mdns_survey.specs.Readings.{summaries_of};
+ghost use Rattle.mdns_survey.specs.{Chronicling.{Chronicled, FitsForm, IsTextOut, StopsRows}, Filter.{filter_of}, Head.{Heads}};
+ghost use Rattle.mdns_survey.specs.{LivesAnswer.{kept_rows}, ProgramLines.{IfFile}};
+ghost use Rattle.mdns_survey.specs.{Question.{HearsReaders, Refuses, WritesAnswer, asked_after, asked_lives}, Readings.{summaries_of}};
 ghost use Rattle.mdns_survey.specs.Refusals.{BlamesWriter, Leaves};
 
 use crate::filter::Filtered;

@@ -1,12 +1,9 @@
 //! The outcome of a packet.
 
 ghost use Rattle.std.specs.Prelude.{◌≡◌, ◌≤◌, ℕ, IfOk, List, length};
-ghost use Rattle.mdns_capture.specs.Frame.{FrameCarries};
-ghost use Rattle.mdns_capture.specs.Source.{IsSourceOf};
+ghost use Rattle.mdns_capture.specs.{Frame.{FrameCarries}, Source.{IsSourceOf}};
 ghost use Rattle.mdns_message.specs.Message.{most_hearings};
-ghost use Rattle.mdns_survey.specs.Outcomes.{ComesTo, ReadsTo, hearings_of_outcome};
-ghost use Rattle.mdns_survey.specs.Listen.{outcome_of};
-ghost use Rattle.mdns_survey.specs.Reasons.{row_of};
+ghost use Rattle.mdns_survey.specs.{Outcomes.{ComesTo, ReadsTo, hearings_of_outcome}, Listen.{outcome_of}, Reasons.{row_of}};
 ghost use Rattle.mdns_survey.specs.Why.{IsPayloadOf, SaysWhy};
 
 use crate::reasons::row_of;

@@ -1,13 +1,10 @@
 //! Questions on captures, and the survey that answers each.
 
 ghost use Rattle.std.specs.Prelude.{◌≡◌, ℕ, [], length, map, IfErr, IfOk, List, OnOk, Option, string_bytes};
-ghost use Rattle.mdns_capture.specs.Output.{writing};
-ghost use Rattle.mdns_capture.specs.Savefile.{PacketAt};
+ghost use Rattle.mdns_capture.specs.{Output.{writing}, Savefile.{PacketAt}};
 ghost use Rattle.mdns_browse.specs.Report.{IfEarly};
-ghost use Rattle.mdns_survey.specs.Outcomes.{Outcome};
-ghost use Rattle.mdns_survey.specs.ProgramLines.{IfFile};
-ghost use Rattle.mdns_survey.specs.Question.{Asked, HearsReaders, IsAnswer, IsTooEarly, Refuses, WritesAnswer};
-ghost use Rattle.mdns_survey.specs.Readings.{summaries_of};
+ghost use Rattle.mdns_survey.specs.{Outcomes.{Outcome}, ProgramLines.{IfFile}};
+ghost use Rattle.mdns_survey.specs.{Question.{Asked, HearsReaders, IsAnswer, IsTooEarly, Refuses, WritesAnswer}, Readings.{summaries_of}};
 ghost use Rattle.mdns_survey.specs.Refusals.{BlamesReaders, BlamesWriter, Leaves};
 
 use crate::listen::Collector;

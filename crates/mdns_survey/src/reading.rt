@@ -2,21 +2,13 @@
 
 ghost use Rattle.std.specs.Prelude.{◌≡◌, ◌<◌, ◌≤◌, ◌∷◌, ◌++◌, [], List, length};
 ghost use Rattle.std.specs.Prelude.{IsTrue, IfOk, IfErr, IfNone, IfSome, None, OnErr, OnOk, Some};
-ghost use Rattle.mdns_capture.specs.Capture.{IsOver, packet_lent};
-ghost use Rattle.mdns_capture.specs.Frame.{FrameCarries, cause_of};
-ghost use Rattle.mdns_capture.specs.Limits.{most_packets};
+ghost use Rattle.mdns_capture.specs.{Capture.{IsOver, packet_lent}, Frame.{FrameCarries, cause_of}, Limits.{most_packets}};
 ghost use Rattle.mdns_capture.specs.Savefile.{PacketAt, header_fault, snap_length};
-ghost use Rattle.mdns_message.specs.declared.hearing.Hearing.{Hearing};
-ghost use Rattle.mdns_message.specs.Message.{MessageReads, most_hearings};
-ghost use Rattle.mdns_cache.specs.Contents.{later_moment};
-ghost use Rattle.mdns_cache.specs.Repeats.{ReadsAs};
-ghost use Rattle.mdns_survey.specs.Outcomes.{Outcome, ComesTo, ReadsTo, hearings_of_outcome, heard};
-ghost use Rattle.mdns_survey.specs.Listen.{outcome_of};
-ghost use Rattle.mdns_survey.specs.Reading.{CountsLoss, HasReadFault, IsNoCaptureRead, LeavesConsumer, ReadsCapture};
-ghost use Rattle.mdns_survey.specs.Reading.{TakesPacket};
-ghost use Rattle.mdns_survey.specs.Skips.{CountsSkip};
-ghost use Rattle.mdns_survey.specs.Span.{earlier_moment, joined_spans, span_at};
-ghost use Rattle.mdns_survey.specs.Why.{IsPayloadOf, SaysWhy};
+ghost use Rattle.mdns_message.specs.{declared.hearing.Hearing.{Hearing}, Message.{MessageReads, most_hearings}};
+ghost use Rattle.mdns_cache.specs.{Contents.{later_moment}, Repeats.{ReadsAs}};
+ghost use Rattle.mdns_survey.specs.{Outcomes.{Outcome, ComesTo, ReadsTo, hearings_of_outcome, heard}, Listen.{outcome_of}};
+ghost use Rattle.mdns_survey.specs.Reading.{CountsLoss, HasReadFault, IsNoCaptureRead, LeavesConsumer, ReadsCapture, TakesPacket};
+ghost use Rattle.mdns_survey.specs.{Skips.{CountsSkip}, Span.{earlier_moment, joined_spans, span_at}, Why.{IsPayloadOf, SaysWhy}};
 
 use crate::listen::ListenFault;
 use crate::outcome::{PacketOutcome, SkipReason, found_of};

@@ -1,8 +1,7 @@
 //! What can be asked of captures.
 
 ghost use Rattle.std.specs.Prelude.{◌≡◌};
-ghost use Rattle.mdns_survey.specs.Filter.{filter_of};
-ghost use Rattle.mdns_survey.specs.Request.{at_or_newest, moment_of, plain_request, request_of};
+ghost use Rattle.mdns_survey.specs.{Filter.{filter_of}, Request.{at_or_newest, moment_of, plain_request, request_of}};
 
 use crate::filter::Filter;
 use mdns_browse::about::Subject;

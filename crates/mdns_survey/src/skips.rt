@@ -1,8 +1,7 @@
 //! How many packets of a capture were skipped for each reason.
 
 ghost use Rattle.std.specs.Prelude.{◌≡◌, ◌+◌, ◌<◌, [], Option, Some};
-ghost use Rattle.mdns_capture.specs.Limits.{most_packets};
-ghost use Rattle.mdns_capture.specs.Savefile.{PacketAt};
+ghost use Rattle.mdns_capture.specs.{Limits.{most_packets}, Savefile.{PacketAt}};
 ghost use Rattle.mdns_survey.specs.Skips.{CountsSkip, CountsSkips, IsSkipOf, count_of, why_of};
 
 use crate::outcome::{PacketOutcome, SkipReason};

@@ -2,8 +2,7 @@
 
 ghost use Rattle.std.specs.Prelude.{◌≡◌, ◌≤◌};
 ghost use Rattle.std.specs.List.{list_all};
-ghost use Rattle.mdns_survey.specs.ProgramLines.{is_whole};
-ghost use Rattle.mdns_survey.specs.Answer.{status_of};
+ghost use Rattle.mdns_survey.specs.{ProgramLines.{is_whole}, Answer.{status_of}};
 
 use crate::summary::Summary;
 use mdns_capture::Ending;

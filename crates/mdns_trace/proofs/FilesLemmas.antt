@@ -2,8 +2,7 @@
 use Rattle.std.proofs.Common.{◌≡◌, ℕ, ◌+◌, ◌<◌, List, [], ◌∷◌, ◌++◌, String, Global, get_or, map, length, drop, take}
 use Rattle.std.proofs.Common.{take-append-drop, string_bytes, refl, arith, sym, ap, ◌∙◌, length-append}
 use Rattle.std.proofs.lemmas.List.{drop_more, map-append, take_more}
-use Rattle.mdns_trace.specs.declared.trace.TraceFault.{TraceFault}
-use Rattle.mdns_trace.specs.EachFile.{StopsAt, WritesEach, WritesFirst, more}
+use Rattle.mdns_trace.specs.{declared.trace.TraceFault.{TraceFault}, EachFile.{StopsAt, WritesEach, WritesFirst, more}}
 
 -- another file is left, so its index is one of a name
 pub is-within : {X Y : Type 0} (names : List X) (all done rest after : List Y) (one : Y) → length names ≡ length all

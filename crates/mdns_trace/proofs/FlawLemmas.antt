@@ -3,19 +3,13 @@ use Rattle.std.proofs.Common.{◌≡◌, ◌∙◌, ◌⊎◌, ◌&&◌, ◌%◌
 use Rattle.std.proofs.Common.{if◌then◌else◌, length, take, drop, Option, Some, None, IfSome, Result, inl, inr, refl, sym, subst, ap, arith}
 use Rattle.std.proofs.Common.{append-nil, drop-drop, length-drop, length-take-le, lt-ltb, take-append-drop, take_all}
 use Rattle.std.specs.Io.KnownBytes.{Consumes, IsAtEnd, Keeps, ReadConsumes, prepend_known}
-use Rattle.std.proofs.KnownBytes.{prepend_known-nil}
-use Rattle.std.proofs.lemmas.Bool.{cases_lt}
-use Rattle.std.proofs.lemmas.List.{drop_all}
-use Rattle.mdns_capture.specs.declared.savefile.BeginFault.{BeginFault}
-use Rattle.mdns_capture.specs.declared.savefile.BeginFault.TheVariants as fault
-use Rattle.mdns_capture.specs.declared.savefile.Format.{Format}
-use Rattle.mdns_capture.specs.declared.savefile.Order.TheVariants.{Big}
+use Rattle.std.proofs.{KnownBytes.{prepend_known-nil}, lemmas.Bool.{cases_lt}, lemmas.List.{drop_all}}
+use Rattle.mdns_capture.specs.declared.savefile.{BeginFault.{BeginFault}, Format.{Format}, Order.TheVariants.{Big}}
 use Rattle.mdns_capture.specs.Savefile.{format_fault, format_of, header_fault, number_at}
+use Rattle.mdns_capture.specs.declared.savefile.BeginFault.TheVariants as fault
 use Rattle.mdns_capture.proofs.HeaderLemmas.{header_fault-append}
-use Rattle.mdns_trace.specs.declared.flaw.Flaw.{Flaw}
+use Rattle.mdns_trace.specs.{declared.flaw.Flaw.{Flaw}, Flaw.{flaw_in, flaw_of, head_of, is_ethernet}, Verdict.{IsNoCapture}}
 use Rattle.mdns_trace.specs.declared.flaw.Flaw.TheVariants as flaw
-use Rattle.mdns_trace.specs.Flaw.{flaw_in, flaw_of, head_of, is_ethernet}
-use Rattle.mdns_trace.specs.Verdict.{IsNoCapture}
 use Rattle.mdns_trace.proofs.VerdictLemmas.{head-read}
 
 -- ---- a whole file header

@@ -2,22 +2,14 @@
 use Rattle.std.proofs.Common.{◌≡◌, ◌≢◌, ℕ, Bool, true, false, nat_lt, List, [], ◌∷◌, ◌++◌, map, Option, Some, None, IfSome, refl}
 use Rattle.std.proofs.Common.{sym, ap, ◌∙◌, append-nil, if◌then◌else◌}
 use Rattle.std.proofs.lemmas.List.Concat.{flat_map-append}
-use Rattle.mdns_capture.specs.Output.{AppendsPrefix}
-use Rattle.mdns_capture.specs.declared.moment.Moment.{Moment}
-use Rattle.mdns_message.specs.declared.hearing.Hearing.{Hearing}
-use Rattle.mdns_message.specs.Message.{hearing_of}
-use Rattle.mdns_message.specs.RecordAt.{HeardRecord}
-use Rattle.mdns_survey.specs.declared.reading.Span.{Span}
-use Rattle.mdns_survey.specs.declared.summary.Summary.{Summary}
-use Rattle.mdns_survey.specs.Outcomes.{Outcome, heard, ComesTo, hearings_in, hearings_of_outcome}
-use Rattle.mdns_survey.specs.Span.{joined_spans, span_at, span_of}
+use Rattle.mdns_capture.specs.{Output.{AppendsPrefix}, declared.moment.Moment.{Moment}}
+use Rattle.mdns_message.specs.{declared.hearing.Hearing.{Hearing}, Message.{hearing_of}, RecordAt.{HeardRecord}}
+use Rattle.mdns_survey.specs.declared.{reading.Span.{Span}, summary.Summary.{Summary}}
+use Rattle.mdns_survey.specs.{Outcomes.{Outcome, heard, ComesTo, hearings_in, hearings_of_outcome}, Span.{joined_spans, span_at, span_of}}
 use Rattle.mdns_survey.proofs.SpanLemmas.{span-both}
 use Rattle.mdns_browse.specs.declared.report.Form.{Form}
-use Rattle.mdns_trace.specs.declared.span_line.Spanned.{Spanned}
-use Rattle.mdns_trace.specs.Entry.{span_entry}
-use Rattle.mdns_trace.specs.EntryText.{entry_text}
-use Rattle.mdns_trace.specs.SpanLine.{IsSpanned, hearing_moments}
-use Rattle.mdns_trace.specs.SpanWritten.{SpansCapture}
+use Rattle.mdns_trace.specs.{declared.span_line.Spanned.{Spanned}, Entry.{span_entry}, EntryText.{entry_text}}
+use Rattle.mdns_trace.specs.{SpanLine.{IsSpanned, hearing_moments}, SpanWritten.{SpansCapture}}
 
 -- ONE PACKET
 

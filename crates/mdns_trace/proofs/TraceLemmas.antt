@@ -4,25 +4,16 @@ use Rattle.std.proofs.Common.{sym, ap, ◌∙◌, subst, append_assoc, append-ni
 use Rattle.std.proofs.KnownBytes.{Appends-nil, Appends-trans}
 use Rattle.std.specs.Io.KnownBytes.{Appends}
 use Rattle.mdns_browse.specs.declared.about.Subject.{Subject}
-use Rattle.mdns_capture.specs.Capture.{IsOver}
-use Rattle.mdns_capture.specs.Savefile.{PacketAt}
-use Rattle.mdns_capture.specs.Stream.{OneMoreFailed}
-use Rattle.mdns_capture.specs.declared.stream.Sink.{Ghosts as SinkGhosts}
-use Rattle.mdns_capture.specs.declared.stream.Source.{Ghosts as SourceGhosts}
-use Rattle.mdns_survey.specs.declared.listen.ListenFault.TheVariants.{Begin, Read, Memory}
-use Rattle.mdns_survey.specs.declared.reading.ReadingFault.{ReadingFault}
-use Rattle.mdns_survey.specs.declared.reading.ReadingFault.TheVariants.{Listen as OfListen, Consumer as OfConsumer}
-use Rattle.mdns_survey.specs.declared.reading.Reading.{Reading}
+use Rattle.mdns_capture.specs.{Capture.{IsOver}, Savefile.{PacketAt}, Stream.{OneMoreFailed}, declared.stream.Sink.{Ghosts as SinkGhosts}}
+use Rattle.mdns_capture.specs.{declared.stream.Source.{Ghosts as SourceGhosts}, Output.{AppendsPrefix}}
+use Rattle.mdns_survey.specs.declared.{listen.ListenFault.TheVariants.{Begin, Read, Memory}, reading.ReadingFault.{ReadingFault}}
+use Rattle.mdns_survey.specs.declared.reading.{ReadingFault.TheVariants.{Listen as OfListen, Consumer as OfConsumer}, Reading.{Reading}}
 use Rattle.mdns_survey.specs.Outcomes.{Outcome, AllCome}
-use Rattle.mdns_capture.specs.Output.{AppendsPrefix}
 use Rattle.mdns_survey.specs.Reading.{CaptureBegins, HasReadFault, IsNoCaptureRead, LeavesConsumer, ReadsCapture}
-use Rattle.mdns_trace.specs.declared.inquiry.Trace.{Trace}
-use Rattle.mdns_trace.specs.declared.trace.Lines.{Lines}
-use Rattle.mdns_trace.specs.declared.trace.TraceFault.{TraceFault}
-use Rattle.mdns_trace.specs.declared.trace.TraceFault.TheVariants.{Listen, Write}
-use Rattle.mdns_trace.specs.TraceFaults.{Stops, WritesLines}
-use Rattle.mdns_trace.specs.Trace.{AddsLines, AreAllLines, AreLinesOf, LeavesLines, LinesBroke, LinesTook, PrintsPart}
-use Rattle.mdns_trace.specs.Trace.{TracesCapture, TracesFront, trace_fault}
+use Rattle.mdns_trace.specs.declared.{inquiry.Trace.{Trace}, trace.Lines.{Lines}, trace.TraceFault.{TraceFault}}
+use Rattle.mdns_trace.specs.{declared.trace.TraceFault.TheVariants.{Listen, Write}, TraceFaults.{Stops, WritesLines}}
+use Rattle.mdns_trace.specs.Trace.{AddsLines, AreAllLines, AreLinesOf, LeavesLines, LinesBroke, LinesTook, PrintsPart, TracesCapture}
+use Rattle.mdns_trace.specs.Trace.{TracesFront, trace_fault}
 
 -- THE LINE OF A RESPONSE
 

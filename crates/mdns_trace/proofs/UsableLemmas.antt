@@ -3,9 +3,7 @@ use Rattle.std.proofs.Common.{◌≡◌, ℕ, Bool, true, false, List, [], ◌�
 use Rattle.std.proofs.Common.{map, string_bytes, subst, sym}
 use Rattle.std.proofs.lemmas.List.{length-map}
 use Rattle.mdns_capture.specs.declared.stream.Source.{Ghosts as SourceGhosts}
-use Rattle.mdns_trace.specs.declared.usable.Usable.{Usable}
-use Rattle.mdns_trace.specs.EachFile.{WritesEach, more, none}
-use Rattle.mdns_trace.specs.Usable.{SortsFile}
+use Rattle.mdns_trace.specs.{declared.usable.Usable.{Usable}, EachFile.{WritesEach, more, none}, Usable.{SortsFile}}
 
 module _ {R : Type 0} (source : SourceGhosts R) (program : List ℕ) where
   abbrev pub IsPaired : Usable R → Type 0

@@ -1,7 +1,6 @@
 -- Files that are written about, one after another.
 use Rattle.std.specs.Prelude.{◌≡◌, ℕ, ◌<◌, List, [], ◌∷◌, ◌++◌, length}
-use Rattle.mdns_trace.specs.declared.each_file.FilesFault.{FilesFault}
-use Rattle.mdns_trace.specs.declared.each_file.FilesFault.TheVariants.{File, Memory}
+use Rattle.mdns_trace.specs.declared.each_file.{FilesFault.{FilesFault}, FilesFault.TheVariants.{File, Memory}}
 use Rattle.mdns_trace.specs.declared.trace.TraceFault.{TraceFault}
 
 -- The files of these readers were written about, one after another, each under its name: none, or some and then one more.

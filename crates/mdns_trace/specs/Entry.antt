@@ -1,14 +1,9 @@
 -- An entry: what is said at once of a file, in whatever form.
-use Rattle.mdns_capture.specs.Capture.{packet_lent}
-use Rattle.mdns_capture.specs.Savefile.{PacketAt}
-use Rattle.mdns_capture.specs.declared.source_address.SourceAddress.{SourceAddress}
-use Rattle.mdns_message.specs.Borrowed.{hearing_lent}
-use Rattle.mdns_message.specs.declared.hearing.Hearing.{Hearing}
-use Rattle.mdns_trace.specs.declared.entry.Entry.{Entry as LentEntry}
-use Rattle.mdns_trace.specs.declared.entry.Entry.TheVariants as lent
-use Rattle.mdns_trace.specs.declared.entry.Untold.{Untold}
-use Rattle.mdns_trace.specs.declared.span_line.Spanned.{Spanned}
+use Rattle.mdns_capture.specs.{Capture.{packet_lent}, Savefile.{PacketAt}, declared.source_address.SourceAddress.{SourceAddress}}
+use Rattle.mdns_message.specs.{Borrowed.{hearing_lent}, declared.hearing.Hearing.{Hearing}}
+use Rattle.mdns_trace.specs.declared.{entry.Entry.{Entry as LentEntry}, entry.Untold.{Untold}, span_line.Spanned.{Spanned}}
 use Rattle.mdns_trace.specs.declared.verdict.Verdict.{Verdict}
+use Rattle.mdns_trace.specs.declared.entry.Entry.TheVariants as lent
 
 pub data Entry : Type 0 where
   -- a hearing that came from an address

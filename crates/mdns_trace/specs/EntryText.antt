@@ -2,10 +2,7 @@
 use Rattle.std.specs.Prelude.{ℕ, List}
 use Rattle.mdns_browse.specs.declared.report.Form.{Form}
 use Rattle.mdns_browse.specs.declared.report.Form.TheVariants as form
-use Rattle.mdns_trace.specs.Entry.{Entry}
-use Rattle.mdns_trace.specs.TraceColumns.{entry_columns}
-use Rattle.mdns_trace.specs.TraceJson.{entry_json}
-use Rattle.mdns_trace.specs.TraceLines.{entry_lines}
+use Rattle.mdns_trace.specs.{Entry.{Entry}, TraceColumns.{entry_columns}, TraceJson.{entry_json}, TraceLines.{entry_lines}}
 
 -- what is written of an entry of a file of that name
 abbrev pub entry_text : Form → List ℕ → Entry → List ℕ

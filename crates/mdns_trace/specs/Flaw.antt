@@ -2,9 +2,7 @@
 use Rattle.std.specs.Prelude.{ℕ, Bool, false, ◌%◌, ◌==◌, ◌&&◌, ◌||◌, nat_eq, nat_lt, if◌then◌else◌}
 use Rattle.std.specs.Prelude.{List, [], ◌∷◌, ◌++◌, length, take, Option, Some, None, codes, decimal}
 use Rattle.std.specs.List.{starts_with}
-use Rattle.mdns_capture.specs.declared.savefile.Format.{Format}
-use Rattle.mdns_capture.specs.declared.savefile.Order.TheVariants.{Big}
-use Rattle.mdns_capture.specs.Limits.{file_header_size}
+use Rattle.mdns_capture.specs.{declared.savefile.Format.{Format}, declared.savefile.Order.TheVariants.{Big}, Limits.{file_header_size}}
 use Rattle.mdns_capture.specs.Savefile.{format_of, number_at}
 use Rattle.mdns_trace.specs.declared.flaw.Flaw.{Flaw}
 use Rattle.mdns_trace.specs.declared.flaw.Flaw.TheVariants as flaw

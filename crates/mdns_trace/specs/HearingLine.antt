@@ -1,11 +1,10 @@
 -- The line of a hearing: when and in which file it was heard, from which address, and what it says of which record.
 use Rattle.std.specs.Prelude.{ℕ, Bool, true, false, List, [], ◌∷◌, ◌++◌, codes}
 use Rattle.std.specs.Fmt.{decimal}
-use Rattle.mdns_capture.specs.declared.source_address.SourceAddress.{SourceAddress}
-use Rattle.mdns_capture.specs.declared.source_address.SourceAddress.TheVariants.{V4, V6}
+use Rattle.mdns_capture.specs.declared.source_address.{SourceAddress.{SourceAddress}, SourceAddress.TheVariants.{V4, V6}}
+use Rattle.mdns_capture.specs.Text.{moment_text}
 use Rattle.mdns_message.specs.declared.hearing.Hearing.{Hearing}
 use Rattle.mdns_browse.specs.RecordText.{ipv4_text, ipv6_text, resource_text}
-use Rattle.mdns_capture.specs.Text.{moment_text}
 
 -- an address as the data of A and AAAA records is written
 abbrev pub address_text : SourceAddress → List ℕ

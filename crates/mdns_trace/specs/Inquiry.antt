@@ -1,16 +1,11 @@
 -- What is written of a capture, by the kind of trace.
 use Rattle.std.specs.Prelude.{ℕ, List, Option}
 use Rattle.mdns_browse.specs.declared.about.Subject.{Subject}
-use Rattle.mdns_capture.specs.declared.stream.Sink.{Ghosts as SinkGhosts}
-use Rattle.mdns_capture.specs.declared.stream.Source.{Ghosts as SourceGhosts}
+use Rattle.mdns_capture.specs.declared.stream.{Sink.{Ghosts as SinkGhosts}, Source.{Ghosts as SourceGhosts}}
 use Rattle.mdns_message.specs.TextData.{string_text}
 use Rattle.mdns_survey.specs.declared.summary.Summary.{Summary}
-use Rattle.mdns_trace.specs.declared.inquiry.Trace.{Trace}
-use Rattle.mdns_trace.specs.declared.inquiry.Trace.TheVariants.{Spans}
-use Rattle.mdns_trace.specs.declared.trace.TraceFault.{TraceFault}
-use Rattle.mdns_trace.specs.TraceFaults.{Stops, WritesLines}
-use Rattle.mdns_trace.specs.SpanWritten.{LeavesSpan, SpansCapture}
-use Rattle.mdns_trace.specs.Trace.{LeavesLines, TracesCapture}
+use Rattle.mdns_trace.specs.declared.{inquiry.Trace.{Trace}, inquiry.Trace.TheVariants.{Spans}, trace.TraceFault.{TraceFault}}
+use Rattle.mdns_trace.specs.{TraceFaults.{Stops, WritesLines}, SpanWritten.{LeavesSpan, SpansCapture}, Trace.{LeavesLines, TracesCapture}}
 
 -- the text is what is written of a capture of these bytes, in a file of that name
 abbrev pub Traces : Trace → List Subject → List ℕ → List ℕ → Summary → List ℕ → Type 0

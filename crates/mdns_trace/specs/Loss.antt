@@ -2,11 +2,8 @@
 use Rattle.std.specs.Prelude.{ℕ, ◌==◌, if◌then◌else◌, List, [], ◌∷◌, ◌++◌, codes, decimal}
 use Rattle.mdns_capture.specs.declared.cause.Cause.TheVariants as cause
 use Rattle.mdns_survey.specs.declared.outcome.SkipReason.TheVariants as why
-use Rattle.mdns_survey.specs.declared.reading.Reading.{Reading}
-use Rattle.mdns_survey.specs.Skips.{count_of}
-use Rattle.mdns_survey.specs.Reasons.{row_of}
-use Rattle.mdns_trace.specs.declared.loss.Loss.{Loss}
-use Rattle.mdns_trace.specs.declared.loss.Loss.TheVariants.{Check, Damage}
+use Rattle.mdns_survey.specs.{declared.reading.Reading.{Reading}, Skips.{count_of}, Reasons.{row_of}}
+use Rattle.mdns_trace.specs.declared.loss.{Loss.{Loss}, Loss.TheVariants.{Check, Damage}}
 
 -- each check for which packets are lost, in the order of the checks, and damage of messages
 abbrev pub losses : List Loss

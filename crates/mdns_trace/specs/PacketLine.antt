@@ -3,10 +3,8 @@
 use Rattle.std.specs.Prelude.{ℕ, List, [], ◌∷◌, codes, decimal}
 use Rattle.mdns_message.specs.declared.fault.MessageFault.{MessageFault}
 use Rattle.mdns_message.specs.declared.fault.MessageFault.TheVariants as fault
-use Rattle.mdns_capture.specs.Text.{moment_text}
-use Rattle.mdns_capture.specs.Savefile.{PacketAt}
-use Rattle.mdns_survey.specs.ProgramLines.{◌<>◌}
-use Rattle.mdns_survey.specs.Reasons.{row_of}
+use Rattle.mdns_capture.specs.{Text.{moment_text}, Savefile.{PacketAt}}
+use Rattle.mdns_survey.specs.{ProgramLines.{◌<>◌}, Reasons.{row_of}}
 use Rattle.mdns_trace.specs.declared.entry.Untold.{Untold}
 use Rattle.mdns_trace.specs.declared.entry.Untold.TheVariants as untold
 

@@ -1,14 +1,10 @@
 -- What is written of the time span of a capture.
 use Rattle.std.specs.Prelude.{◌≡◌, ℕ, List, Option, Some, IfSome}
 use Rattle.mdns_browse.specs.declared.report.Form.{Form}
-use Rattle.mdns_capture.specs.declared.stream.Sink.{Ghosts}
-use Rattle.mdns_capture.specs.Output.{AppendsPrefix}
+use Rattle.mdns_capture.specs.{declared.stream.Sink.{Ghosts}, Output.{AppendsPrefix}}
 use Rattle.mdns_survey.specs.declared.summary.Summary.{Summary}
-use Rattle.mdns_trace.specs.declared.span_line.Spanned.{Spanned}
-use Rattle.mdns_trace.specs.declared.trace.TraceFault.{TraceFault}
-use Rattle.mdns_trace.specs.declared.trace.TraceFault.TheVariants.{Listen, Write}
-use Rattle.mdns_trace.specs.Entry.{span_entry}
-use Rattle.mdns_trace.specs.EntryText.{entry_text}
+use Rattle.mdns_trace.specs.declared.{span_line.Spanned.{Spanned}, trace.TraceFault.{TraceFault}}
+use Rattle.mdns_trace.specs.{declared.trace.TraceFault.TheVariants.{Listen, Write}, Entry.{span_entry}, EntryText.{entry_text}}
 use Rattle.mdns_trace.specs.SpanLine.{IsSpanned}
 
 -- the text is the line of a capture with that summary, in that form

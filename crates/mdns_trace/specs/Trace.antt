@@ -1,34 +1,19 @@
 -- The lines of a capture's hearings, or of its packets that told nothing, and how far they went out.
 use Rattle.std.specs.Prelude.{◌≡◌, ℕ, IsTrue, List, [], ◌∷◌, ◌++◌, Option, IfSome, string_bytes}
-use Rattle.std.specs.List.{filter, flat_map}
-use Rattle.std.specs.Io.KnownBytes.{Appends}
-use Rattle.mdns_browse.specs.About.{keeps_record}
-use Rattle.mdns_browse.specs.declared.about.Subject.{Subject}
-use Rattle.mdns_browse.specs.declared.report.Form.{Form}
-use Rattle.mdns_capture.specs.declared.source_address.SourceAddress.{SourceAddress}
-use Rattle.mdns_capture.specs.Savefile.{PacketAt}
-use Rattle.mdns_capture.specs.Stream.{OneMoreFailed}
-use Rattle.mdns_capture.specs.declared.stream.Sink.{Ghosts}
-use Rattle.mdns_capture.specs.Source.{IsSourceOf}
-use Rattle.mdns_message.specs.declared.fault.MessageFault.{MessageFault}
-use Rattle.mdns_message.specs.declared.hearing.Hearing.{Hearing}
-use Rattle.mdns_survey.specs.declared.listen.ListenFault.TheVariants.{Begin, Memory}
-use Rattle.mdns_survey.specs.declared.outcome.SkipReason.{SkipReason}
-use Rattle.mdns_survey.specs.declared.reading.ReadingFault.{ReadingFault}
-use Rattle.mdns_survey.specs.declared.reading.ReadingFault.TheVariants as reading
-use Rattle.mdns_survey.specs.declared.summary.Summary.{Summary}
-use Rattle.mdns_survey.specs.Outcomes.{Outcome, skipped, refused, heard, AllCome, CaptureTells, Counts}
-use Rattle.mdns_survey.specs.Reading.{CaptureBegins}
+use Rattle.std.specs.{List.{filter, flat_map}, Io.KnownBytes.{Appends}}
+use Rattle.mdns_browse.specs.{About.{keeps_record}, declared.about.Subject.{Subject}, declared.report.Form.{Form}}
+use Rattle.mdns_capture.specs.{declared.source_address.SourceAddress.{SourceAddress}, Savefile.{PacketAt}, Stream.{OneMoreFailed}}
+use Rattle.mdns_capture.specs.{declared.stream.Sink.{Ghosts}, Source.{IsSourceOf}}
+use Rattle.mdns_message.specs.declared.{fault.MessageFault.{MessageFault}, hearing.Hearing.{Hearing}}
+use Rattle.mdns_survey.specs.declared.{listen.ListenFault.TheVariants.{Begin, Memory}, outcome.SkipReason.{SkipReason}}
+use Rattle.mdns_survey.specs.declared.{reading.ReadingFault.{ReadingFault}, summary.Summary.{Summary}}
+use Rattle.mdns_survey.specs.{Outcomes.{Outcome, skipped, refused, heard, AllCome, CaptureTells, Counts}, Reading.{CaptureBegins}}
 use Rattle.mdns_survey.specs.Why.{IsRefusedFor, IsSkippedFor}
-use Rattle.mdns_trace.specs.declared.entry.Untold.{Untold}
+use Rattle.mdns_survey.specs.declared.reading.ReadingFault.TheVariants as reading
+use Rattle.mdns_trace.specs.declared.{entry.Untold.{Untold}, inquiry.Trace.{Trace}, inquiry.Trace.TheVariants.{Hearings, Packets, Spans}}
+use Rattle.mdns_trace.specs.declared.trace.{Lines.{Lines}, TraceFault.{TraceFault}, TraceFault.TheVariants.{Listen, Write}}
+use Rattle.mdns_trace.specs.{Entry.{hearing_entry, packet_entry}, EntryText.{entry_text}}
 use Rattle.mdns_trace.specs.declared.entry.Untold.TheVariants as untold
-use Rattle.mdns_trace.specs.declared.inquiry.Trace.{Trace}
-use Rattle.mdns_trace.specs.declared.inquiry.Trace.TheVariants.{Hearings, Packets, Spans}
-use Rattle.mdns_trace.specs.declared.trace.Lines.{Lines}
-use Rattle.mdns_trace.specs.declared.trace.TraceFault.{TraceFault}
-use Rattle.mdns_trace.specs.declared.trace.TraceFault.TheVariants.{Listen, Write}
-use Rattle.mdns_trace.specs.Entry.{hearing_entry, packet_entry}
-use Rattle.mdns_trace.specs.EntryText.{entry_text}
 
 -- WHAT A CAPTURE'S LINES ARE
 

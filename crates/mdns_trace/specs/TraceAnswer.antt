@@ -1,21 +1,14 @@
 -- What a run over captures writes, and its exit status.
 use Rattle.std.specs.Prelude.{◌≡◌, ℕ, List, [], ◌∷◌, codes}
 use Rattle.mdns_browse.specs.declared.about.Subject.{Subject}
-use Rattle.mdns_capture.specs.Output.{Writing}
-use Rattle.mdns_capture.specs.declared.stream.Sink.{Ghosts as SinkGhosts}
+use Rattle.mdns_capture.specs.{Output.{Writing}, declared.stream.Sink.{Ghosts as SinkGhosts}}
 use Rattle.mdns_capture.specs.declared.stream.Source.{Ghosts as SourceGhosts}
-use Rattle.mdns_survey.specs.declared.summary.Summary.{Summary}
-use Rattle.mdns_survey.specs.declared.survey.SurveyFault.{SurveyFault}
+use Rattle.mdns_survey.specs.{declared.summary.Summary.{Summary}, declared.survey.SurveyFault.{SurveyFault}, Answer.{status_of}}
+use Rattle.mdns_survey.specs.{ProgramLines.{fault_line_text}, Said.{Says, ending_lines}}
 use Rattle.mdns_survey.specs.declared.survey.SurveyFault.TheVariants as survey
-use Rattle.mdns_survey.specs.Answer.{status_of}
-use Rattle.mdns_survey.specs.ProgramLines.{fault_line_text}
-use Rattle.mdns_survey.specs.Said.{Says, ending_lines}
-use Rattle.mdns_trace.specs.declared.each_file.FilesFault.{FilesFault}
-use Rattle.mdns_trace.specs.declared.each_file.FilesFault.TheVariants.{File, Memory}
-use Rattle.mdns_trace.specs.declared.inquiry.Trace.{Trace}
-use Rattle.mdns_trace.specs.declared.trace.TraceFault.TheVariants.{Listen, Write}
-use Rattle.mdns_trace.specs.EachFile.{StopsAmong, WritesEach}
-use Rattle.mdns_trace.specs.Inquiry.{StopsTrace, WritesTrace}
+use Rattle.mdns_trace.specs.declared.each_file.{FilesFault.{FilesFault}, FilesFault.TheVariants.{File, Memory}}
+use Rattle.mdns_trace.specs.declared.{inquiry.Trace.{Trace}, trace.TraceFault.TheVariants.{Listen, Write}}
+use Rattle.mdns_trace.specs.{EachFile.{StopsAmong, WritesEach}, Inquiry.{StopsTrace, WritesTrace}}
 
 -- the fault of a survey that has the same error line
 abbrev pub survey_fault : FilesFault → SurveyFault

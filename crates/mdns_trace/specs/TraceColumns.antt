@@ -2,23 +2,15 @@
 -- the names and texts as they were sent.
 use Rattle.std.specs.Prelude.{ℕ, List, [], ◌∷◌, ◌++◌, ◌==◌, if◌then◌else◌, Option, Some, None, codes}
 use Rattle.std.specs.Fmt.{decimal}
-use Rattle.people_text.specs.Address.{ipv6_short}
-use Rattle.people_text.specs.MomentText.{millis_text}
-use Rattle.mdns_browse.specs.Columns.{padded}
-use Rattle.mdns_browse.specs.RecordShown.{shown_record}
-use Rattle.mdns_browse.specs.RecordText.{ipv4_text}
-use Rattle.mdns_capture.specs.declared.source_address.SourceAddress.{SourceAddress}
-use Rattle.mdns_capture.specs.declared.source_address.SourceAddress.TheVariants.{V4, V6}
+use Rattle.people_text.specs.{Address.{ipv6_short}, MomentText.{millis_text}}
+use Rattle.mdns_browse.specs.{Columns.{padded}, RecordShown.{shown_record}, RecordText.{ipv4_text}}
+use Rattle.mdns_capture.specs.declared.source_address.{SourceAddress.{SourceAddress}, SourceAddress.TheVariants.{V4, V6}}
 use Rattle.mdns_capture.specs.Savefile.{PacketAt}
-use Rattle.mdns_message.specs.declared.hearing.Hearing.{Hearing}
-use Rattle.mdns_message.specs.Resource.{type_name, type_of}
+use Rattle.mdns_message.specs.{declared.hearing.Hearing.{Hearing}, Resource.{type_name, type_of}}
 use Rattle.mdns_survey.specs.declared.reading.Span.{Span}
-use Rattle.mdns_trace.specs.declared.entry.Untold.{Untold}
-use Rattle.mdns_trace.specs.declared.span_line.Spanned.{Spanned}
-use Rattle.mdns_trace.specs.Entry.{Entry, hearing_entry, packet_entry, span_entry, file_entry}
-use Rattle.mdns_trace.specs.HearingLine.{flush_text}
-use Rattle.mdns_trace.specs.PacketLine.{untold_text}
-use Rattle.mdns_trace.specs.Verdict.{verdict_text}
+use Rattle.mdns_trace.specs.declared.{entry.Untold.{Untold}, span_line.Spanned.{Spanned}}
+use Rattle.mdns_trace.specs.{Entry.{Entry, hearing_entry, packet_entry, span_entry, file_entry}, HearingLine.{flush_text}}
+use Rattle.mdns_trace.specs.{PacketLine.{untold_text}, Verdict.{verdict_text}}
 
 -- HEARINGS
 

@@ -1,15 +1,10 @@
 -- What was written of a capture, and why its lines weren't all written.
 use Rattle.std.specs.Prelude.{◌≡◌, ◌≢◌, ℕ, IsTrue, List, Option, None, IfSome}
 use Rattle.std.specs.Io.KnownBytes.{Appends}
-use Rattle.mdns_capture.specs.Capture.{IsOver}
-use Rattle.mdns_capture.specs.Savefile.{header_fault}
-use Rattle.mdns_capture.specs.Stream.{OneMoreFailed}
-use Rattle.mdns_capture.specs.declared.stream.Sink.{Ghosts as SinkGhosts}
-use Rattle.mdns_capture.specs.declared.stream.Source.{Ghosts as SourceGhosts}
-use Rattle.mdns_survey.specs.declared.summary.Summary.{Summary}
-use Rattle.mdns_survey.specs.Listen.{HasListenFault, IsNoReadFault}
-use Rattle.mdns_trace.specs.declared.trace.TraceFault.{TraceFault}
-use Rattle.mdns_trace.specs.declared.trace.TraceFault.TheVariants.{Listen, Write}
+use Rattle.mdns_capture.specs.{Capture.{IsOver}, Savefile.{header_fault}, Stream.{OneMoreFailed}}
+use Rattle.mdns_capture.specs.declared.stream.{Sink.{Ghosts as SinkGhosts}, Source.{Ghosts as SourceGhosts}}
+use Rattle.mdns_survey.specs.{declared.summary.Summary.{Summary}, Listen.{HasListenFault, IsNoReadFault}}
+use Rattle.mdns_trace.specs.declared.trace.{TraceFault.{TraceFault}, TraceFault.TheVariants.{Listen, Write}}
 
 -- The lines of a capture were written, exactly these where its bytes are known; its reading ended, and no write failed.
 pub record WritesLines {R W : Type 0} (source : SourceGhosts R) (sink : SinkGhosts W)

@@ -1,19 +1,13 @@
 -- Entries as JSON (RFC 8259): one object a line.
 use Rattle.std.specs.Prelude.{ℕ, List, [], ◌∷◌, ◌++◌, Option, Some, None, codes, decimal}
 use Rattle.mdns_browse.specs.Json.{json_bool, json_member, json_object, json_string, resource_members}
-use Rattle.mdns_capture.specs.declared.source_address.SourceAddress.{SourceAddress}
-use Rattle.mdns_capture.specs.Savefile.{PacketAt}
+use Rattle.mdns_capture.specs.{declared.source_address.SourceAddress.{SourceAddress}, Savefile.{PacketAt}}
 use Rattle.mdns_message.specs.declared.hearing.Hearing.{Hearing}
-use Rattle.mdns_survey.specs.declared.reading.Span.{Span}
-use Rattle.mdns_survey.specs.Reasons.{row_of}
-use Rattle.mdns_trace.specs.declared.entry.Untold.{Untold}
+use Rattle.mdns_survey.specs.{declared.reading.Span.{Span}, Reasons.{row_of}}
+use Rattle.mdns_trace.specs.declared.{entry.Untold.{Untold}, span_line.Spanned.{Spanned}}
+use Rattle.mdns_trace.specs.{Entry.{Entry, hearing_entry, packet_entry, span_entry, file_entry}, HearingLine.{address_text}}
+use Rattle.mdns_trace.specs.{MomentMember.{moment_member}, PacketLine.{fault_at, fault_text}, VerdictJson.{verdict_json}}
 use Rattle.mdns_trace.specs.declared.entry.Untold.TheVariants as untold
-use Rattle.mdns_trace.specs.declared.span_line.Spanned.{Spanned}
-use Rattle.mdns_trace.specs.Entry.{Entry, hearing_entry, packet_entry, span_entry, file_entry}
-use Rattle.mdns_trace.specs.HearingLine.{address_text}
-use Rattle.mdns_trace.specs.MomentMember.{moment_member}
-use Rattle.mdns_trace.specs.PacketLine.{fault_at, fault_text}
-use Rattle.mdns_trace.specs.VerdictJson.{verdict_json}
 
 -- HEARINGS
 

@@ -1,10 +1,7 @@
 -- Entries as lines of words.
 use Rattle.std.specs.Prelude.{ℕ, List}
-use Rattle.mdns_trace.specs.Entry.{Entry, hearing_entry, packet_entry, span_entry, file_entry}
-use Rattle.mdns_trace.specs.HearingLine.{hearing_line}
-use Rattle.mdns_trace.specs.PacketLine.{packet_line}
-use Rattle.mdns_trace.specs.SpanLine.{span_line}
-use Rattle.mdns_trace.specs.Verdict.{verdict_text}
+use Rattle.mdns_trace.specs.{Entry.{Entry, hearing_entry, packet_entry, span_entry, file_entry}, HearingLine.{hearing_line}}
+use Rattle.mdns_trace.specs.{PacketLine.{packet_line}, SpanLine.{span_line}, Verdict.{verdict_text}}
 
 abbrev pub entry_lines : List ℕ → Entry → List ℕ
 entry_lines file (hearing_entry source hearing) = hearing_line file source hearing

@@ -2,24 +2,14 @@
 use Rattle.std.specs.Prelude.{◌≡◌, ◌⊎◌, ⊤, ℕ, Bool, true, false, IsTrue, if◌then◌else◌, ◌==◌, List, [], ◌∷◌, ◌++◌, Option, Some, None}
 use Rattle.std.specs.Prelude.{IfSome, codes, drop, length, map, string_bytes}
 use Rattle.std.specs.Io.KnownBytes.{Keeps as KeepsBytes, prepend_known}
-use Rattle.mdns_capture.specs.declared.savefile.BeginFault.TheVariants.{Read as BeginRead}
-use Rattle.mdns_capture.specs.declared.stream.Source.{Ghosts as SourceGhosts}
-use Rattle.mdns_capture.specs.Output.{AppendsPrefix, Writing}
-use Rattle.mdns_capture.specs.Savefile.{header_fault}
-use Rattle.mdns_capture.specs.Stream.{OneMoreFailed}
-use Rattle.mdns_survey.specs.declared.listen.ListenFault.TheVariants.{Begin, Memory as ListenMemory}
-use Rattle.mdns_survey.specs.declared.survey.SurveyFault.{SurveyFault}
+use Rattle.mdns_capture.specs.declared.{savefile.BeginFault.TheVariants.{Read as BeginRead}, stream.Source.{Ghosts as SourceGhosts}}
+use Rattle.mdns_capture.specs.{Output.{AppendsPrefix, Writing}, Savefile.{header_fault}, Stream.{OneMoreFailed}}
+use Rattle.mdns_survey.specs.declared.{listen.ListenFault.TheVariants.{Begin, Memory as ListenMemory}, survey.SurveyFault.{SurveyFault}}
 use Rattle.mdns_survey.specs.Said.{GoesOut}
-use Rattle.mdns_trace.specs.declared.each_file.FilesFault.{FilesFault}
-use Rattle.mdns_trace.specs.declared.peeked.Begun.{Begun}
-use Rattle.mdns_trace.specs.declared.trace.TraceFault.{TraceFault}
-use Rattle.mdns_trace.specs.declared.trace.TraceFault.TheVariants.{Listen}
-use Rattle.mdns_trace.specs.declared.usable.Usable.{Usable}
-use Rattle.mdns_trace.specs.declared.verdict.Verdict.{Verdict}
-use Rattle.mdns_trace.specs.declared.verdict.Verdict.TheVariants.{Other, Unread, Unopened}
-use Rattle.mdns_trace.specs.EachFile.{StopsAmong, WritesEach}
-use Rattle.mdns_trace.specs.TraceAnswer.{survey_fault}
-use Rattle.mdns_trace.specs.Verdict.{IsVerdict, verdict_text}
+use Rattle.mdns_trace.specs.declared.{each_file.FilesFault.{FilesFault}, peeked.Begun.{Begun}, trace.TraceFault.{TraceFault}}
+use Rattle.mdns_trace.specs.declared.{trace.TraceFault.TheVariants.{Listen}, usable.Usable.{Usable}, verdict.Verdict.{Verdict}}
+use Rattle.mdns_trace.specs.{declared.verdict.Verdict.TheVariants.{Other, Unread, Unopened}, EachFile.{StopsAmong, WritesEach}}
+use Rattle.mdns_trace.specs.{TraceAnswer.{survey_fault}, Verdict.{IsVerdict, verdict_text}}
 
 -- A FILE
 

@@ -2,26 +2,14 @@
 use Rattle.std.specs.Prelude.{◌≡◌, ℕ, ◌==◌, ◌&&◌, Bool, IsTrue, not, if◌then◌else◌, List, [], ◌∷◌, ◌++◌, Option, Some, None}
 use Rattle.std.specs.Prelude.{IfSome, codes, decimal}
 use Rattle.std.specs.List.{flat_map}
-use Rattle.mdns_capture.specs.declared.savefile.BeginFault.{BeginFault}
-use Rattle.mdns_capture.specs.declared.savefile.BeginFault.TheVariants.{Memory as BeginMemory, Read as BeginRead}
-use Rattle.mdns_capture.specs.declared.savefile.Ending.{Ending}
-use Rattle.mdns_capture.specs.declared.stream.Source.{Ghosts as SourceGhosts}
-use Rattle.mdns_capture.specs.Capture.{IsOver}
-use Rattle.mdns_capture.specs.Savefile.{PacketAt, header_fault}
-use Rattle.mdns_capture.specs.Text.{ending_text, moment_text}
-use Rattle.mdns_survey.specs.declared.listen.ListenFault.{ListenFault}
-use Rattle.mdns_survey.specs.declared.listen.ListenFault.TheVariants.{Begin, Read, Memory}
-use Rattle.mdns_survey.specs.declared.reading.Reading.{Reading}
-use Rattle.mdns_survey.specs.declared.reading.Span.{Span}
-use Rattle.mdns_survey.specs.declared.summary.Tally.{Tally}
-use Rattle.mdns_survey.specs.Outcomes.{Outcome}
-use Rattle.mdns_survey.specs.ProgramLines.{is_whole}
-use Rattle.mdns_survey.specs.Listen.{IsReadingOf}
-use Rattle.mdns_trace.specs.declared.verdict.Verdict.{Verdict}
-use Rattle.mdns_trace.specs.declared.verdict.Verdict.TheVariants.{Capture, Other, Unread, Unopened}
-use Rattle.mdns_trace.specs.Flaw.{cure_text, flaw_of, head_of, what_text}
-use Rattle.mdns_trace.specs.Loss.{loss_text, losses}
-use Rattle.mdns_trace.specs.SpanLine.{bounds_text}
+use Rattle.mdns_capture.specs.declared.savefile.{BeginFault.{BeginFault}, BeginFault.TheVariants.{Memory as BeginMemory, Read as BeginRead}}
+use Rattle.mdns_capture.specs.{declared.savefile.Ending.{Ending}, declared.stream.Source.{Ghosts as SourceGhosts}, Capture.{IsOver}}
+use Rattle.mdns_capture.specs.{Savefile.{PacketAt, header_fault}, Text.{ending_text, moment_text}}
+use Rattle.mdns_survey.specs.declared.listen.{ListenFault.{ListenFault}, ListenFault.TheVariants.{Begin, Read, Memory}}
+use Rattle.mdns_survey.specs.declared.{reading.Reading.{Reading}, reading.Span.{Span}, summary.Tally.{Tally}}
+use Rattle.mdns_survey.specs.{Outcomes.{Outcome}, ProgramLines.{is_whole}, Listen.{IsReadingOf}}
+use Rattle.mdns_trace.specs.declared.verdict.{Verdict.{Verdict}, Verdict.TheVariants.{Capture, Other, Unread, Unopened}}
+use Rattle.mdns_trace.specs.{Flaw.{cure_text, flaw_of, head_of, what_text}, Loss.{loss_text, losses}, SpanLine.{bounds_text}}
 
 -- WHAT A FILE IS
 

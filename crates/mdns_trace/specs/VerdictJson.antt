@@ -3,19 +3,13 @@ use Rattle.std.specs.Prelude.{◌≡◌, ℕ, ◌==◌, Bool, if◌then◌else�
 use Rattle.std.specs.List.{flat_map}
 use Rattle.mdns_browse.specs.Json.{first_after, json_array, json_member, json_object, json_string, parted}
 use Rattle.mdns_capture.specs.Text.{ending_text}
-use Rattle.mdns_survey.specs.declared.reading.Reading.{Reading}
-use Rattle.mdns_survey.specs.declared.reading.Span.{Span}
-use Rattle.mdns_survey.specs.declared.summary.Tally.{Tally}
+use Rattle.mdns_survey.specs.declared.{reading.Reading.{Reading}, reading.Span.{Span}, summary.Tally.{Tally}}
 use Rattle.mdns_survey.specs.ProgramLines.{is_whole}
-use Rattle.mdns_trace.specs.declared.flaw.Flaw.{Flaw}
-use Rattle.mdns_trace.specs.declared.flaw.Flaw.TheVariants as flaw
-use Rattle.mdns_trace.specs.declared.verdict.Verdict.{Verdict}
-use Rattle.mdns_trace.specs.declared.verdict.Verdict.TheVariants.{Capture, Other, Unread, Unopened}
-use Rattle.mdns_trace.specs.Flaw.{cure_text, link_name}
-use Rattle.mdns_trace.specs.declared.loss.Loss.{Loss}
-use Rattle.mdns_trace.specs.Loss.{cure_of, losses, lost_to, words_of}
-use Rattle.mdns_trace.specs.MomentMember.{moment_member}
+use Rattle.mdns_trace.specs.declared.{flaw.Flaw.{Flaw}, verdict.Verdict.{Verdict}}
+use Rattle.mdns_trace.specs.{declared.verdict.Verdict.TheVariants.{Capture, Other, Unread, Unopened}, Flaw.{cure_text, link_name}}
+use Rattle.mdns_trace.specs.{declared.loss.Loss.{Loss}, Loss.{cure_of, losses, lost_to, words_of}, MomentMember.{moment_member}}
 use Rattle.mdns_trace.specs.Verdict.{early_cure, is_silent, silent_cure, unopened_cure, unread_cure}
+use Rattle.mdns_trace.specs.declared.flaw.Flaw.TheVariants as flaw
 
 -- WHAT A FILE IS
 

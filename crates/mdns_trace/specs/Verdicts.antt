@@ -1,28 +1,17 @@
 -- A run over files: the verdicts on them, which are written, and the exit status.
 use Rattle.std.specs.Prelude.{◌≡◌, ℕ, ◌&&◌, Bool, false, true, not, IsTrue, if◌then◌else◌, List, [], ◌∷◌, Option, codes}
-use Rattle.std.specs.List.{list_all}
-use Rattle.std.specs.Io.KnownBytes.{Appends}
+use Rattle.std.specs.{List.{list_all}, Io.KnownBytes.{Appends}}
 use Rattle.mdns_browse.specs.declared.report.Form.{Form}
-use Rattle.mdns_capture.specs.declared.stream.Sink.{Ghosts as SinkGhosts}
-use Rattle.mdns_capture.specs.declared.stream.Source.{Ghosts as SourceGhosts}
-use Rattle.mdns_capture.specs.Output.{AppendsPrefix, Writing}
-use Rattle.mdns_capture.specs.Stream.{OneMoreFailed}
+use Rattle.mdns_capture.specs.declared.stream.{Sink.{Ghosts as SinkGhosts}, Source.{Ghosts as SourceGhosts}}
+use Rattle.mdns_capture.specs.{Output.{AppendsPrefix, Writing}, Stream.{OneMoreFailed}}
 use Rattle.mdns_message.specs.TextData.{string_text}
-use Rattle.mdns_survey.specs.declared.listen.ListenFault.TheVariants.{Memory as ListenMemory}
-use Rattle.mdns_survey.specs.declared.survey.SurveyFault.{SurveyFault}
+use Rattle.mdns_survey.specs.declared.{listen.ListenFault.TheVariants.{Memory as ListenMemory}, survey.SurveyFault.{SurveyFault}}
+use Rattle.mdns_survey.specs.{ProgramLines.{fault_line_text, is_whole}, Said.{Says}}
 use Rattle.mdns_survey.specs.declared.survey.SurveyFault.TheVariants as survey
-use Rattle.mdns_survey.specs.ProgramLines.{fault_line_text, is_whole}
-use Rattle.mdns_survey.specs.Said.{Says}
-use Rattle.mdns_trace.specs.declared.verdict.Verdict.{Verdict}
-use Rattle.mdns_trace.specs.declared.verdict.Verdict.TheVariants.{Capture}
-use Rattle.mdns_trace.specs.declared.each_file.FilesFault.{FilesFault}
-use Rattle.mdns_trace.specs.declared.each_file.FilesFault.TheVariants.{File, Memory}
-use Rattle.mdns_trace.specs.declared.trace.TraceFault.{TraceFault}
-use Rattle.mdns_trace.specs.declared.trace.TraceFault.TheVariants.{Listen, Write}
-use Rattle.mdns_trace.specs.EachFile.{StopsAmong, WritesEach}
-use Rattle.mdns_trace.specs.Verdict.{IsVerdict, is_silent}
-use Rattle.mdns_trace.specs.Entry.{file_entry}
-use Rattle.mdns_trace.specs.EntryText.{entry_text}
+use Rattle.mdns_trace.specs.declared.{verdict.Verdict.{Verdict}, verdict.Verdict.TheVariants.{Capture}, each_file.FilesFault.{FilesFault}}
+use Rattle.mdns_trace.specs.declared.{each_file.FilesFault.TheVariants.{File, Memory}, trace.TraceFault.{TraceFault}}
+use Rattle.mdns_trace.specs.{declared.trace.TraceFault.TheVariants.{Listen, Write}, EachFile.{StopsAmong, WritesEach}}
+use Rattle.mdns_trace.specs.{Verdict.{IsVerdict, is_silent}, Entry.{file_entry}, EntryText.{entry_text}}
 
 -- no write failed
 abbrev pub IsUnfailed : {W : Type 0} → SinkGhosts W → W → W → Type 0

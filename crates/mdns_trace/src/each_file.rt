@@ -1,8 +1,7 @@
 //! Writing about several files, one after another.
 
 ghost use Rattle.std.specs.Prelude.{◌≡◌, ℕ, IfErr, IfOk, List, length, map, string_bytes};
-ghost use Rattle.mdns_trace.specs.EachFile.{NamesFile, StopsAmong, WritesEach};
-ghost use Rattle.mdns_trace.specs.Inquiry.{StopsTrace, WritesTrace};
+ghost use Rattle.mdns_trace.specs.{EachFile.{NamesFile, StopsAmong, WritesEach}, Inquiry.{StopsTrace, WritesTrace}};
 
 use crate::inquiry::Tracer;
 use crate::trace::{TraceFault, write_trace};

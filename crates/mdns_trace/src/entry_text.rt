@@ -2,8 +2,7 @@
 
 ghost use Rattle.std.specs.Prelude.{◌≡◌, ◌++◌, IfOk, OnOk, string_bytes};
 ghost use Rattle.mdns_message.specs.TextData.{string_text};
-ghost use Rattle.mdns_trace.specs.Entry.{entry_lent};
-ghost use Rattle.mdns_trace.specs.EntryText.{entry_text};
+ghost use Rattle.mdns_trace.specs.{Entry.{entry_lent}, EntryText.{entry_text}};
 
 use crate::entry::Entry;
 use crate::trace::word_of;

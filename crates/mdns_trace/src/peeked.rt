@@ -1,12 +1,9 @@
 //! Readers of which the first bytes were read before.
 
 ghost use Rattle.std.specs.Prelude.{◌≡◌, ◌<◌, is_ok, IfErr, IfOk, false, length, take};
-ghost use Rattle.std.specs.Io.{ReadsAtMost};
-ghost use Rattle.std.specs.Io.KnownBytes.{Consumes, IsAtEnd, prepend_known};
+ghost use Rattle.std.specs.{Io.{ReadsAtMost}, Io.KnownBytes.{Consumes, IsAtEnd, prepend_known}};
 ghost use Rattle.mdns_capture.specs.Calls.{ReadsWell};
-ghost use Rattle.mdns_trace.specs.Usable.{IsBegun};
-ghost use Rattle.mdns_trace.specs.Verdict.{IsVerdictOf};
-ghost use Rattle.mdns_trace.specs.Verdicts.{is_usable};
+ghost use Rattle.mdns_trace.specs.{Usable.{IsBegun}, Verdict.{IsVerdictOf}, Verdicts.{is_usable}};
 
 use crate::flaw::flaw_by;
 use crate::verdict::Verdict;

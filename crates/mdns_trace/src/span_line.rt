@@ -1,14 +1,11 @@
 //! Writing the time span of a capture: of its packets, and of its hearings.
 
 ghost use Rattle.std.specs.Prelude.{◌≡◌, ◌++◌, ℕ, List, IfErr, IfOk, IfSome, IsTrue, None, OnOk, string_bytes};
-ghost use Rattle.mdns_capture.specs.Capture.{IsOver};
-ghost use Rattle.mdns_capture.specs.Savefile.{header_fault};
+ghost use Rattle.mdns_capture.specs.{Capture.{IsOver}, Savefile.{header_fault}};
 ghost use Rattle.mdns_message.specs.TextData.{string_text};
-ghost use Rattle.mdns_survey.specs.Outcomes.{ComesTo, hearings_of_outcome};
-ghost use Rattle.mdns_survey.specs.Listen.{HasListenFault, IsNoReadFault, outcome_of};
+ghost use Rattle.mdns_survey.specs.{Outcomes.{ComesTo, hearings_of_outcome}, Listen.{HasListenFault, IsNoReadFault, outcome_of}};
 ghost use Rattle.mdns_survey.specs.Span.{span_of};
-ghost use Rattle.mdns_trace.specs.TraceFaults.{Stops, WritesLines};
-ghost use Rattle.mdns_trace.specs.SpanLine.{IsSpanned, bounds_text, hearing_moments, span_line};
+ghost use Rattle.mdns_trace.specs.{TraceFaults.{Stops, WritesLines}, SpanLine.{IsSpanned, bounds_text, hearing_moments, span_line}};
 ghost use Rattle.mdns_trace.specs.SpanWritten.{LeavesSpan, SpansCapture};
 
 use crate::entry::Entry;

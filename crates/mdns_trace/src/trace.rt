@@ -1,17 +1,12 @@
 //! Writing the lines of one capture while it is read.
 
 ghost use Rattle.std.specs.Prelude.{◌≡◌, ◌++◌, [], ℕ, List, IfErr, IfOk, OnErr, OnOk, is_ok, string_bytes};
-ghost use Rattle.std.specs.Io.KnownBytes.{Appends};
-ghost use Rattle.std.specs.List.{filter, flat_map};
+ghost use Rattle.std.specs.{Io.KnownBytes.{Appends}, List.{filter, flat_map}};
 ghost use Rattle.mdns_browse.specs.About.{keeps_record};
-ghost use Rattle.mdns_capture.specs.Calls.{WritesWell};
-ghost use Rattle.mdns_capture.specs.Capture.{packet_lent};
+ghost use Rattle.mdns_capture.specs.{Calls.{WritesWell}, Capture.{packet_lent}, Output.{AppendsPrefix}};
 ghost use Rattle.mdns_message.specs.TextData.{string_text};
-ghost use Rattle.mdns_survey.specs.Listen.{outcome_of};
-ghost use Rattle.mdns_capture.specs.Output.{AppendsPrefix};
-ghost use Rattle.mdns_survey.specs.Why.{SaysWhy};
-ghost use Rattle.mdns_trace.specs.TraceFaults.{Stops, WritesLines};
-ghost use Rattle.mdns_trace.specs.declared.inquiry.Trace.TheVariants.{Hearings};
+ghost use Rattle.mdns_survey.specs.{Listen.{outcome_of}, Why.{SaysWhy}};
+ghost use Rattle.mdns_trace.specs.{TraceFaults.{Stops, WritesLines}, declared.inquiry.Trace.TheVariants.{Hearings}};
 ghost use Rattle.mdns_trace.specs.Inquiry.{StopsTrace, WritesTrace};
 ghost use Rattle.mdns_trace.specs.Trace.{AddsLines, IsPacketLine, LeavesLines, TracesCapture, hearing_text, packet_text, trace_fault};
 

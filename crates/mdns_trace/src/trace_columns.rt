@@ -1,11 +1,9 @@
 //! Entries in readable columns, for people.
 
 ghost use Rattle.std.specs.Prelude.{◌≡◌, ◌++◌, ◌==◌, ◌∷◌, [], OnOk, codes, decimal, if◌then◌else◌, string_bytes};
-ghost use Rattle.mdns_browse.specs.Columns.{padded};
-ghost use Rattle.mdns_browse.specs.RecordShown.{shown_record};
+ghost use Rattle.mdns_browse.specs.{Columns.{padded}, RecordShown.{shown_record}};
 ghost use Rattle.mdns_capture.specs.Capture.{packet_lent};
-ghost use Rattle.mdns_message.specs.Borrowed.{hearing_lent, resource_lent};
-ghost use Rattle.mdns_message.specs.Resource.{type_name, type_of};
+ghost use Rattle.mdns_message.specs.{Borrowed.{hearing_lent, resource_lent}, Resource.{type_name, type_of}};
 ghost use Rattle.mdns_trace.specs.Entry.{entry_lent};
 ghost use Rattle.mdns_trace.specs.TraceColumns.{bounds_shown, entry_columns, hearing_row, packet_row, said_text, source_shown, span_row};
 

@@ -1,8 +1,7 @@
 //! Entries as lines of words.
 
 ghost use Rattle.std.specs.Prelude.{◌≡◌, ◌++◌, OnOk, string_bytes};
-ghost use Rattle.mdns_trace.specs.Entry.{entry_lent};
-ghost use Rattle.mdns_trace.specs.TraceLines.{entry_lines};
+ghost use Rattle.mdns_trace.specs.{Entry.{entry_lent}, TraceLines.{entry_lines}};
 
 use crate::entry::Entry;
 use crate::hearing_line::push_hearing_line;

@@ -4,9 +4,7 @@ ghost use Rattle.std.specs.Prelude.{◌≡◌, ◌<◌, ◌++◌, IfErr, IfOk, I
 ghost use Rattle.mdns_capture.specs.Output.{writing};
 ghost use Rattle.mdns_survey.specs.ProgramLines.{IfFile};
 ghost use Rattle.mdns_trace.specs.Usable.{IsFatal, IsSorted, IsUnsorted, IsUsable, Keeps, SaysText, is_left_out, least_status};
-ghost use Rattle.mdns_trace.specs.Usable.{left_out_line};
-ghost use Rattle.mdns_trace.specs.Verdict.{IsVerdict};
-ghost use Rattle.mdns_trace.specs.Verdicts.{is_usable};
+ghost use Rattle.mdns_trace.specs.{Usable.{left_out_line}, Verdict.{IsVerdict}, Verdicts.{is_usable}};
 
 use crate::each_file::{Scribe, write_each};
 use crate::peeked::{Begun, begin};

@@ -1,20 +1,12 @@
 -- What a task writes, and why it is refused.
 use Rattle.std.specs.Prelude.{ℕ, Bool, true, false, List, [], codes, length}
-use Rattle.mdns_browse.specs.declared.report.Form.{Form}
-use Rattle.mdns_browse.specs.declared.report.Form.TheVariants.{Pretty}
-use Rattle.mdns_capture.specs.declared.stream.Source.{Ghosts}
-use Rattle.mdns_capture.specs.Output.{Writing}
-use Rattle.mdns_survey.specs.Answer.{Answers, IsRefused, IsRefusedOf, Reports}
-use Rattle.mdns_survey.specs.Question.{Asked, asked_lives}
-use Rattle.mdns_survey.specs.declared.request.LivesRequest.{LivesRequest}
-use Rattle.mdns_survey.specs.declared.request.Request.{Request}
-use Rattle.mdns_survey.specs.declared.request.Request.TheVariants.{Lives}
-use Rattle.mdns_listeners.specs.Groups.{grouped}
-use Rattle.mdns_listeners.specs.Together.{are_compared}
-use Rattle.mdns_listeners.specs.WarnedLives.{asked_warned}
+use Rattle.mdns_browse.specs.declared.report.{Form.{Form}, Form.TheVariants.{Pretty}}
+use Rattle.mdns_capture.specs.{declared.stream.Source.{Ghosts}, Output.{Writing}}
+use Rattle.mdns_survey.specs.{Answer.{Answers, IsRefused, IsRefusedOf, Reports}, Question.{Asked, asked_lives}}
+use Rattle.mdns_survey.specs.declared.request.{LivesRequest.{LivesRequest}, Request.{Request}, Request.TheVariants.{Lives}}
+use Rattle.mdns_listeners.specs.{Groups.{grouped}, Together.{are_compared}, WarnedLives.{asked_warned}}
 use Rattle.mdns_page.specs.Page.{asked_page}
-use Rattle.command_line.specs.declared.words.Task.{Task}
-use Rattle.command_line.specs.declared.words.Task.TheVariants.{Survey, Page}
+use Rattle.command_line.specs.declared.words.{Task.{Task}, Task.TheVariants.{Survey, Page}}
 
 -- lives in this form, of so many files, come after warnings
 abbrev pub is_warned : Form → ℕ → Bool

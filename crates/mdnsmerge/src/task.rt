@@ -3,8 +3,7 @@
 ghost use Rattle.std.specs.Prelude.{◌≡◌, ◌≢◌, ◌≤◌, ℕ, [], List, codes, length, map, string_bytes, true, Some};
 ghost use Rattle.mdns_capture.specs.Output.{writing};
 ghost use Rattle.mdns_survey.specs.Answer.{IsRefusedOf, Reports};
-ghost use Rattle.mdns_listeners.specs.Groups.{grouped};
-ghost use Rattle.mdns_listeners.specs.WarnedLives.{asked_warned};
+ghost use Rattle.mdns_listeners.specs.{Groups.{grouped}, WarnedLives.{asked_warned}};
 ghost use Rattle.mdnsmerge.specs.Task.{AnswersSurvey, AnswersTask, IsSurveyRefused, IsTaskRefused, asked_lives_of, is_warned};
 
 use command_line::Task;

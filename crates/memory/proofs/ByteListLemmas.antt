@@ -1,8 +1,7 @@
 -- A part of some bytes that is written over in place.
 use Rattle.std.specs.Prelude.{◌≡◌, ℕ, ◌-◌, ◌≤◌, List, ◌++◌, length, take, drop, map}
 use Rattle.std.proofs.Common.{arith}
-use Rattle.std.proofs.lemmas.List.{take-take, drop-take, length-take-le, length-drop, length-map}
-use Rattle.std.proofs.lemmas.Slice.{take-put_mid}
+use Rattle.std.proofs.lemmas.{List.{take-take, drop-take, length-take-le, length-drop, length-map}, Slice.{take-put_mid}}
 use borrow.Rule.Slice.PartMut.{mid_of, put_mid}
 
 -- of the first n, those from b on went through f

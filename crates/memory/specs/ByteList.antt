@@ -1,7 +1,6 @@
 -- Bytes in place, or on the heap.
 use Rattle.std.specs.Prelude.{◌≤◌, ℕ, List, take}
-use Rattle.memory.specs.declared.byte_list.Few.{Few}
-use Rattle.memory.specs.declared.byte_list.Items.{Items}
+use Rattle.memory.specs.declared.byte_list.{Few.{Few}, Items.{Items}}
 use Rattle.memory.specs.declared.byte_list.Items.TheVariants as items
 
 -- the bytes that are listed

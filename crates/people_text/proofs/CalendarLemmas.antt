@@ -2,8 +2,7 @@
 use Rattle.std.proofs.Common.{◌≡◌, refl, ◌∙◌, ap, ℕ, zero, suc, ◌+◌, ◌-◌, ◌*◌, ◌/◌, ◌<◌, ◌≤◌, nat_le}
 use Rattle.std.proofs.Common.{Bool, true, false, if◌then◌else◌, arith, ◌⊎◌, inl, inr}
 use Rattle.std.proofs.lemmas.Bool.Decides.{nat_tests}
-use Rattle.people_text.specs.Calendar.{IsDate, day_of, days_of_months, days_of_years, last_begun}
-use Rattle.people_text.specs.Calendar.{is_leap, month_length, month_of, year_of}
+use Rattle.people_text.specs.Calendar.{IsDate, day_of, days_of_months, days_of_years, last_begun, is_leap, month_length, month_of, year_of}
 
 -- ---- years
 

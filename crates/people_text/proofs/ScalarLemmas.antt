@@ -1,18 +1,15 @@
 -- Bytes as text, one scalar, byte or chunk at a time.
 use Rattle.std.proofs.Common.{◌≡◌, refl, sym, ◌∙◌, ap, subst, ℕ, zero, suc, ◌+◌, ◌-◌, ◌<◌, ◌≤◌, ◌==◌, Bool, true, false, inl, inr}
 use Rattle.std.proofs.Common.{List, [], ◌∷◌, ◌++◌, length, take, drop, get_or, arith, append_assoc, flat_map}
-use Rattle.std.proofs.lemmas.Bool.{and_parts, cases_eq, cond_both}
-use Rattle.std.proofs.lemmas.Bool.Decides.{nat_tests}
-use Rattle.std.proofs.lemmas.Grind.{common_steps}
+use Rattle.std.proofs.lemmas.{Bool.{and_parts, cases_eq, cond_both}, Bool.Decides.{nat_tests}, Grind.{common_steps}}
 use Rattle.std.proofs.lemmas.List.{append-nil, drop_at, get_or_append_left, length-append, length-take-le, take-append-drop, take_at}
-use Rattle.std.proofs.lemmas.Str.{IsCharBoundary-start, IsUtf8-append, IsUtf8-encode, IsUtf8-from_is_utf8, IsUtf8-nil}
-use Rattle.std.proofs.lemmas.Str.{chars-append, chars_from_encodes, chars_past_char, drop_past_char, is_utf8-from_IsUtf8, len_utf8_bounds}
-use Rattle.std.proofs.lemmas.Str.{length-encode, utf8_valid_len_le}
-use Rattle.std.specs.Char.{IsScalar, encode_utf8, len_utf8}
-use Rattle.std.specs.Int.{IsInRange}
-use Rattle.std.specs.Prelude.{unwrap_or}
+use Rattle.std.proofs.lemmas.Str.{IsCharBoundary-start, IsUtf8-append, IsUtf8-encode, IsUtf8-from_is_utf8, IsUtf8-nil, chars-append}
+use Rattle.std.proofs.lemmas.Str.{chars_from_encodes, chars_past_char, drop_past_char, is_utf8-from_IsUtf8, len_utf8_bounds, length-encode}
+use Rattle.std.proofs.lemmas.Str.{utf8_valid_len_le}
+use Rattle.std.specs.{Char.{IsScalar, encode_utf8, len_utf8}, Int.{IsInRange}}
 use Rattle.std.specs.Str.{IsUtf8, StartsWithNoChar, all_scalars, chars, encode_utf8_all, is_utf8}
 use Rattle.std.specs.Str.Lossy.{error_len_after_two, utf8_error_len, utf8_invalid_len, utf8_valid_len, valid_len_up_to}
+use Rattle.std.specs.Prelude.{unwrap_or}
 use Rattle.people_text.specs.Shown.{bytes_shown, escaped_byte, scalar_text, text_after}
 
 -- ---- the longest front that is UTF-8

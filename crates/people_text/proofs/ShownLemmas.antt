@@ -1,12 +1,8 @@
 -- Bytes as text, one sequence at a time.
 use Rattle.std.proofs.Common.{◌≡◌, refl, sym, subst, ◌∙◌, ap, one-add, ℕ, ◌+◌, ◌<◌, ◌≤◌, Bool, true, false}
 use Rattle.std.proofs.Common.{◌&&◌, ◌||◌, nat_le, nat_lt, List, [], ◌∷◌, ◌++◌, take, drop, arith, append_assoc}
-use Rattle.std.proofs.lemmas.Bool.{cond_both}
-use Rattle.std.proofs.lemmas.Bool.Decides.{nat_tests}
-use Rattle.std.proofs.lemmas.Str.{IsUtf8-append, IsUtf8-encode, IsUtf8-nil, encode_ascii}
-use Rattle.std.specs.Char.{IsScalar, encode_utf8}
-use Rattle.std.specs.List.{flat_map, list_any, prefix_len}
-use Rattle.std.specs.Str.{IsUtf8}
+use Rattle.std.proofs.lemmas.{Bool.{cond_both}, Bool.Decides.{nat_tests}, Str.{IsUtf8-append, IsUtf8-encode, IsUtf8-nil, encode_ascii}}
+use Rattle.std.specs.{Char.{IsScalar, encode_utf8}, List.{flat_map, list_any, prefix_len}, Str.{IsUtf8}}
 use Rattle.people_text.specs.Shown.{bytes_shown, hidden_ranges, is_hidden, is_marked, is_plain_byte, scalar_text}
 use Rattle.people_text.proofs.ScalarLemmas.{scalar-shown}
 

@@ -1,20 +1,15 @@
 -- Shown text has visible scalars alone.
 use Rattle.std.proofs.Common.{◌≡◌, ◌≢◌, refl, ◌∙◌, ap, subst, ℕ, zero, suc, ◌+◌, ◌-◌, ◌/◌, ◌%◌, ◌<◌, ◌≤◌, Bool, true, false, cond}
 use Rattle.std.proofs.Common.{◌==◌, ◌||◌, List, [], ◌∷◌, ◌++◌, flat_map, get_or, length, take, arith, append-nil, inl, inr}
-use Rattle.std.proofs.lemmas.Bool.{cases_lt, cond_both}
-use Rattle.std.proofs.lemmas.Bool.Decides.{nat_tests}
-use Rattle.std.proofs.lemmas.List.{take_at}
+use Rattle.std.proofs.lemmas.{Bool.{cases_lt, cond_both}, Bool.Decides.{nat_tests}, List.{take_at}}
 use Rattle.std.proofs.lemmas.List.Elements.{All-append, All-cons, All-from_get_or, All-head, All-nil, All-tail, All-take}
 use Rattle.std.proofs.lemmas.Str.{NoCharPasses-byte, encode_ascii, encodes-append}
-use Rattle.std.specs.Char.{IsScalar, encode_utf8, len_utf8}
-use Rattle.std.specs.List.{All}
-use Rattle.std.specs.Str.{IsUtf8, NoCharPasses, NonePass, all_scalars, chars, encode_utf8_all}
-use Rattle.std.specs.Str.Lossy.{utf8_valid_len}
+use Rattle.std.specs.{Char.{IsScalar, encode_utf8, len_utf8}, List.{All}}
+use Rattle.std.specs.{Str.{IsUtf8, NoCharPasses, NonePass, all_scalars, chars, encode_utf8_all}, Str.Lossy.{utf8_valid_len}}
 use Rattle.dns_name.specs.Name.{labels_of, pieces_of}
 use Rattle.people_text.specs.Shown.{AreBytes, IsPrinted, IsVisible, IsVisibleText, bytes_shown, escaped_byte}
 use Rattle.people_text.specs.Shown.{dotted, hidden_ranges, is_hidden, is_marked, name_shown, scalar_text, text_after}
-use Rattle.people_text.proofs.ScalarLemmas.{first-char, first-scalar, scalar-shown}
-use Rattle.people_text.proofs.ShownLemmas.{ascii-shown, further}
+use Rattle.people_text.proofs.{ScalarLemmas.{first-char, first-scalar, scalar-shown}, ShownLemmas.{ascii-shown, further}}
 
 -- ---- texts that are appended
 

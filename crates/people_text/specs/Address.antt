@@ -1,7 +1,6 @@
 -- IPv6 addresses as text (RFC 5952, section 4).
 use Rattle.std.specs.Prelude.{◌≡◌, ◌≤◌, ℕ, ◌+◌, List, drop, length, replicate, take}
-use Rattle.std.specs.Net.Addr.{segments_of}
-use Rattle.std.specs.Net.Text.{hex_groups_text}
+use Rattle.std.specs.Net.{Addr.{segments_of}, Text.{hex_groups_text}}
 
 -- the groups of 16 octets without leading zeros, in lower case, the first of the longest runs of two zero groups or more
 -- as `::` (sections 4.1 to 4.3)

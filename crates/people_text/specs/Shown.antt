@@ -1,9 +1,7 @@
 -- Bytes and names of the network as text for people.
 use Rattle.std.specs.Prelude.{◌≡◌, ◌≢◌, ◌≤◌, ◌<◌, ◌⊎◌, ℕ, zero, suc, ◌-◌, ◌%◌, ◌==◌, ◌&&◌, ◌||◌, Bool, true, false, if◌then◌else◌}
 use Rattle.std.specs.Prelude.{List, [], ◌∷◌, ◌++◌, nat_le, nat_lt, not, slice_index}
-use Rattle.std.specs.Char.{IsScalar, encode_utf8, len_utf8}
-use Rattle.std.specs.List.{All, flat_map, list_any}
-use Rattle.std.specs.Str.{chars, encode_utf8_all}
+use Rattle.std.specs.{Char.{IsScalar, encode_utf8, len_utf8}, List.{All, flat_map, list_any}, Str.{chars, encode_utf8_all}}
 use Rattle.std.specs.Str.Lossy.{utf8_valid_len}
 use Rattle.dns_name.specs.Name.{labels_of, three_digits}
 

@@ -1,14 +1,11 @@
 //! Laws of texts, over their definitions alone. Each function does nothing: its contract is the law.
 
 ghost use Rattle.std.specs.Prelude.{◌≡◌, ◌≢◌, ◌≤◌, ℕ, Bool, true, List, [], ◌∷◌, ◌++◌};
-ghost use Rattle.std.specs.Char.{encode_utf8, IsScalar};
-ghost use Rattle.std.specs.List.{All};
-ghost use Rattle.std.specs.Str.{encode_utf8_all, IsUtf8, StartsWithNoChar};
+ghost use Rattle.std.specs.{Char.{encode_utf8, IsScalar}, List.{All}, Str.{encode_utf8_all, IsUtf8, StartsWithNoChar}};
 ghost use Rattle.std.specs.Net.Text.{longest_zero_run};
-ghost use Rattle.people_text.specs.Address.{IsRun};
-ghost use Rattle.people_text.specs.Calendar.{day_of, month_of, year_of, IsDate};
-ghost use Rattle.people_text.specs.Shown.{bytes_shown, escaped_byte, is_hidden, name_shown, scalar_text, shown};
-ghost use Rattle.people_text.specs.Shown.{AreBytes, IsNoncharacter, IsPrinted, IsVisible, IsVisibleText};
+ghost use Rattle.people_text.specs.{Address.{IsRun}, Calendar.{day_of, month_of, year_of, IsDate}};
+ghost use Rattle.people_text.specs.Shown.{bytes_shown, escaped_byte, is_hidden, name_shown, scalar_text, shown, AreBytes, IsNoncharacter};
+ghost use Rattle.people_text.specs.Shown.{IsPrinted, IsVisible, IsVisibleText};
 
 /// Bytes are shown from left to right: a scalar where its UTF-8 begins them, and else their first byte as `\DDD`.
 pub fn shown_bytes()

@@ -1,9 +1,7 @@
 //! Bytes of the network as text.
 
 ghost use Rattle.std.specs.Prelude.{◌≡◌, ◌≤◌, ◌++◌, length, OnOk};
-ghost use Rattle.std.specs.List.{flat_map, prefix_len};
-ghost use Rattle.std.specs.Str.{IsUtf8, chars};
-ghost use Rattle.std.specs.String.{string_bytes};
+ghost use Rattle.std.specs.{List.{flat_map, prefix_len}, Str.{IsUtf8, chars}, String.{string_bytes}};
 ghost use Rattle.people_text.specs.Shown.{bytes_shown, escaped_byte, is_marked, is_plain_byte, scalar_text, shown};
 
 use crate::hidden::is_hidden;

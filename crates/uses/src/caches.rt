@@ -1,12 +1,9 @@
 //! Caches: merging them, and asking which records are live.
 
 ghost use Rattle.std.specs.Prelude.{◌≡◌, ◌++◌, ◌↔◌, List, [], unwrap_or, IsTrue, IfOk, IfSome, OnOk, OnErr};
-ghost use Rattle.mdns_message.specs.declared.hearing.Hearing.{Hearing as hearing};
-ghost use Rattle.mdns_join.specs.declared.latest.Latest.{Latest};
-ghost use Rattle.mdns_cache.specs.Contents.{Contents, StandsFor, contents_of, flushes_at, join_of};
-ghost use Rattle.mdns_cache.specs.Live.{SameHearings, IsLive};
-ghost use Rattle.mdns_join.specs.Nanos.{nanos_of};
-ghost use Rattle.mdns_message.specs.Resource.{set_key_for};
+ghost use Rattle.mdns_message.specs.{declared.hearing.Hearing.{Hearing as hearing}, Resource.{set_key_for}};
+ghost use Rattle.mdns_join.specs.{declared.latest.Latest.{Latest}, Nanos.{nanos_of}};
+ghost use Rattle.mdns_cache.specs.{Contents.{Contents, StandsFor, contents_of, flushes_at, join_of}, Live.{SameHearings, IsLive}};
 ghost use Rattle.mdns_cache.specs.Plan.{hearings_of};
 
 use mdns_cache::laws::{

@@ -2,21 +2,15 @@
 
 ghost use Rattle.std.specs.Prelude.{◌≡◌, ◌≢◌, ◌≤◌, ◌++◌, [], ℕ, List, length, map, slice_index, slice_index_or, string_bytes, codes, true};
 ghost use Rattle.std.specs.Prelude.{Some, option_map, unwrap_or, IfNone, IfOk, IfSome, if◌then◌else◌};
-ghost use Rattle.std.specs.List.{All, list_all, sum_by};
-ghost use Rattle.std.specs.List.Sorted.{IsPermutation};
+ghost use Rattle.std.specs.{List.{All, list_all, sum_by}, List.Sorted.{IsPermutation}};
 ghost use Rattle.mdns_cache.specs.Live.{SameHearings};
 ghost use Rattle.mdns_capture.specs.Output.{writing};
 ghost use Rattle.mdns_message.specs.declared.hearing.Hearing.{Hearing};
 ghost use Rattle.mdns_survey.specs.Answer.{Reports};
-ghost use Rattle.mdns_listeners.specs.Clock.{is_one_clock};
-ghost use Rattle.mdns_listeners.specs.Groups.{grouped};
-ghost use Rattle.mdns_listeners.specs.Heard.{AreHeardIn, HasWholeAddress, HeardRow, Told, times_of};
-ghost use Rattle.mdns_listeners.specs.Listeners.{AreListeners};
-ghost use Rattle.mdns_listeners.specs.Names.{AreNames, ListsNames};
-ghost use Rattle.mdns_listeners.specs.Numbers.{is_of, listener_rows};
-ghost use Rattle.mdns_listeners.specs.Pairs.{pair_rows};
-ghost use Rattle.mdns_listeners.specs.Parts.{joined_rows};
-ghost use Rattle.mdns_listeners.specs.Senders.{sender_rows};
+ghost use Rattle.mdns_listeners.specs.{Clock.{is_one_clock}, Groups.{grouped}};
+ghost use Rattle.mdns_listeners.specs.{Heard.{AreHeardIn, HasWholeAddress, HeardRow, Told, times_of}, Listeners.{AreListeners}};
+ghost use Rattle.mdns_listeners.specs.{Names.{AreNames, ListsNames}, Numbers.{is_of, listener_rows}, Pairs.{pair_rows}};
+ghost use Rattle.mdns_listeners.specs.{Parts.{joined_rows}, Senders.{sender_rows}};
 
 use mdns_browse::Form;
 use mdns_capture::{Sink, Source, SourceAddress, Through};

@@ -1,8 +1,7 @@
 //! Lives: which hearings a chronicle's lives are told of.
 
 ghost use Rattle.std.specs.Prelude.{◌∷◌, [], List, IfOk};
-ghost use Rattle.mdns_message.specs.declared.hearing.Hearing.{Hearing as hearing};
-ghost use Rattle.mdns_message.specs.Borrowed.{hearing_lent};
+ghost use Rattle.mdns_message.specs.{declared.hearing.Hearing.{Hearing as hearing}, Borrowed.{hearing_lent}};
 ghost use Rattle.mdns_lives.specs.Chronicle.{Chronicles};
 
 use mdns_lives::{Chronicle, Lives};

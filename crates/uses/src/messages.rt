@@ -2,8 +2,7 @@
 
 ghost use Rattle.std.specs.Prelude.{◌≡◌, ◌↔◌, ℕ, List, IsTrue, IfOk, IfSome};
 ghost use Rattle.mdns_capture.specs.Frame.{FrameCarries};
-ghost use Rattle.mdns_message.specs.Message.{IsQuery, MessageReads};
-ghost use Rattle.mdns_message.specs.Resource.{SameRecord};
+ghost use Rattle.mdns_message.specs.{Message.{IsQuery, MessageReads}, Resource.{SameRecord}};
 
 use mdns_capture::Moment;
 use mdns_capture::frame::payload_of;

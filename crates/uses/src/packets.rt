@@ -1,8 +1,7 @@
 //! Packets of captures, and the payloads that their frames carry.
 
 ghost use Rattle.std.specs.Prelude.{ℕ, List, IfOk, IfSome, IfNone, IsSome};
-ghost use Rattle.mdns_capture.specs.Frame.{FrameCarries};
-ghost use Rattle.mdns_capture.specs.Capture.{IsOver};
+ghost use Rattle.mdns_capture.specs.{Frame.{FrameCarries}, Capture.{IsOver}};
 
 use mdns_capture::frame::payload_of;
 use mdns_capture::{Capture, ReadFault, Source};

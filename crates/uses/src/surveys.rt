@@ -2,18 +2,11 @@
 
 ghost use Rattle.std.specs.Prelude.{◌≡◌, ◌≢◌, ◌∷◌, [], ℕ, List, false, length, map, string_bytes, Some, IfOk, IfErr, Err, IsTrue, codes};
 ghost use Rattle.std.specs.Io.KnownBytes.{Appends};
-ghost use Rattle.mdns_capture.specs.declared.savefile.Ending.{Ending as ending};
-ghost use Rattle.mdns_survey.specs.Answer.{Reports};
-ghost use Rattle.mdns_survey.specs.Outcomes.{Outcome, CaptureTells, hearings_in};
-ghost use Rattle.mdns_survey.specs.Laws.{SameCaptures};
-ghost use Rattle.mdns_survey.specs.Listen.{HasListenFault};
-ghost use Rattle.mdns_capture.specs.Output.{writing};
-ghost use Rattle.mdns_survey.specs.Question.{IsCheck};
-ghost use Rattle.mdns_survey.specs.Refusals.{IsNoSurveyRead};
+ghost use Rattle.mdns_capture.specs.{declared.savefile.Ending.{Ending as ending}, Output.{writing}};
+ghost use Rattle.mdns_survey.specs.{Answer.{Reports}, Outcomes.{Outcome, CaptureTells, hearings_in}, Laws.{SameCaptures}};
+ghost use Rattle.mdns_survey.specs.{Listen.{HasListenFault}, Question.{IsCheck}, Refusals.{IsNoSurveyRead}, Request.{at_or_newest}};
+ghost use Rattle.mdns_survey.specs.{Surveys.{SurveysBy}, declared.request.AsOf.TheVariants.{Newest}};
 ghost use Rattle.mdns_browse.specs.Report.{IsReport};
-ghost use Rattle.mdns_survey.specs.Request.{at_or_newest};
-ghost use Rattle.mdns_survey.specs.Surveys.{SurveysBy};
-ghost use Rattle.mdns_survey.specs.declared.request.AsOf.TheVariants.{Newest};
 
 use mdns_browse::Ask;
 use mdns_capture::{Moment, Sink, Source, Through};

@@ -1,8 +1,7 @@
 //! Texts for people.
 
 ghost use Rattle.std.specs.Prelude.{◌≡◌, ◌++◌, ◌∷◌, IfOk, string_bytes};
-ghost use Rattle.people_text.specs.MomentText.{seconds_text};
-ghost use Rattle.people_text.specs.Shown.{name_shown};
+ghost use Rattle.people_text.specs.{MomentText.{seconds_text}, Shown.{name_shown}};
 
 use dns_name::Name;
 use memory::Want;

@@ -1,8 +1,7 @@
 -- Objects obey the laws of sheets and of sinks of words.
 use Rattle.std.specs.Prelude.{◌≡◌, refl, ℕ, Bool, false, List, [], ◌∷◌, ◌++◌, string_bytes}
 use Rattle.std.proofs.Common.{sym, ap, ◌∙◌, append_assoc, append-nil}
-use Rattle.mdns_browse.specs.Sheet.{Piece, TakeLaws}
-use Rattle.mdns_browse.specs.Json.{comma_unless, parted, first_after, json_string}
+use Rattle.mdns_browse.specs.{Sheet.{Piece, TakeLaws}, Json.{comma_unless, parted, first_after, json_string}}
 use Rattle.mdns_browse.specs.JsonPieces.{piece_json, piece_next, pieces_json, pieces_next, strings_json, Grows}
 
 grows-laws : {P : Type 0} (text_of : Bool → List P → List ℕ) (next : Bool → List P → Bool) → ((first : Bool) → text_of first [] ≡ [])

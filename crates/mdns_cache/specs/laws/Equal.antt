@@ -3,13 +3,9 @@ use Rattle.std.specs.Prelude.{ℕ, List}
 use Rattle.std.specs.Cmp.{IsPartialEquivalence, and_per, on_per, on_equiv, nat_eq_equiv, eq_by_cmp_equiv, partial_equiv_from_equiv}
 use Rattle.std.specs.Cmp.Lexicographic.{lists_per, options_equiv, nat_list_eq_equiv}
 use Rattle.mdns_capture.specs.declared.moment.Moment.{Moment}
-use Rattle.mdns_message.specs.declared.key.Key.{Key}
-use Rattle.mdns_message.specs.RecordSet.{RecordSet}
-use Rattle.mdns_message.specs.laws.Resource.{key_cmp-total, set_key_cmp-total}
-use Rattle.mdns_join.specs.declared.latest.Latest.{Latest}
-use Rattle.mdns_join.specs.laws.Latest.{latest_cmp-total}
-use Rattle.mdns_cache.specs.Contents.{Contents}
-use Rattle.mdns_cache.specs.Equal.{eq_newest, eq_lasts, eq_flushes, eq_contents}
+use Rattle.mdns_message.specs.{declared.key.Key.{Key}, RecordSet.{RecordSet}, laws.Resource.{key_cmp-total, set_key_cmp-total}}
+use Rattle.mdns_join.specs.{declared.latest.Latest.{Latest}, laws.Latest.{latest_cmp-total}}
+use Rattle.mdns_cache.specs.{Contents.{Contents}, Equal.{eq_newest, eq_lasts, eq_flushes, eq_contents}}
 
 newest-per : IsPartialEquivalence eq_newest
 newest-per = partial_equiv_from_equiv (options_equiv (on_equiv (λ (m : Moment). m.nanos) nat_eq_equiv))

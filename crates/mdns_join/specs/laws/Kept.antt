@@ -4,14 +4,12 @@ use Rattle.std.specs.Prelude.{◌↔◌, List, [], ◌∷◌, ◌++◌}
 use Rattle.std.specs.List.{filter}
 use Rattle.std.proofs.Common.{refl, sym, ap, ◌∙◌, subst, inl, inr, arith, true≢false, ltb-true, leb-true, leb-false}
 use Rattle.std.proofs.Common.{le-leb, eqb-true, eq-eqb}
-use Rattle.std.proofs.lemmas.Bool.{or_cases, and_parts, and_from, cases_Bool, cases_lt, cond_both}
-use Rattle.std.proofs.lemmas.Bool.Decides.{nat_tests}
-use Rattle.mdns_capture.specs.declared.moment.Moment.{Moment}
+use Rattle.std.proofs.lemmas.{Bool.{or_cases, and_parts, and_from, cases_Bool, cases_lt, cond_both}, Bool.Decides.{nat_tests}}
+use Rattle.mdns_capture.specs.{declared.moment.Moment.{Moment}, Limits.{second}}
 use Rattle.mdns_join.specs.Nanos.{nanos_of}
-use Rattle.join_map.specs.Join.{JoinLaws}
-use Rattle.mdns_capture.specs.Limits.{second}
 use Rattle.mdns_join.specs.Kept.{has, newest, IsKept, IsAscendingAbove, IsAscending, put, ascending, union, older_of}
 use Rattle.mdns_join.specs.Kept.{is_kept, kept, IsKeptList, kept_union, IsStruckBy, IsStale}
+use Rattle.join_map.specs.Join.{JoinLaws}
 
 -- ---- membership
 

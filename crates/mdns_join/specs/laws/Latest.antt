@@ -1,20 +1,14 @@
 -- The order of last hearings is total and exact, so that taking the later is a join.
 use Rattle.std.specs.Prelude.{◌≡◌, ◌≤◌}
-use Rattle.std.specs.declared.cmp.Ordering.{Ordering}
-use Rattle.std.specs.declared.cmp.Ordering.TheVariants.{Less, Equal, Greater}
-use Rattle.std.specs.Ordering.{nat_cmp, ordering_then}
-use Rattle.std.specs.Cmp.{IsTotalOrder, nat_cmp_total, on_total, then_total}
+use Rattle.std.specs.declared.cmp.{Ordering.{Ordering}, Ordering.TheVariants.{Less, Equal, Greater}}
+use Rattle.std.specs.{Ordering.{nat_cmp, ordering_then}, Cmp.{IsTotalOrder, nat_cmp_total, on_total, then_total}}
 use Rattle.std.proofs.lemmas.Map.Lookups.{exact_unsigned}
 use mathlib.Core.HLevel.{is_prop→PathP}
 use native.Mathlib.Bridge.{le_prop}
-use Rattle.mdns_capture.specs.Limits.{greatest_moment}
-use Rattle.mdns_capture.specs.declared.moment.Moment.{Moment}
-use Rattle.mdns_message.specs.Resource.{resource_cmp}
-use Rattle.mdns_message.specs.laws.Resource.{resource_cmp-exact, resource_cmp-total}
-use Rattle.join_map.specs.Join.{JoinLaws}
-use Rattle.join_map.specs.laws.Join.{greater_of-laws}
-use Rattle.mdns_join.specs.declared.latest.Latest.{Latest}
-use Rattle.mdns_join.specs.Latest.{IsLatest, latest_cmp, later}
+use Rattle.mdns_capture.specs.{Limits.{greatest_moment}, declared.moment.Moment.{Moment}}
+use Rattle.mdns_message.specs.{Resource.{resource_cmp}, laws.Resource.{resource_cmp-exact, resource_cmp-total}}
+use Rattle.join_map.specs.{Join.{JoinLaws}, laws.Join.{greater_of-laws}}
+use Rattle.mdns_join.specs.{declared.latest.Latest.{Latest}, Latest.{IsLatest, latest_cmp, later}}
 
 -- a moment is its nanoseconds
 pub moment-same : (m n : Moment) → m.nanos ≡ n.nanos → m ≡ n

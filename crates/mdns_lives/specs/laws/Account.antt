@@ -1,8 +1,7 @@
 -- Accounts are joined by laws.
 use Rattle.mdns_join.specs.laws.Latest.{later-laws}
 use Rattle.join_map.specs.Join.{JoinLaws}
-use Rattle.mdns_lives.specs.Account.{account, join_account, IsAccount}
-use Rattle.mdns_lives.specs.laws.Seconds.{seconds-laws}
+use Rattle.mdns_lives.specs.{Account.{account, join_account, IsAccount}, laws.Seconds.{seconds-laws}}
 
 pub account-laws : JoinLaws IsAccount join_account
 account-laws = record {

@@ -2,8 +2,7 @@
 use Rattle.std.specs.Prelude.{◌≡◌, ℕ, Bool, true, false, ◌||◌, List, refl}
 use Rattle.std.proofs.Common.{sym, ap, ◌∙◌}
 use Rattle.join_map.specs.Join.{JoinLaws}
-use Rattle.mdns_join.specs.Kept.{has, union, IsAscending}
-use Rattle.mdns_join.specs.laws.Kept.{has-union, IsAscending-union, same_ascending, union_comm}
+use Rattle.mdns_join.specs.{Kept.{has, union, IsAscending}, laws.Kept.{has-union, IsAscending-union, same_ascending, union_comm}}
 
 pub same_moments : (xs ys : List ℕ) → IsAscending xs → IsAscending ys → ((q : ℕ) → has xs q ≡ has ys q) → xs ≡ ys
 same_moments xs ys a b same = same_ascending xs ys a b (λ q h. sym (same q) ∙ h) (λ q h. same q ∙ h)

@@ -1,16 +1,13 @@
 -- Seconds are joined by laws.
 use Rattle.std.specs.Prelude.{◌≡◌}
-use Rattle.std.specs.declared.cmp.Ordering.TheVariants.{Equal}
-use Rattle.std.specs.Ordering.{nat_cmp}
+use Rattle.std.specs.{declared.cmp.Ordering.TheVariants.{Equal}, Ordering.{nat_cmp}}
 use Rattle.std.specs.Cmp.{IsTotalOrder, nat_cmp_total, on_total, then_total, back_total}
 use Rattle.std.proofs.Common.{sym}
 use Rattle.std.proofs.lemmas.Map.Lookups.{exact_unsigned}
 use Rattle.mdns_message.specs.laws.Resource.{both_tie}
 use Rattle.mdns_join.specs.laws.Latest.{moment-same}
 use Rattle.mdns_capture.specs.declared.moment.Moment.{Moment}
-use Rattle.join_map.specs.Join.{JoinLaws}
-use Rattle.join_map.specs.laws.Join.{greater_of-laws}
-use Rattle.join_map.specs.laws.Entries.{joined-laws}
+use Rattle.join_map.specs.{Join.{JoinLaws}, laws.Join.{greater_of-laws}, laws.Entries.{joined-laws}}
 use Rattle.mdns_lives.specs.declared.life.RecordHearing.{RecordHearing}
 use Rattle.mdns_lives.specs.Seconds.{heard_cmp, ends, join_ends, join_seconds, IsEnds, IsSeconds}
 

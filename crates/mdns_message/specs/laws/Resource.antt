@@ -2,18 +2,14 @@
 use Rattle.std.specs.Prelude.{◌≡◌, ◌↔◌, IsTrue, ℕ, ◌+◌, ◌*◌, ◌/◌, ◌%◌, List, [], ◌∷◌, Option, Some, refl}
 use Rattle.std.specs.Ordering.{nat_cmp, ordering_then, eq_by_cmp, is_eq}
 use Rattle.std.specs.Cmp.{IsTotalOrder, then_total, on_total, nat_cmp_total, Equal-is, tied_itself}
-use Rattle.std.specs.Cmp.Lexicographic.{slice_cmp, nat_list_cmp_total}
-use Rattle.std.specs.FinMap.{nat_cmp-IsAntisymmetric, slice_cmp-IsAntisymmetric}
-use Rattle.std.specs.declared.cmp.Ordering.{Ordering}
-use Rattle.std.specs.declared.cmp.Ordering.TheVariants.{Less, Equal, Greater}
+use Rattle.std.specs.{Cmp.Lexicographic.{slice_cmp, nat_list_cmp_total}, FinMap.{nat_cmp-IsAntisymmetric, slice_cmp-IsAntisymmetric}}
+use Rattle.std.specs.declared.cmp.{Ordering.{Ordering}, Ordering.TheVariants.{Less, Equal, Greater}}
 use Rattle.std.proofs.Common.{ap, sym, arith, ◌∙◌}
 use Rattle.mdns_message.specs.Resource.{Body, numbered_type, number_of, data_of, set_key_cmp, key_cmp, body_cmp, resource_cmp}
-use Rattle.mdns_message.specs.declared.body.RecordData.TheVariants as body
-use Rattle.mdns_message.specs.declared.record_type.RecordType.{RecordType}
-use Rattle.mdns_message.specs.declared.record_type.RecordType.TheVariants as kind
-use Rattle.mdns_message.specs.declared.resource.Resource.{Resource}
-use Rattle.mdns_message.specs.RecordSet.{RecordSet}
+use Rattle.mdns_message.specs.{declared.record_type.RecordType.{RecordType}, declared.resource.Resource.{Resource}, RecordSet.{RecordSet}}
 use Rattle.mdns_message.specs.declared.key.Key.{Key}
+use Rattle.mdns_message.specs.declared.body.RecordData.TheVariants as body
+use Rattle.mdns_message.specs.declared.record_type.RecordType.TheVariants as kind
 
 -- lists of bytes that compare equal are the same
 pub bytes_cmp-exact : (a b : List ℕ) → slice_cmp nat_cmp a b ≡ Equal → a ≡ b

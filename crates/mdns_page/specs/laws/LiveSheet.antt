@@ -2,9 +2,7 @@
 use Rattle.std.specs.Prelude.{◌≡◌, refl, ℕ, Bool, List, [], ◌∷◌, ◌++◌, string_bytes}
 use Rattle.std.proofs.Common.{sym, ap, ◌∙◌, append_assoc, append-nil}
 use Rattle.mdns_browse.specs.Sheet.{Piece, TakeLaws}
-use Rattle.mdns_page.specs.declared.axis.Axis.{Axis}
-use Rattle.mdns_page.specs.Html.{isolated}
-use Rattle.mdns_page.specs.LiveSheet.{Grows, piece_html, piece_next, pieces_html, pieces_next}
+use Rattle.mdns_page.specs.{declared.axis.Axis.{Axis}, Html.{isolated}, LiveSheet.{Grows, piece_html, piece_next, pieces_html, pieces_next}}
 
 pub pieces-append : (say : List ℕ → List ℕ) (axis : Axis) (first : Bool) (a b : List Piece)
     → pieces_html say axis first (a ++ b) ≡ pieces_html say axis first a ++ pieces_html say axis (pieces_next first a) b

@@ -1,9 +1,6 @@
 use Rattle.std.proofs.Common.{rules, ◌≡◌, ◌∙◌, refl, ap}
-use Rattle.std.specs.Char.{to_ascii_lowercase}
-use Rattle.std.specs.Iterator.Adapters.{map_callee}
-use Rattle.std.specs.Ordering.{nat_cmp}
-use Rattle.std.proofs.lemmas.Iterator.{YieldsList-from_slice, YieldsList-from_map}
-use Rattle.std.proofs.lemmas.Iterator.Search.{cmp_from_yields_List}
+use Rattle.std.specs.{Char.{to_ascii_lowercase}, Iterator.Adapters.{map_callee}, Ordering.{nat_cmp}}
+use Rattle.std.proofs.lemmas.{Iterator.{YieldsList-from_slice, YieldsList-from_map}, Iterator.Search.{cmp_from_yields_List}}
 use Rattle.dns_name.proofs.fold.folded_cmp.Goals as goal
 
 pub returns : goal.returns

@@ -1,6 +1,5 @@
-use Rattle.std.proofs.lemmas.Grind.{common_steps}
+use Rattle.std.proofs.lemmas.{Grind.{common_steps}, Result.{err_from_is_err_and, on_ok_weaker, on_err_weaker}}
 use Rattle.std.proofs.Common.{arith, ◌≡◌, ◌∷◌, [], ◌++◌, ℕ, List, ap, string_bytes, sym, subst}
-use Rattle.std.proofs.lemmas.Result.{err_from_is_err_and, on_ok_weaker, on_err_weaker}
 use Rattle.dns_name.specs.Name.{HasFront, labels_text, name_text}
 use Rattle.dns_name.proofs.FormLemmas.{IsForm-after, IsForm-last, labels_of-after}
 use Rattle.dns_name.proofs.FrontLemmas.{Reaches-start, Reaches-more, Reaches-last, stops-at, stops-last}

@@ -1,6 +1,5 @@
-use Rattle.std.proofs.lemmas.Grind.{common_steps}
+use Rattle.std.proofs.lemmas.{Grind.{common_steps}, Result.{err_from_is_err_and}}
 use Rattle.std.proofs.Common.{arith, ◌∷◌, [], ap, refl, string_bytes, subst}
-use Rattle.std.proofs.lemmas.Result.{err_from_is_err_and}
 use Rattle.dns_name.specs.Name.{further_text, labels_of}
 use Rattle.dns_name.proofs.FormLemmas.{IsForm-after, IsForm-last, labels_of-after}
 use Rattle.dns_name.proofs.FrontLemmas.{Reaches, Reaches-more, Reaches-all, stops-at}

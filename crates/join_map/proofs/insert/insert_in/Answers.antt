@@ -1,7 +1,6 @@
 use Rattle.std.proofs.Common.{arith}
 use Rattle.std.proofs.lemmas.List.{get_or_read}
-use Rattle.join_map.proofs.BlockLemmas.{entries_of-inserted, entries_of-same, filled-read, filled-set, some-inserted}
-use Rattle.join_map.proofs.PutLemmas.{on_err}
+use Rattle.join_map.proofs.{BlockLemmas.{entries_of-inserted, entries_of-same, filled-read, filled-set, some-inserted}, PutLemmas.{on_err}}
 use Rattle.join_map.proofs.insert.insert_in.Goals as goal
 
 pub insert-requires : goal.insert-requires

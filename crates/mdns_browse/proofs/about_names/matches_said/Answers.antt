@@ -1,11 +1,8 @@
 use Rattle.std.proofs.Common.{◌++◌, ◌∙◌, ap, string_bytes}
 use Rattle.std.specs.List.{list_any}
 use Rattle.dns_name.specs.Name.{labels_of}
-use Rattle.mdns_browse.specs.About.{matches_text_in_local}
-use Rattle.mdns_browse.specs.Services.{same_text}
-use Rattle.mdns_browse.specs.NameSaid.{after_front, front}
-use Rattle.mdns_browse.proofs.AboutLemmas.{or-first, or-rest, said-alternatives, text-written}
-use Rattle.mdns_browse.proofs.SaidLemmas.{labels_said, said-written}
+use Rattle.mdns_browse.specs.{About.{matches_text_in_local}, Services.{same_text}, NameSaid.{after_front, front}}
+use Rattle.mdns_browse.proofs.{AboutLemmas.{or-first, or-rest, said-alternatives, text-written}, SaidLemmas.{labels_said, said-written}}
 use Rattle.mdns_browse.proofs.about_names.matches_said.Goals as goal
 
 pub push_front-requires : goal.push_front-requires

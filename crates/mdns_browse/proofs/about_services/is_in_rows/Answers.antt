@@ -1,7 +1,6 @@
 use Rattle.std.proofs.Common.{sym, ◌∙◌, ap, arith}
 use Rattle.std.specs.List.{list_any}
-use Rattle.mdns_cache.specs.LentRecords.{last_lent}
-use Rattle.mdns_cache.specs.declared.cache.Last.{Last}
+use Rattle.mdns_cache.specs.{LentRecords.{last_lent}, declared.cache.Last.{Last}}
 use Rattle.mdns_browse.specs.About.{is_in_data}
 use Rattle.mdns_browse.proofs.AboutServiceLemmas.{any-found, any_in_row, none-all, none-more, rows-swap}
 use Rattle.mdns_browse.proofs.about_services.is_in_rows.Goals as goal

@@ -2,10 +2,8 @@ use Rattle.std.proofs.Common.{sym, ◌∙◌, ap, map}
 use Rattle.std.proofs.lemmas.Result.{IfOk-weaker}
 use Rattle.std.specs.List.{list_any}
 use Rattle.mdns_cache.specs.LentRecords.{last_lent}
-use Rattle.mdns_browse.specs.About.{is_name_about}
-use Rattle.mdns_browse.specs.Services.{body_of}
-use Rattle.mdns_browse.proofs.AboutLemmas.{or-first, or-rest}
-use Rattle.mdns_browse.proofs.AboutServiceLemmas.{no-server, server-parts}
+use Rattle.mdns_browse.specs.{About.{is_name_about}, Services.{body_of}}
+use Rattle.mdns_browse.proofs.{AboutLemmas.{or-first, or-rest}, AboutServiceLemmas.{no-server, server-parts}}
 use Rattle.mdns_browse.proofs.about_services.is_in_server.Goals as goal
 
 pub returns-in_default : goal.returns-in_default

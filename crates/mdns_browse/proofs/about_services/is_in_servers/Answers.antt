@@ -1,8 +1,6 @@
 use Rattle.std.proofs.Common.{refl, sym, ◌∙◌, ap, map, arith}
-use Rattle.mdns_cache.specs.LentRecords.{last_lent}
-use Rattle.mdns_cache.specs.declared.cache.Last.{Last}
-use Rattle.mdns_browse.specs.About.{is_served_about}
-use Rattle.mdns_browse.specs.Services.{body_of}
+use Rattle.mdns_cache.specs.{LentRecords.{last_lent}, declared.cache.Last.{Last}}
+use Rattle.mdns_browse.specs.{About.{is_served_about}, Services.{body_of}}
 use Rattle.mdns_browse.proofs.AboutServiceLemmas.{any-found, any_in_server, any_in_servers, none-all, none-more, rows-swap}
 use Rattle.mdns_browse.proofs.about_services.is_in_servers.Goals as goal
 

@@ -1,5 +1,4 @@
-use Rattle.mdns_browse.proofs.ReachLemmas.{reaches-start, reaches-more, reaches-all}
-use Rattle.mdns_browse.proofs.TextLemmas.{text_words-cons, text_words-none}
+use Rattle.mdns_browse.proofs.{ReachLemmas.{reaches-start, reaches-more, reaches-all}, TextLemmas.{text_words-cons, text_words-none}}
 use Rattle.mdns_browse.proofs.data_words.push_text_words.Goals as goal
 
 pub loop-string-init : goal.loop-string-init

@@ -1,8 +1,7 @@
 use Rattle.std.proofs.Common.{◌≡◌, ◌++◌, map}
 use Rattle.std.specs.List.{filter}
 use Rattle.mdns_cache.specs.LentRecords.{last_lent}
-use Rattle.mdns_browse.specs.Given.{given_lent}
-use Rattle.mdns_browse.specs.Services.{given_of, gives_instance, lasts_in}
+use Rattle.mdns_browse.specs.{Given.{given_lent}, Services.{given_of, gives_instance, lasts_in}}
 use Rattle.mdns_browse.proofs.given_rows.gather.Given as goal
 
 abbrev pub invariant-loop-row : goal.invariant-loop-row

@@ -2,8 +2,7 @@ use Rattle.std.proofs.lemmas.Grind.{common_steps}
 use Rattle.std.proofs.Common.{rules, ◌≡◌, ◌∙◌, ap, ◌==◌, true, length, map, arith}
 use Rattle.mdns_cache.specs.LentRecords.{last_lent}
 use Rattle.mdns_browse.specs.Given.{given_lent}
-use Rattle.mdns_browse.proofs.InstanceLemmas.{kept-append, kept-none}
-use Rattle.mdns_browse.proofs.ListLemmas.{made_all, made_more}
+use Rattle.mdns_browse.proofs.{InstanceLemmas.{kept-append, kept-none}, ListLemmas.{made_all, made_more}}
 use Rattle.mdns_browse.proofs.given_rows.kept_of.Goals as goal
 
 pub returns-then-is_empty : goal.returns-then-is_empty

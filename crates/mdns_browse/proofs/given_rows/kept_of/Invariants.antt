@@ -1,7 +1,6 @@
 use Rattle.std.proofs.Common.{◌≡◌, map, take}
 use Rattle.mdns_cache.specs.LentRecords.{last_lent}
-use Rattle.mdns_browse.specs.Given.{given_lent, kept_given}
-use Rattle.mdns_browse.specs.Services.{AreAscending}
+use Rattle.mdns_browse.specs.{Given.{given_lent, kept_given}, Services.{AreAscending}}
 use Rattle.mdns_browse.proofs.given_rows.kept_of.Given as goal
 
 abbrev pub invariant-loop-row : goal.invariant-loop-row

@@ -1,6 +1,5 @@
 use Rattle.std.proofs.Common.{◌≡◌, map, take}
-use Rattle.mdns_browse.specs.Given.{given_lent}
-use Rattle.mdns_browse.specs.Columns.{widest}
+use Rattle.mdns_browse.specs.{Given.{given_lent}, Columns.{widest}}
 use Rattle.mdns_browse.proofs.InstanceColumnLemmas.{given_left}
 use Rattle.mdns_browse.proofs.instance_columns.given_width.Given as goal
 

@@ -1,17 +1,12 @@
 use Rattle.std.proofs.Common.{sym, ◌∙◌, ap, subst, map, max, length, [], ◌++◌}
-use Rattle.std.specs.List.{filter, flat_map}
-use Rattle.std.specs.String.{string_bytes}
+use Rattle.std.specs.{List.{filter, flat_map}, String.{string_bytes}}
 use Rattle.std.proofs.lemmas.List.{length-map}
 use Rattle.mdns_capture.specs.declared.moment.Moment.{Moment}
 use Rattle.mdns_cache.specs.LentRecords.{last_lent, live_record_lent}
-use Rattle.mdns_browse.specs.About.{keeps_instance}
-use Rattle.mdns_browse.specs.Given.{given_lent}
-use Rattle.mdns_browse.specs.ColumnPieces.{piece_columns, rows_pieces}
-use Rattle.mdns_browse.specs.Columns.{instances_pretty, time_left_text, widest}
-use Rattle.mdns_browse.specs.Report.{instances_about, records_about}
+use Rattle.mdns_browse.specs.{About.{keeps_instance}, Given.{given_lent}, ColumnPieces.{piece_columns, rows_pieces}}
+use Rattle.mdns_browse.specs.{Columns.{instances_pretty, time_left_text, widest}, Report.{instances_about, records_about}}
 use Rattle.mdns_browse.specs.Services.{AreAscending, InstanceRow, given_of, gives_instance, lasts_in, others_in}
-use Rattle.mdns_browse.proofs.InstanceLemmas.{shown-again, shown_in}
-use Rattle.mdns_browse.proofs.InstanceColumnLemmas.{columns_by_parts, given_left}
+use Rattle.mdns_browse.proofs.{InstanceLemmas.{shown-again, shown_in}, InstanceColumnLemmas.{columns_by_parts, given_left}}
 use Rattle.mdns_browse.proofs.RowLemmas.{ascending_lasts, one_records}
 use Rattle.mdns_browse.proofs.instance_columns.instances_columns.Goals as goal
 

@@ -1,12 +1,9 @@
-use Rattle.mdns_browse.proofs.InstanceColumnLemmas.{Shows, shows-more, shows-start}
-use Rattle.std.proofs.lemmas.Grind.{common_steps}
-use Rattle.std.proofs.Common.{None, Some, refl, sym, ap, subst, ◌++◌, map, take, arith}
-use Rattle.std.proofs.lemmas.List.Elements.{filter_map-append}
-use Rattle.mdns_cache.specs.LentRecords.{last_lent}
-use Rattle.mdns_browse.specs.Given.{given_lent}
-use Rattle.mdns_browse.specs.Services.{instance_row_in}
-use Rattle.mdns_browse.proofs.InstanceLemmas.{row_named, shown-one, shown_in}
+use Rattle.mdns_browse.proofs.{InstanceColumnLemmas.{Shows, shows-more, shows-start}, InstanceLemmas.{row_named, shown-one, shown_in}}
 use Rattle.mdns_browse.proofs.ListLemmas.{made_all, made_more, made_same}
+use Rattle.std.proofs.lemmas.{Grind.{common_steps}, List.Elements.{filter_map-append}}
+use Rattle.std.proofs.Common.{None, Some, refl, sym, ap, subst, ◌++◌, map, take, arith}
+use Rattle.mdns_cache.specs.LentRecords.{last_lent}
+use Rattle.mdns_browse.specs.{Given.{given_lent}, Services.{instance_row_in}}
 use Rattle.mdns_browse.proofs.instance_columns.push_instances.Goals as goal
 
 pub loop-row-init : goal.loop-row-init

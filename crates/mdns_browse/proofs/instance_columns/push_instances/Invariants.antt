@@ -1,8 +1,7 @@
 use Rattle.std.proofs.Common.{map, take}
 use Rattle.std.specs.List.{filter_map}
 use Rattle.mdns_cache.specs.LentRecords.{last_lent}
-use Rattle.mdns_browse.specs.Given.{given_lent}
-use Rattle.mdns_browse.specs.Services.{AreAscending, instance_row_in}
+use Rattle.mdns_browse.specs.{Given.{given_lent}, Services.{AreAscending, instance_row_in}}
 use Rattle.mdns_browse.proofs.InstanceColumnLemmas.{Shows}
 use Rattle.mdns_browse.proofs.instance_columns.push_instances.Given as goal
 

@@ -1,6 +1,5 @@
 use Rattle.std.proofs.Common.{◌≡◌, ◌++◌}
-use Rattle.std.specs.Str.Iter.{chars_rest}
-use Rattle.std.specs.String.{string_bytes}
+use Rattle.std.specs.{Str.Iter.{chars_rest}, String.{string_bytes}}
 use Rattle.mdns_browse.specs.Json.{escaped}
 use Rattle.mdns_browse.proofs.json.push_escaped.Given as goal
 

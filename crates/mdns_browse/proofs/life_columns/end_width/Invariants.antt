@@ -1,6 +1,5 @@
 use Rattle.std.proofs.Common.{◌≡◌, map, take}
-use Rattle.mdns_browse.specs.LifeText.{end_shown}
-use Rattle.mdns_browse.specs.Columns.{widest}
+use Rattle.mdns_browse.specs.{LifeText.{end_shown}, Columns.{widest}}
 use Rattle.mdns_browse.proofs.life_columns.end_width.Given as goal
 
 abbrev pub invariant-loop-life : goal.invariant-loop-life

@@ -1,12 +1,9 @@
 use Rattle.std.proofs.Common.{arith, ℕ, List, ◌++◌, ◌∷◌, [], codes, ◌≡◌}
 use Rattle.std.proofs.lemmas.List.{append_assoc, take_all}
-use Rattle.mdns_message.specs.Resource.{type_name, type_of}
-use Rattle.mdns_message.specs.declared.resource.Resource.{Resource}
+use Rattle.mdns_message.specs.{Resource.{type_name, type_of}, declared.resource.Resource.{Resource}}
 use Rattle.mdns_lives.specs.declared.life.Life.{Life}
 use Rattle.people_text.specs.MomentText.{millis_text}
-use Rattle.mdns_browse.specs.LifeText.{end_shown, life_row}
-use Rattle.mdns_browse.specs.Columns.{padded}
-use Rattle.mdns_browse.specs.RecordShown.{shown_record}
+use Rattle.mdns_browse.specs.{LifeText.{end_shown, life_row}, Columns.{padded}, RecordShown.{shown_record}}
 use Rattle.mdns_browse.proofs.life_columns.push_rows.Goals as goal
 
 -- a row, by the columns of its record

@@ -1,9 +1,7 @@
 use Rattle.std.proofs.Common.{◌≡◌, ◌++◌, codes, take}
-use Rattle.std.specs.List.{flat_map}
-use Rattle.std.specs.String.{string_bytes}
+use Rattle.std.specs.{List.{flat_map}, String.{string_bytes}}
 use Rattle.people_text.specs.MomentText.{millis_text}
-use Rattle.mdns_browse.specs.LifeText.{end_shown}
-use Rattle.mdns_browse.specs.Columns.{padded}
+use Rattle.mdns_browse.specs.{LifeText.{end_shown}, Columns.{padded}}
 use Rattle.mdns_browse.proofs.life_columns.push_rows.Given as goal
 
 -- the rows of the lives so far were appended

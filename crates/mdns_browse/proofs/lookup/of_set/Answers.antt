@@ -2,9 +2,7 @@ use Rattle.std.proofs.Common.{rules, length, take, drop, ◌-◌}
 use Rattle.std.specs.Ordering.{is_lt, is_le}
 use Rattle.std.proofs.lemmas.List.Sorted.{IsPartitionPoint-from_clause}
 use Rattle.mdns_message.specs.Resource.{type_number}
-use Rattle.mdns_cache.specs.Live.{key_of_last}
-use Rattle.mdns_cache.specs.LentRecords.{last_lent}
-use Rattle.mdns_cache.specs.declared.cache.Last.{Last}
+use Rattle.mdns_cache.specs.{Live.{key_of_last}, LentRecords.{last_lent}, declared.cache.Last.{Last}}
 use Rattle.mdns_browse.specs.Services.{set_for}
 use Rattle.mdns_browse.proofs.SearchLemmas.{against, parted_below, parted_after, filter-rest, set-found, after_whole, ascending_seen}
 use Rattle.mdns_browse.proofs.lookup.of_set.Goals as goal

@@ -1,7 +1,6 @@
 use Rattle.std.proofs.Common.{◌≡◌, ◌++◌, map}
 use Rattle.mdns_cache.specs.LentRecords.{live_record_lent}
-use Rattle.mdns_browse.specs.Report.{records_about}
-use Rattle.mdns_browse.specs.Services.{others_in}
+use Rattle.mdns_browse.specs.{Report.{records_about}, Services.{others_in}}
 use Rattle.mdns_browse.proofs.other_names.kept_others.Given as goal
 
 abbrev pub invariant-loop-row : goal.invariant-loop-row

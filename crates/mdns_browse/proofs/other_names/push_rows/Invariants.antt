@@ -1,6 +1,5 @@
 use Rattle.std.proofs.Common.{◌≡◌, ◌++◌, map, take}
-use Rattle.std.specs.List.{flat_map}
-use Rattle.std.specs.String.{string_bytes}
+use Rattle.std.specs.{List.{flat_map}, String.{string_bytes}}
 use Rattle.mdns_cache.specs.LentRecords.{live_record_lent}
 use Rattle.mdns_browse.specs.Columns.{other_row}
 use Rattle.mdns_browse.proofs.other_names.push_rows.Given as goal

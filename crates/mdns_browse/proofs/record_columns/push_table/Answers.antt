@@ -1,6 +1,5 @@
 use Rattle.std.proofs.Common.{arith}
-use Rattle.std.proofs.lemmas.List.{length-map}
-use Rattle.std.proofs.lemmas.Result.{on_ok_weaker}
+use Rattle.std.proofs.lemmas.{List.{length-map}, Result.{on_ok_weaker}}
 use Rattle.mdns_browse.proofs.ColumnLemmas.{table_by_parts}
 use Rattle.mdns_browse.proofs.record_columns.push_table.Goals as goal
 

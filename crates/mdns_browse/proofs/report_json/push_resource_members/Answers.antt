@@ -1,10 +1,8 @@
 use Rattle.std.proofs.Common.{ℕ, List, ◌∷◌, ◌++◌, take, false, codes, sym, ap, ◌∙◌}
-use Rattle.std.proofs.lemmas.List.{append_assoc}
-use Rattle.std.proofs.lemmas.Result.{on_ok_weaker}
+use Rattle.std.proofs.lemmas.{List.{append_assoc}, Result.{on_ok_weaker}}
 use Rattle.std.specs.String.{string_bytes}
 use Rattle.mdns_message.specs.Borrowed.{resource_lent}
-use Rattle.mdns_browse.specs.Json.{json_member, json_string, parted, resource_members}
-use Rattle.mdns_browse.specs.RecordShown.{shown_record}
+use Rattle.mdns_browse.specs.{Json.{json_member, json_string, parted, resource_members}, RecordShown.{shown_record}}
 use Rattle.mdns_browse.proofs.ObjectLemmas.{parted-more}
 use Rattle.mdns_browse.proofs.report_json.push_resource_members.Goals as goal
 

@@ -1,7 +1,6 @@
 use Rattle.std.proofs.Common.{map, take}
 use Rattle.mdns_cache.specs.LentRecords.{last_lent}
-use Rattle.mdns_browse.specs.Services.{body_of}
-use Rattle.mdns_browse.specs.Sheet.{server_address}
+use Rattle.mdns_browse.specs.{Services.{body_of}, Sheet.{server_address}}
 use Rattle.mdns_browse.proofs.report_walk.walk_addresses.Given as goal
 
 abbrev pub invariant-loop-row : goal.invariant-loop-row

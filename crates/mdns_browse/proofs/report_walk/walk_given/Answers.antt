@@ -1,13 +1,9 @@
 use Rattle.mdns_cache.specs.LentRecords.{last_lent}
-use Rattle.mdns_browse.specs.Given.{given_lent}
-use Rattle.std.proofs.lemmas.Grind.{common_steps, flat_map-append}
+use Rattle.mdns_browse.specs.{Given.{given_lent}, Services.{GivenRow, instance_row_in}, Sheet.{Piece, instance_pieces}}
+use Rattle.std.proofs.lemmas.{Grind.{common_steps, flat_map-append}, List.{append-nil}, List.Elements.{filter_map-append}}
 use Rattle.std.proofs.Common.{None, Some, ◌≡◌, sym, ◌∙◌, ap, subst, List, map, ◌++◌, arith}
-use Rattle.std.proofs.lemmas.List.{append-nil}
-use Rattle.std.proofs.lemmas.List.Elements.{filter_map-append}
 use Rattle.std.specs.List.{flat_map}
 use Rattle.mdns_join.specs.declared.latest.Latest.{Latest}
-use Rattle.mdns_browse.specs.Services.{GivenRow, instance_row_in}
-use Rattle.mdns_browse.specs.Sheet.{Piece, instance_pieces}
 use Rattle.mdns_browse.proofs.InstanceLemmas.{row_named, shown-one, shown_in}
 use Rattle.mdns_browse.proofs.ListLemmas.{takes_all, takes_more, takes_same, through-append}
 use Rattle.mdns_browse.proofs.report_walk.walk_given.Goals as goal

@@ -1,9 +1,7 @@
 use Rattle.std.proofs.Common.{map, take}
 use Rattle.std.specs.List.{filter_map, flat_map}
 use Rattle.mdns_cache.specs.LentRecords.{last_lent}
-use Rattle.mdns_browse.specs.Given.{given_lent}
-use Rattle.mdns_browse.specs.Services.{AreAscending, instance_row_in}
-use Rattle.mdns_browse.specs.Sheet.{instance_pieces}
+use Rattle.mdns_browse.specs.{Given.{given_lent}, Services.{AreAscending, instance_row_in}, Sheet.{instance_pieces}}
 use Rattle.mdns_browse.proofs.report_walk.walk_given.Given as goal
 
 abbrev pub invariant-loop-row : goal.invariant-loop-row

@@ -2,10 +2,8 @@ use Rattle.std.proofs.Common.{sym, ◌∙◌, ap, subst, map}
 use Rattle.std.proofs.lemmas.Result.{on_ok_weaker}
 use Rattle.std.specs.List.{filter, flat_map}
 use Rattle.mdns_cache.specs.LentRecords.{last_lent}
-use Rattle.mdns_browse.specs.About.{keeps_instance}
-use Rattle.mdns_browse.specs.Given.{given_lent}
-use Rattle.mdns_browse.specs.Services.{AreAscending, InstanceRow, given_of, gives_instance, lasts_in}
-use Rattle.mdns_browse.specs.Sheet.{instance_pieces}
+use Rattle.mdns_browse.specs.{About.{keeps_instance}, Given.{given_lent}}
+use Rattle.mdns_browse.specs.{Services.{AreAscending, InstanceRow, given_of, gives_instance, lasts_in}, Sheet.{instance_pieces}}
 use Rattle.mdns_browse.proofs.InstanceLemmas.{shown-again, shown_in}
 use Rattle.mdns_browse.proofs.report_walk.walk_instances.Goals as goal
 

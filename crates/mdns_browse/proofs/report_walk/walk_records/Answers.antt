@@ -1,9 +1,7 @@
 use Rattle.std.proofs.Common.{arith, refl, map}
 use Rattle.mdns_cache.specs.LentRecords.{live_record_lent}
-use Rattle.mdns_browse.specs.Report.{records_about}
-use Rattle.mdns_browse.specs.Sheet.{live_record}
-use Rattle.mdns_browse.proofs.ReachLemmas.{reaches-start, reaches-more, reaches-all}
-use Rattle.mdns_browse.proofs.KeptLemmas.{record_pieces-append}
+use Rattle.mdns_browse.specs.{Report.{records_about}, Sheet.{live_record}}
+use Rattle.mdns_browse.proofs.{ReachLemmas.{reaches-start, reaches-more, reaches-all}, KeptLemmas.{record_pieces-append}}
 use Rattle.mdns_browse.proofs.ListLemmas.{left_split}
 use Rattle.mdns_browse.proofs.report_walk.walk_records.Goals as goal
 

@@ -1,6 +1,5 @@
 use Rattle.std.proofs.Common.{map}
-use Rattle.mdns_browse.specs.Report.{records_about}
-use Rattle.mdns_browse.specs.Sheet.{live_record}
+use Rattle.mdns_browse.specs.{Report.{records_about}, Sheet.{live_record}}
 use Rattle.mdns_browse.proofs.ReachLemmas.{Reaches}
 use Rattle.mdns_browse.proofs.report_walk.walk_records.Given as goal
 

@@ -1,11 +1,9 @@
 use Rattle.std.proofs.Common.{option_map, sym, ◌∙◌, ap, subst, ◌++◌, [], ◌∷◌, map}
-use Rattle.std.proofs.lemmas.List.{append-nil, map-append}
-use Rattle.std.proofs.lemmas.Result.{on_ok_weaker}
+use Rattle.std.proofs.lemmas.{List.{append-nil, map-append}, Result.{on_ok_weaker}}
 use Rattle.std.specs.List.{cons_option, flat_map}
 use Rattle.mdns_message.specs.Parts.{service_lent}
 use Rattle.mdns_cache.specs.LentRecords.{last_lent}
-use Rattle.mdns_browse.specs.Services.{body_of, data_of_set, server_at}
-use Rattle.mdns_browse.specs.Sheet.{server_begin, server_address, server_end, server_pieces}
+use Rattle.mdns_browse.specs.{Services.{body_of, data_of_set, server_at}, Sheet.{server_begin, server_address, server_end, server_pieces}}
 use Rattle.mdns_browse.proofs.report_walk.walk_server.Goals as goal
 
 pub returns-in_default : goal.returns-in_default

@@ -1,13 +1,10 @@
-use Rattle.std.proofs.lemmas.Grind.{common_steps, flat_map-append}
+use Rattle.std.proofs.lemmas.{Grind.{common_steps, flat_map-append}, List.{length-map}, Result.{on_ok_weaker}}
 use Rattle.std.proofs.Common.{◌≡◌, List, map, ◌++◌, arith}
-use Rattle.std.proofs.lemmas.List.{length-map}
-use Rattle.std.proofs.lemmas.Result.{on_ok_weaker}
 use Rattle.std.specs.List.{flat_map}
 use Rattle.mdns_join.specs.declared.latest.Latest.{Latest}
 use Rattle.mdns_cache.specs.LentRecords.{last_lent}
 use Rattle.mdns_browse.specs.Sheet.{Piece, server_pieces}
-use Rattle.mdns_browse.proofs.InstanceLemmas.{served-each, servers-append, servers_of}
-use Rattle.mdns_browse.proofs.ListLemmas.{takes_all, takes_more, through-append}
+use Rattle.mdns_browse.proofs.{InstanceLemmas.{served-each, servers-append, servers_of}, ListLemmas.{takes_all, takes_more, through-append}}
 use Rattle.mdns_browse.proofs.report_walk.walk_servers.Goals as goal
 
 abbrev pieces : List Latest → List Latest → List Piece

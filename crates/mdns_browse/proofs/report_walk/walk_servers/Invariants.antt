@@ -1,8 +1,7 @@
 use Rattle.std.proofs.Common.{map, take}
 use Rattle.std.specs.List.{flat_map}
 use Rattle.mdns_cache.specs.LentRecords.{last_lent}
-use Rattle.mdns_browse.specs.Services.{AreAscending}
-use Rattle.mdns_browse.specs.Sheet.{server_pieces}
+use Rattle.mdns_browse.specs.{Services.{AreAscending}, Sheet.{server_pieces}}
 use Rattle.mdns_browse.proofs.InstanceLemmas.{servers_of, servers_of}
 use Rattle.mdns_browse.proofs.report_walk.walk_servers.Given as goal
 

@@ -1,12 +1,10 @@
 use Rattle.std.proofs.Common.{sym, ap, subst, [], ◌≡◌, List, map, ◌++◌, arith}
 use Rattle.std.specs.List.{cons_option}
-use Rattle.std.proofs.lemmas.Grind.{common_steps}
-use Rattle.std.proofs.lemmas.List.{map-append}
+use Rattle.std.proofs.lemmas.{Grind.{common_steps}, List.{map-append}}
 use Rattle.mdns_join.specs.declared.latest.Latest.{Latest}
 use Rattle.mdns_cache.specs.LentRecords.{last_lent}
 use Rattle.mdns_browse.specs.Sheet.{Piece, instance_text}
-use Rattle.mdns_browse.proofs.InstanceLemmas.{texts-append, texts_of}
-use Rattle.mdns_browse.proofs.ListLemmas.{takes_all, takes_more, takes_same, through-append}
+use Rattle.mdns_browse.proofs.{InstanceLemmas.{texts-append, texts_of}, ListLemmas.{takes_all, takes_more, takes_same, through-append}}
 use Rattle.mdns_browse.proofs.report_walk.walk_texts.Goals as goal
 
 abbrev pieces : List Latest → List Piece

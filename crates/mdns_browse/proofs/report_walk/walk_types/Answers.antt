@@ -1,11 +1,8 @@
 use Rattle.std.proofs.Common.{arith, sym, ap, [], map}
 use Rattle.std.specs.List.{cons_option, filter}
 use Rattle.mdns_cache.specs.LentRecords.{live_record_lent}
-use Rattle.mdns_browse.specs.About.{keeps_type}
-use Rattle.mdns_browse.specs.Report.{types_about}
-use Rattle.mdns_browse.specs.Sheet.{service_type}
-use Rattle.mdns_browse.proofs.ReachLemmas.{reaches-start, reaches-more, reaches-same, reaches-all}
-use Rattle.mdns_browse.proofs.KeptLemmas.{type_pieces-append}
+use Rattle.mdns_browse.specs.{About.{keeps_type}, Report.{types_about}, Sheet.{service_type}}
+use Rattle.mdns_browse.proofs.{ReachLemmas.{reaches-start, reaches-more, reaches-same, reaches-all}, KeptLemmas.{type_pieces-append}}
 use Rattle.mdns_browse.proofs.ListLemmas.{left_split}
 use Rattle.mdns_browse.proofs.report_walk.walk_types.Goals as goal
 

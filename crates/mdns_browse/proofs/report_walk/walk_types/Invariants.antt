@@ -1,6 +1,5 @@
 use Rattle.std.proofs.Common.{map}
-use Rattle.mdns_browse.specs.Report.{types_about}
-use Rattle.mdns_browse.specs.Sheet.{service_type}
+use Rattle.mdns_browse.specs.{Report.{types_about}, Sheet.{service_type}}
 use Rattle.mdns_browse.proofs.ReachLemmas.{Reaches}
 use Rattle.mdns_browse.proofs.report_walk.walk_types.Given as goal
 

@@ -1,10 +1,8 @@
 use Rattle.std.proofs.Common.{◌∙◌, ap, sym, subst, map}
 use Rattle.std.proofs.lemmas.Result.{IfOk-weaker}
 use Rattle.mdns_cache.specs.LentRecords.{last_lent}
-use Rattle.mdns_browse.specs.Given.{given_lent}
-use Rattle.mdns_browse.specs.Services.{AreAscending, lasts_in}
-use Rattle.mdns_browse.proofs.InstanceLemmas.{instances-shown, only, shown_in}
-use Rattle.mdns_browse.proofs.RowLemmas.{ascending_lasts}
+use Rattle.mdns_browse.specs.{Given.{given_lent}, Services.{AreAscending, lasts_in}}
+use Rattle.mdns_browse.proofs.{InstanceLemmas.{instances-shown, only, shown_in}, RowLemmas.{ascending_lasts}}
 use Rattle.mdns_browse.proofs.services.instances.Goals as goal
 
 pub returns : goal.returns

@@ -1,13 +1,9 @@
 use Rattle.mdns_cache.specs.LentRecords.{last_lent}
-use Rattle.mdns_browse.specs.Given.{given_lent}
-use Rattle.std.proofs.lemmas.Grind.{common_steps}
+use Rattle.mdns_browse.specs.{Given.{given_lent}, Services.{GivenRow, InstanceRow, instance_row_in}}
+use Rattle.std.proofs.lemmas.{Grind.{common_steps}, List.{map-append}, List.Elements.{filter_map-append}}
 use Rattle.std.proofs.Common.{None, Some, ◌≡◌, ◌∙◌, ap, sym, List, map, ◌++◌, [], ◌∷◌, arith}
-use Rattle.std.proofs.lemmas.List.{map-append}
-use Rattle.std.proofs.lemmas.List.Elements.{filter_map-append}
 use Rattle.mdns_join.specs.declared.latest.Latest.{Latest}
-use Rattle.mdns_browse.specs.Services.{GivenRow, InstanceRow, instance_row_in}
-use Rattle.mdns_browse.proofs.InstanceLemmas.{only, shown-one, shown_in}
-use Rattle.mdns_browse.proofs.ListLemmas.{made_all, made_more, made_same, through-append}
+use Rattle.mdns_browse.proofs.{InstanceLemmas.{only, shown-one, shown_in}, ListLemmas.{made_all, made_more, made_same, through-append}}
 use Rattle.mdns_browse.proofs.services.instances_of.Goals as goal
 
 append : (rows : List Latest) (xs ys : List GivenRow) → only (shown_in rows (xs ++ ys)) ≡ only (shown_in rows xs) ++ only (shown_in rows ys)

@@ -1,8 +1,7 @@
 use Rattle.std.proofs.Common.{◌≡◌, map, take}
 use Rattle.std.specs.List.{filter_map}
 use Rattle.mdns_cache.specs.LentRecords.{last_lent}
-use Rattle.mdns_browse.specs.Given.{given_lent}
-use Rattle.mdns_browse.specs.Services.{AreAscending, InstanceRow, instance_row_in}
+use Rattle.mdns_browse.specs.{Given.{given_lent}, Services.{AreAscending, InstanceRow, instance_row_in}}
 use Rattle.mdns_browse.proofs.services.instances_of.Given as goal
 
 abbrev pub invariant-loop-row : goal.invariant-loop-row

@@ -3,10 +3,8 @@ use Rattle.std.proofs.Common.{option_map, ◌∙◌, ap, sym, ℕ, List, map, �
 use Rattle.std.specs.List.{cons_option}
 use Rattle.mdns_message.specs.Resource.{Body}
 use Rattle.mdns_cache.specs.LentRecords.{last_lent}
-use Rattle.mdns_browse.specs.Services.{server_at}
-use Rattle.mdns_browse.specs.declared.instance.Server.{Server}
-use Rattle.mdns_browse.proofs.InstanceLemmas.{servers-append, servers_of}
-use Rattle.mdns_browse.proofs.ListLemmas.{made_all, made_more, made_same}
+use Rattle.mdns_browse.specs.{Services.{server_at}, declared.instance.Server.{Server}}
+use Rattle.mdns_browse.proofs.{InstanceLemmas.{servers-append, servers_of}, ListLemmas.{made_all, made_more, made_same}}
 use Rattle.mdns_browse.proofs.services.servers.Goals as goal
 
 pub loop-row-preserved-in_default : goal.loop-row-preserved-in_default

@@ -2,8 +2,7 @@ use Rattle.std.proofs.lemmas.Grind.{common_steps}
 use Rattle.std.proofs.Common.{◌∙◌, ap, sym, ◌++◌, [], ◌∷◌, arith}
 use Rattle.std.specs.List.{cons_option}
 use Rattle.mdns_cache.specs.LentRecords.{last_lent}
-use Rattle.mdns_browse.proofs.InstanceLemmas.{texts-append, texts_of}
-use Rattle.mdns_browse.proofs.ListLemmas.{made_all, made_more, made_same}
+use Rattle.mdns_browse.proofs.{InstanceLemmas.{texts-append, texts_of}, ListLemmas.{made_all, made_more, made_same}}
 use Rattle.mdns_browse.proofs.services.texts.Goals as goal
 
 pub loop-row-preserved-in_default : goal.loop-row-preserved-in_default

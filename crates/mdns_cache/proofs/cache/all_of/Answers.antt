@@ -1,6 +1,5 @@
 use Rattle.std.proofs.Common.{sym, subst}
-use Rattle.mdns_join.specs.Kept.{IsAscending}
-use Rattle.mdns_join.specs.laws.Kept.{IsAscending-from_kept}
+use Rattle.mdns_join.specs.{Kept.{IsAscending}, laws.Kept.{IsAscending-from_kept}}
 use Rattle.mdns_cache.proofs.cache.all_of.Goals as goal
 
 pub returns-in-Some-clause-ascending : goal.returns-in-Some-clause-ascending

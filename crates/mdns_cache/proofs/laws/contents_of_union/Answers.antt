@@ -1,6 +1,4 @@
-use Rattle.mdns_cache.proofs.LawLemmas.{stands-nothing}
-use Rattle.mdns_cache.proofs.StandsForLemmas.{stands-join}
-use Rattle.mdns_cache.proofs.MeaningLemmas.{stands-one}
+use Rattle.mdns_cache.proofs.{LawLemmas.{stands-nothing}, StandsForLemmas.{stands-join}, MeaningLemmas.{stands-one}}
 use Rattle.mdns_cache.proofs.laws.contents_of_union.Goals as goal
 
 pub returns : goal.returns

@@ -1,5 +1,4 @@
-use Rattle.mdns_cache.proofs.StandsPartLemmas.{IsFlushedAt-from_has, has-from_flushed}
-use Rattle.mdns_cache.proofs.MeaningLemmas.{struck-kept_heard}
+use Rattle.mdns_cache.proofs.{StandsPartLemmas.{IsFlushedAt-from_has, has-from_flushed}, MeaningLemmas.{struck-kept_heard}}
 use Rattle.mdns_cache.proofs.laws.no_flush_is_missed.Goals as goal
 
 pub returns : goal.returns

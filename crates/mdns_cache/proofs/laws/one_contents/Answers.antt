@@ -1,5 +1,4 @@
-use Rattle.mdns_cache.proofs.LawLemmas.{some_contents}
-use Rattle.mdns_cache.proofs.StandsForLemmas.{stands-same}
+use Rattle.mdns_cache.proofs.{LawLemmas.{some_contents}, StandsForLemmas.{stands-same}}
 use Rattle.mdns_cache.proofs.laws.one_contents.Goals as goal
 
 pub returns : goal.returns

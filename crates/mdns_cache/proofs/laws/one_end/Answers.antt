@@ -1,5 +1,4 @@
-use Rattle.mdns_cache.proofs.EndLemmas.{some_end, end_among, same_end}
-use Rattle.mdns_cache.proofs.LawLemmas.{some_last}
+use Rattle.mdns_cache.proofs.{EndLemmas.{some_end, end_among, same_end}, LawLemmas.{some_last}}
 use Rattle.mdns_cache.proofs.laws.one_end.Goals as goal
 
 pub returns : goal.returns

@@ -1,5 +1,4 @@
-use Rattle.mdns_cache.proofs.LawLemmas.{some_last}
-use Rattle.mdns_cache.proofs.StandsPartLemmas.{same-itself, IsLast-same}
+use Rattle.mdns_cache.proofs.{LawLemmas.{some_last}, StandsPartLemmas.{same-itself, IsLast-same}}
 use Rattle.mdns_cache.proofs.laws.one_last_hearing.Goals as goal
 
 pub returns : goal.returns

@@ -1,6 +1,5 @@
 use Rattle.mdns_cache.specs.Plan.{hearings_of}
-use Rattle.mdns_cache.proofs.EqualityLemmas.{eq_contents_tells}
-use Rattle.mdns_cache.proofs.StandsForLemmas.{stands-same}
+use Rattle.mdns_cache.proofs.{EqualityLemmas.{eq_contents_tells}, StandsForLemmas.{stands-same}}
 use Rattle.mdns_cache.proofs.laws.plans_of_same_hearings.Goals as goal
 
 pub returns-clause-contents : goal.returns-clause-contents

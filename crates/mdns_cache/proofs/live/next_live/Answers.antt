@@ -1,10 +1,8 @@
 use Rattle.std.proofs.Common.{◌<◌, ◌≤◌, ◌+◌, ◌∷◌, [], unwrap_or, sym, ap, ◌∙◌, subst, arith}
-use Rattle.mdns_message.specs.RecordSet.{RecordSet}
-use Rattle.mdns_message.specs.Resource.{set_key_cmp}
+use Rattle.mdns_message.specs.{RecordSet.{RecordSet}, Resource.{set_key_cmp}}
 use Rattle.join_map.specs.Entries.{value_at}
 use Rattle.mdns_join.proofs.FlushWalkLemmas.{HasLater}
-use Rattle.mdns_cache.specs.Live.{life_of}
-use Rattle.mdns_cache.specs.LentRecords.{end_of, live_of}
+use Rattle.mdns_cache.specs.{Live.{life_of}, LentRecords.{end_of, live_of}}
 use Rattle.mdns_cache.proofs.LiveWalkLemmas.{rest_sorted, shows_next, shows_rest}
 use Rattle.mdns_cache.proofs.live.next_live.Goals as goal
 

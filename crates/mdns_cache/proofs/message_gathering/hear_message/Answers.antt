@@ -1,12 +1,8 @@
 use Rattle.std.proofs.Common.{◌≡◌, ◌∙◌, ◌++◌, ◌∷◌, List, Contains, append_assoc, append-nil, ap, sym, map}
-use Rattle.std.proofs.lemmas.List.Elements.{Contains-append_right}
-use Rattle.std.proofs.lemmas.Map.Iter.{rest_so_far}
-use Rattle.mdns_message.specs.declared.hearing.Hearing.{Hearing}
-use Rattle.mdns_message.specs.Borrowed.{hearing_lent}
+use Rattle.std.proofs.lemmas.{List.Elements.{Contains-append_right}, Map.Iter.{rest_so_far}}
+use Rattle.mdns_message.specs.{declared.hearing.Hearing.{Hearing}, Borrowed.{hearing_lent}}
 use Rattle.mdns_cache.specs.Repeats.{at_each, all_at_each}
-use Rattle.mdns_cache.proofs.StandsPartLemmas.{Contains-head}
-use Rattle.mdns_cache.proofs.RepeatLemmas.{moment_in}
-use Rattle.mdns_cache.proofs.MemoryLemmas.{stands-moved, all_heard}
+use Rattle.mdns_cache.proofs.{StandsPartLemmas.{Contains-head}, RepeatLemmas.{moment_in}, MemoryLemmas.{stands-moved, all_heard}}
 use Rattle.mdns_cache.proofs.message_gathering.hear_message.Goals as goal
 
 pub hear_at_each-requires : goal.hear_at_each-requires

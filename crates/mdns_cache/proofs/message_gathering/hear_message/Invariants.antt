@@ -2,8 +2,7 @@ use Rattle.std.proofs.Common.{◌≡◌, ◌++◌, List}
 use Rattle.mdns_capture.specs.declared.moment.Moment.{Moment}
 use Rattle.mdns_message.specs.declared.hearing.Hearing.{Hearing}
 use Rattle.mdns_join.specs.Nanos.{nanos_of}
-use Rattle.mdns_cache.specs.Contents.{StandsFor}
-use Rattle.mdns_cache.specs.Repeats.{all_at_each}
+use Rattle.mdns_cache.specs.{Contents.{StandsFor}, Repeats.{all_at_each}}
 use Rattle.mdns_cache.proofs.message_gathering.hear_message.Given as goal
 
 -- the hearings were heard at each moment, up to those that are left

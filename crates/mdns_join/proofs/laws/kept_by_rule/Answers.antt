@@ -1,7 +1,6 @@
 use Rattle.std.proofs.Common.{◌+◌, ◌≤◌, ℕ, List, arith}
 use Rattle.mdns_capture.specs.Limits.{second}
-use Rattle.mdns_join.specs.Kept.{IsKept, newest}
-use Rattle.mdns_join.specs.laws.Kept.{has-kept_iff, kept_union-kept, IsAscending-kept}
+use Rattle.mdns_join.specs.{Kept.{IsKept, newest}, laws.Kept.{has-kept_iff, kept_union-kept, IsAscending-kept}}
 use Rattle.mdns_join.proofs.laws.kept_by_rule.Goals as goal
 
 -- a kept moment that is a second or more older than the greatest is no earlier than another kept one that is

@@ -1,6 +1,5 @@
 use Rattle.std.proofs.Common.{◌≡◌, ℕ, true, take}
-use Rattle.mdns_join.specs.Kept.{has, IsAbsorbed}
-use Rattle.mdns_join.specs.Nanos.{nanos_of}
+use Rattle.mdns_join.specs.{Kept.{has, IsAbsorbed}, Nanos.{nanos_of}}
 use Rattle.mdns_join.proofs.prune.absorbs_all.Given as goal
 
 abbrev pub invariant-loop-moment : goal.invariant-loop-moment

@@ -1,8 +1,6 @@
 use Rattle.std.proofs.Common.{arith, List, sym, ap, ◌∙◌}
 use Rattle.mdns_capture.specs.declared.moment.Moment.{Moment}
-use Rattle.mdns_join.specs.Kept.{has}
-use Rattle.mdns_join.specs.laws.Kept.{IsAscending-from_kept}
-use Rattle.mdns_join.specs.Nanos.{nanos_of}
+use Rattle.mdns_join.specs.{Kept.{has}, laws.Kept.{IsAscending-from_kept}, Nanos.{nanos_of}}
 use Rattle.mdns_join.proofs.MomentLemmas.{absorbed_one}
 use Rattle.mdns_join.proofs.prune.add_at_place.Goals as goal
 

@@ -1,7 +1,6 @@
 use Rattle.std.proofs.Common.{arith}
 use Rattle.mdns_join.specs.laws.Kept.{IsAscending-from_kept}
-use Rattle.mdns_join.proofs.LateLemmas.{kept_nanos-append}
-use Rattle.mdns_join.proofs.MomentLemmas.{absorbed}
+use Rattle.mdns_join.proofs.{LateLemmas.{kept_nanos-append}, MomentLemmas.{absorbed}}
 use Rattle.mdns_join.proofs.prune.add_many.Goals as goal
 
 pub absorbs_all-requires : goal.absorbs_all-requires

@@ -1,8 +1,6 @@
 use Rattle.std.proofs.Common.{List, [], ◌∷◌, ap, ◌∙◌, sym, subst}
 use Rattle.mdns_capture.specs.declared.moment.Moment.{Moment}
-use Rattle.mdns_join.specs.Kept.{IsKeptList, kept_union, union}
-use Rattle.mdns_join.specs.laws.Kept.{kept-kept}
-use Rattle.mdns_join.specs.Nanos.{nanos_of}
+use Rattle.mdns_join.specs.{Kept.{IsKeptList, kept_union, union}, laws.Kept.{kept-kept}, Nanos.{nanos_of}}
 use Rattle.mdns_join.proofs.LateLemmas.{keeps_more, waits_more}
 use Rattle.mdns_join.proofs.prune.add_two.Goals as goal
 

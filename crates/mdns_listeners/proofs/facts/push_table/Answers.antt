@@ -1,8 +1,6 @@
 use Rattle.std.proofs.Common.{List, ◌∷◌, ap, map, string_bytes}
 use Rattle.mdns_browse.specs.declared.report.Form.{Form}
-use Rattle.mdns_listeners.specs.Facts.{facts_lent, rows_of}
-use Rattle.mdns_listeners.specs.Fields.{Field, heads_of}
-use Rattle.mdns_listeners.specs.Sheet.{SheetNow}
+use Rattle.mdns_listeners.specs.{Facts.{facts_lent, rows_of}, Fields.{Field, heads_of}, Sheet.{SheetNow}}
 use Rattle.mdns_listeners.proofs.SheetLemmas.{table_taken}
 use Rattle.mdns_listeners.proofs.facts.push_table.Goals as goal
 

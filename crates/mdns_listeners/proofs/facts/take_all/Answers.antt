@@ -1,8 +1,6 @@
 use Rattle.std.proofs.Common.{List, map, string_bytes}
 use Rattle.mdns_browse.specs.declared.report.Form.{Form}
-use Rattle.mdns_listeners.specs.Facts.{facts_lent, rows_of}
-use Rattle.mdns_listeners.specs.Fields.{Field}
-use Rattle.mdns_listeners.specs.declared.fields.Kind.{Kind}
+use Rattle.mdns_listeners.specs.{Facts.{facts_lent, rows_of}, Fields.{Field}, declared.fields.Kind.{Kind}}
 use Rattle.mdns_listeners.specs.declared.fields.Kind.TheVariants.{Listeners, Pairs, Senders}
 use Rattle.mdns_listeners.proofs.SheetLemmas.{all_written}
 use Rattle.mdns_listeners.proofs.facts.take_all.Goals as goal

@@ -1,7 +1,6 @@
 use Rattle.std.proofs.Common.{◌≡◌, drop, map, string_bytes}
 use Rattle.std.specs.List.{enumerate_from, fold}
-use Rattle.mdns_listeners.specs.Facts.{listener_at}
-use Rattle.mdns_listeners.specs.Sheet.{taken}
+use Rattle.mdns_listeners.specs.{Facts.{listener_at}, Sheet.{taken}}
 use Rattle.mdns_listeners.proofs.facts.take_listeners.Given as goal
 
 -- the sheet after the rows so far, and after those that are left

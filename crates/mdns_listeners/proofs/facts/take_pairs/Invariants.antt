@@ -1,7 +1,6 @@
 use Rattle.std.proofs.Common.{◌≡◌, drop, map, string_bytes}
 use Rattle.std.specs.List.{fold}
-use Rattle.mdns_listeners.specs.Facts.{pair_at}
-use Rattle.mdns_listeners.specs.Sheet.{taken}
+use Rattle.mdns_listeners.specs.{Facts.{pair_at}, Sheet.{taken}}
 use Rattle.mdns_listeners.proofs.facts.take_pairs.Given as goal
 
 -- the sheet after the rows so far, and after those that are left

@@ -1,6 +1,5 @@
 use Rattle.std.proofs.Common.{arith, refl, map, string_bytes}
-use Rattle.mdns_listeners.specs.Facts.{sender_at}
-use Rattle.mdns_listeners.specs.Named.{sender_lent}
+use Rattle.mdns_listeners.specs.{Facts.{sender_at}, Named.{sender_lent}}
 use Rattle.mdns_listeners.proofs.SheetLemmas.{taken_more}
 use Rattle.mdns_listeners.proofs.facts.take_senders.Goals as goal
 

@@ -1,8 +1,6 @@
 use Rattle.std.proofs.Common.{◌≡◌, drop, map, string_bytes}
 use Rattle.std.specs.List.{fold}
-use Rattle.mdns_listeners.specs.Facts.{sender_at}
-use Rattle.mdns_listeners.specs.Named.{sender_lent}
-use Rattle.mdns_listeners.specs.Sheet.{taken}
+use Rattle.mdns_listeners.specs.{Facts.{sender_at}, Named.{sender_lent}, Sheet.{taken}}
 use Rattle.mdns_listeners.proofs.facts.take_senders.Given as goal
 
 -- the sheet after the rows so far, and after those that are left

@@ -1,7 +1,6 @@
 use Rattle.std.proofs.Common.{◌≡◌, ◌∙◌, rules, tests, string_bytes}
 use Rattle.std.specs.List.{list_any}
-use Rattle.std.proofs.lemmas.Iterator.{YieldsList-from_slice}
-use Rattle.std.proofs.lemmas.Iterator.Search.{any_from_yields_List}
+use Rattle.std.proofs.lemmas.{Iterator.{YieldsList-from_slice}, Iterator.Search.{any_from_yields_List}}
 use Rattle.mdns_listeners.specs.Groups.{fits}
 use Rattle.mdns_listeners.proofs.GroupLemmas.{any_named}
 use Rattle.mdns_listeners.proofs.groups.fits_one.Goals as goal

@@ -1,6 +1,5 @@
 use Rattle.std.proofs.Common.{◌≡◌, ◌∙◌, ◌<◌, ◌++◌, ◌∷◌, [], arith, rules, sym, subst, get_or, length, map, set, string_bytes, ℕ, Global, List, Some, None, String}
-use Rattle.std.proofs.lemmas.Grind.{common_steps}
-use Rattle.std.proofs.lemmas.List.{length-map}
+use Rattle.std.proofs.lemmas.{Grind.{common_steps}, List.{length-map}}
 use Rattle.mdns_listeners.specs.Groups.{HasBegun, prefix_of}
 use Rattle.mdns_listeners.proofs.GroupLemmas.{begun_again, begun_alone, begun_first, get_or-named, prefix-inside}
 use Rattle.mdns_listeners.proofs.groups.listener_of.Goals as goal

@@ -1,7 +1,6 @@
 use Rattle.std.proofs.Common.{◌≡◌, ◌∙◌, rules, tests, map, not, string_bytes}
 use Rattle.std.specs.List.{list_any, position}
-use Rattle.std.proofs.lemmas.Iterator.{YieldsList-from_slice}
-use Rattle.std.proofs.lemmas.Iterator.Search.{position_from_yields_List}
+use Rattle.std.proofs.lemmas.{Iterator.{YieldsList-from_slice}, Iterator.Search.{position_from_yields_List}}
 use Rattle.mdns_listeners.specs.Groups.{fits}
 use Rattle.mdns_listeners.proofs.GroupLemmas.{position_named}
 use Rattle.mdns_listeners.proofs.groups.unfit_prefix.Goals as goal

@@ -1,9 +1,6 @@
 use Rattle.std.proofs.Common.{◌∙◌, List, ap, map, subst}
 use Rattle.std.proofs.lemmas.Result.{IfOk-weaker}
-use Rattle.mdns_listeners.specs.declared.senders.SenderRow.{SenderRow}
-use Rattle.mdns_listeners.specs.Facts.{listeners_text}
-use Rattle.mdns_listeners.specs.Listeners.{AreNamed}
-use Rattle.mdns_listeners.specs.Named.{sender_lent}
+use Rattle.mdns_listeners.specs.{declared.senders.SenderRow.{SenderRow}, Facts.{listeners_text}, Listeners.{AreNamed}, Named.{sender_lent}}
 use Rattle.mdns_listeners.proofs.listeners.facts_text.Goals as goal
 
 pub returns : goal.returns

@@ -1,7 +1,6 @@
 use Rattle.std.proofs.Common.{◌≡◌, take}
 use Rattle.std.specs.List.{filter}
-use Rattle.mdns_listeners.specs.Marks.{seen_of}
-use Rattle.mdns_listeners.specs.Numbers.{is_of}
+use Rattle.mdns_listeners.specs.{Marks.{seen_of}, Numbers.{is_of}}
 use Rattle.mdns_listeners.proofs.marks.seen_in.Given as goal
 
 abbrev pub invariant-loop-at : goal.invariant-loop-at

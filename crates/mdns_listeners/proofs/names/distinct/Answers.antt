@@ -1,8 +1,7 @@
 use Rattle.std.proofs.Common.{rules}
 use Rattle.std.specs.Ordering.{is_eq}
 use Rattle.std.proofs.lemmas.Fn.{dedup_same}
-use Rattle.mdns_listeners.specs.declared.names.SenderAddressName.{SenderAddressName}
-use Rattle.mdns_listeners.specs.Names.{by_name}
+use Rattle.mdns_listeners.specs.{declared.names.SenderAddressName.{SenderAddressName}, Names.{by_name}}
 use Rattle.mdns_listeners.proofs.HeldNameLemmas.{kept_ascend, kept_covers}
 use Rattle.mdns_listeners.proofs.names.distinct.Goals as goal
 

@@ -1,8 +1,6 @@
 use Rattle.std.proofs.Common.{◌≡◌, get_or, take}
 use Rattle.std.specs.List.{filter_map}
-use Rattle.mdns_listeners.specs.Marks.{only_of}
-use Rattle.mdns_listeners.specs.Pairs.{nanos_ahead}
-use Rattle.mdns_listeners.specs.declared.marks.Seen.TheVariants.{Never}
+use Rattle.mdns_listeners.specs.{Marks.{only_of}, Pairs.{nanos_ahead}, declared.marks.Seen.TheVariants.{Never}}
 use Rattle.mdns_listeners.proofs.pairs.differences.Given as goal
 
 abbrev pub invariant-loop-mark : goal.invariant-loop-mark

@@ -1,7 +1,6 @@
 use Rattle.std.proofs.Common.{◌≡◌, ◌∙◌, ap, length}
 use Rattle.mdns_listeners.specs.Pairs.{ascending_of, common, differences, quartiles_of}
-use Rattle.mdns_listeners.proofs.MarkLemmas.{common-marks, differences-marks}
-use Rattle.mdns_listeners.proofs.SortLemmas.{length-ascending}
+use Rattle.mdns_listeners.proofs.{MarkLemmas.{common-marks, differences-marks}, SortLemmas.{length-ascending}}
 use Rattle.mdns_listeners.proofs.pairs.pair_row.Goals as goal
 
 pub returns : goal.returns

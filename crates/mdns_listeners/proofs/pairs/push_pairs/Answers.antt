@@ -1,16 +1,11 @@
 use Rattle.std.proofs.Common.{◌≡◌, ◌∙◌, ◌<◌, ◌+◌, ◌||◌, ◌++◌, ◌∷◌, [], List, Vec}
 use Rattle.std.proofs.Common.{Global, true, false, ltb, get_or, drop, length, ap, arith, sym, append-nil}
-use Rattle.std.proofs.lemmas.List.{get_or_default}
-use Rattle.std.proofs.lemmas.List.FromFn.{get_or-map-range_with_len}
+use Rattle.std.proofs.lemmas.{List.{get_or_default}, List.FromFn.{get_or-map-range_with_len}}
 use Rattle.std.specs.List.{enumerate_from}
-use Rattle.mdns_listeners.specs.Marks.{marks_by}
-use Rattle.mdns_listeners.specs.Numbers.{FileSpans}
-use Rattle.mdns_listeners.specs.Pairs.{is_pair, meet, pair_row, pair_rows_with}
-use Rattle.mdns_listeners.specs.declared.marks.Mark.{Mark}
-use Rattle.mdns_listeners.specs.declared.pairs.PairRow.{PairRow}
-use Rattle.mdns_listeners.proofs.PairLemmas.{pair_more}
+use Rattle.mdns_listeners.specs.{Marks.{marks_by}, Numbers.{FileSpans}, Pairs.{is_pair, meet, pair_row, pair_rows_with}}
+use Rattle.mdns_listeners.specs.declared.{marks.Mark.{Mark}, pairs.PairRow.{PairRow}}
+use Rattle.mdns_listeners.proofs.{PairLemmas.{pair_more}, pairs.push_pairs.Goals.{then-is_pair+in_ok-push, else-is_pair}}
 use Rattle.mdns_listeners.proofs.pairs.push_pairs.Goals as goal
-use Rattle.mdns_listeners.proofs.pairs.push_pairs.Goals.{then-is_pair+in_ok-push, else-is_pair}
 
 pub loop-other-preserved : goal.loop-other-preserved
 loop-other-preserved c = λ rows seen marks d.

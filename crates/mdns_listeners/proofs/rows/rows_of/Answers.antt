@@ -1,9 +1,7 @@
 use Rattle.std.proofs.Common.{◌≡◌, ap, ◌∙◌, length, map, rules, subst, sym}
 use Rattle.std.specs.List.{filter}
-use Rattle.std.proofs.lemmas.List.{take_at}
-use Rattle.std.proofs.lemmas.List.Elements.{filter_from_retain}
-use Rattle.mdns_listeners.specs.Heard.{AreHeardIn, has_times}
-use Rattle.mdns_listeners.specs.Kept.{filled, told_by, told_of_rows}
+use Rattle.std.proofs.lemmas.{List.{take_at}, List.Elements.{filter_from_retain}}
+use Rattle.mdns_listeners.specs.{Heard.{AreHeardIn, has_times}, Kept.{filled, told_by, told_of_rows}}
 use Rattle.mdns_listeners.proofs.RowLemmas.{numbered-times, rows-heard}
 use Rattle.mdns_listeners.proofs.rows.rows_of.Goals as goal
 

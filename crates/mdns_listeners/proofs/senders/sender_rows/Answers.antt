@@ -1,12 +1,7 @@
 use Rattle.std.proofs.Common.{◌∙◌, ◌<◌, ◌≤◌, length, ap, arith, subst, sym}
-use Rattle.std.proofs.lemmas.List.Elements.{All-drop}
-use Rattle.std.proofs.lemmas.List.Sums.{prefix_len-le-length}
-use Rattle.std.specs.Cmp.Lexicographic.{slice_cmp}
-use Rattle.std.specs.List.{All}
-use Rattle.std.specs.List.Sorted.{IsStrictlySortedBy}
-use Rattle.std.specs.Ordering.{nat_cmp}
-use Rattle.mdns_listeners.specs.Heard.{HasWholeAddress, HeardRow, messages_of}
-use Rattle.mdns_listeners.specs.Senders.{is_from, sender_in, sender_rows}
+use Rattle.std.proofs.lemmas.List.{Elements.{All-drop}, Sums.{prefix_len-le-length}}
+use Rattle.std.specs.{Cmp.Lexicographic.{slice_cmp}, List.{All}, List.Sorted.{IsStrictlySortedBy}, Ordering.{nat_cmp}}
+use Rattle.mdns_listeners.specs.{Heard.{HasWholeAddress, HeardRow, messages_of}, Senders.{is_from, sender_in, sender_rows}}
 use Rattle.mdns_listeners.proofs.SenderLemmas.{first_whole, rest_shorter, rest_some, sender_more, up-drop}
 use Rattle.mdns_listeners.proofs.senders.sender_rows.Goals as goal
 

@@ -1,7 +1,5 @@
 use Rattle.std.proofs.Common.{◌≡◌, ◌++◌, drop, map, get_or, string_bytes}
-use Rattle.mdns_listeners.specs.Fields.{field_lent}
-use Rattle.mdns_listeners.specs.Sheet.{cells_of}
-use Rattle.mdns_listeners.specs.Table.{cells_from}
+use Rattle.mdns_listeners.specs.{Fields.{field_lent}, Sheet.{cells_of}, Table.{cells_from}}
 use Rattle.mdns_listeners.proofs.sheet.push_columns.Given as goal
 
 -- the cells that were appended, and those that are left

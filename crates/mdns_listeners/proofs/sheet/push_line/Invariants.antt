@@ -1,7 +1,6 @@
 use Rattle.std.proofs.Common.{◌≡◌, ◌++◌, map, take, string_bytes}
 use Rattle.std.specs.List.{flat_map}
-use Rattle.mdns_listeners.specs.Fields.{Field, field_lent}
-use Rattle.mdns_listeners.specs.Values.{word_text}
+use Rattle.mdns_listeners.specs.{Fields.{Field, field_lent}, Values.{word_text}}
 use Rattle.mdns_listeners.proofs.sheet.push_line.Given as goal
 
 abbrev pub invariant-loop-field : goal.invariant-loop-field

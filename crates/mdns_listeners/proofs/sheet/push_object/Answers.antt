@@ -1,7 +1,5 @@
 use Rattle.std.proofs.Common.{ℕ, List, arith, refl, map}
-use Rattle.mdns_listeners.specs.Fields.{field_lent}
-use Rattle.mdns_listeners.specs.Sheet.{member_text, object_text}
-use Rattle.mdns_listeners.specs.declared.fields.Field.{Field}
+use Rattle.mdns_listeners.specs.{Fields.{field_lent}, Sheet.{member_text, object_text}, declared.fields.Field.{Field}}
 use Rattle.mdns_listeners.proofs.MemberLemmas.{object_ended, parted_end, parted_more}
 use Rattle.mdns_listeners.proofs.sheet.push_object.Goals as goal
 

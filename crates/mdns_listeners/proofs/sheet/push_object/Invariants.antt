@@ -1,7 +1,6 @@
 use Rattle.std.proofs.Common.{◌≡◌, ◌++◌, drop, map, true, string_bytes}
 use Rattle.mdns_browse.specs.Json.{parted}
-use Rattle.mdns_listeners.specs.Fields.{field_lent}
-use Rattle.mdns_listeners.specs.Sheet.{member_text}
+use Rattle.mdns_listeners.specs.{Fields.{field_lent}, Sheet.{member_text}}
 use Rattle.mdns_listeners.proofs.sheet.push_object.Given as goal
 
 -- the members that were appended, and those that are left

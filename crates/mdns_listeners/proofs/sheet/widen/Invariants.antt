@@ -1,6 +1,5 @@
 use Rattle.std.proofs.Common.{◌≡◌, take, map}
-use Rattle.mdns_listeners.specs.Fields.{field_lent}
-use Rattle.mdns_listeners.specs.Sheet.{cells_of, widened}
+use Rattle.mdns_listeners.specs.{Fields.{field_lent}, Sheet.{cells_of, widened}}
 use Rattle.mdns_listeners.proofs.sheet.widen.Given as goal
 
 abbrev pub invariant-loop-column : goal.invariant-loop-column

@@ -1,6 +1,5 @@
 use Rattle.std.proofs.Common.{◌≡◌, ◌++◌, ◌∷◌, false, take, string_bytes}
-use Rattle.std.specs.Fmt.{digits}
-use Rattle.std.specs.List.{flat_map}
+use Rattle.std.specs.{Fmt.{digits}, List.{flat_map}}
 use Rattle.mdns_listeners.proofs.values.push_groups.Given as goal
 
 abbrev pub invariant-loop-other : goal.invariant-loop-other

@@ -1,8 +1,7 @@
 use Rattle.std.proofs.Common.{ℕ, List, arith, refl, map}
 use Rattle.dns_name.specs.Name.{name_text}
 use Rattle.mdns_browse.specs.Json.{json_string}
-use Rattle.mdns_listeners.proofs.MemberLemmas.{parted_end, parted_more}
-use Rattle.mdns_listeners.proofs.TextLemmas.{three_appended}
+use Rattle.mdns_listeners.proofs.{MemberLemmas.{parted_end, parted_more}, TextLemmas.{three_appended}}
 use Rattle.mdns_listeners.proofs.values.push_name_array.Goals as goal
 
 abbrev text : List ℕ → List ℕ

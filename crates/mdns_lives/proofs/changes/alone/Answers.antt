@@ -1,6 +1,5 @@
 use Rattle.std.proofs.Common.{◌∙◌, ◌∷◌, [], ap, sym}
-use Rattle.mdns_lives.proofs.ChosenLemmas.{changes-alone}
-use Rattle.mdns_lives.proofs.LiveLifeLemmas.{Row}
+use Rattle.mdns_lives.proofs.{ChosenLemmas.{changes-alone}, LiveLifeLemmas.{Row}}
 use Rattle.mdns_lives.proofs.changes.alone.Goals as goal
 
 pub returns : goal.returns

@@ -1,7 +1,6 @@
 use Rattle.std.proofs.Common.{◌≡◌, map, take}
 use Rattle.mdns_join.specs.Nanos.{nanos_of}
-use Rattle.mdns_lives.specs.Changes.{begins_in}
-use Rattle.mdns_lives.specs.LentLives.{row_lent}
+use Rattle.mdns_lives.specs.{Changes.{begins_in}, LentLives.{row_lent}}
 use Rattle.mdns_lives.proofs.changes.beginnings.Given as goal
 
 abbrev pub invariant-loop-row : goal.invariant-loop-row

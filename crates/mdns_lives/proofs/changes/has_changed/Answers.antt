@@ -1,6 +1,5 @@
 use Rattle.std.proofs.Common.{◌∙◌, ap}
-use Rattle.mdns_join.specs.Kept.{ascending}
-use Rattle.mdns_join.specs.Nanos.{nanos_of}
+use Rattle.mdns_join.specs.{Kept.{ascending}, Nanos.{nanos_of}}
 use Rattle.mdns_lives.proofs.ChosenLemmas.{kept-set}
 use Rattle.mdns_lives.proofs.changes.has_changed.Goals as goal
 

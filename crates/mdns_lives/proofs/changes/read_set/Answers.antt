@@ -1,11 +1,7 @@
 use Rattle.std.proofs.Common.{◌≡◌, ◌++◌, ◌∷◌, [], ◌∙◌, true, List, ap, map, rules, subst, sym}
 use Rattle.std.proofs.lemmas.List.{map-append}
-use Rattle.mdns_lives.specs.declared.lives.RecordLives.{RecordLives}
-use Rattle.mdns_lives.specs.Changes.{goes_on}
-use Rattle.mdns_lives.specs.Lives.{AreApart}
-use Rattle.mdns_lives.specs.LentLives.{row_lent}
-use Rattle.mdns_lives.proofs.ChosenLemmas.{read-more, read-two}
-use Rattle.mdns_lives.proofs.LiveLifeLemmas.{Row}
+use Rattle.mdns_lives.specs.{declared.lives.RecordLives.{RecordLives}, Changes.{goes_on}, Lives.{AreApart}, LentLives.{row_lent}}
+use Rattle.mdns_lives.proofs.{ChosenLemmas.{read-more, read-two}, LiveLifeLemmas.{Row}}
 use Rattle.mdns_lives.proofs.changes.read_set.Goals as goal
 
 pub loop-record-init : goal.loop-record-init

@@ -2,10 +2,10 @@ use Rattle.std.proofs.Common.{sym, ◌∙◌, inl, inr, arith, rules}
 use Rattle.std.proofs.lemmas.List.{length-set}
 use Rattle.mdns_lives.proofs.ThinLemmas.{kept_behind, kept_in_place}
 use Rattle.mdns_lives.proofs.RoomLemmas.{kept_sparse_in_place, kept_sparse_behind, kept_sparse_first}
-use Rattle.mdns_lives.proofs.history.keep.Goals as goal
 use Rattle.mdns_lives.proofs.history.keep.Goals.{else-left-gt-SHORT-via-then-left-gt-SHORT+then-kept-ge2+else-second}
 use Rattle.mdns_lives.proofs.history.keep.Goals.{else-left-gt-SHORT-via-then-left-gt-SHORT+else-kept-ge2}
 use Rattle.mdns_lives.proofs.history.keep.Goals.{else-left-gt-SHORT-via-else-left-gt-SHORT}
+use Rattle.mdns_lives.proofs.history.keep.Goals as goal
 
 pub returns-then-second-clause-thinned : goal.returns-then-second-clause-thinned
 returns-then-second-clause-thinned c = grind (arith, kept_in_place)

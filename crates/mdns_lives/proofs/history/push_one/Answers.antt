@@ -1,6 +1,5 @@
 use Rattle.std.proofs.Common.{arith, vec_capacity, vec_len}
-use Rattle.mdns_lives.proofs.RoomLemmas.{room_pushed}
-use Rattle.mdns_lives.proofs.SecondsLemmas.{seconds_of-push}
+use Rattle.mdns_lives.proofs.{RoomLemmas.{room_pushed}, SecondsLemmas.{seconds_of-push}}
 use Rattle.mdns_lives.proofs.history.push_one.Goals as goal
 
 pub returns-clause-ok : goal.returns-clause-ok

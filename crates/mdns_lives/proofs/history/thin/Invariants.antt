@@ -1,6 +1,5 @@
 use Rattle.std.proofs.Common.{◌≡◌, ◌+◌, ◌-◌, ◌≤◌, ◌⊎◌, ◌++◌, length, take, drop, vec_capacity}
-use Rattle.mdns_lives.specs.History.{AreInOrder}
-use Rattle.mdns_lives.specs.Seconds.{IsThin, AreEndsOf}
+use Rattle.mdns_lives.specs.{History.{AreInOrder}, Seconds.{IsThin, AreEndsOf}}
 use Rattle.mdns_lives.proofs.history.thin.Given as goal
 
 -- the hearings that are kept and those that are left are in order, and all others are between them

@@ -1,5 +1,4 @@
-use Rattle.mdns_lives.proofs.LawLemmas.{one_list_among}
-use Rattle.mdns_lives.proofs.SomeLivesLemmas.{some_lives}
+use Rattle.mdns_lives.proofs.{LawLemmas.{one_list_among}, SomeLivesLemmas.{some_lives}}
 use Rattle.mdns_lives.proofs.laws.one_list.Goals as goal
 
 pub returns-clause-some : goal.returns-clause-some

@@ -1,5 +1,4 @@
-use Rattle.mdns_join.specs.Kept.{IsAscending}
-use Rattle.mdns_join.specs.Nanos.{nanos_of}
+use Rattle.mdns_join.specs.{Kept.{IsAscending}, Nanos.{nanos_of}}
 use Rattle.mdns_lives.specs.LifeWalk.{GiveSameEnds}
 use Rattle.mdns_lives.proofs.life_walk.later_than.Given as goal
 

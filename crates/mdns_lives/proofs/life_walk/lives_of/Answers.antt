@@ -1,11 +1,8 @@
 use Rattle.std.proofs.Common.{ap, sym, subst, ◌∙◌, ◌∷◌, ◌++◌, List}
-use Rattle.mdns_lives.specs.declared.life.RecordHearing.{RecordHearing}
-use Rattle.mdns_lives.specs.declared.life.Life.{Life}
-use Rattle.mdns_join.specs.Nanos.{nanos_of}
-use Rattle.mdns_lives.specs.History.{AreInOrder, AreLivesBy}
+use Rattle.mdns_lives.specs.{declared.life.RecordHearing.{RecordHearing}, declared.life.Life.{Life}, History.{AreInOrder, AreLivesBy}}
 use Rattle.mdns_lives.specs.LifeWalk.{lives_from, walked}
-use Rattle.mdns_lives.proofs.LaterLemmas.{same_walk}
-use Rattle.mdns_lives.proofs.WalkLemmas.{AreLivesBy-walked}
+use Rattle.mdns_join.specs.Nanos.{nanos_of}
+use Rattle.mdns_lives.proofs.{LaterLemmas.{same_walk}, WalkLemmas.{AreLivesBy-walked}}
 use Rattle.mdns_lives.proofs.life_walk.lives_of.Goals as goal
 
 pub returns-clause-walked : goal.returns-clause-walked

@@ -1,16 +1,10 @@
-use Rattle.std.proofs.lemmas.Grind.{common_steps}
+use Rattle.std.proofs.lemmas.{Grind.{common_steps}, List.{at_drop_all, drop_more}}
 use Rattle.std.proofs.Common.{◌≡◌, ◌+◌, ◌∷◌, ◌++◌, List, drop, ap, sym, subst, ◌∙◌, arith}
-use Rattle.std.proofs.lemmas.List.{at_drop_all, drop_more}
-use Rattle.mdns_join.specs.Nanos.{nanos_of}
-use Rattle.mdns_join.specs.laws.Kept.{IsAscending-from_above}
+use Rattle.mdns_join.specs.{Nanos.{nanos_of}, laws.Kept.{IsAscending-from_above}}
 use Rattle.mdns_capture.specs.Limits.{second}
-use Rattle.mdns_lives.specs.declared.life.RecordHearing.{RecordHearing}
-use Rattle.mdns_lives.specs.declared.life.Life.{Life}
-use Rattle.mdns_lives.specs.History.{AreInOrder}
+use Rattle.mdns_lives.specs.{declared.life.RecordHearing.{RecordHearing}, declared.life.Life.{Life}, History.{AreInOrder}}
 use Rattle.mdns_lives.specs.LifeWalk.{lives_from}
-use Rattle.mdns_lives.proofs.LaterLemmas.{same_lives}
-use Rattle.mdns_lives.proofs.OrderLemmas.{in_order-rest}
-use Rattle.mdns_lives.proofs.WalkLemmas.{lives_from-over}
+use Rattle.mdns_lives.proofs.{LaterLemmas.{same_lives}, OrderLemmas.{in_order-rest}, WalkLemmas.{lives_from-over}}
 use Rattle.mdns_lives.proofs.life_walk.push_lives.Goals as goal
 
 pub returns : goal.returns

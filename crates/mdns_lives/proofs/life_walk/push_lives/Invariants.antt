@@ -1,8 +1,6 @@
 use Rattle.std.proofs.Common.{◌≡◌, ◌++◌, drop}
-use Rattle.mdns_join.specs.Kept.{IsAscending}
-use Rattle.mdns_join.specs.Nanos.{nanos_of}
-use Rattle.mdns_lives.specs.History.{AreInOrder}
-use Rattle.mdns_lives.specs.LifeWalk.{lives_from}
+use Rattle.mdns_join.specs.{Kept.{IsAscending}, Nanos.{nanos_of}}
+use Rattle.mdns_lives.specs.{History.{AreInOrder}, LifeWalk.{lives_from}}
 use Rattle.mdns_lives.proofs.life_walk.push_lives.Given as goal
 
 -- the lives so far, with those that the hearings left give, are all

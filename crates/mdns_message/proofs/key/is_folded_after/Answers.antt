@@ -1,8 +1,5 @@
 use Rattle.std.proofs.Common.{Some, None, sym, ap, ◌++◌, ◌∙◌}
-use Rattle.std.proofs.lemmas.Bool.{false≢true}
-use Rattle.std.proofs.lemmas.Bool.Decides.{Decides-eqb}
-use Rattle.std.proofs.lemmas.List.{append_cancel_left}
-use Rattle.std.proofs.lemmas.Slice.Eq.{strip_prefix_is}
+use Rattle.std.proofs.lemmas.{Bool.{false≢true}, Bool.Decides.{Decides-eqb}, List.{append_cancel_left}, Slice.Eq.{strip_prefix_is}}
 use Rattle.mdns_message.proofs.key.is_folded_after.Goals as goal
 
 pub returns-in-Some : goal.returns-in-Some

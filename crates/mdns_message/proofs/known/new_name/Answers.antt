@@ -1,6 +1,5 @@
 use Rattle.std.proofs.Common.{rules}
-use Rattle.mdns_message.proofs.FlatLemmas.{name_held}
-use Rattle.mdns_message.proofs.KnownLemmas.{known_kept, known_more}
+use Rattle.mdns_message.proofs.{FlatLemmas.{name_held}, KnownLemmas.{known_kept, known_more}}
 use Rattle.mdns_message.proofs.known.new_name.Goals as goal
 
 pub returns-in_err-after-clause-known : goal.returns-in_err-after-clause-known

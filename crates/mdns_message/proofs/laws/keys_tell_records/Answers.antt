@@ -1,7 +1,6 @@
 use Rattle.std.proofs.Common.{arith, ap}
 use Rattle.std.specs.Cmp.Lexicographic.{bytes_decides}
-use Rattle.mdns_message.specs.Resource.{folded_data_of, set_key_of}
-use Rattle.mdns_message.specs.laws.Resource.{set_keys-same}
+use Rattle.mdns_message.specs.{Resource.{folded_data_of, set_key_of}, laws.Resource.{set_keys-same}}
 use Rattle.mdns_message.proofs.KeyLemmas.{both_true, true_both}
 use Rattle.mdns_message.proofs.laws.keys_tell_records.Goals as goal
 

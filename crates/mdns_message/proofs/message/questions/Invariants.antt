@@ -1,6 +1,5 @@
 use Rattle.std.proofs.Common.{[]}
-use Rattle.mdns_message.specs.Message.{Run}
-use Rattle.mdns_message.specs.RecordAt.{QuestionStands}
+use Rattle.mdns_message.specs.{Message.{Run}, RecordAt.{QuestionStands}}
 use Rattle.dns_name.proofs.PointerLemmas.{Knowing}
 use Rattle.mdns_message.proofs.message.questions.Given as goal
 

@@ -1,6 +1,4 @@
-use Rattle.mdns_message.specs.Message.{Run, Adds}
-use Rattle.mdns_message.specs.RecordAt.{RecordStands}
-use Rattle.mdns_message.specs.Known.{IsBufferOf}
+use Rattle.mdns_message.specs.{Message.{Run, Adds}, RecordAt.{RecordStands}, Known.{IsBufferOf}}
 use Rattle.dns_name.proofs.PointerLemmas.{Knowing}
 use Rattle.mdns_message.proofs.message.records.Given as goal
 

@@ -1,8 +1,6 @@
 use Rattle.std.proofs.Common.{inr, refl, sym}
-use Rattle.mdns_message.specs.Flat.{body_in, bytes_in}
-use Rattle.mdns_message.specs.RecordAt.{heard_record}
-use Rattle.mdns_message.proofs.FlatLemmas.{hearing_added}
-use Rattle.mdns_message.proofs.RecordLemmas.{record_hearing}
+use Rattle.mdns_message.specs.{Flat.{body_in, bytes_in}, RecordAt.{heard_record}}
+use Rattle.mdns_message.proofs.{FlatLemmas.{hearing_added}, RecordLemmas.{record_hearing}}
 use Rattle.mdns_message.proofs.record_at.push_record.Goals as goal
 
 pub returns-in_ok-push-in-Some-clause-stands : goal.returns-in_ok-push-in-Some-clause-stands

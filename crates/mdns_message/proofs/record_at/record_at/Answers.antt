@@ -1,7 +1,7 @@
 use Rattle.std.proofs.Common.{arith, ◌≡◌, ◌∙◌, length, rules, sym}
 use Rattle.mdns_message.proofs.RecordLemmas.{flat_after, told_after}
-use Rattle.mdns_message.proofs.record_at.record_at.Goals as goal
 use Rattle.mdns_message.proofs.record_at.record_at.Goals.{else-len-count-via-then-len-count+else-len-knew, else-len-count-via-else-len-count}
+use Rattle.mdns_message.proofs.record_at.record_at.Goals as goal
 
 pub invariant_of-heard-else-len-knew : goal.invariant_of-heard-else-len-knew
 invariant_of-heard-else-len-knew c =

@@ -1,8 +1,7 @@
 use Rattle.std.proofs.Common.{◌∙◌, ◌++◌, ap, List, ℕ}
 use Rattle.std.specs.String.{string_bytes}
 use Rattle.people_text.specs.Shown.{shown}
-use Rattle.mdns_page.specs.Captures.{clock_text}
-use Rattle.mdns_page.specs.Html.{isolated}
+use Rattle.mdns_page.specs.{Captures.{clock_text}, Html.{isolated}}
 use Rattle.mdns_page.proofs.PartLemmas.{parts7}
 use Rattle.mdns_page.proofs.captures.push_clock.Goals as goal
 

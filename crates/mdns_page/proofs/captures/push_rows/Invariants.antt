@@ -1,7 +1,6 @@
 use Rattle.std.proofs.Common.{◌≡◌, ◌++◌, drop, map}
 use Rattle.std.specs.String.{string_bytes}
-use Rattle.mdns_page.specs.Captures.{capture_text, comparison_lent, each_from, facts_lent}
-use Rattle.mdns_page.specs.Html.{isolated}
+use Rattle.mdns_page.specs.{Captures.{capture_text, comparison_lent, each_from, facts_lent}, Html.{isolated}}
 use Rattle.mdns_page.proofs.captures.push_rows.Given as goal
 
 -- the rows of the captures before the index were appended

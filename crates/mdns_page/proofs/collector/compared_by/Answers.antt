@@ -1,6 +1,5 @@
 use Rattle.std.proofs.Common.{List, ℕ, ap, map, string_bytes, subst, sym}
-use Rattle.mdns_listeners.specs.Groups.{Grouped}
-use Rattle.mdns_listeners.specs.Listeners.{Gathered}
+use Rattle.mdns_listeners.specs.{Groups.{Grouped}, Listeners.{Gathered}}
 use Rattle.mdns_page.proofs.ComparedLemmas.{compared-by}
 use Rattle.mdns_page.proofs.collector.compared_by.Goals as goal
 

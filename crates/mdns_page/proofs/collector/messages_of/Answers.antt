@@ -1,8 +1,6 @@
 use Rattle.std.proofs.Common.{◌≡◌, ◌∙◌, true, List, [], ℕ, ap, rules, string_bytes, subst, sym}
 use Rattle.std.proofs.lemmas.List.{length-map}
-use Rattle.mdns_listeners.specs.Groups.{Grouped}
-use Rattle.mdns_listeners.specs.Listeners.{Gathered}
-use Rattle.mdns_listeners.specs.Together.{are_compared}
+use Rattle.mdns_listeners.specs.{Groups.{Grouped}, Listeners.{Gathered}, Together.{are_compared}}
 use Rattle.mdns_page.proofs.collector.messages_of.Goals as goal
 
 pub returns : goal.returns

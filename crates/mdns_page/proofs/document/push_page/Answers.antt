@@ -1,10 +1,7 @@
 use Rattle.std.proofs.Common.{◌≡◌, ◌∙◌, ◌++◌, Bool, ℕ, ap, if◌then◌else◌, length, nat_lt, sym, codes}
 use Rattle.std.proofs.lemmas.List.{length-map}
 use Rattle.std.specs.String.{string_bytes}
-use Rattle.mdns_page.specs.Captures.{captures_text, facts_lent}
-use Rattle.mdns_page.specs.OtherRows.{is_large}
-use Rattle.mdns_page.specs.Html.{isolated}
-use Rattle.mdns_page.specs.Document.{head, parts_lent}
+use Rattle.mdns_page.specs.{Captures.{captures_text, facts_lent}, OtherRows.{is_large}, Html.{isolated}, Document.{head, parts_lent}}
 use Rattle.mdns_page.specs.Timeline.{counted_lent, timeline}
 use Rattle.mdns_page.proofs.PartLemmas.{parts8}
 use Rattle.mdns_page.proofs.document.push_page.Goals as goal

@@ -1,8 +1,7 @@
 use Rattle.std.proofs.Common.{◌∙◌, ap, [], ◌++◌, codes, if◌then◌else◌}
 use Rattle.std.specs.String.{string_bytes}
 use Rattle.people_text.specs.MomentText.{date_text}
-use Rattle.mdns_page.specs.Axis.{is_same_date}
-use Rattle.mdns_page.specs.Document.{title}
+use Rattle.mdns_page.specs.{Axis.{is_same_date}, Document.{title}}
 use Rattle.mdns_page.proofs.PartLemmas.{parts3}
 use Rattle.mdns_page.proofs.document.push_title.Goals as goal
 

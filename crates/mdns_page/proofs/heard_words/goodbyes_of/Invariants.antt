@@ -1,7 +1,6 @@
 use Rattle.std.proofs.Common.{◌≡◌, ◌*◌, ◌≤◌, map, sum_by, take}
 use Rattle.std.specs.List.{count_by}
-use Rattle.mdns_page.specs.Lanes.{is_goodbye}
-use Rattle.mdns_page.specs.Timeline.{seconds_lent}
+use Rattle.mdns_page.specs.{Lanes.{is_goodbye}, Timeline.{seconds_lent}}
 use Rattle.mdns_page.proofs.heard_words.goodbyes_of.Given as goal
 
 -- the sum so far, which is less than 2 ^ 64 for each capture

@@ -1,8 +1,6 @@
 use Rattle.std.proofs.Common.{◌≡◌, ◌++◌, drop, map}
 use Rattle.std.specs.String.{string_bytes}
-use Rattle.mdns_page.specs.Captures.{each_from}
-use Rattle.mdns_page.specs.HeardWords.{capture_times}
-use Rattle.mdns_page.specs.Timeline.{seconds_lent}
+use Rattle.mdns_page.specs.{Captures.{each_from}, HeardWords.{capture_times}, Timeline.{seconds_lent}}
 use Rattle.mdns_page.proofs.heard_words.push_each.Given as goal
 
 -- the words of the captures before the index were appended

@@ -1,11 +1,9 @@
 use Rattle.std.proofs.Common.{◌≡◌, List, length, map}
 use Rattle.std.specs.List.Sorted.{IsStrictlySortedBy}
-use Rattle.mdns_message.specs.declared.hearing.Hearing.{Hearing}
-use Rattle.mdns_message.specs.Resource.{key_cmp}
+use Rattle.mdns_message.specs.{declared.hearing.Hearing.{Hearing}, Resource.{key_cmp}}
 use Rattle.mdns_lives.specs.Chronicle.{Chronicles}
 use Rattle.mdns_browse.specs.Services.{AreEach}
-use Rattle.mdns_page.specs.TimelineRows.{unheard}
-use Rattle.mdns_page.specs.Timeline.{counted_lent}
+use Rattle.mdns_page.specs.{TimelineRows.{unheard}, Timeline.{counted_lent}}
 use Rattle.mdns_page.proofs.HearerLemmas.{IsUpTo, keys_left}
 use Rattle.mdns_page.proofs.hearers.add_capture.Given as goal
 

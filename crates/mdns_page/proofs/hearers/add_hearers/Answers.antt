@@ -2,8 +2,7 @@ use Rattle.std.proofs.Common.{◌∙◌, List, ap, arith, map, refl, subst, sym}
 use Rattle.std.proofs.lemmas.List.{take_all}
 use Rattle.std.specs.List.Sorted.{IsStrictlySortedBy}
 use Rattle.mdns_message.specs.Resource.{key_cmp}
-use Rattle.mdns_page.specs.Timeline.{counted_lent}
-use Rattle.mdns_page.specs.declared.timeline_rows.CountedRow.{CountedRow}
+use Rattle.mdns_page.specs.{Timeline.{counted_lent}, declared.timeline_rows.CountedRow.{CountedRow}}
 use Rattle.mdns_page.proofs.HearerLemmas.{AreSoFar, all-few, all-many, keys-kept, row_key, so_far-more, so_far-start}
 use Rattle.mdns_page.proofs.hearers.add_hearers.Goals as goal
 

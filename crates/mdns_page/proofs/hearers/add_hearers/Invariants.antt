@@ -1,8 +1,7 @@
 use Rattle.std.proofs.Common.{◌≡◌, map, take}
 use Rattle.std.specs.List.Sorted.{IsStrictlySortedBy}
 use Rattle.mdns_message.specs.Resource.{key_cmp}
-use Rattle.mdns_page.specs.TimelineRows.{unheard}
-use Rattle.mdns_page.specs.Timeline.{counted_lent}
+use Rattle.mdns_page.specs.{TimelineRows.{unheard}, Timeline.{counted_lent}}
 use Rattle.mdns_page.proofs.HearerLemmas.{AreSoFar, row_key}
 use Rattle.mdns_page.proofs.hearers.add_hearers.Given as goal
 

@@ -2,8 +2,7 @@ use Rattle.std.proofs.Common.{◌≡◌, ◌∙◌, List, ap, map, set, sym, sub
 use Rattle.std.proofs.lemmas.List.{set-set}
 use Rattle.mdns_message.specs.Resource.{key_of}
 use Rattle.mdns_browse.specs.Services.{AreEach}
-use Rattle.mdns_page.specs.TimelineRows.{HearsRecord, heard_too, unheard}
-use Rattle.mdns_page.specs.Timeline.{counted_lent, seconds_lent}
+use Rattle.mdns_page.specs.{TimelineRows.{HearsRecord, heard_too, unheard}, Timeline.{counted_lent, seconds_lent}}
 use Rattle.mdns_page.specs.declared.timeline_rows.CountedRow.{CountedRow}
 use Rattle.mdns_page.proofs.HearerLemmas.{found-hears, searchable, unfound, unheard-set}
 use Rattle.mdns_page.proofs.hearers.add_record.Goals as goal

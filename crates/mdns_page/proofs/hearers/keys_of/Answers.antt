@@ -1,9 +1,7 @@
 use Rattle.std.proofs.Common.{arith, ◌∙◌, refl, sym}
 use Rattle.std.proofs.lemmas.Simd.{map-map}
-use Rattle.mdns_page.specs.Timeline.{counted_lent}
-use Rattle.mdns_page.specs.declared.timeline_rows.CountedRow.{CountedRow}
-use Rattle.mdns_page.proofs.HearerLemmas.{row_key}
-use Rattle.mdns_page.proofs.KeptLemmas.{map-whole}
+use Rattle.mdns_page.specs.{Timeline.{counted_lent}, declared.timeline_rows.CountedRow.{CountedRow}}
+use Rattle.mdns_page.proofs.{HearerLemmas.{row_key}, KeptLemmas.{map-whole}}
 use Rattle.mdns_page.proofs.hearers.keys_of.Goals as goal
 
 pub returns : goal.returns

@@ -2,8 +2,7 @@ use Rattle.std.proofs.Common.{◌≡◌, ◌∙◌, ◌||◌, ap, is_some, sym, 
 use Rattle.std.proofs.lemmas.Result.{IfOk-weaker}
 use Rattle.mdns_cache.specs.LentRecords.{last_lent}
 use Rattle.mdns_message.specs.Parts.{address_of}
-use Rattle.mdns_browse.specs.About.{keeps_record}
-use Rattle.mdns_browse.specs.Services.{body_of, instance_given, other_given}
+use Rattle.mdns_browse.specs.{About.{keeps_record}, Services.{body_of, instance_given, other_given}}
 use Rattle.mdns_page.proofs.KeptLemmas.{some-mapped}
 use Rattle.mdns_page.proofs.kept_records.is_kept.Goals as goal
 

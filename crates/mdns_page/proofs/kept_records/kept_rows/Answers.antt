@@ -2,8 +2,7 @@ use Rattle.std.proofs.Common.{◌≡◌, ◌∷◌, ◌++◌, List, ap, map, sym
 use Rattle.std.specs.List.{filter}
 use Rattle.mdns_cache.specs.LentRecords.{last_lent}
 use Rattle.mdns_join.specs.declared.latest.Latest.{Latest}
-use Rattle.mdns_lives.specs.LentLives.{row_lent}
-use Rattle.mdns_lives.specs.declared.life.Life.{Life}
+use Rattle.mdns_lives.specs.{LentLives.{row_lent}, declared.life.Life.{Life}}
 use Rattle.mdns_page.specs.KeptRecords.{is_kept}
 use Rattle.mdns_page.proofs.KeptLemmas.{filtered-next}
 use Rattle.mdns_page.proofs.kept_records.kept_rows.Goals as goal

@@ -1,9 +1,7 @@
 use Rattle.std.proofs.Common.{◌≡◌, ◌++◌, length, map}
-use Rattle.std.specs.List.{filter}
-use Rattle.std.specs.List.Sorted.{IsStrictlySortedBy}
+use Rattle.std.specs.{List.{filter}, List.Sorted.{IsStrictlySortedBy}}
 use Rattle.mdns_message.specs.Resource.{key_cmp}
-use Rattle.mdns_cache.specs.Live.{key_of_last}
-use Rattle.mdns_cache.specs.LentRecords.{last_lent}
+use Rattle.mdns_cache.specs.{Live.{key_of_last}, LentRecords.{last_lent}}
 use Rattle.mdns_lives.specs.LentLives.{row_lent}
 use Rattle.mdns_page.specs.KeptRecords.{is_kept}
 use Rattle.mdns_page.proofs.kept_records.kept_rows.Given as goal

@@ -1,8 +1,7 @@
 use Rattle.std.proofs.Common.{◌∙◌, List, map, sym}
 use Rattle.mdns_cache.specs.LentRecords.{last_lent}
 use Rattle.mdns_join.specs.declared.latest.Latest.{Latest}
-use Rattle.mdns_lives.specs.LentLives.{row_lent}
-use Rattle.mdns_lives.specs.declared.life.Life.{Life}
+use Rattle.mdns_lives.specs.{LentLives.{row_lent}, declared.life.Life.{Life}}
 use Rattle.mdns_page.specs.KeptRecords.{is_kept}
 use Rattle.mdns_page.proofs.KeptLemmas.{filtered-left, filtered-taken}
 use Rattle.mdns_page.proofs.kept_records.push_kept.Goals as goal

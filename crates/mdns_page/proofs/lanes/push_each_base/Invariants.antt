@@ -1,7 +1,6 @@
 use Rattle.std.proofs.Common.{◌≡◌, ◌++◌, drop, map}
 use Rattle.std.specs.String.{string_bytes}
-use Rattle.mdns_page.specs.Captures.{each_from, facts_lent}
-use Rattle.mdns_page.specs.Lanes.{base_text}
+use Rattle.mdns_page.specs.{Captures.{each_from, facts_lent}, Lanes.{base_text}}
 use Rattle.mdns_page.proofs.lanes.push_each_base.Given as goal
 
 -- the lines of the captures before the index were appended

@@ -1,8 +1,6 @@
 use Rattle.std.proofs.Common.{◌≡◌, ◌++◌, drop, map}
 use Rattle.std.specs.String.{string_bytes}
-use Rattle.mdns_page.specs.Captures.{each_from}
-use Rattle.mdns_page.specs.Lanes.{lane_text}
-use Rattle.mdns_page.specs.Timeline.{seconds_lent}
+use Rattle.mdns_page.specs.{Captures.{each_from}, Lanes.{lane_text}, Timeline.{seconds_lent}}
 use Rattle.mdns_page.proofs.lanes.push_each_lane.Given as goal
 
 -- the lanes of the captures before the index were appended

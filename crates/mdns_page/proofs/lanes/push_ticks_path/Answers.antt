@@ -1,8 +1,7 @@
 use Rattle.std.proofs.Common.{arith}
 use Rattle.std.proofs.lemmas.Result.{on_ok_weaker}
 use Rattle.std.specs.String.{string_bytes}
-use Rattle.mdns_page.specs.Lanes.{second_mark}
-use Rattle.mdns_page.specs.Picture.{path, path_rest}
+use Rattle.mdns_page.specs.{Lanes.{second_mark}, Picture.{path, path_rest}}
 use Rattle.mdns_page.proofs.PathLemmas.{path-all, path-more}
 use Rattle.mdns_page.proofs.lanes.push_ticks_path.Goals as goal
 

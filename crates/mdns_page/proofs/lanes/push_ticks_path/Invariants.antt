@@ -1,8 +1,6 @@
 use Rattle.std.proofs.Common.{◌≡◌, ◌++◌, drop, None}
-use Rattle.std.specs.List.{filter_map}
-use Rattle.std.specs.String.{string_bytes}
-use Rattle.mdns_page.specs.Lanes.{second_mark}
-use Rattle.mdns_page.specs.Picture.{path_rest}
+use Rattle.std.specs.{List.{filter_map}, String.{string_bytes}}
+use Rattle.mdns_page.specs.{Lanes.{second_mark}, Picture.{path_rest}}
 use Rattle.mdns_page.proofs.lanes.push_ticks_path.Given as goal
 
 -- what was written of the path, with the rest of it, is the path

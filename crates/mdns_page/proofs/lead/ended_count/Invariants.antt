@@ -1,6 +1,5 @@
 use Rattle.std.proofs.Common.{◌≡◌, map, take}
-use Rattle.mdns_page.specs.Lead.{is_ended}
-use Rattle.mdns_page.specs.Timeline.{count_last, counted_lent}
+use Rattle.mdns_page.specs.{Lead.{is_ended}, Timeline.{count_last, counted_lent}}
 use Rattle.mdns_page.proofs.lead.ended_count.Given as goal
 
 -- those of the rows so far were counted

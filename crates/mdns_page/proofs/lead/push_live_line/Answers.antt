@@ -1,11 +1,8 @@
 use Rattle.std.proofs.Common.{◌∙◌, ◌++◌, ap, codes, map, ℕ}
 use Rattle.std.specs.String.{string_bytes}
 use Rattle.people_text.specs.MomentText.{millis_text}
-use Rattle.mdns_lives.specs.declared.life.EndReason.{EndReason}
-use Rattle.mdns_lives.specs.declared.life.EndReason.TheVariants.{Goodbye, Flushed}
-use Rattle.mdns_page.specs.Counts.{count_text}
-use Rattle.mdns_page.specs.Lead.{is_ended, live_line, others_text, said_text}
-use Rattle.mdns_page.specs.Timeline.{count_last, counted_lent}
+use Rattle.mdns_lives.specs.declared.life.{EndReason.{EndReason}, EndReason.TheVariants.{Goodbye, Flushed}}
+use Rattle.mdns_page.specs.{Counts.{count_text}, Lead.{is_ended, live_line, others_text, said_text}, Timeline.{count_last, counted_lent}}
 use Rattle.mdns_page.proofs.PartLemmas.{parts9}
 use Rattle.mdns_page.proofs.lead.push_live_line.Goals as goal
 

@@ -1,6 +1,5 @@
 use Rattle.std.proofs.Common.{◌≡◌, ◌++◌, codes, take}
-use Rattle.std.specs.List.{flat_map}
-use Rattle.std.specs.String.{string_bytes}
+use Rattle.std.specs.{List.{flat_map}, String.{string_bytes}}
 use Rattle.people_text.specs.Shown.{shown}
 use Rattle.mdns_page.specs.Html.{isolated}
 use Rattle.mdns_page.proofs.lead.push_other_subjects.Given as goal

@@ -2,8 +2,7 @@ use Rattle.std.proofs.Common.{◌≡◌, ◌∙◌, ◌++◌, ap, sym, true, Lis
 use Rattle.std.specs.String.{string_bytes}
 use Rattle.people_text.specs.Shown.{shown}
 use Rattle.mdns_listeners.specs.Warnings.{warns}
-use Rattle.mdns_page.specs.Html.{isolated}
-use Rattle.mdns_page.specs.Lead.{pair_warning}
+use Rattle.mdns_page.specs.{Html.{isolated}, Lead.{pair_warning}}
 use Rattle.mdns_page.proofs.PartLemmas.{parts7}
 use Rattle.mdns_page.proofs.lead.push_pair_warning.Goals as goal
 

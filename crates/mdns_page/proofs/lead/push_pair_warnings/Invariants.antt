@@ -1,9 +1,6 @@
 use Rattle.std.proofs.Common.{◌≡◌, ◌++◌, map, take}
-use Rattle.std.specs.List.{flat_map}
-use Rattle.std.specs.String.{string_bytes}
-use Rattle.mdns_page.specs.Captures.{facts_lent}
-use Rattle.mdns_page.specs.Html.{isolated}
-use Rattle.mdns_page.specs.Lead.{pair_warning}
+use Rattle.std.specs.{List.{flat_map}, String.{string_bytes}}
+use Rattle.mdns_page.specs.{Captures.{facts_lent}, Html.{isolated}, Lead.{pair_warning}}
 use Rattle.mdns_page.proofs.lead.push_pair_warnings.Given as goal
 
 -- the warnings of the pairs so far were appended

@@ -1,7 +1,6 @@
 use Rattle.std.proofs.Common.{◌≡◌, ◌&&◌, map, take}
 use Rattle.mdns_lives.specs.declared.life.EndReason.TheVariants.{Goodbye}
-use Rattle.mdns_page.specs.Picture.{goes_on, is_for}
-use Rattle.mdns_page.specs.Timeline.{count_last, counted_lent}
+use Rattle.mdns_page.specs.{Picture.{goes_on, is_for}, Timeline.{count_last, counted_lent}}
 use Rattle.mdns_page.proofs.lead.said_count.Given as goal
 
 -- those of the rows so far were counted

@@ -1,8 +1,7 @@
 use Rattle.std.proofs.Common.{map, refl}
 use Rattle.std.specs.List.{filter_map}
 use Rattle.mdns_cache.specs.LentRecords.{last_lent}
-use Rattle.mdns_browse.specs.Given.{given_lent}
-use Rattle.mdns_browse.specs.Services.{instance_row_in}
+use Rattle.mdns_browse.specs.{Given.{given_lent}, Services.{instance_row_in}}
 use Rattle.mdns_page.proofs.LiveLemmas.{group_by_parts}
 use Rattle.mdns_page.proofs.live_section.push_group.Goals as goal
 

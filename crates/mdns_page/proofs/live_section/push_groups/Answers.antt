@@ -1,16 +1,10 @@
 use Rattle.std.proofs.Common.{◌≡◌, ◌∙◌, ◌+◌, ◌++◌, ap, map, refl, take, codes}
 use Rattle.std.proofs.lemmas.List.{take_rest}
-use Rattle.std.specs.List.{filter_map, flat_map}
-use Rattle.std.specs.String.{string_bytes}
+use Rattle.std.specs.{List.{filter_map, flat_map}, String.{string_bytes}}
 use Rattle.mdns_cache.specs.LentRecords.{last_lent}
-use Rattle.mdns_browse.specs.Given.{given_lent}
-use Rattle.mdns_browse.specs.Services.{instance_row_in}
-use Rattle.mdns_page.specs.declared.axis.Axis.{Axis}
-use Rattle.mdns_page.specs.Html.{isolated}
-use Rattle.mdns_page.specs.LiveSection.{live_group, live_row, type_of}
-use Rattle.mdns_page.specs.LiveSheet.{type_begin}
-use Rattle.mdns_page.proofs.GroupLemmas.{count-first, groups-more, groups-none}
-use Rattle.mdns_page.proofs.LiveLemmas.{group-at}
+use Rattle.mdns_browse.specs.{Given.{given_lent}, Services.{instance_row_in}}
+use Rattle.mdns_page.specs.{declared.axis.Axis.{Axis}, Html.{isolated}, LiveSection.{live_group, live_row, type_of}, LiveSheet.{type_begin}}
+use Rattle.mdns_page.proofs.{GroupLemmas.{count-first, groups-more, groups-none}, LiveLemmas.{group-at}}
 use Rattle.mdns_page.proofs.live_section.push_groups.Goals as goal
 
 pub loop-first-init : goal.loop-first-init

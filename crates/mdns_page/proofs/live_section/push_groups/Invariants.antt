@@ -1,12 +1,8 @@
 use Rattle.std.proofs.Common.{◌≡◌, ◌++◌, length, map}
-use Rattle.std.specs.List.{flat_map}
-use Rattle.std.specs.String.{string_bytes}
+use Rattle.std.specs.{List.{flat_map}, String.{string_bytes}}
 use Rattle.mdns_cache.specs.LentRecords.{last_lent}
-use Rattle.mdns_browse.specs.Given.{given_lent}
-use Rattle.mdns_browse.specs.Services.{AreAscending}
-use Rattle.mdns_page.specs.Group.{grouped}
-use Rattle.mdns_page.specs.Html.{isolated}
-use Rattle.mdns_page.specs.LiveSection.{live_group, type_of}
+use Rattle.mdns_browse.specs.{Given.{given_lent}, Services.{AreAscending}}
+use Rattle.mdns_page.specs.{Group.{grouped}, Html.{isolated}, LiveSection.{live_group, type_of}}
 use Rattle.mdns_page.proofs.live_section.push_groups.Given as goal
 
 -- what was written, with the groups that are left, is all

@@ -2,8 +2,7 @@ use Rattle.std.proofs.Common.{◌∙◌, ◌++◌, ap, map, string_bytes}
 use Rattle.mdns_cache.specs.LentRecords.{last_lent}
 use Rattle.mdns_browse.specs.Given.{given_lent}
 use Rattle.people_text.specs.MomentText.{millis_text}
-use Rattle.mdns_page.proofs.LiveLemmas.{live_by_parts}
-use Rattle.mdns_page.proofs.PartLemmas.{parts3}
+use Rattle.mdns_page.proofs.{LiveLemmas.{live_by_parts}, PartLemmas.{parts3}}
 use Rattle.mdns_page.proofs.live_section.push_live.Goals as goal
 
 pub returns : goal.returns

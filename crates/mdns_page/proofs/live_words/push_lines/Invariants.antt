@@ -1,7 +1,6 @@
 use Rattle.std.proofs.Common.{◌≡◌, ◌++◌, true, length}
 use Rattle.std.specs.String.{string_bytes}
-use Rattle.mdns_browse.specs.Json.{first_after}
-use Rattle.mdns_browse.specs.RecordShown.{shown_strings}
+use Rattle.mdns_browse.specs.{Json.{first_after}, RecordShown.{shown_strings}}
 use Rattle.mdns_page.specs.LiveSheet.{lines}
 use Rattle.mdns_page.proofs.live_words.push_lines.Given as goal
 

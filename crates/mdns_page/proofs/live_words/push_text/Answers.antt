@@ -2,8 +2,7 @@ use Rattle.std.proofs.Common.{◌≡◌, ◌∙◌, ◌++◌, List, ℕ, ap, app
 use Rattle.std.proofs.lemmas.Result.{on_ok_weaker}
 use Rattle.std.specs.String.{string_bytes}
 use Rattle.mdns_browse.specs.RecordShown.{shown_strings}
-use Rattle.mdns_page.specs.Html.{isolated}
-use Rattle.mdns_page.specs.LiveSheet.{lines}
+use Rattle.mdns_page.specs.{Html.{isolated}, LiveSheet.{lines}}
 use Rattle.mdns_page.proofs.LiveWordLemmas.{lines-joined, none-paragraph, some-paragraph}
 use Rattle.mdns_page.proofs.live_words.push_text.Goals as goal
 

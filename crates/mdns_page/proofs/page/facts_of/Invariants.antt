@@ -1,6 +1,5 @@
 use Rattle.std.proofs.Common.{◌≡◌, ◌++◌, map, length, string_bytes}
-use Rattle.mdns_page.specs.Captures.{facts_lent}
-use Rattle.mdns_page.specs.Page.{facts_of}
+use Rattle.mdns_page.specs.{Captures.{facts_lent}, Page.{facts_of}}
 use Rattle.mdns_page.proofs.page.facts_of.Given as goal
 
 -- what is told of the captures so far, and of those that are left, is told of all

@@ -1,20 +1,13 @@
 use Rattle.std.proofs.Common.{◌≡◌, ◌∙◌, ◌++◌, ◌∷◌, [], ℕ, List, ap, arith, map, subst, sym}
-use Rattle.std.proofs.lemmas.List.{map-append}
-use Rattle.std.proofs.lemmas.Simd.{map-map}
+use Rattle.std.proofs.lemmas.{List.{map-append}, Simd.{map-map}}
 use Rattle.std.specs.List.{filter}
 use Rattle.mdns_cache.specs.LentRecords.{last_lent}
 use Rattle.mdns_join.specs.declared.latest.Latest.{Latest}
-use Rattle.mdns_lives.specs.Chronicle.{rows_of}
-use Rattle.mdns_lives.specs.declared.live_since.LiveSince.{LiveSince}
+use Rattle.mdns_lives.specs.{Chronicle.{rows_of}, declared.live_since.LiveSince.{LiveSince}}
 use Rattle.mdns_lives.specs.Since.{AreLiveSince, all_since_rows, live_since_lent}
-use Rattle.mdns_browse.specs.Given.{given_lent}
-use Rattle.mdns_browse.specs.Services.{AreAscending, GivenRow}
-use Rattle.mdns_page.specs.Html.{isolated}
-use Rattle.mdns_page.specs.KeptRecords.{is_drawn, looked_up}
-use Rattle.mdns_page.specs.LiveSection.{live_text}
-use Rattle.mdns_page.specs.Page.{given_of_since, live_given}
-use Rattle.mdns_page.proofs.KeptLemmas.{kept-all, kept-more, map-more, map-whole}
-use Rattle.mdns_page.proofs.SurveyLemmas.{live-ascending}
+use Rattle.mdns_browse.specs.{Given.{given_lent}, Services.{AreAscending, GivenRow}}
+use Rattle.mdns_page.specs.{Html.{isolated}, KeptRecords.{is_drawn, looked_up}, LiveSection.{live_text}, Page.{given_of_since, live_given}}
+use Rattle.mdns_page.proofs.{KeptLemmas.{kept-all, kept-more, map-more, map-whole}, SurveyLemmas.{live-ascending}}
 use Rattle.mdns_page.proofs.page.live_of.Goals as goal
 
 pub loop-row-init : goal.loop-row-init

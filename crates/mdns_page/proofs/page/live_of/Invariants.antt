@@ -1,12 +1,9 @@
 use Rattle.std.proofs.Common.{◌≡◌, map, take}
 use Rattle.std.specs.List.{filter}
 use Rattle.mdns_cache.specs.LentRecords.{last_lent}
-use Rattle.mdns_lives.specs.declared.live_since.LiveSince.{LiveSince}
-use Rattle.mdns_lives.specs.Since.{live_since_lent}
-use Rattle.mdns_browse.specs.Given.{given_lent}
-use Rattle.mdns_page.specs.Page.{given_of_since}
-use Rattle.mdns_browse.specs.Services.{AreAscending}
-use Rattle.mdns_page.specs.KeptRecords.{is_drawn}
+use Rattle.mdns_lives.specs.{declared.live_since.LiveSince.{LiveSince}, Since.{live_since_lent}}
+use Rattle.mdns_browse.specs.{Given.{given_lent}, Services.{AreAscending}}
+use Rattle.mdns_page.specs.{Page.{given_of_since}, KeptRecords.{is_drawn}}
 use Rattle.mdns_page.proofs.page.live_of.Given as goal
 
 -- the last hearings of the records so far, and those of them that are drawn

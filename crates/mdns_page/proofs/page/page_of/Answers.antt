@@ -1,27 +1,15 @@
 use Rattle.std.proofs.Common.{◌≡◌, ◌∙◌, ◌+◌, ◌++◌, [], Bool, if◌then◌else◌, List, ℕ, ap, length, map, string_bytes, subst, sym}
 use Rattle.std.proofs.lemmas.List.{length-map}
-use Rattle.std.specs.List.{filter}
-use Rattle.std.specs.List.Sorted.{IsStrictlySortedBy}
+use Rattle.std.specs.{List.{filter}, List.Sorted.{IsStrictlySortedBy}}
 use Rattle.mdns_message.specs.Resource.{key_cmp}
-use Rattle.mdns_cache.specs.Live.{key_of_last}
-use Rattle.mdns_cache.specs.LentRecords.{last_lent}
+use Rattle.mdns_cache.specs.{Live.{key_of_last}, LentRecords.{last_lent}}
 use Rattle.mdns_join.specs.declared.latest.Latest.{Latest}
-use Rattle.mdns_lives.specs.Chronicle.{Accounts, Chronicles}
-use Rattle.mdns_lives.specs.LentLives.{row_lent}
-use Rattle.mdns_lives.specs.declared.life.Life.{Life}
-use Rattle.mdns_browse.specs.declared.about.Subject.{Subject}
-use Rattle.mdns_browse.specs.Services.{AreEach}
-use Rattle.mdns_page.specs.Captures.{comparison_lent, facts_lent}
-use Rattle.mdns_page.specs.Collected.{rows_lent}
-use Rattle.mdns_page.specs.OtherRows.{is_large}
-use Rattle.mdns_page.specs.Html.{isolated}
-use Rattle.mdns_page.specs.KeptRecords.{AreRows, is_kept, is_of, kept_of, looked_up}
-use Rattle.mdns_page.specs.SkippedSection.{skipped_text}
-use Rattle.mdns_page.specs.Document.{Shown, page}
-use Rattle.mdns_page.specs.Page.{WritesPage, live_at_end}
-use Rattle.mdns_page.specs.Timeline.{Row, counted_lent, is_open}
-use Rattle.mdns_page.specs.declared.kept_records.TimelinePart.{TimelinePart}
-use Rattle.mdns_page.specs.declared.kept_records.TimelinePart.TheVariants.{Addresses, Instances, Names}
+use Rattle.mdns_lives.specs.{Chronicle.{Accounts, Chronicles}, LentLives.{row_lent}, declared.life.Life.{Life}}
+use Rattle.mdns_browse.specs.{declared.about.Subject.{Subject}, Services.{AreEach}}
+use Rattle.mdns_page.specs.{Captures.{comparison_lent, facts_lent}, Collected.{rows_lent}, OtherRows.{is_large}, Html.{isolated}}
+use Rattle.mdns_page.specs.{KeptRecords.{AreRows, is_kept, is_of, kept_of, looked_up}, SkippedSection.{skipped_text}}
+use Rattle.mdns_page.specs.{Document.{Shown, page}, Page.{WritesPage, live_at_end}, Timeline.{Row, counted_lent, is_open}}
+use Rattle.mdns_page.specs.declared.kept_records.{TimelinePart.{TimelinePart}, TimelinePart.TheVariants.{Addresses, Instances, Names}}
 use Rattle.mdns_page.proofs.KeptLemmas.{few-sorted, looked_up-sorted, some-sorted}
 use Rattle.mdns_page.proofs.page.page_of.Goals as goal
 

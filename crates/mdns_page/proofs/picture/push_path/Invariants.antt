@@ -1,6 +1,5 @@
 use Rattle.std.proofs.Common.{◌≡◌, ◌++◌, drop, None}
-use Rattle.std.specs.List.{filter_map}
-use Rattle.std.specs.String.{string_bytes}
+use Rattle.std.specs.{List.{filter_map}, String.{string_bytes}}
 use Rattle.mdns_page.specs.Picture.{mark_of, path_rest}
 use Rattle.mdns_page.proofs.picture.push_path.Given as goal
 

@@ -1,9 +1,6 @@
 use Rattle.std.proofs.Common.{◌≡◌, ◌++◌, map, take}
-use Rattle.std.specs.List.{flat_map}
-use Rattle.std.specs.String.{string_bytes}
-use Rattle.mdns_page.specs.Picture.{bars}
-use Rattle.mdns_page.specs.declared.picture.Stroke.TheVariants.{Server}
-use Rattle.mdns_page.specs.Timeline.{lives_lent}
+use Rattle.std.specs.{List.{flat_map}, String.{string_bytes}}
+use Rattle.mdns_page.specs.{Picture.{bars}, declared.picture.Stroke.TheVariants.{Server}, Timeline.{lives_lent}}
 use Rattle.mdns_page.proofs.picture.push_servers.Given as goal
 
 -- the bars of the servers so far were appended

@@ -1,8 +1,6 @@
 use Rattle.std.proofs.Common.{◌∙◌, ◌++◌, ap, Bool, List, ℕ}
 use Rattle.std.specs.String.{string_bytes}
-use Rattle.mdns_page.specs.Picture.{mark_text, titled_bar}
-use Rattle.mdns_page.specs.BarTitles.{life_title}
-use Rattle.mdns_page.specs.declared.picture.Mark.{Mark}
+use Rattle.mdns_page.specs.{Picture.{mark_text, titled_bar}, BarTitles.{life_title}, declared.picture.Mark.{Mark}}
 use Rattle.mdns_page.proofs.PartLemmas.{parts6}
 use Rattle.mdns_page.proofs.picture.push_titled_bar.Goals as goal
 

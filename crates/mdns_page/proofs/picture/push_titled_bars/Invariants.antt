@@ -1,6 +1,5 @@
 use Rattle.std.proofs.Common.{◌≡◌, ◌++◌, take}
-use Rattle.std.specs.List.{flat_map}
-use Rattle.std.specs.String.{string_bytes}
+use Rattle.std.specs.{List.{flat_map}, String.{string_bytes}}
 use Rattle.mdns_page.specs.Picture.{titled_bar}
 use Rattle.mdns_page.proofs.picture.push_titled_bars.Given as goal
 

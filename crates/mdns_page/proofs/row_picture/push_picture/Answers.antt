@@ -1,11 +1,7 @@
 use Rattle.std.proofs.Common.{◌==◌, [], codes, if◌then◌else◌, map}
-use Rattle.std.specs.List.{flat_map}
-use Rattle.std.specs.String.{string_bytes}
+use Rattle.std.specs.{List.{flat_map}, String.{string_bytes}}
 use Rattle.mdns_lives.specs.declared.life.EndReason.TheVariants.{Expired, Goodbye, Flushed}
-use Rattle.mdns_page.specs.Captures.{each_from}
-use Rattle.mdns_page.specs.Lanes.{lane_text}
-use Rattle.mdns_page.specs.Picture.{bars, mark_of, path}
-use Rattle.mdns_page.specs.Timeline.{lives_lent, seconds_lent}
+use Rattle.mdns_page.specs.{Captures.{each_from}, Lanes.{lane_text}, Picture.{bars, mark_of, path}, Timeline.{lives_lent, seconds_lent}}
 use Rattle.mdns_page.specs.declared.picture.Stroke.TheVariants.{Bar, Server, Pin, Head}
 use Rattle.mdns_page.proofs.PartLemmas.{parts10}
 use Rattle.mdns_page.proofs.row_picture.push_picture.Goals as goal

@@ -1,6 +1,5 @@
 use Rattle.std.proofs.Common.{◌≡◌, map, take}
-use Rattle.mdns_page.specs.Picture.{goes_on}
-use Rattle.mdns_page.specs.Timeline.{count_last, counted_lent}
+use Rattle.mdns_page.specs.{Picture.{goes_on}, Timeline.{count_last, counted_lent}}
 use Rattle.mdns_page.proofs.row_text.live_rows.Given as goal
 
 -- those of the rows so far were counted

@@ -1,11 +1,7 @@
 use Rattle.std.proofs.Common.{◌≡◌, ◌++◌, ◌∙◌, ap, codes, List, map}
-use Rattle.std.specs.String.{string_bytes}
-use Rattle.mdns_lives.specs.declared.life.Life.{Life}
-use Rattle.mdns_lives.specs.declared.seconds_heard.SecondHeard.{SecondHeard}
-use Rattle.std.specs.Global.{Vec}
-use Rattle.mdns_page.specs.RowPicture.{picture}
-use Rattle.mdns_page.specs.Timeline.{lives_lent, row_text, seconds_lent}
-use Rattle.mdns_page.specs.LifeWords.{lives_words}
+use Rattle.std.specs.{String.{string_bytes}, Global.{Vec}}
+use Rattle.mdns_lives.specs.declared.{life.Life.{Life}, seconds_heard.SecondHeard.{SecondHeard}}
+use Rattle.mdns_page.specs.{RowPicture.{picture}, Timeline.{lives_lent, row_text, seconds_lent}, LifeWords.{lives_words}}
 use Rattle.mdns_page.proofs.PartLemmas.{parts7}
 use Rattle.mdns_page.proofs.row_text.push_row.Goals as goal
 

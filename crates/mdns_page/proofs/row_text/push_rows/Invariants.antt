@@ -1,8 +1,6 @@
 use Rattle.std.proofs.Common.{◌≡◌, ◌++◌, map, take}
-use Rattle.std.specs.List.{flat_map}
-use Rattle.std.specs.String.{string_bytes}
-use Rattle.mdns_page.specs.Html.{isolated}
-use Rattle.mdns_page.specs.Timeline.{counted_lent, row_text}
+use Rattle.std.specs.{List.{flat_map}, String.{string_bytes}}
+use Rattle.mdns_page.specs.{Html.{isolated}, Timeline.{counted_lent, row_text}}
 use Rattle.mdns_page.proofs.row_text.push_rows.Given as goal
 
 -- the rows so far were appended

@@ -4,11 +4,8 @@ use Rattle.std.specs.Ordering.{is_eq, is_le, is_lt}
 use Rattle.mdns_message.specs.Resource.{set_key_cmp, type_number}
 use Rattle.mdns_message.specs.declared.record_type.RecordType.TheVariants as kind
 use Rattle.mdns_join.specs.declared.latest.Latest.{Latest}
-use Rattle.mdns_cache.specs.Live.{key_of_last}
-use Rattle.mdns_cache.specs.LentRecords.{last_lent}
-use Rattle.mdns_lives.specs.LentLives.{row_lent}
-use Rattle.mdns_lives.specs.declared.life.Life.{Life}
-use Rattle.mdns_lives.specs.declared.lives.RecordLives.{RecordLives}
+use Rattle.mdns_cache.specs.{Live.{key_of_last}, LentRecords.{last_lent}}
+use Rattle.mdns_lives.specs.{LentLives.{row_lent}, declared.life.Life.{Life}, declared.lives.RecordLives.{RecordLives}}
 use Rattle.mdns_browse.specs.Services.{set_for}
 use Rattle.mdns_browse.proofs.SearchLemmas.{after_whole, against, filter-rest, parted_after, parted_below}
 use Rattle.mdns_page.proofs.ServerLemmas.{ascending-lent, passing-lent}

@@ -1,8 +1,7 @@
 use Rattle.std.proofs.Common.{◌∙◌, ℕ, Option, List, [], ap, map, option_map}
 use Rattle.std.specs.Prelude.{unwrap_or}
 use Rattle.mdns_join.specs.declared.latest.Latest.{Latest}
-use Rattle.mdns_lives.specs.LentLives.{row_lent}
-use Rattle.mdns_lives.specs.declared.life.Life.{Life}
+use Rattle.mdns_lives.specs.{LentLives.{row_lent}, declared.life.Life.{Life}}
 use Rattle.mdns_page.specs.Servers.{servers_named}
 use Rattle.mdns_page.proofs.ServerLemmas.{lives-lent}
 use Rattle.mdns_page.proofs.servers.servers_of.Goals as goal

@@ -1,8 +1,6 @@
 use Rattle.std.proofs.Common.{◌∙◌, ◌++◌, List, ℕ, ap}
-use Rattle.std.specs.List.{flat_map}
-use Rattle.std.specs.String.{string_bytes}
-use Rattle.mdns_page.specs.Lanes.{height}
-use Rattle.mdns_page.specs.Ticks.{step_of, symbols_text, tick_label, tick_line}
+use Rattle.std.specs.{List.{flat_map}, String.{string_bytes}}
+use Rattle.mdns_page.specs.{Lanes.{height}, Ticks.{step_of, symbols_text, tick_label, tick_line}}
 use Rattle.mdns_page.proofs.PartLemmas.{parts10}
 use Rattle.mdns_page.proofs.ticks.push_labels_and_lines.Goals as goal
 

@@ -1,9 +1,6 @@
 use Rattle.std.proofs.Common.{◌≡◌, ◌++◌, length, map}
-use Rattle.std.specs.List.{flat_map}
-use Rattle.std.specs.String.{string_bytes}
-use Rattle.mdns_page.specs.Group.{grouped}
-use Rattle.mdns_page.specs.Html.{isolated}
-use Rattle.mdns_page.specs.Timeline.{counted_lent, group_text, owner_of}
+use Rattle.std.specs.{List.{flat_map}, String.{string_bytes}}
+use Rattle.mdns_page.specs.{Group.{grouped}, Html.{isolated}, Timeline.{counted_lent, group_text, owner_of}}
 use Rattle.mdns_page.specs.declared.kept_records.TimelinePart.TheVariants.{Instances}
 use Rattle.mdns_page.proofs.timeline.push_groups.Given as goal
 

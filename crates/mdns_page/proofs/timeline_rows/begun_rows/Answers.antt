@@ -1,15 +1,10 @@
 use Rattle.std.proofs.Common.{◌≡◌, ◌∙◌, ◌++◌, ◌∷◌, [], List, ap, cond, map, sym}
 use Rattle.std.proofs.lemmas.List.{append-nil, map-append}
 use Rattle.mdns_join.specs.declared.latest.Latest.{Latest}
-use Rattle.mdns_lives.specs.LentLives.{row_lent}
-use Rattle.mdns_lives.specs.declared.life.Life.{Life}
+use Rattle.mdns_lives.specs.{LentLives.{row_lent}, declared.life.Life.{Life}}
 use Rattle.mdns_browse.specs.Services.{body_of}
-use Rattle.mdns_page.specs.TimelineRows.{IsBegun}
-use Rattle.mdns_page.specs.KeptRecords.{is_of}
-use Rattle.mdns_page.specs.Servers.{servers_of}
-use Rattle.mdns_page.specs.Timeline.{Row, counted_lent}
-use Rattle.mdns_page.proofs.CountedLemmas.{record_in, row-more}
-use Rattle.mdns_page.proofs.KeptLemmas.{kept-more}
+use Rattle.mdns_page.specs.{TimelineRows.{IsBegun}, KeptRecords.{is_of}, Servers.{servers_of}, Timeline.{Row, counted_lent}}
+use Rattle.mdns_page.proofs.{CountedLemmas.{record_in, row-more}, KeptLemmas.{kept-more}}
 use Rattle.mdns_page.proofs.timeline_rows.begun_rows.Goals as goal
 
 -- a record of another part

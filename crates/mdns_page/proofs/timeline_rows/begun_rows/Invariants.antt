@@ -1,18 +1,11 @@
 use Rattle.std.proofs.Common.{◌≡◌, List, map, take}
-use Rattle.std.specs.List.{All, filter}
-use Rattle.std.specs.List.Sorted.{IsStrictlySortedBy}
-use Rattle.mdns_message.specs.declared.hearing.Hearing.{Hearing}
-use Rattle.mdns_message.specs.Resource.{key_cmp}
+use Rattle.std.specs.{List.{All, filter}, List.Sorted.{IsStrictlySortedBy}}
+use Rattle.mdns_message.specs.{declared.hearing.Hearing.{Hearing}, Resource.{key_cmp}}
 use Rattle.mdns_cache.specs.Live.{key_of_last}
 use Rattle.mdns_join.specs.declared.latest.Latest.{Latest}
-use Rattle.mdns_lives.specs.declared.life.Life.{Life}
-use Rattle.mdns_lives.specs.Chronicle.{Chronicles}
-use Rattle.mdns_lives.specs.LentLives.{row_lent}
+use Rattle.mdns_lives.specs.{declared.life.Life.{Life}, Chronicle.{Chronicles}, LentLives.{row_lent}}
 use Rattle.mdns_browse.specs.Services.{AreEach, body_of}
-use Rattle.mdns_page.specs.TimelineRows.{IsBegun}
-use Rattle.mdns_page.specs.KeptRecords.{is_of}
-use Rattle.mdns_page.specs.Servers.{servers_of}
-use Rattle.mdns_page.specs.Timeline.{Row, counted_lent}
+use Rattle.mdns_page.specs.{TimelineRows.{IsBegun}, KeptRecords.{is_of}, Servers.{servers_of}, Timeline.{Row, counted_lent}}
 use Rattle.mdns_page.proofs.timeline_rows.begun_rows.Given as goal
 
 -- the rows of the records so far

@@ -2,8 +2,7 @@ use Rattle.std.proofs.Common.{◌≡◌, ◌∙◌, map}
 use Rattle.std.specs.List.{All}
 use Rattle.mdns_lives.specs.LentLives.{row_lent}
 use Rattle.mdns_browse.specs.Services.{body_of}
-use Rattle.mdns_page.specs.Servers.{servers_of}
-use Rattle.mdns_page.specs.Timeline.{Row, counted_lent}
+use Rattle.mdns_page.specs.{Servers.{servers_of}, Timeline.{Row, counted_lent}}
 use Rattle.mdns_page.proofs.HearerLemmas.{all-kept, records-kept, rows-sorted}
 use Rattle.mdns_page.proofs.timeline_rows.counted_rows.Goals as goal
 

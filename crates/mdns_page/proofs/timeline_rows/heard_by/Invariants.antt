@@ -1,10 +1,8 @@
 use Rattle.std.proofs.Common.{List, false, map, take}
-use Rattle.mdns_message.specs.declared.hearing.Hearing.{Hearing}
-use Rattle.mdns_message.specs.Resource.{key_of}
+use Rattle.mdns_message.specs.{declared.hearing.Hearing.{Hearing}, Resource.{key_of}}
 use Rattle.mdns_lives.specs.Chronicle.{Chronicles}
 use Rattle.mdns_browse.specs.Services.{AreEach}
-use Rattle.mdns_page.specs.TimelineRows.{AreShownBy}
-use Rattle.mdns_page.specs.Timeline.{seconds_lent}
+use Rattle.mdns_page.specs.{TimelineRows.{AreShownBy}, Timeline.{seconds_lent}}
 use Rattle.mdns_page.proofs.timeline_rows.heard_by.Given as goal
 
 -- the seconds of the captures so far

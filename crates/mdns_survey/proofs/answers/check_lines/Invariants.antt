@@ -1,6 +1,5 @@
 use Rattle.std.proofs.Common.{◌≡◌, ◌++◌, map, length, string_bytes}
-use Rattle.mdns_survey.specs.ProgramLines.{check_lines_text}
-use Rattle.mdns_survey.specs.Readings.{summaries_of}
+use Rattle.mdns_survey.specs.{ProgramLines.{check_lines_text}, Readings.{summaries_of}}
 use Rattle.mdns_survey.proofs.answers.check_lines.Given as goal
 
 -- the lines written so far and those that are left are all lines

@@ -1,6 +1,5 @@
 use Rattle.mdns_survey.specs.LivesAnswer.{SurveysLives}
-use Rattle.mdns_survey.proofs.FactLemmas.{one-survey}
-use Rattle.mdns_survey.proofs.LivesLawLemmas.{lives-by-facts}
+use Rattle.mdns_survey.proofs.{FactLemmas.{one-survey}, LivesLawLemmas.{lives-by-facts}}
 use Rattle.mdns_survey.proofs.laws.one_lives.Goals as goal
 
 pub returns : goal.returns

@@ -1,6 +1,5 @@
 use Rattle.mdns_survey.specs.Surveys.{SurveysReport}
-use Rattle.mdns_survey.proofs.FactLemmas.{one-survey}
-use Rattle.mdns_survey.proofs.TextLemmas.{report-by-facts}
+use Rattle.mdns_survey.proofs.{FactLemmas.{one-survey}, TextLemmas.{report-by-facts}}
 use Rattle.mdns_survey.proofs.laws.one_survey.Goals as goal
 
 pub returns : goal.returns

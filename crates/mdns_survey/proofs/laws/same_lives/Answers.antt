@@ -1,6 +1,5 @@
 use Rattle.mdns_survey.specs.LivesAnswer.{SurveysLives}
-use Rattle.mdns_survey.proofs.FactLemmas.{same-captures, same-texts}
-use Rattle.mdns_survey.proofs.LivesLawLemmas.{lives-by-facts}
+use Rattle.mdns_survey.proofs.{FactLemmas.{same-captures, same-texts}, LivesLawLemmas.{lives-by-facts}}
 use Rattle.mdns_survey.proofs.laws.same_lives.Goals as goal
 
 pub returns-clause-shared : goal.returns-clause-shared

@@ -1,6 +1,5 @@
 use Rattle.mdns_survey.specs.Surveys.{SurveysReport}
-use Rattle.mdns_survey.proofs.FactLemmas.{same-captures, same-texts}
-use Rattle.mdns_survey.proofs.TextLemmas.{report-by-facts}
+use Rattle.mdns_survey.proofs.{FactLemmas.{same-captures, same-texts}, TextLemmas.{report-by-facts}}
 use Rattle.mdns_survey.proofs.laws.same_text.Goals as goal
 
 pub returns-clause-shared : goal.returns-clause-shared

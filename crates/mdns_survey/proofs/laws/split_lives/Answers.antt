@@ -1,6 +1,5 @@
 use Rattle.mdns_survey.specs.LivesAnswer.{SurveysLives}
-use Rattle.mdns_survey.proofs.LivesLawLemmas.{lives-by-facts}
-use Rattle.mdns_survey.proofs.SplitLemmas.{parts-survey, same-split, whole-survey}
+use Rattle.mdns_survey.proofs.{LivesLawLemmas.{lives-by-facts}, SplitLemmas.{parts-survey, same-split, whole-survey}}
 use Rattle.mdns_survey.proofs.laws.split_lives.Goals as goal
 
 pub returns-clause-parts : goal.returns-clause-parts

@@ -1,6 +1,5 @@
 use Rattle.mdns_survey.specs.Surveys.{SurveysReport}
-use Rattle.mdns_survey.proofs.ByteLemmas.{bytes_of_parts}
-use Rattle.mdns_survey.proofs.SplitLemmas.{parts-survey, same-split, whole-survey}
+use Rattle.mdns_survey.proofs.{ByteLemmas.{bytes_of_parts}, SplitLemmas.{parts-survey, same-split, whole-survey}}
 use Rattle.mdns_survey.proofs.TextLemmas.{report-by-facts}
 use Rattle.mdns_survey.proofs.laws.split_text.Goals as goal
 

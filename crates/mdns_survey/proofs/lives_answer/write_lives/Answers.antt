@@ -1,17 +1,11 @@
 use Rattle.std.proofs.Common.{◌∙◌, ◌++◌, List, string_bytes, subst, sym}
 use Rattle.std.proofs.lemmas.Result.{IfErr-weaker, on_ok_weaker}
-use Rattle.std.specs.Io.KnownBytes.{Appends}
-use Rattle.std.specs.List.{flat_map}
+use Rattle.std.specs.{Io.KnownBytes.{Appends}, List.{flat_map}}
 use Rattle.mdns_capture.specs.Output.{writing}
 use Rattle.mdns_lives.specs.Chronicle.{rows_of}
-use Rattle.mdns_browse.specs.LifeText.{lives_text}
-use Rattle.mdns_browse.specs.declared.about.Subject.{Subject}
-use Rattle.mdns_survey.specs.Chronicling.{FitsForm, StopsRows}
-use Rattle.mdns_survey.specs.LivesAnswer.{kept_rows}
-use Rattle.mdns_survey.specs.Filter.{counted, filter_of}
-use Rattle.mdns_survey.proofs.KeptLemmas.{Row}
-use Rattle.mdns_survey.proofs.ListenedLemmas.{have-spans}
-use Rattle.mdns_survey.proofs.LivesLemmas.{early-ended, stops-lives, writes-lives}
+use Rattle.mdns_browse.specs.{LifeText.{lives_text}, declared.about.Subject.{Subject}}
+use Rattle.mdns_survey.specs.{Chronicling.{FitsForm, StopsRows}, LivesAnswer.{kept_rows}, Filter.{counted, filter_of}}
+use Rattle.mdns_survey.proofs.{KeptLemmas.{Row}, ListenedLemmas.{have-spans}, LivesLemmas.{early-ended, stops-lives, writes-lives}}
 use Rattle.mdns_survey.proofs.lives_answer.write_lives.Goals as goal
 
 pub returns-in-Some-clause-refused : goal.returns-in-Some-clause-refused

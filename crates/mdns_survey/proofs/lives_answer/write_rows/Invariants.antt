@@ -1,7 +1,6 @@
 use Rattle.std.proofs.Common.{◌≡◌, IsTrue, length, string_bytes}
 use Rattle.mdns_browse.specs.LifeText.{lives_text}
-use Rattle.mdns_survey.proofs.KeptLemmas.{kept_text}
-use Rattle.mdns_survey.proofs.RowsLemmas.{RowsSoFar}
+use Rattle.mdns_survey.proofs.{KeptLemmas.{kept_text}, RowsLemmas.{RowsSoFar}}
 use Rattle.mdns_survey.proofs.lives_answer.write_rows.Given as goal
 
 -- the lines of the rows so far were written, or wait

@@ -1,7 +1,6 @@
 use Rattle.std.proofs.Common.{rules, arith, ◌∙◌, Some, ap}
 use Rattle.mdns_capture.specs.Capture.{Gives, packet_lent}
-use Rattle.mdns_survey.specs.declared.reading.Span.{Span}
-use Rattle.mdns_survey.specs.Span.{joined_spans}
+use Rattle.mdns_survey.specs.{declared.reading.Span.{Span}, Span.{joined_spans}}
 use Rattle.mdns_survey.proofs.ReadingLemmas.{lost-few, read-more, read-none}
 use Rattle.mdns_survey.proofs.reading.read_capture.Goals as goal
 

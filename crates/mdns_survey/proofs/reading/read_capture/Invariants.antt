@@ -1,6 +1,5 @@
 use Rattle.std.proofs.Common.{◌≡◌, ◌-◌, IsTrue, IfSome, None}
-use Rattle.mdns_capture.specs.declared.savefile.Ending.TheVariants.{Going}
-use Rattle.mdns_capture.specs.Savefile.{header_fault}
+use Rattle.mdns_capture.specs.{declared.savefile.Ending.TheVariants.{Going}, Savefile.{header_fault}}
 use Rattle.mdns_survey.specs.Reading.{ReadSoFar}
 use Rattle.mdns_survey.proofs.reading.read_capture.Given as goal
 

@@ -1,8 +1,7 @@
 use Rattle.std.proofs.Common.{arith, inl}
 use Rattle.mdns_capture.specs.Capture.{packet_lent}
 use Rattle.mdns_survey.specs.Outcomes.{heard}
-use Rattle.mdns_survey.proofs.LossLemmas.{counts-no-loss}
-use Rattle.mdns_survey.proofs.SkipLemmas.{counts-no-skip, heard-no-skip}
+use Rattle.mdns_survey.proofs.{LossLemmas.{counts-no-loss}, SkipLemmas.{counts-no-skip, heard-no-skip}}
 use Rattle.mdns_survey.proofs.reading.take_packet.Goals as goal
 
 pub pass-requires-clause-comes : goal.pass-requires-clause-comes

@@ -1,6 +1,5 @@
 use Rattle.std.proofs.Common.{◌≡◌, ◌++◌, drop}
-use Rattle.std.specs.List.{flat_map}
-use Rattle.std.specs.String.{string_bytes}
+use Rattle.std.specs.{List.{flat_map}, String.{string_bytes}}
 use Rattle.mdns_trace.specs.Loss.{loss_text}
 use Rattle.mdns_trace.proofs.loss.push_losses.Given as goal
 

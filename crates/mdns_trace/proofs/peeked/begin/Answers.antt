@@ -1,7 +1,6 @@
 use Rattle.std.proofs.Common.{◌≡◌, arith, length, length-take-le, refl, subst, take, take_all}
 use Rattle.std.specs.Io.KnownBytes.{Consumes}
-use Rattle.mdns_trace.proofs.FlawLemmas.{begun-sound, flaw-came, given-again}
-use Rattle.mdns_trace.proofs.VerdictLemmas.{head-known}
+use Rattle.mdns_trace.proofs.{FlawLemmas.{begun-sound, flaw-came, given-again}, VerdictLemmas.{head-known}}
 use Rattle.mdns_trace.proofs.peeked.begin.Goals as goal
 
 pub returns-in-None-clause-begun : goal.returns-in-None-clause-begun

@@ -1,6 +1,5 @@
 use Rattle.std.proofs.Common.{◌≡◌, ◌++◌}
-use Rattle.std.specs.List.{filter, flat_map}
-use Rattle.std.specs.String.{string_bytes}
+use Rattle.std.specs.{List.{filter, flat_map}, String.{string_bytes}}
 use Rattle.mdns_browse.specs.About.{keeps_record}
 use Rattle.mdns_trace.specs.Trace.{hearing_text}
 use Rattle.mdns_trace.proofs.trace.push_hearing_lines.Given as goal

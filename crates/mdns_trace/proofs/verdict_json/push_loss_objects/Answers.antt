@@ -2,8 +2,7 @@ use Rattle.std.proofs.Common.{◌∙◌, ◌+◌, ◌++◌, List, ap, drop, stri
 use Rattle.std.proofs.lemmas.List.{drop_more}
 use Rattle.std.specs.List.{flat_map}
 use Rattle.mdns_browse.specs.Json.{parted}
-use Rattle.mdns_trace.specs.declared.loss.Loss.{Loss}
-use Rattle.mdns_trace.specs.VerdictJson.{loss_objects}
+use Rattle.mdns_trace.specs.{declared.loss.Loss.{Loss}, VerdictJson.{loss_objects}}
 use Rattle.mdns_trace.proofs.MemberLemmas.{objects-more}
 use Rattle.mdns_trace.proofs.verdict_json.push_loss_objects.Goals as goal
 

@@ -1,6 +1,5 @@
 use Rattle.std.proofs.Common.{◌≡◌, ◌++◌, drop, true}
-use Rattle.std.specs.List.{flat_map}
-use Rattle.std.specs.String.{string_bytes}
+use Rattle.std.specs.{List.{flat_map}, String.{string_bytes}}
 use Rattle.mdns_browse.specs.Json.{parted}
 use Rattle.mdns_trace.specs.VerdictJson.{loss_objects}
 use Rattle.mdns_trace.proofs.verdict_json.push_loss_objects.Given as goal

@@ -1,6 +1,5 @@
 use Rattle.std.proofs.Common.{◌≡◌, ℕ, refl}
-use Rattle.people_text.specs.Calendar.{IsDate}
-use Rattle.people_text.specs.MomentText.{days_to, year_at}
+use Rattle.people_text.specs.{Calendar.{IsDate}, MomentText.{days_to, year_at}}
 use Rattle.people_text.proofs.CalendarLemmas.{year_of-date}
 use Rattle.people_text.proofs.moment_text.year_at.Goals as goal
 

@@ -1,6 +1,5 @@
 use Rattle.std.proofs.Common.{arith, ◌≡◌, ℕ, List, ◌++◌, ap, append_assoc, string_bytes}
-use Rattle.std.proofs.lemmas.List.{take_rest}
-use Rattle.std.proofs.lemmas.Result.{IfOk-equal}
+use Rattle.std.proofs.lemmas.{List.{take_rest}, Result.{IfOk-equal}}
 use Rattle.people_text.proofs.ShownLemmas.{plain-front}
 use Rattle.people_text.proofs.shown.push_bytes.Goals as goal
 

@@ -1,6 +1,5 @@
 use Rattle.std.proofs.Common.{◌++◌, ◌∙◌, ap, flat_map, map-id, string_bytes, sym}
-use Rattle.std.proofs.lemmas.Iterator.{YieldsList-from_chars}
-use Rattle.std.proofs.lemmas.Iterator.Consumers.{YieldsList-end}
+use Rattle.std.proofs.lemmas.{Iterator.{YieldsList-from_chars}, Iterator.Consumers.{YieldsList-end}}
 use Rattle.people_text.specs.Shown.{scalar_text}
 use Rattle.people_text.proofs.shown.push_text.Goals as goal
 

@@ -1,6 +1,5 @@
 use Rattle.std.proofs.Common.{arith}
-use Rattle.dns_name.proofs.NameLemmas.{name_onward, name_within}
-use Rattle.dns_name.proofs.ReadNameLemmas.{run_label, run_pointer, run_ends}
+use Rattle.dns_name.proofs.{NameLemmas.{name_onward, name_within}, ReadNameLemmas.{run_label, run_pointer, run_ends}}
 use Rattle.dns_name.proofs.name_at.NameReader.read_onto.Goals as goal
 
 pub returns-in-Root-clause-stands : goal.returns-in-Root-clause-stands

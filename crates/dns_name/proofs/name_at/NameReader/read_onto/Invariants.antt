@@ -1,6 +1,5 @@
 use Rattle.std.proofs.Common.{◌+◌, ◌-◌}
-use Rattle.dns_name.proofs.PointerLemmas.{Knowing}
-use Rattle.dns_name.proofs.ReadNameLemmas.{ReadingRun}
+use Rattle.dns_name.proofs.{PointerLemmas.{Knowing}, ReadNameLemmas.{ReadingRun}}
 use Rattle.dns_name.proofs.name_at.NameReader.read_onto.Given as goal
 
 abbrev pub invariant-loop-bytes : goal.invariant-loop-bytes

@@ -1,7 +1,6 @@
 use Rattle.std.proofs.Common.{arith, ◌∙◌, ap}
 use Rattle.join_map.specs.Blocks.{picked}
-use Rattle.join_map.proofs.OrderLemmas.{ArePlaces-order}
-use Rattle.join_map.proofs.PlaceLemmas.{rows-entries}
+use Rattle.join_map.proofs.{OrderLemmas.{ArePlaces-order}, PlaceLemmas.{rows-entries}}
 use Rattle.join_map.proofs.blocks.Blocks.from_places.Goals as goal
 
 pub invariant_of-result : goal.invariant_of-result

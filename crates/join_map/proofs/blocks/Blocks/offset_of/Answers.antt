@@ -1,7 +1,6 @@
 use Rattle.std.proofs.Common.{◌+◌, ◌-◌, ◌/◌, ◌∙◌, sym, arith}
 use Rattle.join_map.specs.Blocks.{block_at}
-use Rattle.join_map.proofs.KeyLemmas.{IsOffset-at, above_from, below_upto, middle_below}
-use Rattle.join_map.proofs.PlaceLemmas.{entry_is}
+use Rattle.join_map.proofs.{KeyLemmas.{IsOffset-at, above_from, below_upto, middle_below}, PlaceLemmas.{entry_is}}
 use Rattle.join_map.proofs.blocks.Blocks.offset_of.Goals as goal
 
 pub loop-low-preserved-in-Less : goal.loop-low-preserved-in-Less

@@ -1,6 +1,5 @@
 use Rattle.std.proofs.Common.{arith, sym}
-use Rattle.join_map.specs.Blocks.{entries_of}
-use Rattle.join_map.specs.laws.Entries.{IsJoinMap-value}
+use Rattle.join_map.specs.{Blocks.{entries_of}, laws.Entries.{IsJoinMap-value}}
 use Rattle.join_map.proofs.SpotLemmas.{value_at-spot, value_at-gap}
 use Rattle.join_map.proofs.join_map.JoinMap.get.Goals as goal
 

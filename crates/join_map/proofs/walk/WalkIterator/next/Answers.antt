@@ -1,9 +1,8 @@
 use Rattle.std.proofs.lemmas.Grind.{common_steps}
 use Rattle.std.proofs.Common.{arith}
-use Rattle.join_map.proofs.BlockLemmas.{none_from}
-use Rattle.join_map.proofs.WalkLemmas.{none_left, open_first, open_next, open_still, place_left}
-use Rattle.join_map.proofs.walk.WalkIterator.next.Goals as goal
+use Rattle.join_map.proofs.{BlockLemmas.{none_from}, WalkLemmas.{none_left, open_first, open_next, open_still, place_left}}
 use Rattle.join_map.proofs.walk.WalkIterator.next.Goals.{then-is_empty+in_ok-block, else-is_empty}
+use Rattle.join_map.proofs.walk.WalkIterator.next.Goals as goal
 
 pub entry_at-entry-requires : goal.entry_at-entry-requires
 entry_at-entry-requires g c = grind (arith, open_next, none_from, else-is_empty, open_still, open_first)

@@ -1,9 +1,6 @@
 use Rattle.std.proofs.Common.{refl, ◌==◌, codes, string_bytes}
 use Rattle.dns_name.specs.Name.{name_text}
-use Rattle.mdns_browse.specs.Given.{given_lent}
-use Rattle.mdns_browse.specs.Json.{json_bool, json_string}
-use Rattle.mdns_browse.specs.Sheet.{instance_begin}
-use Rattle.mdns_browse.specs.RecordShown.{shown_instance}
+use Rattle.mdns_browse.specs.{Given.{given_lent}, Json.{json_bool, json_string}, Sheet.{instance_begin}, RecordShown.{shown_instance}}
 use Rattle.mdns_browse.proofs.ObjectLemmas.{grows_piece, instance_begin_by_parts}
 use Rattle.mdns_browse.proofs.report_json.ObjectsSheet.instance_begin.Goals as goal
 

@@ -1,17 +1,13 @@
 use Rattle.std.proofs.Common.{◌∙◌, ap, ◌++◌}
 use Rattle.std.proofs.lemmas.Result.{on_ok_weaker}
-use Rattle.std.specs.Fmt.{decimal}
-use Rattle.std.specs.String.{string_bytes}
+use Rattle.std.specs.{Fmt.{decimal}, String.{string_bytes}}
 use Rattle.dns_name.specs.Name.{name_text}
 use Rattle.mdns_message.specs.Resource.{type_name, type_of}
 use Rattle.mdns_cache.specs.LentRecords.{live_record_lent}
-use Rattle.mdns_browse.specs.RecordShown.{shown_record}
-use Rattle.mdns_browse.specs.RecordText.{data_words}
-use Rattle.mdns_capture.specs.Text.{moment_text}
-use Rattle.mdns_browse.specs.Json.{json_string, json_words, record_json}
+use Rattle.mdns_browse.specs.{RecordShown.{shown_record}, RecordText.{data_words}, Json.{json_string, json_words, record_json}}
 use Rattle.mdns_browse.specs.Sheet.{live_record}
-use Rattle.mdns_browse.proofs.ObjectLemmas.{grows_piece, record_by_parts}
-use Rattle.mdns_browse.proofs.TextLemmas.{two_parts}
+use Rattle.mdns_capture.specs.Text.{moment_text}
+use Rattle.mdns_browse.proofs.{ObjectLemmas.{grows_piece, record_by_parts}, TextLemmas.{two_parts}}
 use Rattle.mdns_browse.proofs.report_json.ObjectsSheet.live_record.Goals as goal
 
 pub returns : goal.returns

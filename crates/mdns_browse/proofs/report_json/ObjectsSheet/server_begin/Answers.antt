@@ -1,10 +1,8 @@
 use Rattle.std.proofs.Common.{rules, codes}
-use Rattle.std.specs.Fmt.{decimal}
-use Rattle.std.specs.String.{string_bytes}
+use Rattle.std.specs.{Fmt.{decimal}, String.{string_bytes}}
 use Rattle.dns_name.specs.Name.{name_text}
 use Rattle.people_text.specs.Shown.{name_shown}
-use Rattle.mdns_browse.specs.Json.{json_string, comma_unless}
-use Rattle.mdns_browse.specs.Sheet.{server_begin}
+use Rattle.mdns_browse.specs.{Json.{json_string, comma_unless}, Sheet.{server_begin}}
 use Rattle.mdns_browse.proofs.ObjectLemmas.{grows_piece, server_begin_by_parts}
 use Rattle.mdns_browse.proofs.report_json.ObjectsSheet.server_begin.Goals as goal
 

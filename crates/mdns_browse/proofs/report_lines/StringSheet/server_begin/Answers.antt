@@ -1,6 +1,5 @@
 use Rattle.std.proofs.Common.{rules, ◌∷◌, codes}
-use Rattle.std.specs.Fmt.{decimal}
-use Rattle.std.specs.String.{string_bytes}
+use Rattle.std.specs.{Fmt.{decimal}, String.{string_bytes}}
 use Rattle.dns_name.specs.Name.{name_text}
 use Rattle.mdns_browse.proofs.LineLemmas.{begin_by_parts}
 use Rattle.mdns_browse.proofs.report_lines.StringSheet.server_begin.Goals as goal

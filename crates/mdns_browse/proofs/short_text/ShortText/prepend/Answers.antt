@@ -1,6 +1,5 @@
 use Rattle.std.proofs.Common.{◌≡◌, ◌-◌, ◌++◌, length, drop, arith}
-use Rattle.std.proofs.lemmas.Grind.{common_steps}
-use Rattle.std.proofs.lemmas.Str.{IsUtf8-append}
+use Rattle.std.proofs.lemmas.{Grind.{common_steps}, Str.{IsUtf8-append}}
 use borrow.Rule.Slice.PartMut.{put_mid}
 use Rattle.mdns_browse.proofs.short_text.ShortText.prepend.Goals as goal
 

@@ -1,6 +1,5 @@
 use Rattle.std.proofs.Common.{arith, length-drop}
-use Rattle.std.proofs.lemmas.Fmt.{IsAscii-decimal, length-decimal-le}
-use Rattle.std.proofs.lemmas.Str.{IsUtf8-append, IsUtf8-from_ascii}
+use Rattle.std.proofs.lemmas.{Fmt.{IsAscii-decimal, length-decimal-le}, Str.{IsUtf8-append, IsUtf8-from_ascii}}
 use Rattle.mdns_browse.proofs.short_text.ShortText.prepend_decimal.Goals as goal
 
 pub write_decimal-self-inside-requires : goal.write_decimal-self-inside-requires

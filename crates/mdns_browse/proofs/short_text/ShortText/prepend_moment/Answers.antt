@@ -1,8 +1,7 @@
 use Rattle.std.proofs.Common.{◌/◌, length, ap, arith, append_assoc, length-append}
 use Rattle.std.proofs.lemmas.Fmt.{length-decimal-le}
 use Rattle.std.specs.Fmt.{decimal}
-use Rattle.mdns_capture.specs.Limits.{second}
-use Rattle.mdns_capture.specs.Text.{moment_text}
+use Rattle.mdns_capture.specs.{Limits.{second}, Text.{moment_text}}
 use Rattle.mdns_browse.proofs.short_text.ShortText.prepend_moment.Goals as goal
 
 pub returns-clause-written : goal.returns-clause-written

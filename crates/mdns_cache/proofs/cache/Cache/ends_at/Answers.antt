@@ -1,9 +1,7 @@
 use Rattle.std.proofs.Common.{◌<◌, ◌+◌, List, ℕ, [], ap, sym, subst, ◌∙◌, unwrap_or, arith}
 use Rattle.mdns_message.specs.RecordSet.{RecordSet}
 use Rattle.mdns_join.specs.declared.latest.Latest.{Latest}
-use Rattle.mdns_cache.specs.Live.{life_of, IsLive, IsEnd}
-use Rattle.mdns_cache.specs.LentRecords.{end_of, last_lent}
-use Rattle.mdns_cache.specs.Contents.{flushes_at}
+use Rattle.mdns_cache.specs.{Live.{life_of, IsLive, IsEnd}, LentRecords.{end_of, last_lent}, Contents.{flushes_at}}
 use Rattle.mdns_cache.proofs.MeaningLemmas.{ends_at-later, ends_at-over}
 use Rattle.mdns_cache.proofs.cache.Cache.ends_at.Goals as goal
 

@@ -1,9 +1,7 @@
 use Rattle.std.proofs.Common.{[], ◌≡◌, List, ℕ, Some, None, true, ◌↔◌, subst, sym, ap, ◌∙◌, unwrap_or, Option, refl}
-use Rattle.mdns_message.specs.RecordSet.{RecordSet}
-use Rattle.mdns_message.specs.declared.hearing.Hearing.{Hearing}
+use Rattle.mdns_message.specs.{RecordSet.{RecordSet}, declared.hearing.Hearing.{Hearing}}
 use Rattle.mdns_join.specs.Kept.{has, IsKept}
-use Rattle.mdns_cache.specs.Live.{flush_moments}
-use Rattle.mdns_cache.specs.Contents.{Contents, StandsFor, flushes_at}
+use Rattle.mdns_cache.specs.{Live.{flush_moments}, Contents.{Contents, StandsFor, flushes_at}}
 use Rattle.mdns_cache.proofs.MeaningLemmas.{flushes-held, flushes-none}
 use Rattle.mdns_cache.proofs.cache.Cache.flushes.Goals as goal
 

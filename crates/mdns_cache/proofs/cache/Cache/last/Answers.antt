@@ -1,6 +1,5 @@
 use Rattle.std.proofs.Common.{◌≡◌, Some, None, subst, sym}
-use Rattle.mdns_cache.specs.Live.{IsLast}
-use Rattle.mdns_cache.specs.Contents.{Contents, last_at}
+use Rattle.mdns_cache.specs.{Live.{IsLast}, Contents.{Contents, last_at}}
 use Rattle.mdns_cache.proofs.MeaningLemmas.{IsLast-held, IsUnheard-held}
 use Rattle.mdns_cache.proofs.cache.Cache.last.Goals as goal
 

@@ -1,8 +1,6 @@
 use Rattle.std.proofs.Common.{List, ℕ, ap, ◌∙◌, subst, sym}
 use Rattle.mdns_join.specs.declared.latest.Latest.{Latest}
-use Rattle.mdns_cache.specs.Contents.{Contents}
-use Rattle.mdns_cache.specs.LentRecords.{live_of}
-use Rattle.mdns_cache.specs.Live.{AreLiveRecords}
+use Rattle.mdns_cache.specs.{Contents.{Contents}, LentRecords.{live_of}, Live.{AreLiveRecords}}
 use Rattle.mdns_cache.proofs.LiveRowLemmas.{AreLiveRecords-held}
 use Rattle.mdns_cache.proofs.cache.Cache.walk_live.Goals as goal
 

@@ -1,7 +1,6 @@
 use Rattle.mdns_message.specs.Borrowed.{hearing_lent}
 use Rattle.mdns_cache.specs.Repeats.{contents_at_each}
-use Rattle.mdns_cache.proofs.BetweenLemmas.{IsContents-each}
-use Rattle.mdns_cache.proofs.StepLemmas.{whole_join, hear_each_stands}
+use Rattle.mdns_cache.proofs.{BetweenLemmas.{IsContents-each}, StepLemmas.{whole_join, hear_each_stands}}
 use Rattle.mdns_cache.proofs.gathering.Gathering.hear_at_each.Goals as goal
 
 pub returns : goal.returns

@@ -1,16 +1,11 @@
 use Rattle.std.proofs.Common.{[], ◌∷◌, arith, if◌then◌else◌, OnErr, ap, subst, sym}
 use Rattle.std.proofs.lemmas.Result.{on_err_weaker}
-use Rattle.mdns_message.specs.Borrowed.{hearing_lent}
-use Rattle.mdns_message.specs.Resource.{set_key_of, set_key_cmp}
-use Rattle.join_map.specs.Join.{IsPartOfJoin}
-use Rattle.join_map.specs.Entries.{gathered, joined}
-use Rattle.mdns_join.specs.Kept.{kept_union}
-use Rattle.mdns_join.specs.laws.Kept.{kept-one}
+use Rattle.mdns_message.specs.{Borrowed.{hearing_lent}, Resource.{set_key_of, set_key_cmp}}
+use Rattle.join_map.specs.{Join.{IsPartOfJoin}, Entries.{gathered, joined}}
+use Rattle.mdns_join.specs.{Kept.{kept_union}, laws.Kept.{kept-one}}
 use Rattle.mdns_join.proofs.RefusedLemmas.{part_refused}
-use Rattle.mdns_cache.specs.Contents.{Contents, IsUpTo, flush_of}
-use Rattle.mdns_cache.specs.Gathering.{contents_gathered}
-use Rattle.mdns_cache.proofs.BetweenLemmas.{flush_entry, IsUpTo-less}
-use Rattle.mdns_cache.proofs.ContentsLemmas.{flushes-laws}
+use Rattle.mdns_cache.specs.{Contents.{Contents, IsUpTo, flush_of}, Gathering.{contents_gathered}}
+use Rattle.mdns_cache.proofs.{BetweenLemmas.{flush_entry, IsUpTo-less}, ContentsLemmas.{flushes-laws}}
 use Rattle.mdns_cache.proofs.GatheringLemmas.{any_fit, IsContents-gathered_flushes}
 use Rattle.mdns_cache.proofs.gathering.Gathering.hear_flush.Goals as goal
 

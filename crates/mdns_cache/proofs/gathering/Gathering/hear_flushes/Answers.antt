@@ -1,11 +1,9 @@
 use Rattle.std.proofs.Common.{arith, ap, subst, sym}
 use Rattle.std.proofs.lemmas.Result.{on_err_weaker}
-use Rattle.mdns_message.specs.Borrowed.{hearing_lent}
-use Rattle.mdns_message.specs.Resource.{set_key_of, set_key_cmp}
+use Rattle.mdns_message.specs.{Borrowed.{hearing_lent}, Resource.{set_key_of, set_key_cmp}}
 use Rattle.join_map.specs.Entries.{gathered}
 use Rattle.mdns_join.specs.Kept.{kept_union}
-use Rattle.mdns_cache.specs.Contents.{Contents, IsUpTo}
-use Rattle.mdns_cache.specs.Gathering.{contents_gathered}
+use Rattle.mdns_cache.specs.{Contents.{Contents, IsUpTo}, Gathering.{contents_gathered}}
 use Rattle.mdns_cache.proofs.GatheringLemmas.{any_fit, IsContents-gathered_flushes}
 use Rattle.mdns_cache.proofs.gathering.Gathering.hear_flushes.Goals as goal
 

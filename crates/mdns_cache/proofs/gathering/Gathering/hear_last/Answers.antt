@@ -1,16 +1,11 @@
 use Rattle.std.proofs.Common.{arith, OnErr, ap, subst, sym}
 use Rattle.std.proofs.lemmas.Result.{on_err_weaker}
-use Rattle.mdns_message.specs.Borrowed.{hearing_lent}
-use Rattle.mdns_message.specs.Resource.{key_of, key_cmp}
-use Rattle.join_map.specs.Join.{IsPartOfJoin}
-use Rattle.join_map.specs.Entries.{gathered, joined}
+use Rattle.mdns_message.specs.{Borrowed.{hearing_lent}, Resource.{key_of, key_cmp}}
+use Rattle.join_map.specs.{Join.{IsPartOfJoin}, Entries.{gathered, joined}}
 use Rattle.mdns_join.specs.Latest.{later, latest_of}
 use Rattle.mdns_join.proofs.RefusedLemmas.{part_refused}
-use Rattle.mdns_cache.specs.Contents.{Contents, IsUpTo, contents_of}
-use Rattle.mdns_cache.specs.Gathering.{contents_gathered}
-use Rattle.mdns_cache.proofs.BetweenLemmas.{IsContents-one}
-use Rattle.mdns_cache.proofs.ContentsLemmas.{lasts-laws}
-use Rattle.mdns_cache.proofs.GatheringLemmas.{IsContents-gathered_last}
+use Rattle.mdns_cache.specs.{Contents.{Contents, IsUpTo, contents_of}, Gathering.{contents_gathered}}
+use Rattle.mdns_cache.proofs.{BetweenLemmas.{IsContents-one}, ContentsLemmas.{lasts-laws}, GatheringLemmas.{IsContents-gathered_last}}
 use Rattle.mdns_cache.proofs.gathering.Gathering.hear_last.Goals as goal
 
 pub invariant_of-self : goal.invariant_of-self

@@ -1,8 +1,6 @@
 use Rattle.std.proofs.Common.{None, [], subst, sym}
-use Rattle.mdns_cache.specs.Contents.{Contents, StandsFor}
-use Rattle.mdns_cache.specs.Gathering.{contents_gathered}
-use Rattle.mdns_cache.proofs.LawLemmas.{stands-nothing}
-use Rattle.mdns_cache.proofs.GatheringLemmas.{IsGathering-nothing}
+use Rattle.mdns_cache.specs.{Contents.{Contents, StandsFor}, Gathering.{contents_gathered}}
+use Rattle.mdns_cache.proofs.{LawLemmas.{stands-nothing}, GatheringLemmas.{IsGathering-nothing}}
 use Rattle.mdns_cache.proofs.gathering.Gathering.new.Goals as goal
 
 pub invariant_of-result : goal.invariant_of-result

@@ -1,6 +1,5 @@
 use Rattle.std.proofs.Common.{arith, Some, subst}
-use Rattle.mdns_cache.specs.Contents.{IsContents}
-use Rattle.mdns_cache.specs.Gathering.{contents_gathered}
+use Rattle.mdns_cache.specs.{Contents.{IsContents}, Gathering.{contents_gathered}}
 use Rattle.mdns_cache.proofs.BetweenLemmas.{IsContents-raised}
 use Rattle.mdns_cache.proofs.gathering.Gathering.raise.Goals as goal
 

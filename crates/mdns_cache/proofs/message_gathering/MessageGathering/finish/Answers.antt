@@ -1,6 +1,5 @@
 use Rattle.std.proofs.Common.{◌∙◌, sym}
-use Rattle.std.proofs.lemmas.List.{nil_from_length}
-use Rattle.std.proofs.lemmas.Result.{IfOk-weaker}
+use Rattle.std.proofs.lemmas.{List.{nil_from_length}, Result.{IfOk-weaker}}
 use Rattle.mdns_cache.proofs.MemoryLemmas.{stands-whole}
 use Rattle.mdns_cache.proofs.message_gathering.MessageGathering.finish.Goals as goal
 

@@ -1,6 +1,5 @@
-use Rattle.std.proofs.lemmas.Grind.{common_steps}
+use Rattle.std.proofs.{lemmas.Grind.{common_steps}, KnownBytes.{prepend_known-nil, prepend_known-read, Keeps-refl}}
 use Rattle.std.proofs.Common.{◌≡◌, [], slice_range, sym, arith}
-use Rattle.std.proofs.KnownBytes.{prepend_known-nil, prepend_known-read, Keeps-refl}
 use Rattle.mdns_capture.proofs.ReadAheadLemmas.{slice_range-empty, ReadConsumes-err}
 use Rattle.mdns_capture.proofs.read_ahead.ReadAheadSource.read.Goals.{then-self+else-len-to+in_ok-fill, else-self}
 use Rattle.mdns_capture.proofs.read_ahead.ReadAheadSource.read.Goals as goal

@@ -1,8 +1,6 @@
 use Rattle.std.proofs.Common.{List, subst, sym}
 use Rattle.mdns_capture.specs.declared.moment.Moment.{Moment}
-use Rattle.mdns_join.specs.Kept.{IsAscending}
-use Rattle.mdns_join.specs.laws.Kept.{IsAscending-from_kept}
-use Rattle.mdns_join.specs.Nanos.{nanos_of}
+use Rattle.mdns_join.specs.{Kept.{IsAscending}, laws.Kept.{IsAscending-from_kept}, Nanos.{nanos_of}}
 use Rattle.mdns_join.proofs.kept_moments.Moments.newest.Goals as goal
 
 pub last_of-requires : goal.last_of-requires

@@ -1,7 +1,5 @@
 use Rattle.std.proofs.Common.{subst}
-use Rattle.mdns_join.specs.Kept.{union, IsKeptList}
-use Rattle.mdns_join.specs.laws.Kept.{kept-kept}
-use Rattle.mdns_join.specs.Nanos.{nanos_of}
+use Rattle.mdns_join.specs.{Kept.{union, IsKeptList}, laws.Kept.{kept-kept}, Nanos.{nanos_of}}
 use Rattle.mdns_join.proofs.late_moments.LateMomentsSemilattice.valid.Goals as goal
 
 pub returns : goal.returns

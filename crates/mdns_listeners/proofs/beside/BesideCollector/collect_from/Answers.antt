@@ -1,5 +1,4 @@
-use Rattle.mdns_listeners.proofs.BesideLemmas.{hears-capture, hears-nothing}
-use Rattle.mdns_listeners.proofs.ListenersLemmas.{gathers-none}
+use Rattle.mdns_listeners.proofs.{BesideLemmas.{hears-capture, hears-nothing}, ListenersLemmas.{gathers-none}}
 use Rattle.mdns_listeners.proofs.beside.BesideCollector.collect_from.Goals as goal
 
 pub returns-in-Ok-clause-heard : goal.returns-in-Ok-clause-heard

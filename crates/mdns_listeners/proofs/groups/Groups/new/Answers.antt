@@ -1,6 +1,5 @@
 use Rattle.std.proofs.Common.{◌≡◌, ◌<◌, ◌+◌, ◌++◌, ◌∙◌, ◌∷◌, [], ap, arith, rules, sym, subst, length, map, string_bytes, take, ℕ, List, Option}
-use Rattle.std.proofs.lemmas.Grind.{common_steps}
-use Rattle.std.proofs.lemmas.List.Elements.{All-push}
+use Rattle.std.proofs.lemmas.{Grind.{common_steps}, List.Elements.{All-push}}
 use Rattle.std.specs.List.{All}
 use Rattle.mdns_listeners.specs.Groups.{HasBegun}
 use Rattle.mdns_listeners.proofs.GroupLemmas.{one_each, positions_push, take-back}

@@ -1,9 +1,7 @@
 use Rattle.std.proofs.Common.{◌≡◌, ◌<◌, ◌∙◌, List, [], ◌∷◌, ◌++◌, ap, arith, get_or, length, rules, subst, sym}
 use Rattle.std.proofs.lemmas.List.{length_push}
-use Rattle.mdns_listeners.specs.declared.kept.Noted.{Noted}
-use Rattle.mdns_listeners.specs.Heard.{message_bytes}
-use Rattle.mdns_listeners.specs.Kept.{AreKept, HeardSoFar, KeptMessage, kept_messages, next_kept, told_by}
-use Rattle.mdns_listeners.specs.Names.{AddsNames, told_in}
+use Rattle.mdns_listeners.specs.{declared.kept.Noted.{Noted}, Heard.{message_bytes}}
+use Rattle.mdns_listeners.specs.{Kept.{AreKept, HeardSoFar, KeptMessage, kept_messages, next_kept, told_by}, Names.{AddsNames, told_in}}
 use Rattle.mdns_listeners.proofs.HeldNameLemmas.{HoldsNames-more, adds-suffice}
 use Rattle.mdns_listeners.proofs.KeptLemmas.{kept-more, kept-names, kept-noted, message-push, on-err, told-noted, told-push}
 use Rattle.mdns_listeners.proofs.heard_messages.HeardMessages.hear.Goals as goal

@@ -1,11 +1,8 @@
 use Rattle.std.proofs.Common.{◌≡◌, ◌<◌, ◌∙◌, [], ◌∷◌, ◌++◌, ap, get_or, length, rules, subst, sym}
 use Rattle.std.proofs.lemmas.List.{get_or-map}
-use Rattle.mdns_listeners.specs.declared.kept.Noted.{Noted}
-use Rattle.mdns_listeners.specs.Heard.{message_bytes}
-use Rattle.mdns_listeners.specs.Kept.{HeardSoFar, KeptMessage, kept_messages, payload_in, told_again, told_by}
-use Rattle.mdns_listeners.specs.Names.{AddsNames, told_in}
-use Rattle.mdns_listeners.proofs.HeldNameLemmas.{HoldsNames-more, suffice-adds}
-use Rattle.mdns_listeners.proofs.KeptLemmas.{known-named, known-some, told-noted}
+use Rattle.mdns_listeners.specs.{declared.kept.Noted.{Noted}, Heard.{message_bytes}}
+use Rattle.mdns_listeners.specs.{Kept.{HeardSoFar, KeptMessage, kept_messages, payload_in, told_again, told_by}, Names.{AddsNames, told_in}}
+use Rattle.mdns_listeners.proofs.{HeldNameLemmas.{HoldsNames-more, suffice-adds}, KeptLemmas.{known-named, known-some, told-noted}}
 use Rattle.mdns_listeners.proofs.heard_messages.HeardMessages.hear_again.Goals as goal
 
 pub returns-clause-adds : goal.returns-clause-adds

@@ -1,12 +1,9 @@
 use Rattle.std.proofs.Common.{ap, rules, subst, refl, sym}
-use Rattle.mdns_capture.specs.Capture.{packet_lent}
-use Rattle.mdns_capture.specs.Source.{IsSourceOf}
+use Rattle.mdns_capture.specs.{Capture.{packet_lent}, Source.{IsSourceOf}}
 use Rattle.mdns_message.specs.Message.{MessageReads}
 use Rattle.mdns_cache.proofs.MemoryLemmas.{IfSome-weaker}
-use Rattle.mdns_listeners.specs.declared.heard.HeardAt.{HeardAt}
-use Rattle.mdns_listeners.specs.declared.listeners.MessageCollector.{MessageCollector}
-use Rattle.mdns_listeners.specs.Heard.{message_bytes}
-use Rattle.mdns_listeners.specs.Kept.{HeardSoFar, HearsMessage}
+use Rattle.mdns_listeners.specs.declared.{heard.HeardAt.{HeardAt}, listeners.MessageCollector.{MessageCollector}}
+use Rattle.mdns_listeners.specs.{Heard.{message_bytes}, Kept.{HeardSoFar, HearsMessage}}
 use Rattle.mdns_listeners.proofs.ListenersLemmas.{gathers-told}
 use Rattle.mdns_listeners.proofs.listeners.MessageCollector.hear_again.Goals as goal
 

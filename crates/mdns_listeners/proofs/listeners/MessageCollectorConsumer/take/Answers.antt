@@ -1,16 +1,11 @@
 use Rattle.std.proofs.Common.{◌∙◌, ◌++◌, ◌∷◌, [], ap, inl, inr, refl, subst, sym}
-use Rattle.std.proofs.lemmas.Bool.{false≢true}
-use Rattle.std.proofs.lemmas.Result.{on_ok_weaker}
-use Rattle.mdns_survey.specs.declared.outcome.PacketOutcome.{PacketOutcome}
-use Rattle.mdns_survey.specs.Why.{IsPayloadOf, SaysWhy}
-use Rattle.mdns_listeners.specs.declared.heard.HeardAt.{HeardAt}
-use Rattle.mdns_listeners.specs.declared.listeners.MessageCollector.{MessageCollector}
-use Rattle.mdns_listeners.specs.Kept.{HearsMessage}
-use Rattle.mdns_listeners.specs.Listeners.{Gathers}
-use Rattle.mdns_capture.specs.Capture.{packet_lent}
-use Rattle.mdns_survey.specs.Listen.{outcome_of}
-use Rattle.mdns_message.specs.Message.{MessageReads}
+use Rattle.std.proofs.lemmas.{Bool.{false≢true}, Result.{on_ok_weaker}}
+use Rattle.mdns_survey.specs.{declared.outcome.PacketOutcome.{PacketOutcome}, Why.{IsPayloadOf, SaysWhy}, Listen.{outcome_of}}
 use Rattle.mdns_survey.specs.Outcomes.{Outcome, ReadsTo, heard, refused, skipped}
+use Rattle.mdns_listeners.specs.declared.{heard.HeardAt.{HeardAt}, listeners.MessageCollector.{MessageCollector}}
+use Rattle.mdns_listeners.specs.{Kept.{HearsMessage}, Listeners.{Gathers}}
+use Rattle.mdns_capture.specs.Capture.{packet_lent}
+use Rattle.mdns_message.specs.Message.{MessageReads}
 use Rattle.mdns_listeners.proofs.ListenersLemmas.{gathers-told, gathers-untold}
 use Rattle.mdns_listeners.proofs.listeners.MessageCollectorConsumer.take.Goals as goal
 

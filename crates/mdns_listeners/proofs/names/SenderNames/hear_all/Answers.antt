@@ -1,6 +1,5 @@
 use Rattle.std.proofs.Common.{List, [], ◌∷◌, ◌++◌, ◌∙◌, ap, append_assoc, subst, sym}
-use Rattle.mdns_message.specs.declared.hearing.Hearing.{Hearing}
-use Rattle.mdns_message.specs.Borrowed.{hearing_lent}
+use Rattle.mdns_message.specs.{declared.hearing.Hearing.{Hearing}, Borrowed.{hearing_lent}}
 use Rattle.mdns_listeners.specs.Names.{SufficeFor}
 use Rattle.mdns_listeners.proofs.HeldNameLemmas.{adds_keeps, adds_next}
 use Rattle.mdns_listeners.proofs.names.SenderNames.hear_all.Goals as goal

@@ -1,8 +1,7 @@
 use Rattle.std.proofs.Common.{◌≡◌, ◌≢◌, ◌∙◌, [], false, true, ap, map, rules, sym}
 use Rattle.mdns_cache.specs.LentRecords.{last_lent}
 use Rattle.mdns_cache.proofs.BetweenLemmas.{on_err_any}
-use Rattle.mdns_lives.specs.Changes.{by_sets, maybe_next}
-use Rattle.mdns_lives.specs.LentLives.{row_lent}
+use Rattle.mdns_lives.specs.{Changes.{by_sets, maybe_next}, LentLives.{row_lent}}
 use Rattle.mdns_lives.proofs.ChosenLemmas.{goes-on-first, left-apart, left-from, sets-some}
 use Rattle.mdns_lives.proofs.changes.ChosenWalk.next.Goals as goal
 

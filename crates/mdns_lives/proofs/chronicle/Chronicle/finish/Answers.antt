@@ -2,8 +2,7 @@ use Rattle.std.proofs.Common.{ap, subst, sym, ◌∙◌}
 use Rattle.mdns_message.specs.Resource.{key_cmp, set_key_cmp}
 use Rattle.join_map.specs.Entries.{gathered}
 use Rattle.mdns_join.specs.Kept.{union}
-use Rattle.mdns_lives.specs.Account.{join_account}
-use Rattle.mdns_lives.specs.Chronicle.{Accounts, accounts, Chronicles}
+use Rattle.mdns_lives.specs.{Account.{join_account}, Chronicle.{Accounts, accounts, Chronicles}}
 use Rattle.mdns_lives.proofs.chronicle.Chronicle.finish.Goals as goal
 
 pub returns-clause-stands : goal.returns-clause-stands

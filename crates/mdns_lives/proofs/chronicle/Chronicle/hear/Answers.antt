@@ -1,11 +1,9 @@
 use Rattle.std.proofs.Common.{◌≡◌, List, ◌∷◌, [], ap, ◌∙◌, subst}
 use Rattle.mdns_capture.specs.declared.moment.Moment.{Moment}
-use Rattle.mdns_lives.specs.Each.{accounts_each}
-use Rattle.join_map.specs.Join.{IsPartOfJoin}
-use Rattle.join_map.specs.laws.Join.{join-again}
+use Rattle.mdns_lives.specs.{Each.{accounts_each}, Chronicle.{Accounts, join_accounts}}
+use Rattle.join_map.specs.{Join.{IsPartOfJoin}, laws.Join.{join-again}}
 use Rattle.mdns_message.specs.Borrowed.{hearing_lent}
 use Rattle.mdns_cache.proofs.BetweenLemmas.{on_err_any}
-use Rattle.mdns_lives.specs.Chronicle.{Accounts, join_accounts}
 use Rattle.mdns_lives.proofs.EachLemmas.{accounts_each-one, accounts_each-valid, chronicles-at_each, latest-one}
 use Rattle.mdns_lives.proofs.PartLemmas.{accounts-laws}
 use Rattle.mdns_lives.proofs.chronicle.Chronicle.hear.Goals as goal

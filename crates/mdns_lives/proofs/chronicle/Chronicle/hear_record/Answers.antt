@@ -1,7 +1,6 @@
 use Rattle.std.proofs.Common.{arith}
 use Rattle.mdns_message.specs.Borrowed.{hearing_lent}
-use Rattle.mdns_lives.proofs.EachLemmas.{records_gathered}
-use Rattle.mdns_lives.proofs.PartLemmas.{gathered_accounts}
+use Rattle.mdns_lives.proofs.{EachLemmas.{records_gathered}, PartLemmas.{gathered_accounts}}
 use Rattle.mdns_lives.proofs.chronicle.Chronicle.hear_record.Goals as goal
 
 pub invariant_of-self : goal.invariant_of-self

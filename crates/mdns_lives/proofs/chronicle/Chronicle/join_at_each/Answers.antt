@@ -2,8 +2,7 @@ use Rattle.std.proofs.Common.{◌∙◌}
 use Rattle.mdns_message.specs.Borrowed.{hearing_lent}
 use Rattle.mdns_cache.proofs.BetweenLemmas.{on_err_any}
 use Rattle.mdns_lives.specs.Each.{accounts_each}
-use Rattle.mdns_lives.proofs.EachLemmas.{accounts_each-valid}
-use Rattle.mdns_lives.proofs.PartLemmas.{part_none, part_records}
+use Rattle.mdns_lives.proofs.{EachLemmas.{accounts_each-valid}, PartLemmas.{part_none, part_records}}
 use Rattle.mdns_lives.proofs.chronicle.Chronicle.join_at_each.Goals as goal
 
 pub returns-in_err-hear_record-clause-err : goal.returns-in_err-hear_record-clause-err

@@ -1,6 +1,5 @@
 use Rattle.std.proofs.Common.{arith}
-use Rattle.mdns_lives.proofs.ChronicleLemmas.{chronicles-none}
-use Rattle.mdns_lives.proofs.PartLemmas.{AreGathered-none}
+use Rattle.mdns_lives.proofs.{ChronicleLemmas.{chronicles-none}, PartLemmas.{AreGathered-none}}
 use Rattle.mdns_lives.proofs.chronicle.Chronicle.new.Goals as goal
 
 pub invariant_of-result : goal.invariant_of-result

@@ -1,7 +1,5 @@
 use Rattle.std.proofs.Common.{sym, subst}
-use Rattle.mdns_join.specs.Kept.{IsAscending}
-use Rattle.mdns_join.specs.laws.Kept.{IsAscending-ascending}
-use Rattle.mdns_join.specs.Nanos.{nanos_of}
+use Rattle.mdns_join.specs.{Kept.{IsAscending}, laws.Kept.{IsAscending-ascending}, Nanos.{nanos_of}}
 use Rattle.mdns_lives.proofs.flush_moments.FlushMoments.from_unsorted.Goals as goal
 
 pub invariant_of-result : goal.invariant_of-result

@@ -1,7 +1,5 @@
 use Rattle.std.proofs.Common.{subst}
-use Rattle.mdns_join.specs.Kept.{IsAscending}
-use Rattle.mdns_join.specs.laws.Kept.{IsAscending-ascending}
-use Rattle.mdns_join.specs.Nanos.{nanos_of}
+use Rattle.mdns_join.specs.{Kept.{IsAscending}, laws.Kept.{IsAscending-ascending}, Nanos.{nanos_of}}
 use Rattle.mdns_lives.proofs.flushes.FlushesSemilattice.valid.Goals as goal
 
 pub returns : goal.returns

@@ -1,6 +1,5 @@
 use Rattle.std.proofs.Common.{arith}
-use Rattle.mdns_lives.proofs.SecondsLemmas.{seconds_of-moved}
-use Rattle.mdns_lives.proofs.SortedLemmas.{AreInOrder-from_sorted}
+use Rattle.mdns_lives.proofs.{SecondsLemmas.{seconds_of-moved}, SortedLemmas.{AreInOrder-from_sorted}}
 use Rattle.mdns_lives.proofs.history.History.sorted.Goals as goal
 
 pub returns-clause-in_order : goal.returns-clause-in_order

@@ -1,6 +1,5 @@
 use Rattle.std.proofs.Common.{length}
-use Rattle.mdns_lives.specs.Chronicle.{rows_of}
-use Rattle.mdns_lives.specs.Since.{live_since_lent}
+use Rattle.mdns_lives.specs.{Chronicle.{rows_of}, Since.{live_since_lent}}
 use Rattle.mdns_lives.proofs.SinceLemmas.{Tells}
 use Rattle.mdns_lives.proofs.lives.Lives.live_at.Given as goal
 

@@ -1,9 +1,7 @@
 use Rattle.std.proofs.Common.{List, [], ℕ, unwrap_or, ap, sym, ◌∙◌, subst}
 use Rattle.mdns_message.specs.RecordSet.{RecordSet}
 use Rattle.mdns_join.proofs.FlushWalkLemmas.{HasLater}
-use Rattle.mdns_lives.specs.LentLives.{flushes_held}
-use Rattle.mdns_lives.specs.LifeWalk.{walked}
-use Rattle.mdns_lives.specs.Seconds.{listed_ends}
+use Rattle.mdns_lives.specs.{LentLives.{flushes_held}, LifeWalk.{walked}, Seconds.{listed_ends}}
 use Rattle.mdns_lives.proofs.RowLemmas.{rest_sorted, row_next}
 use Rattle.mdns_lives.proofs.lives.LivesWalk.next_record.Goals as goal
 

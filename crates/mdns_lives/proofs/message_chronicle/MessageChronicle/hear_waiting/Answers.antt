@@ -1,7 +1,6 @@
 use Rattle.std.proofs.Common.{◌≡◌, ◌<◌, ◌∙◌, length, get_or, subst, sym, rules}
 use Rattle.mdns_lives.specs.MessageChronicle.{Recorded, RecordsAll}
-use Rattle.mdns_lives.proofs.HearingLemmas.{chronicles-each}
-use Rattle.mdns_lives.proofs.MessageChronicleLemmas.{is_placed, records-emptied}
+use Rattle.mdns_lives.proofs.{HearingLemmas.{chronicles-each}, MessageChronicleLemmas.{is_placed, records-emptied}}
 use Rattle.mdns_lives.proofs.message_chronicle.MessageChronicle.hear_waiting.Goals as goal
 
 pub returns : goal.returns

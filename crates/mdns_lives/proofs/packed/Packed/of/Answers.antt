@@ -1,6 +1,5 @@
 use Rattle.std.proofs.Common.{◌≡◌, ◌+◌, ◌*◌, ◌/◌, ◌%◌, ap, arith}
-use Rattle.mdns_capture.specs.Limits.{second}
-use Rattle.mdns_capture.specs.declared.moment.Moment.{Moment}
+use Rattle.mdns_capture.specs.{Limits.{second}, declared.moment.Moment.{Moment}}
 use Rattle.mdns_join.specs.laws.Latest.{moment-same}
 use Rattle.mdns_lives.specs.declared.life.RecordHearing.{RecordHearing}
 use Rattle.mdns_lives.proofs.packed.Packed.of.Goals as goal

@@ -1,5 +1,4 @@
-use Rattle.mdns_join.specs.Nanos.{nanos_of}
-use Rattle.mdns_join.specs.laws.Kept.{IsAscending-ascending}
+use Rattle.mdns_join.specs.{Nanos.{nanos_of}, laws.Kept.{IsAscending-ascending}}
 use Rattle.mdns_lives.proofs.repeats.RepeatsJoinIntoFlushes.to_value.Goals as goal
 
 pub returns-clause-valid : goal.returns-clause-valid

@@ -1,5 +1,4 @@
-use Rattle.mdns_join.specs.Nanos.{nanos_of}
-use Rattle.mdns_join.specs.laws.Kept.{IsAscending-ascending}
+use Rattle.mdns_join.specs.{Nanos.{nanos_of}, laws.Kept.{IsAscending-ascending}}
 use Rattle.mdns_lives.proofs.repeats.RepeatsJoinOwnSetKeyFlushes.join_own.Goals as goal
 
 pub returns-then-not-is_of-clause-valid : goal.returns-then-not-is_of-clause-valid

@@ -2,9 +2,7 @@ use Rattle.std.proofs.Common.{List, [], append-nil, refl, subst, sym}
 use Rattle.std.proofs.lemmas.Result.{IfOk-weaker}
 use Rattle.mdns_message.specs.declared.hearing.Hearing.{Hearing}
 use Rattle.mdns_lives.specs.MessageChronicle.{RecordsAll}
-use Rattle.mdns_survey.specs.declared.filter.Filter.{Filter}
-use Rattle.mdns_survey.specs.Filter.{selected}
-use Rattle.mdns_survey.specs.Outcomes.{hearings_in}
+use Rattle.mdns_survey.specs.{declared.filter.Filter.{Filter}, Filter.{selected}, Outcomes.{hearings_in}}
 use Rattle.mdns_listeners.proofs.ListenersLemmas.{gathers-none}
 use Rattle.mdns_page.proofs.ComparedLemmas.{gathers-more, gathers-no_more}
 use Rattle.mdns_page.proofs.collector.PageCollectorCollector.collect_from.Goals as goal

@@ -1,7 +1,6 @@
 use Rattle.std.proofs.Common.{◌≡◌, ◌∙◌, ◌++◌, ap, refl, rules, string_bytes}
 use Rattle.people_text.specs.Shown.{name_shown}
-use Rattle.mdns_page.specs.Html.{isolated}
-use Rattle.mdns_page.specs.LiveSheet.{type_begin}
+use Rattle.mdns_page.specs.{Html.{isolated}, LiveSheet.{type_begin}}
 use Rattle.mdns_page.proofs.PartLemmas.{parts6}
 use Rattle.mdns_page.proofs.live_sheet.LiveSheet.begin_type.Goals as goal
 

@@ -1,6 +1,5 @@
 use Rattle.std.proofs.Common.{◌∙◌, map, string_bytes, subst}
-use Rattle.mdns_survey.specs.Chronicling.{EachChronicled}
-use Rattle.mdns_survey.specs.declared.filter.Filter.{Filter}
+use Rattle.mdns_survey.specs.{Chronicling.{EachChronicled}, declared.filter.Filter.{Filter}}
 use Rattle.mdns_page.proofs.ComparedLemmas.{gathered-now, gathers-nothing, ok-and}
 use Rattle.mdns_page.proofs.page.PageRequestQuestion.collector.Goals as goal
 

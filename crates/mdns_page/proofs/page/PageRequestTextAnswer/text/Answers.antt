@@ -3,8 +3,7 @@ use Rattle.std.specs.Prelude.{Contains, ◌≤◌}
 use Rattle.mdns_message.specs.declared.hearing.Hearing.{Hearing}
 use Rattle.mdns_lives.specs.Chronicle.{Accounts, Chronicles}
 use Rattle.mdns_survey.specs.Filter.{counted, filter_of}
-use Rattle.mdns_survey.proofs.ListenedLemmas.{have-spans}
-use Rattle.mdns_survey.proofs.LivesLemmas.{early-ended}
+use Rattle.mdns_survey.proofs.{ListenedLemmas.{have-spans}, LivesLemmas.{early-ended}}
 use Rattle.mdns_page.specs.Collected.{rows_lent}
 use Rattle.mdns_page.proofs.SurveyLemmas.{surveys-page}
 use Rattle.mdns_page.proofs.page.PageRequestTextAnswer.text.Goals as goal

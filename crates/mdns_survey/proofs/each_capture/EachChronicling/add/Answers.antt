@@ -1,7 +1,6 @@
 use Rattle.std.proofs.Common.{List, refl, subst}
 use Rattle.mdns_lives.specs.Chronicle.{Accounts}
-use Rattle.mdns_survey.specs.Chronicling.{JoinsMore}
-use Rattle.mdns_survey.specs.declared.each_capture.EachChronicling.{EachChronicling}
+use Rattle.mdns_survey.specs.{Chronicling.{JoinsMore}, declared.each_capture.EachChronicling.{EachChronicling}}
 use Rattle.mdns_survey.proofs.EachLemmas.{chronicles-more}
 use Rattle.mdns_survey.proofs.each_capture.EachChronicling.add.Goals as goal
 

@@ -1,7 +1,6 @@
 use Rattle.std.proofs.Common.{List, Option, IsSomeAnd, ◌<◌, string_bytes, subst}
 use Rattle.mdns_capture.specs.declared.moment.Moment.{Moment}
-use Rattle.mdns_browse.specs.Report.{IsReportIn}
-use Rattle.mdns_browse.specs.declared.about.Subject.{Subject}
+use Rattle.mdns_browse.specs.{Report.{IsReportIn}, declared.about.Subject.{Subject}}
 use Rattle.mdns_survey.specs.Filter.{counted, filter_of}
 use Rattle.mdns_survey.proofs.SurveyLemmas.{answers-request, early-asked, early-weaker, is-newest, none-later, on-time, reports-as-of}
 use Rattle.mdns_survey.proofs.SurveyLemmas.{too-early}

@@ -1,10 +1,8 @@
 use Rattle.std.proofs.Common.{◌∙◌, ℕ, Option, subst, string_bytes}
 use Rattle.std.proofs.lemmas.Bool.{false≢true}
-use Rattle.mdns_capture.specs.Capture.{packet_lent}
-use Rattle.mdns_capture.specs.Stream.{OneMoreFailed}
+use Rattle.mdns_capture.specs.{Capture.{packet_lent}, Stream.{OneMoreFailed}}
 use Rattle.mdns_survey.specs.Listen.{outcome_of}
-use Rattle.mdns_trace.specs.declared.inquiry.Wanted.{Wanted}
-use Rattle.mdns_trace.specs.Trace.{AddsLines}
+use Rattle.mdns_trace.specs.{declared.inquiry.Wanted.{Wanted}, Trace.{AddsLines}}
 use Rattle.mdns_trace.proofs.TraceLemmas.{part-more, part-on}
 use Rattle.mdns_trace.proofs.trace.LinesConsumer.take.Goals as goal
 
