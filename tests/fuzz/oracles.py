@@ -12,7 +12,7 @@ from tests.judges.answers import answer_to, counts_of, held_in, lives_in
 from tests.judges.json_forms import APART
 from tests.judges.judged_page import Asked, Judge
 from tests.judges.lines import lines_of
-from tests.judges.listeners import COMMAND
+from tests.judges.listeners import COMMAND, unfit_text
 from tests.judges.listeners import FORMS as FORMS_OF_LISTENERS
 from tests.judges.lives import CHOICES
 from tests.judges.page_text import differences
@@ -163,7 +163,7 @@ class Case:
         if not packets:
             return [name]
         cut = split_at(self.captures[name], self.rng.choice(packets).at)
-        parts = [self.add(f"{which}-{name}", part) for which, part in zip(("front", "rest"), cut)]
+        parts = [self.add(f"{name}-{which}", part) for which, part in zip(("front", "rest"), cut)]
         self.ask("check", names=[*parts, name])
         return parts
 
@@ -198,9 +198,9 @@ class Case:
             self.seen.clocks[next((kind for kind in CLOCKS if words.startswith(kind)), "ahead")] += 1
 
     def prefixes(self, names):
-        """Beginnings of some names, as often of none."""
+        """Beginnings of some names, as often of none; rarely one that no name has."""
         chosen = [self.rng.choice(names) for _ in range(self.rng.choice((0, 1, 2)))]
-        return [name[:self.rng.randint(1, len(name))] for name in chosen]
+        return [name[:self.rng.randint(1, len(name))] for name in chosen] + ["x"] * (self.rng.random() < 0.05)
 
     def by_another_clock(self, name):
         """A capture whose packets are those of another one, all later or earlier by as much."""
@@ -261,25 +261,30 @@ class Case:
 
     def pages(self):
         """Pages without options for a moment, and pages as of a later moment or before one."""
-        self.ask_pages(self.names, Asked())
+        self.ask_pages(Asked())
         flag, moment = self.rng.choice((("at", self.newest + self.rng.choice(LATER)), ("before", self.about_packet())))
         if moment <= LAST_MOMENT:
-            self.ask_pages(self.names, Asked(**{flag: moment}), f"--{flag}", moment_text(moment))
+            self.ask_pages(Asked(**{flag: moment}))
 
-    def ask_pages(self, names, asked, *options):
-        """The page with options for a moment that is about everything, and one about one or two words of what was heard."""
-        judge = self.ask_page(names, asked, *options)
+    def ask_pages(self, asked):
+        """The page about everything, one about one or two words of what was heard, and of both kinds one by listeners."""
+        rng, judge = self.rng, self.ask_page(self.names, asked)
         lines = list(map(judge.line, judge.accounts))
-        about = tuple(some_word(self.rng, lines) for _ in range(self.rng.choice((1, 2))))
-        self.ask_page(names, asked._replace(about=about), *options, *(f"--about={word}" for word in about))
+        about = asked._replace(about=tuple(some_word(rng, lines) for _ in range(rng.choice((1, 2)))))
+        self.ask_page(self.names, about)
+        names = rng.choice(self.variants)
+        self.ask_page(rng.sample(names, len(names)), rng.choice((asked, about))._replace(listener=tuple(self.prefixes(names))))
 
-    def ask_page(self, names, asked, *options):
-        """The judge of a page of files with options, which must be what the judge takes for right."""
-        judge, text = Judge([(name, self.captures[name]) for name in names], asked), self.ask("page", *options, names=names)
-        found = differences(text, judge)
-        expect(not found, "page", *options, *names, "\n".join(["", *found]))
+    def ask_page(self, names, asked):
+        """The judge of a page of files, which must be what the judge takes for right, unless it is refused."""
+        text = self.ask("page", *asked.words, names=names)
+        judge = Judge([(name, self.captures[name]) for name in names], asked)
+        found = [] if unfit_text(names, asked.listener) else differences(text, judge)
+        expect(not found, "page", *asked.words, *names, "\n".join(["", *found]))
         rows, lives = len(judge.drawn), sum(len(judge.lives[key]) for key in judge.drawn)
         self.seen.pages.update({"pages": 1, "rows": rows, "lives": lives, "names of several labels": len(judge.apart)})
         if asked.about:
             self.seen.pages.update({"pages about words": 1, "rows about words": rows})
+        if len(judge.listeners) < len(names):
+            self.seen.pages["pages by listeners"] += 1
         return judge

@@ -8,15 +8,15 @@ from itertools import compress, takewhile
 from typing import Callable, NamedTuple
 
 from tests.captures.wire import SECOND
-from tests.judges.causes import DAMAGED, LOSSES, causes_of
+from tests.judges.causes import DAMAGED, LOST, causes_of
 from tests.judges.hearings import hearings_of
 from tests.judges.json_forms import MEMBERS, json_text
 from tests.judges.lines import Line, gives_instance, instances_text, line_of, lines_of, moment_of, sets_of, types_names
-from tests.judges.listeners import COMMAND, listeners_text, warnings_text
+from tests.judges.listeners import COMMAND, listeners_text, unfit_text, warnings_text
 from tests.judges.lives import CHOICES, lives_text, records_text, rows_of
 from tests.judges.pretty import instances_columns, is_apart, lives_columns, pretty_text, records_columns, types_columns
 from tests.judges.savefile import frames_in, reading_of
-from tests.judges.subjects import gives_about, is_about, is_name, is_record_about
+from tests.judges.subjects import gives_about, is_about, is_name, is_record_about, subjects_of
 from tests.judges.traced import TEXTS, traced_text
 from tests.judges.words import moment_text
 from tests.running.commands import FORMS, TRACES
@@ -54,6 +54,11 @@ def held_in(capture):
     return [moment for moment, _ in frames_in(capture)], list(hearings_of(capture))
 
 
+def counted_of(asked, captures):
+    """The hearings of captures that count."""
+    return [one for capture in captures for one in held_in(capture)[1] if asked.before is None or one.moment < asked.before]
+
+
 class Life(NamedTuple):
     text: str
     record: Line
@@ -68,10 +73,9 @@ class Basis:
 
     def __init__(self, asked, files):
         self.asked, self.files = asked, files
-        held = [held_in(capture) for _, capture in files]
-        moments = [moment for moments, _ in held for moment in moments]
-        self.every = [hearing for _, hearings in held for hearing in hearings]
-        self.hearings = frozenset(one for one in self.every if asked.before is None or one.moment < asked.before)
+        captures = [capture for _, capture in files]
+        moments = [moment for capture in captures for moment in held_in(capture)[0]]
+        self.hearings = frozenset(counted_of(asked, captures))
         self.newest = max((one.moment for one in self.hearings), default=0)
         given = asked.before if asked.at is None else asked.at
         self.now = self.newest if given is None else given
@@ -134,6 +138,12 @@ def lives_in(text):
         yield Life(found[0], record, moment_of(found["from"]), record.until, found["end"])
 
 
+def heard_in(line):
+    """The record of a line of a hearing. It has no end of its own."""
+    found = MEMBERS["hearings"].match(line)
+    return line_of("{owner} {type}{data} ttl {ttl} heard {moment} until {moment}".format(**found.groupdict()))
+
+
 def report_text(basis):
     """The text of a report: of what a command lists, that which is about the words."""
     asked, kind = basis.asked, KINDS[basis.asked.ask]
@@ -152,12 +162,11 @@ def report_text(basis):
 def head_text(basis):
     """What stands above columns: before lives which clocks don't agree by all packets, whatever the moment; what was lost, and
     whether anything was heard."""
-    causes = [causes_of(capture) for _, capture in basis.files]
-    lost = sum(some[cause] for some in causes for cause in (*LOSSES, DAMAGED))
+    lost = sum(causes_of(capture)[cause] for _, capture in basis.files for cause in LOST)
     return "".join((
         warnings_text(basis.files) if basis.asked.ask in CHOICES else "",
         f"{lost} packet{'' if lost == 1 else 's'} could not be used: mdnswhy files FILE... says why\n" if lost else "",
-        "" if basis.every else "nothing was heard: mdnswhy files FILE... says what each file is\n"))
+        "" if any(held_in(capture)[1] for _, capture in basis.files) else "nothing was heard: mdnswhy files FILE... says what each file is\n"))
 
 
 def check_text(files):
@@ -166,7 +175,10 @@ def check_text(files):
 
 
 def trace_text(asked, files):
+    """The text of mdnswhy, file after file; of hearings, the only ones that are asked for so, that which is about the words."""
     text = traced_text(asked.ask, files)
+    if asked.about:
+        text = "".join(line for line in text.splitlines(keepends=True) if is_about(is_record_about, asked.about, heard_in(line)))
     if asked.form == "--json":
         return json_text(asked.ask, text, lambda _: check_text(files))
     return pretty_text(asked.ask, text) if asked.form else text
@@ -176,11 +188,15 @@ def answer_to(program, words, files):
     """The answer of a program to words without the names of files, over files, each a name and its bytes. The text of a page is None.
     What is wrong with a damaged message isn't known here: a line of `packets` ends with `refused`. `files` is known of whole files."""
     asked = WORDS.parse_args(words)
+    asked.about = subjects_of(asked.about)
+    unfit = unfit_text([name for name, _ in files], asked.listener)
+    if unfit:
+        return Answer(2, "", f"{program}: {unfit}\n")
     readings = [(name, reading_of(capture)) for name, capture in files]
     fault = next((f"{program}: {name}: {reading.fault}\n" for name, reading in readings if reading.fault), None)
     if fault:
         before = takewhile(lambda file: not reading_of(file[1]).fault, files)
-        return Answer(2, traced_text(asked.ask, before) if asked.ask in TRACES else "", fault)
+        return Answer(2, trace_text(asked, before) if asked.ask in TRACES else "", fault)
     endings = "".join(f"{program}: {name}: {reading.ending}\n" for name, reading in readings if not reading.is_whole)
     status = 1 if endings else 0
     if asked.ask == "check":

@@ -7,10 +7,10 @@ UNITS, LEAST = 1000, 3
 
 
 class Axis:
-    """An axis to a moment, by the moments of each capture's packets."""
+    """An axis to a moment, by the first and the last moment of each capture's packets."""
 
-    def __init__(self, end, recorded):
-        every = [moment for moments in recorded for moment in moments]
+    def __init__(self, end, spans):
+        every = [moment for span in spans if span for moment in span]
         self.end, self.start = end, min([end, *every])
         # Captures may have recorded past the moment that is asked for, and their rows tell when.
         self.form = form_of(self.start, max([end, *every]))

@@ -13,6 +13,9 @@ from tests.judges.savefile import frames_in
 LOSSES = ("VLAN tag", "cut within the Ethernet header", CUT_HEADER, CUT, "fragment", "IPv6 fragment", MALFORMED,
           "IPv4 total length below its header", LENGTH)
 
+# All by which it may be missed, with damaged messages.
+LOST = (*LOSSES, DAMAGED)
+
 
 def causes_of(capture):
     """How many packets of a capture tell nothing for each cause."""

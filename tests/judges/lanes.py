@@ -75,10 +75,7 @@ def ticks_of(captures, lanes, place):
     return paths
 
 
-def bases_of(moments, lanes, end, bar):
-    """The lines on which ticks stand, by the moments of each capture's packets: the height of each, and from where to where.
+def bases_of(spans, lanes, end, bar):
+    """The lines on which ticks stand, by the span of each capture's packets: the height of each, and from where to where.
     There are none without lanes, and one for each capture with packets up to the end of the page."""
-    if not lanes:
-        return None
-    return [(top_of(lanes, index) + BASE, *bar(min(some), max(some))) for index, some in enumerate(moments)
-            if some and min(some) <= end]
+    return [(top_of(lanes, index) + BASE, *bar(*span)) for index, span in enumerate(spans) if lanes and span and span.first <= end]

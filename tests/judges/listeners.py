@@ -76,8 +76,8 @@ def recorded_in(capture):
 class Listener:
     """The files of a listener, together."""
 
-    def __init__(self, name, files):
-        self.name = name
+    def __init__(self, name, captures):
+        self.name, self.captures, files = name, captures, list(map(recorded_in, captures))
         self.spans = [file.span for file in files if file.span]
         self.span = span_of([moment for span in self.spans for moment in span])
         self.heard = defaultdict(list)
@@ -148,8 +148,17 @@ def listeners_of(captures, prefixes):
     for number, (name, capture) in enumerate(captures):
         prefix = next((prefix for prefix in prefixes if base_name(name).startswith(prefix)), None)
         key = (name, number) if prefix is None else (prefix, None)
-        files.setdefault(key, []).append(recorded_in(capture))
+        files.setdefault(key, []).append(capture)
     return [Listener(name, some) for (name, _), some in files.items()]
+
+
+def unfit_text(names, prefixes):
+    """Why prefixes are refused: the first one that begins no name, which is repeated if it is printable ASCII; nothing if all do."""
+    for prefix in prefixes:
+        if not any(base_name(name).startswith(prefix) for name in names):
+            quoted = f"'{prefix}' " if prefix.isascii() and prefix.isprintable() else ""
+            return f"invalid prefix {quoted}for --listener: no FILE's name, without folders, begins with it"
+    return ""
 
 
 def pairs_of(listeners):

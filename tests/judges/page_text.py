@@ -6,15 +6,15 @@ import html
 import re
 from collections import Counter
 from itertools import groupby
-from typing import NamedTuple
 
 from tests.captures.wire import PTR, SECOND, SRV
 from tests.judges.axis import day
+from tests.judges.causes import LOST
 from tests.judges.lanes import bases_of, counts_of, height_of, ticks_of
 from tests.judges.lines import addresses_of, sets_of, wire_of
 from tests.judges.meanings import table_of
 from tests.judges.pretty import date_of, duration, is_apart, millis, shown_label, words_below, words_of
-from tests.judges.shown import shown_name
+from tests.judges.shown import shown, shown_name
 from tests.judges.words import name_text
 from tests.running.runs import difference
 
@@ -46,6 +46,9 @@ KEY = [("live", ["b M0 9H26"]), ("ended by goodbye", ["b M0 9H20", "m1 M20 2V14"
 LANES_KEY = [("heard, while recording", ["n M0 11H26", "t M4 6v5M9 6v5M20 6v5"]),
              ("goodbye heard", ["n M0 11H26", "z M13 6v5"])]
 
+# How instances ended, in this order.
+ENDS = {"goodbye": "by goodbye", "flushed": "by flush", "expired": "expired"}
+
 GOING_ON = {"goodbye": "still live, said goodbye", "flushed": "still live, flushed", "expired": "still live"}
 
 # The classes of pins and of their heads, and what they say.
@@ -54,43 +57,6 @@ PINS = (("m1", "goodbye", "h1"), ("m2", "expired", None), ("m3", "flushed", "h3"
 STYLE = re.compile(r"<style>\n(.*\n)li>svg\{height:\d+px\}\n</style>", re.S)
 AXIS = '<svg class="x" aria-hidden="true"><use href="#x"/></svg>'
 DRAWN = 'preserveAspectRatio="none" aria-hidden="true"'
-
-
-class Lead(NamedTuple):
-    live: int
-    moment: str
-    # How many of the live ones said goodbye.
-    said: int
-    goodbye: int
-    flushed: int
-    expired: int
-    # The words that the page is about, if not about all.
-    about: list
-    # Of each capture that isn't whole, its name and how it ends.
-    cut: list
-    # Of each two captures without one clock, the names, the later one first, and what is said of its clock.
-    apart: list
-    lost: int
-
-
-class CaptureRow(NamedTuple):
-    sign: str
-    name: str
-    packets: int
-    hearings: int
-    # From where to where, and the moments of that; None without packets.
-    bar: tuple
-    title: str
-    span: str
-    ending: str
-    heard: int
-    skipped: int
-    refused: int
-    # How many messages it heard alone, and how many it missed; None of a single capture.
-    alone: int
-    missed: int
-    # The sign and the name of the capture beside which its clock is, and what is said of the clock; None without one.
-    beside: tuple
 
 
 def differences(text, judge):
@@ -134,17 +100,16 @@ def group_text(is_open, head, items):
 
 def page_text(judge, style):
     """The text of a page of some style."""
-    captures = list(judge.captures())
     return "".join((
-        head_text(judge, style), lead_text(judge.lead()),
+        head_text(judge, style), lead_text(judge),
         '<nav><a href="#captures">Captures</a><a href="#timeline">Timeline</a><a href="#live">What was live</a>'
         '<a href="#nothing">Skipped packets</a></nav>\n'
         '<h2 id="captures">Captures</h2>\n<div class="g">\n',
-        group_text(True, f"<bdi>{counted(len(captures), 'capture')}</bdi>{AXIS}<small>recorded, and how the file ends</small>",
-                   map(capture_text, captures)),
+        group_text(True, f"<bdi>{counted(len(judge.listeners), 'capture')}</bdi>{AXIS}<small>recorded, and how the file ends</small>",
+                   (capture_text(judge, one) for one in judge.listeners)),
         '</div>\n<h2 id="timeline">Timeline</h2>\n', *timeline_text(judge),
         f'</div>\n<h2 id="live">What was live at <time>{millis(judge.end)}</time></h2>\n<div class="g l">\n', *live_text(judge),
-        '</div>\n<h2 id="nothing">Skipped and refused packets</h2>\n', table_of(sum(judge.causes, Counter())),
+        '</div>\n<h2 id="nothing">Skipped and refused packets</h2>\n', table_of(judge.causes),
         "</main></body></html>\n"))
 
 
@@ -159,9 +124,9 @@ def head_text(judge, style):
     classes = {place: ' class="y"' if len(label) == len("2026-11-22") else "" for place, label in ticks.items()}
     labels = "".join(f'<text{classes[place]} x="{place // 10}.{place % 10}%" y="12">{label}</text>'
                      for place, label in ticks.items() if place in LABELED)
-    height, bases = height_of(judge.lanes), bases_of(judge.moments, judge.lanes, judge.end, judge.bar)
+    height, bases = height_of(judge.lanes), bases_of(judge.spans, judge.lanes, judge.end, judge.bar)
     low, high = (path_of("v", "".join(f"M{place} 0V{bottom}" for place in ticks)) for bottom in (24, height))
-    lines = "" if bases is None else path_of("n", "".join(f"M{start} {base}H{end}" for base, start, end in bases))
+    lines = path_of("n", "".join(f"M{start} {base}H{end}" for base, start, end in bases)) if judge.lanes else ""
     days = " to ".join(dict.fromkeys(map(day, (judge.start, judge.end))))
     return f"""<!doctype html>
 <html lang="en"><head><meta charset="utf-8">
@@ -189,36 +154,40 @@ def label_of(moment, step, form):
     return date_of(moment).strftime("%H:%M:%S" if step < 60 else "%H:%M")
 
 
-def lead_text(lead):
+def lead_text(judge):
     """The sentence on what was live, what the page is about, and the warnings."""
-    said = f" ({lead.said:,} said goodbye)" if lead.said else ""
-    ended = [(lead.goodbye, "by goodbye"), (lead.flushed, "by flush"), (lead.expired, "expired")]
-    others = counted(sum(count for count, _ in ended), "other")
-    before = ", ".join(f"{count:,} {how}" for count, how in ended if count)
+    lasts = [judge.lives[key][-1] for key in judge.drawn]
+    ended = Counter(life.reason for life in lasts if life.until <= judge.end)
+    goodbyes = sum(life.until > judge.end and life.reason == "goodbye" for life in lasts)
+    said = f" ({goodbyes:,} said goodbye)" if goodbyes else ""
+    others = counted(sum(ended.values()), "other")
+    before = ", ".join(f"{ended[reason]:,} {how}" for reason, how in ENDS.items() if ended[reason])
+    lost = sum(judge.causes[cause] for cause in LOST)
     return "".join((
-        f'<p class="lead">{counted(lead.live, "service instance was", "service instances were")} live at '
-        f"<time>{lead.moment}</time>{said}." + (f" {others} had ended before: {before}." if before else "") + "</p>\n",
-        f'<p class="note">Only what is about {", ".join(map(bdi, lead.about))}.</p>\n' if lead.about else "",
-        *(f'<p class="warn">{bdi(name)}: {ending}. What came later is missing, goodbyes too.</p>\n' for name, ending in lead.cut),
-        *(f'<p class="warn">{bdi(one)} beside {bdi(other)}: {words}</p>\n' for one, other, words in lead.apart),
-        f'<p class="warn">{counted(lead.lost, "packet")} could not be used: <a href="#nothing">why</a>.</p>\n' if lead.lost else ""))
+        f'<p class="lead">{counted(len(lasts) - sum(ended.values()), "service instance was", "service instances were")} live at '
+        f"<time>{millis(judge.end)}</time>{said}." + (f" {others} had ended before: {before}." if before else "") + "</p>\n",
+        f'<p class="note">Only what is about {", ".join(bdi(shown(word.encode())) for word in judge.about)}.</p>\n' if judge.about else "",
+        *(f'<p class="warn">{bdi(name)}: {ending}. What came later is missing, goodbyes too.</p>\n' for name, ending in judge.cut),
+        *(f'<p class="warn">{bdi(one)} beside {bdi(other)}: {words}</p>\n' for one, other, words in judge.warnings()),
+        f'<p class="warn">{counted(lost, "packet")} could not be used: <a href="#nothing">why</a>.</p>\n' if lost else ""))
 
 
-def capture_text(row):
-    ending = row.ending if row.ending == "whole" else f'<b class="warn">{row.ending}</b>'
-    beside = ""
-    if row.beside:
-        sign, name, words = row.beside
-        beside = f"<small>clock beside {own(sign)}&#160;{bdi(name)}: {words}</small>"
+def capture_text(judge, one):
+    """The row of a listener: what it recorded, from when until when, how its files end, and what it heard beside others."""
+    counts, ending, compared, beside = judge.counts(one), judge.ending(one), judge.compared(one), judge.beside(one)
+    span = f"{judge.short(one.span.first)} – {judge.short(one.span.last)}" if one.span else "no packets"
+    # One that began after the end has words alone.
+    bar = path("r", "M{} 19H{}", [judge.bar(*one.span)], f"recorded {millis(one.span.first)} to {millis(one.span.last)}") \
+        if one.span and one.span.first <= judge.end else ""
     return "".join((
-        f"<li><div>{own(row.sign)}&#160;{bdi(row.name)}"
-        f"<small>{counted(row.packets, 'packet')}, {counted(row.hearings, 'hearing')}</small></div>"
-        f'<svg class="c" viewBox="0 0 1000 24" {DRAWN}><use href="#v"/>',
-        path("r", "M{} 19H{}", [row.bar], row.title) if row.bar else "",
-        f"</svg><div><p>{own(row.span)} {ending}</p>"
-        f"<small>{row.heard:,} heard, {row.skipped:,} skipped, {row.refused:,} refused</small>",
-        "" if row.alone is None else f"<small>{counted(row.alone, 'message')} alone, {row.missed:,} missed</small>",
-        f"{beside}</div></li>\n"))
+        f"<li><div>{own(judge.sign(one))}&#160;{bdi(shown(one.name.encode()))}"
+        f"<small>{counted(counts['packets'], 'packet')}, {counted(counts['hearings'], 'hearing')}</small></div>"
+        f'<svg class="c" viewBox="0 0 1000 24" {DRAWN}><use href="#v"/>{bar}</svg>'
+        f"<div><p>{own(span)} " + (ending if ending == "whole" else f'<b class="warn">{ending}</b>') + "</p>"
+        f"<small>{counts['messages']:,} heard, {counts['skipped']:,} skipped, {counts['refused']:,} refused</small>",
+        f"<small>{counted(compared[0], 'message')} alone, {compared[1]:,} missed</small>" if compared else "",
+        f"<small>clock beside {own(beside[0])}&#160;{bdi(beside[1])}: {beside[2]}</small>" if beside else "",
+        "</div></li>\n"))
 
 
 def by_type(judge, keys):

@@ -15,6 +15,15 @@ from tests.judges.shown import LABEL, shown_name
 STRANGE = (".", "local", "_tcp.local", "::", "0", "a b", "\\", "\u00e9", "127.0.0.1", "1.2.3.4.5", "-", "</bdi>", "&lt;")
 
 
+# A dot at the end that isn't escaped: before it stands an even number of backslashes.
+FINAL_DOT = re.compile(r"(?<!\\)(?:\\\\)*\.\Z")
+
+
+def subjects_of(words):
+    """What words ask about: each as it is, and then without its final dot, where it has one behind something else."""
+    return [one for word in words for one in (word, word[:-1]) if one == word or one and FINAL_DOT.search(word)]
+
+
 def is_about(is_about_one, words, told):
     """Whether something is about one of the words, or there are none."""
     return not words or any(is_about_one(word, told) for word in words)
@@ -106,7 +115,7 @@ def some_word(rng, lines):
 
 def nearly(rng, word):
     """A word with something more or less, so that mostly nothing is about it."""
-    return rng.choice((word[1:] or word, word[:-1] or word, f"{word}x", f" {word}", f"x.{word}", f"{word}.local"))
+    return rng.choice((word[1:] or word, word[:-1] or word, f"{word}x", f" {word}", f"x.{word}", f"{word}.local", f"{word}\\."))
 
 
 def words_about(line):
@@ -118,7 +127,7 @@ def words_about(line):
     names += [name[len(first) + 1:] for name, first in zip(names, firsts)]
     told = [*names, *firsts, *map(shown_name, names), *map(shown_label, firsts), *parts,
             *line.words, *words_of(line), shown_record(line), *forms_of(line)]
-    return [word for text in told for word in (text, text.swapcase(), re.sub(r"\.local$", "", text)) if word]
+    return [word for text in told for word in (text, text.swapcase(), f"{text}.", re.sub(r"\.local$", "", text)) if word]
 
 
 def forms_of(line):

@@ -5,9 +5,9 @@
 import tempfile
 from pathlib import Path
 
+from tests.judges.answers import answer_to
 from tests.judges.judged_page import Judge
 from tests.judges.page_text import differences, style_of
-from tests.judges.words import moment_text
 from tests.running import runs
 from tests.running.program import HIDDEN_CHARACTER
 from tests.running.runs import REFUSED, answer_of, fails
@@ -21,7 +21,7 @@ PRINTED = 20
 
 
 class Trial:
-    """The runs over the captures of a case, which are laid out in a folder."""
+    """The run over the captures of a case, which are laid out in a folder."""
 
     def __init__(self, program, folder, case):
         self.program, self.folder, self.case = program, folder, case
@@ -29,28 +29,29 @@ class Trial:
         # How the page looks, once it was read.
         self.style = None
 
-    def words(self, command):
-        """The words that ask for what the case asks for, of all files."""
-        at, before, about = self.case.asked
-        moments = [word for flag, moment in (("--at", at), ("--before", before)) if moment is not None
-                   for word in (flag, moment_text(moment))]
-        return [command, *moments, *(f"--about={word}" for word in about), "--", *(name for name, _ in self.case.files)]
+    @property
+    def words(self):
+        """The words that ask for the page."""
+        return ["page", *self.case.asked.words, "--", *(name for name, _ in self.case.files)]
 
-    def run(self, command):
-        """The status, standard output and standard error of a command."""
-        return answer_of([self.program, *self.words(command)], self.folder, PATIENCE)
+    def page(self):
+        """The answer of the program."""
+        return answer_of([self.program, *self.words], self.folder, PATIENCE)
 
     def found(self):
-        """What is wrong with the page: its status and standard error are those of `lives`."""
-        answer, (status, _, err) = self.run("page"), self.run("lives")
-        must = runs.Case(self.words("page"), status, b"" if status == REFUSED else answer[1], err)
+        """What is wrong with the page, its status and standard error."""
+        must, answer = answer_to("mdnsmerge", ["page", *self.case.asked.words], self.files), self.page()
+        must = runs.Case(self.words, must.status, answer[1] if must.out is None else must.out, must.err)
         yield from runs.differences(must, answer)
-        if status != REFUSED:
+        if must.status != REFUSED:
             text = answer[1].decode("utf-8", "surrogateescape")
             if HIDDEN_CHARACTER.search(text.replace("\n", "")):
                 yield "  no UTF-8, or a character that people don't see"
             self.style = style_of(text)
             yield from differences(text, Judge(self.files, self.case.asked))
+            yield from (f"  it lacks {line}" for line in self.case.has if line not in text)
+        if self.case.alike and Trial(self.program, self.folder, self.case.alike).page()[1] != answer[1]:
+            yield "  it isn't the page that is the same by definition"
 
 
 def try_page(program, folder, words=""):
@@ -67,6 +68,6 @@ def try_page(program, folder, words=""):
             if len(styles) > 1:
                 faults.append("  pages look different")
             count += 1
-            failed += fails(case.place, f"{case.what}: {runs.command(program, trial.words('page'))}", faults[:PRINTED])
+            failed += fails(case.place, f"{case.what}: {runs.command(program, trial.words)}", faults[:PRINTED])
     print(f"{count} pages, {failed} failed")
     return failed

@@ -32,6 +32,9 @@ class Case(NamedTuple):
     # Names, each with bytes, or with packets as moments and frames.
     files: list
     asked: Asked = Asked()
+    # Lines that it has, worked out by hand, and another case whose page is the same.
+    has: tuple = ()
+    alike: tuple = None
     place: str = ""
 
     def lay_out(self, folder):
@@ -39,6 +42,7 @@ class Case(NamedTuple):
         files = [(name, content if isinstance(content, bytes) else write_capture(folder / "made", "little-nano", content))
                  for name, content in self.files]
         for name, capture in files:
+            (folder / name).parent.mkdir(exist_ok=True)
             (folder / name).write_bytes(capture)
         return files
 
