@@ -162,11 +162,12 @@ def report_text(basis):
 def head_text(basis):
     """What stands above columns: before lives which clocks don't agree by all packets, whatever the moment; what was lost, and
     whether anything was heard."""
-    lost = sum(causes_of(capture)[cause] for _, capture in basis.files for cause in LOST)
+    captures = [capture for _, capture in basis.files]
+    lost = sum(causes_of(capture)[cause] for capture in captures for cause in LOST)
     return "".join((
         warnings_text(basis.files) if basis.asked.ask in CHOICES else "",
         f"{lost} packet{'' if lost == 1 else 's'} could not be used: mdnswhy files FILE... says why\n" if lost else "",
-        "" if any(held_in(capture)[1] for _, capture in basis.files) else "nothing was heard: mdnswhy files FILE... says what each file is\n"))
+        "" if any(held_in(capture)[1] for capture in captures) else "nothing was heard: mdnswhy files FILE... says what each file is\n"))
 
 
 def check_text(files):

@@ -7,7 +7,7 @@ from pathlib import Path
 
 from tests.judges.answers import answer_to
 from tests.judges.judged_page import Judge
-from tests.judges.page_text import differences, style_of
+from tests.judges.page_text import differences, own, style_of
 from tests.running import runs
 from tests.running.program import HIDDEN_CHARACTER
 from tests.running.runs import REFUSED, answer_of, fails
@@ -49,7 +49,7 @@ class Trial:
                 yield "  no UTF-8, or a character that people don't see"
             self.style = style_of(text)
             yield from differences(text, Judge(self.files, self.case.asked))
-            yield from (f"  it lacks {line}" for line in self.case.has if line not in text)
+            yield from (f"  it lacks {line}" for line in self.case.has if own(line) not in text)
         if self.case.alike and Trial(self.program, self.folder, self.case.alike).page()[1] != answer[1]:
             yield "  it isn't the page that is the same by definition"
 

@@ -4,7 +4,7 @@ spans, in which seconds captures heard a record, why packets told nothing, what 
 import random
 
 from tests import EXAMPLES, TOP
-from tests.captures.built import frame_of, write_capture
+from tests.captures.built import frame_of
 from tests.captures.floods import ORDERS, flushes
 from tests.captures.hostile import product
 from tests.captures.link import META, START, Link, Record
@@ -13,9 +13,10 @@ from tests.captures.real import NAMES, repeated
 from tests.captures.sources import IPV6_SOURCE
 from tests.captures.wire import AAAA, LAST_MOMENT, PTR, SECOND, SRV, ipv6_frame
 from tests.judges.judged_page import Asked
+from tests.trials.page_listeners import listeners
 from tests.trials.page_names import names
 from tests.trials.page_packets import (HOST, HOSTILE, HTTP, IPP, LOCAL, OVER_UDP, SCTP, TTL, Case, address, alone, at, bye,
-                                       full, nothing, says, server, service, text)
+                                       full, nothing, says, server, service, text, wire)
 
 DAY = 86_400 * SECOND
 
@@ -25,13 +26,9 @@ NIGHT = 1_700_006_370 * SECOND
 
 def cases(folder):
     """All cases. Bytes of captures are made in the folder."""
-    for make in (examples, few, hostile, damaged, causes, ended, spans, lanes, compared, many, services, names, servers, asked,
-                 generated):
+    for make in (examples, few, hostile, damaged, causes, ended, spans, lanes, compared, listeners, many, services, names, servers,
+                 asked, generated):
         yield from make(folder)
-
-
-def wire(folder, packets, magic="little-nano"):
-    return write_capture(folder / "made.pcap", magic, packets)
 
 
 def examples(_):
@@ -419,6 +416,10 @@ def about_hosts():
     yield Case("about two hosts", files, Asked(about=("elm", "nowhere.local")))
     yield Case("about a host before it was heard", files, Asked(before=at(1), about=("oak",)))
     yield Case("about a host that was left", files, Asked(before=at(12), about=("oak", "192.0.2.2")))
+    for word, told in (("elm.", "<bdi>elm.</bdi>, <bdi>elm</bdi>"), ("192.0.2.9.", "<bdi>192.0.2.9.</bdi>, <bdi>192.0.2.9</bdi>"),
+                       (".", "<bdi>.</bdi>"), ("elm\\.", "<bdi>elm\\\\.</bdi>"),
+                       ("oak.local..", "<bdi>oak.local..</bdi>, <bdi>oak.local.</bdi>")):
+        yield Case(f"about {word}, of hosts", files, Asked(about=(word, "yew")), (f"Only what is about {told}, <bdi>yew</bdi>.",))
     yield Case("about words of markup", files, Asked(about=("</bdi><b>", "&amp;", "\u202eelm", "elm")))
 
 
@@ -426,4 +427,5 @@ def generated(folder):
     """Captures of the fuzzing, damaged in every way."""
     for seed in range(80):
         captures = captures_of(random.Random(seed), folder / "made.pcap")
-        yield Case(f"generated, {seed}", [(f"{place}.pcap", bytes(capture)) for place, capture in enumerate(captures)])
+        files = [(f"{place // 2}-{place}.pcap", bytes(capture)) for place, capture in enumerate(captures)]
+        yield Case(f"generated, {seed}", files, Asked(listener=("0",) * (seed % 2)))

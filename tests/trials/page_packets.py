@@ -47,6 +47,10 @@ class Case(NamedTuple):
         return files
 
 
+def wire(folder, packets, magic="little-nano"):
+    return write_capture(folder / "made.pcap", magic, packets)
+
+
 def service(label, of_type=HTTP, flush=False):
     return Record(of_type, PTR, (label, *of_type), flush)
 
