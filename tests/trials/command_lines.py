@@ -45,6 +45,27 @@ def misused(words, fault, usage="", tip="", program="mdnsmerge", **how):
     return refused(words, f"error: {fault}\n{tip}{usage}\n{TRY_HELP}", **how)
 
 
+def unfit_prefixes(ask, program):
+    """Refusals of a command that takes `--listener`: of words, and of prefixes that begin the name of no file, before any is opened."""
+    def unfit(words, quoted):
+        return said([ask, *words], f"invalid prefix {quoted}for --listener: no FILE's name, without folders, begins with it", program)
+
+    return (
+        misused([ask, "--listener", "one"], NO_FILE, f"{ask} --listener <PREFIX> <FILE>...", program=program),
+        *(misused([ask, *words], "a value is required for '--listener <PREFIX>' but none was supplied", program=program)
+          for words in (["one.pcap", "--listener"], ["--listener=", "one.pcap"])),
+        unfit(["--listener", "x", "one.pcap"], "'x' "),
+        unfit(["--listener", "folder", "folder/one.pcap"], "'folder' "),
+        unfit(["--listener", "one", "one.pcap", "--listener=one.pcapng", "--listener=x", "cut.pcap"], "'one.pcapng' "),
+        unfit(["--listener", "One", "one.pcap"], "'One' "),
+        unfit(["--listener", "x", "missing.pcap"], "'x' "),
+        # Only printable ASCII is repeated.
+        *(unfit(["--listener", prefix, "one.pcap"], "") for prefix in ("\u00e9", "x\n", "\x7f")),
+        said([ask, "--listener", "m", "missing.pcap"], "missing.pcap: cannot be opened", program),
+        said([ask, "--listener", "t", "one.pcap", "text.pcap"], "text.pcap: not a classic pcap file", program),
+    )
+
+
 def given(flag):
     """The words that give a flag, with a value where it takes one."""
     return (flag, "5") if FLAGS[flag][0] else (flag,)
@@ -147,6 +168,7 @@ REFUSALS = (
             "to pass '-x' as a value, use '-- -x'"),
     *(said([command, "--at", "5", "--before", "5", "one.pcap"], "--at and --before can't be given together")
       for command in ANSWERS),
+    *unfit_prefixes("page", "mdnsmerge"),
     misused(["check", "-x.pcap"], "unexpected argument '-x' found", "check [OPTIONS] <FILE>...",
             "to pass '-x' as a value, use '-- -x'"),
     said(["records", b"\xff.pcap"], "an argument is not UTF-8 text"),

@@ -19,11 +19,9 @@ from tests.judges.pretty import signed_nanos
 from tests.judges.savefile import reading_of, split_at
 from tests.running import runs
 from tests.running.runs import DAMAGED, WHOLE, Case, agrees, difference, fails
-from tests.trials import command_lines
-from tests.trials.command_lines import NO_FILE
+from tests.trials.command_lines import unfit_prefixes
 
 said = partial(runs.said, program="mdnswhy")
-misused = partial(command_lines.misused, program="mdnswhy")
 
 # How many sets of captures are made.
 SETS = 200
@@ -38,9 +36,6 @@ def lines_of_one(name):
     return f"{name} heard 1 alone 1 missed 0 {between}\n192.0.2.1 {name} heard 1 missed 0 {between} a.local\n"
 
 
-# Why a prefix is refused.
-UNFIT = "no FILE's name, without folders, begins with it"
-
 CASES = (
     Case((COMMAND, "one.pcap"), WHOLE, lines_of_one("one.pcap")),
     Case((COMMAND, "./one.pcap"), WHOLE, lines_of_one("./one.pcap")),
@@ -51,15 +46,11 @@ CASES = (
     Case((COMMAND, "--listener", "one", IN_FOLDER), WHOLE, lines_of_one("one")),
     Case((COMMAND, "--listener", "back\\slash \"\u00e9", QUOTED), DAMAGED, lines_of_one('back\\\\slash\\032"\\195\\169'),
          f"mdnswhy: {QUOTED}: cut at 117\n"),
-    said([COMMAND, "--listener", "folder", IN_FOLDER], f"invalid prefix 'folder' for --listener: {UNFIT}"),
-    said([COMMAND, "--listener", "\u00e9", "one.pcap"], f"invalid prefix for --listener: {UNFIT}"),
-    misused([COMMAND, "--listener", "one"], NO_FILE, "listeners --listener <PREFIX> <FILE>..."),
-    misused([COMMAND, "one.pcap", "--listener"], "a value is required for '--listener <PREFIX>' but none was supplied"),
+    *unfit_prefixes(COMMAND, "mdnswhy"),
     said([COMMAND, "--json", "--listener", "west", "--pretty", "one.pcap"], "--json and --pretty can't be given together"),
     # Nothing is printed before all files are read.
     said([COMMAND, "one.pcap", "empty.pcap"], "empty.pcap: file header is cut short"),
     said([COMMAND, "cut.pcap", "folder", "text.pcap"], "folder: read failed"),
-    said([COMMAND, "--listener", "t", "one.pcap", "text.pcap"], "text.pcap: not a classic pcap file"),
     *(said([COMMAND, *form, "one.pcap"], "write failed", out_to=to) for to in ("closed", "full", "gone") for form in FORMS),
     *(Case((COMMAND, "cut.pcap"), DAMAGED, lines_of_one("cut.pcap"), err_to=to) for to in ("closed", "full", "gone")),
 )
