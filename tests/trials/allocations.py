@@ -92,7 +92,7 @@ RUNS = (
     Run(("lives", "--before", "1795332450", *BOTH), 2, WHOLE),
     Run(("lives", "long.pcap"), 1, WHOLE),
     Run(("lives", "--json", "long.pcap"), 1, WHOLE),
-    Run(("page", "--before", "1795332450", "--about", "alder", *BOTH), 2, WHOLE),
+    Run(("page", "--before", "1795332450", "--about", "alder.", "--listener", "w", *BOTH), 2, WHOLE),
     *(Run((command, "one.pcap", "cut.pcap"), 2, DAMAGED) for command in COMMANDS),
     Run(("records", "--at", "99", "one.pcap"), 1, REFUSED),
     Run(("lives", "--at", "99", "one.pcap"), 1, REFUSED),

@@ -115,7 +115,7 @@ def try_refusals(program, folder):
     tried = [case for case in CASES if is_droppable or not case.is_nobody]
     failed = sum(not agrees(case, program, folder) for case in tried)
     skipping_some, alone = (answer_of([program, "page", *words], folder)[1] for words in (
-        ["--skip-unusable", "text.pcap", "one.pcap", "missing.pcap"], ["one.pcap"]))
+        ["--skip-unusable", "--listener=text", "--listener=on", "text.pcap", "one.pcap", "missing.pcap"], ["--listener=on", "one.pcap"]))
     if skipping_some != alone:
         failed += 1
         print("mdnsmerge page --skip-unusable: the files that are left out change the page")
