@@ -253,11 +253,12 @@ class Case:
         for words in ([], ["--before", moment_text(moment)]) if moment <= LAST_MOMENT else ([],):
             self.ask(rng.choice(ASKS), *words, "--pretty")
             lines = [life.record for life in lives_in(self.ask("lives", *words))]
-            for ask in ASKS:
+            for ask in (*ASKS, "hearings"):
                 about = [f"--about={some_word(rng, lines)}" for _ in range(rng.choice((1, 1, 1, 2, 3)))]
                 form = rng.choice(((), *((form,) for form in FORMS)))
+                program, before = ("mdnswhy", []) if ask == "hearings" else ("mdnsmerge", words)
                 for options in dict.fromkeys(((), form, (*about, *form))):
-                    self.ask(ask, *words, *options)
+                    self.ask(ask, *before, *options, program=program)
 
     def pages(self):
         """Pages without options for a moment, and pages as of a later moment or before one."""
