@@ -13,16 +13,15 @@ from tests.captures.wire import AAAA, PTR, SRV, A
 from tests.judges.answers import Basis, counted_of, counts_of
 from tests.judges.axis import Axis
 from tests.judges.causes import causes_of
-from tests.judges.json_forms import APART
 from tests.judges.lanes import SIGNED, lane_count, seconds_of
 from tests.judges.lines import gives_instance, line_of, sets_of
-from tests.judges.listeners import are_compared, compared_of, listeners_of, pair_line
-from tests.judges.lives import accounts
+from tests.judges.listeners import are_compared, compared_of, listeners_of, row_of
+from tests.judges.lives import accounts, end_text, record_text
 from tests.judges.pretty import clock_words, is_apart, warned_words
 from tests.judges.savefile import reading_of
-from tests.judges.shown import shown, shown_name
+from tests.judges.shown import shown_name
 from tests.judges.subjects import is_about, is_instance_about, is_record_about, subjects_of
-from tests.judges.words import data_words, kind_text, moment_text, name_text
+from tests.judges.words import moment_text, name_text
 
 # With more rows groups begin closed. With more lives bars have no titles.
 OPEN_ROWS, TITLED_LIVES = 200, 1000
@@ -54,7 +53,7 @@ class Judge(Axis):
         self.spans = [one.span for one in self.listeners]
         super().__init__(basis.end, self.spans)
         # How each file ends that isn't whole, and why packets told nothing.
-        self.cut = [(shown(name.encode()), reading_of(capture).ending) for name, capture in files if not reading_of(capture).is_whole]
+        self.cut = [(name, reading_of(capture).ending) for name, capture in files if not reading_of(capture).is_whole]
         self.causes = sum((causes_of(capture) for _, capture in files), Counter())
         self.pairs = compared_of(self.listeners)
         found = accounts(basis.hearings)
@@ -107,20 +106,13 @@ class Judge(Axis):
     def line(self, key):
         """The line of a record by its last hearing, as `records` has it while the record is live."""
         last, life = self.accounts[key].hearings[-1], self.lives[key][-1]
-        words = [name_text(last.owner), kind_text(last.kind), *data_words(last.kind, last.data)]
-        heard = ["ttl", str(last.ttl), "heard", moment_text(last.moment), "until", moment_text(life.until)]
-        return line_of(" ".join(words + heard))
+        return line_of(f"{record_text(last)} {end_text(life)}")
 
     # Listeners
 
     def sign(self, listener):
         place = self.listeners.index(listener)
         return chr(0x2460 + place) if len(self.listeners) <= SIGNED else str(place + 1)
-
-    def warnings(self):
-        """The names of each two without one clock, the later one first, and what is said of its clock."""
-        warned = ((pair, warned_words(row_of(pair))) for pair in self.pairs)
-        return [(shown(pair.other.name.encode()), shown(pair.one.name.encode()), words) for pair, words in warned if words]
 
     def counts(self, listener):
         """What `check` counts of its files together."""
@@ -139,11 +131,6 @@ class Judge(Axis):
         return listener.alone(self.listeners), listener.missed(self.listeners, messages)
 
     def beside(self, listener):
-        """The sign and the name of the first listener that shares a message with it, and what is said of its clock beside that one's."""
+        """The first listener that shares a message with it, and what is said of its clock beside that one's."""
         pair = next((pair for pair in self.pairs if pair.other is listener and pair.common), None)
-        return pair and (self.sign(pair.one), shown(pair.one.name.encode()), warned_words(row_of(pair)) or clock_words(row_of(pair)))
-
-
-def row_of(pair):
-    """The words of the line of two listeners."""
-    return APART.fullmatch(pair_line(pair)).groupdict()
+        return pair and (pair.one, warned_words(row_of(pair)) or clock_words(row_of(pair)))

@@ -11,8 +11,8 @@ from typing import NamedTuple, Optional
 from tests.captures.wire import A, AAAA
 from tests.judges.hearings import number_at, payload_of, source_of, told_by
 from tests.judges.json_forms import APART, json_text
-from tests.judges.pretty import listeners_columns, warning
-from tests.judges.traced import frames_of
+from tests.judges.pretty import listeners_columns, warned_words
+from tests.judges.savefile import frames_in
 from tests.judges.words import bytes_text, moment_text, name_text
 
 COMMAND = "listeners"
@@ -64,7 +64,7 @@ class Recorded(NamedTuple):
 @lru_cache(maxsize=64)
 def recorded_in(capture):
     packets, messages, names = [], [], set()
-    for _, moment, frame in frames_of(capture):
+    for moment, frame in frames_in(capture):
         packets.append(moment)
         told = told_by(frame)
         if told:
@@ -209,10 +209,21 @@ def compared_of(listeners):
     return [pair for pair in pairs_of(listeners) if pair.recorded_together] if are_compared(listeners) else []
 
 
+def warnings_of(pairs):
+    """The names of each two that don't have one clock, the later one first, and what is said of its clock."""
+    warned = ((pair, warned_words(row_of(pair))) for pair in pairs)
+    return [(pair.other.name, pair.one.name, words) for pair, words in warned if words]
+
+
 def warnings_text(captures):
-    """The lines before the columns of lives, of captures, each with its name: those of each two that don't have one clock."""
-    pairs = compared_of(listeners_of(captures, ()))
-    return "".join(warning(APART.fullmatch(pair_line(pair)).groupdict()) for pair in pairs)
+    """The lines before the columns of lives, of captures, each with its name."""
+    warned = warnings_of(compared_of(listeners_of(captures, ())))
+    return "".join(f"{file_text(other)} beside {file_text(one)}: {words}\n" for other, one, words in warned)
+
+
+def row_of(pair):
+    """The words of the line of two listeners."""
+    return APART.fullmatch(pair_line(pair)).groupdict()
 
 
 def pair_line(pair):

@@ -12,6 +12,7 @@ from tests.judges.axis import day
 from tests.judges.causes import LOST
 from tests.judges.lanes import bases_of, counts_of, height_of, ticks_of
 from tests.judges.lines import addresses_of, sets_of, wire_of
+from tests.judges.listeners import warnings_of
 from tests.judges.meanings import table_of
 from tests.judges.pretty import date_of, duration, is_apart, millis, shown_label, words_below, words_of
 from tests.judges.shown import shown, shown_name
@@ -78,6 +79,11 @@ def own(text):
 def bdi(text):
     """Text of a capture, apart from the direction of what is around it."""
     return f"<bdi>{html.escape(text).replace('&#x27;', '&#39;')}</bdi>"
+
+
+def name_bdi(text):
+    """The name of a file, or a word that is asked about."""
+    return bdi(shown(text.encode()))
 
 
 def counted(count, one, many=None):
@@ -166,9 +172,9 @@ def lead_text(judge):
     return "".join((
         f'<p class="lead">{counted(len(lasts) - sum(ended.values()), "service instance was", "service instances were")} live at '
         f"<time>{millis(judge.end)}</time>{said}." + (f" {others} had ended before: {before}." if before else "") + "</p>\n",
-        f'<p class="note">Only what is about {", ".join(bdi(shown(word.encode())) for word in judge.about)}.</p>\n' if judge.about else "",
-        *(f'<p class="warn">{bdi(name)}: {ending}. What came later is missing, goodbyes too.</p>\n' for name, ending in judge.cut),
-        *(f'<p class="warn">{bdi(one)} beside {bdi(other)}: {words}</p>\n' for one, other, words in judge.warnings()),
+        f'<p class="note">Only what is about {", ".join(map(name_bdi, judge.about))}.</p>\n' if judge.about else "",
+        *(f'<p class="warn">{name_bdi(name)}: {ending}. What came later is missing, goodbyes too.</p>\n' for name, ending in judge.cut),
+        *(f'<p class="warn">{name_bdi(one)} beside {name_bdi(other)}: {words}</p>\n' for one, other, words in warnings_of(judge.pairs)),
         f'<p class="warn">{counted(lost, "packet")} could not be used: <a href="#nothing">why</a>.</p>\n' if lost else ""))
 
 
@@ -180,13 +186,13 @@ def capture_text(judge, one):
     bar = path("r", "M{} 19H{}", [judge.bar(*one.span)], f"recorded {millis(one.span.first)} to {millis(one.span.last)}") \
         if one.span and one.span.first <= judge.end else ""
     return "".join((
-        f"<li><div>{own(judge.sign(one))}&#160;{bdi(shown(one.name.encode()))}"
+        f"<li><div>{own(judge.sign(one))}&#160;{name_bdi(one.name)}"
         f"<small>{counted(counts['packets'], 'packet')}, {counted(counts['hearings'], 'hearing')}</small></div>"
         f'<svg class="c" viewBox="0 0 1000 24" {DRAWN}><use href="#v"/>{bar}</svg>'
         f"<div><p>{own(span)} " + (ending if ending == "whole" else f'<b class="warn">{ending}</b>') + "</p>"
         f"<small>{counts['messages']:,} heard, {counts['skipped']:,} skipped, {counts['refused']:,} refused</small>",
         f"<small>{counted(compared[0], 'message')} alone, {compared[1]:,} missed</small>" if compared else "",
-        f"<small>clock beside {own(beside[0])}&#160;{bdi(beside[1])}: {beside[2]}</small>" if beside else "",
+        f"<small>clock beside {own(judge.sign(beside[0]))}&#160;{name_bdi(beside[0].name)}: {beside[1]}</small>" if beside else "",
         "</div></li>\n"))
 
 

@@ -201,11 +201,5 @@ def warned_words(row):
     return words.partition(": editcap")[0] + more
 
 
-def warning(row):
-    """The line that warns of two listeners, unless they have one clock."""
-    words = warned_words(row)
-    return f"{row['other']} beside {row['file']}: {words}\n" if words else ""
-
-
 def signed_nanos(text):
     return -moment_of(text[1:]) if text.startswith("-") else moment_of(text)

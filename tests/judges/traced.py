@@ -3,44 +3,39 @@
 import ipaddress
 from functools import lru_cache
 
-from tests.judges.causes import DAMAGED, LOSSES, cause_of
-from tests.judges.hearings import source_of, told_by
-from tests.judges.savefile import PACKET_HEADER, moment_of, reading_of, snapshot_length
-from tests.judges.words import data_words, kind_text, moment_text, name_text
+from tests.judges.causes import DAMAGED, LOSSES, cause_of, causes_of
+from tests.judges.hearings import Hearing, source_of, told_by
+from tests.judges.lives import record_text
+from tests.judges.savefile import frames_in, reading_of, snapshot_length
+from tests.judges.words import moment_text
 
 # What the lines of `files` say of packets that were lost to a fragment, the only cause of the examples.
 CURES = {cause: "what it told is missing, unless another message told it" for cause in ("fragment", "IPv6 fragment")}
 
 
-def frames_of(capture):
-    """The packets of a capture: each with its offset, its moment and its frame."""
-    return [(packet.at, moment_of(capture, packet), packet.wire[PACKET_HEADER:]) for packet in reading_of(capture).packets]
-
-
 def hearings_text(name, capture):
     lines = []
-    for _, moment, frame in frames_of(capture):
-        for ttl, flush, owner, kind, data in told_by(frame):
-            record = [name_text(owner), kind_text(kind), *data_words(kind, data)]
+    for moment, frame in frames_in(capture):
+        for heard in (Hearing(moment, *told) for told in told_by(frame)):
             sender = ipaddress.ip_address(source_of(frame)).exploded
-            lines.append([moment_text(moment), name, sender, *record, "ttl", str(ttl), *["flush"] * flush])
-    return "".join(" ".join(line) + "\n" for line in lines)
+            lines.append(f"{moment_text(moment)} {name} {sender} {record_text(heard)} ttl {heard.ttl}{' flush' * heard.flush}\n")
+    return "".join(lines)
 
 
 def packets_text(name, capture):
     """A line for each packet that tells nothing. What is wrong with a damaged message, and where, isn't known here."""
     lines = []
-    for at, moment, frame in frames_of(capture):
+    for packet, (moment, frame) in zip(reading_of(capture).packets, frames_in(capture)):
         cause = cause_of(frame)
         said = "heard no listed record" if cause is None else "refused" if cause == DAMAGED else f"skipped {cause}"
         if cause or not told_by(frame):
-            lines.append(f"{moment_text(moment)} {name} {at} {said}\n")
+            lines.append(f"{moment_text(moment)} {name} {packet.at} {said}\n")
     return "".join(lines)
 
 
 def spans_text(name, capture):
-    packets = [moment for _, moment, _ in frames_of(capture)]
-    hearings = [moment for _, moment, frame in frames_of(capture) if told_by(frame)]
+    packets = [moment for moment, _ in frames_in(capture)]
+    hearings = [moment for moment, frame in frames_in(capture) if told_by(frame)]
     return f"{name} packets {bounds(packets)} hearings {bounds(hearings)} snap {snapshot_length(capture)}\n"
 
 
@@ -50,11 +45,10 @@ def bounds(moments):
 
 def files_text(name, capture):
     """The line of a file that heard something, and one for each cause by which it lost packets."""
-    frames = frames_of(capture)
-    hearings = sum(len(told_by(frame)) for *_, frame in frames)
-    causes = [cause_of(frame) for *_, frame in frames]
-    lost = [f"{name} lost {causes.count(cause)} {cause}: {CURES[cause]}\n" for cause in LOSSES if cause in causes]
-    line = f"{name} pcap whole packets {len(frames)} {bounds([moment for _, moment, _ in frames])} hearings {hearings}\n"
+    frames, causes = frames_in(capture), causes_of(capture)
+    hearings = sum(len(told_by(frame)) for _, frame in frames)
+    lost = [f"{name} lost {causes[cause]} {cause}: {CURES[cause]}\n" for cause in LOSSES if cause in causes]
+    line = f"{name} pcap whole packets {len(frames)} {bounds([moment for moment, _ in frames])} hearings {hearings}\n"
     return "".join([line, *lost])
 
 
