@@ -12,7 +12,7 @@ from tests.judges.answers import answer_to, counts_of, held_in, lives_in
 from tests.judges.json_forms import APART
 from tests.judges.judged_page import Asked, Judge
 from tests.judges.lines import lines_of
-from tests.judges.listeners import COMMAND, unfit_text
+from tests.judges.listeners import COMMAND
 from tests.judges.listeners import FORMS as FORMS_OF_LISTENERS
 from tests.judges.lives import CHOICES
 from tests.judges.page_text import differences
@@ -98,7 +98,7 @@ class Case:
         if words == ("packets",):
             was = was._replace(out=DAMAGE.sub("", was.out))
         elif out is not None or must.out is None:
-            must = must._replace(out=answer.out if out is None else out)
+            must = must._replace(out=(answer.out or "a page") if out is None else out)
         expect_same(was, must, program, *words, *names)
         return answer.out
 
@@ -269,7 +269,7 @@ class Case:
 
     def ask_pages(self, asked):
         """The page about everything, one about one or two words of what was heard, and of both kinds one by listeners."""
-        rng, judge = self.rng, self.ask_page(self.names, asked)
+        rng, (judge, _) = self.rng, self.ask_page(self.names, asked)
         lines = list(map(judge.line, judge.accounts))
         about = asked._replace(about=tuple(some_word(rng, lines) for _ in range(rng.choice((1, 2)))))
         self.ask_page(self.names, about)
@@ -277,10 +277,10 @@ class Case:
         self.ask_page(rng.sample(names, len(names)), rng.choice((asked, about))._replace(listener=tuple(self.prefixes(names))))
 
     def ask_page(self, names, asked):
-        """The judge of a page of files, which must be what the judge takes for right, unless it is refused."""
+        """The judge of a page of files, and the page, which must be what the judge takes for right, unless it is refused."""
         text = self.ask("page", *asked.words, names=names)
         judge = Judge([(name, self.captures[name]) for name in names], asked)
-        found = [] if unfit_text(names, asked.listener) else differences(text, judge)
+        found = differences(text, judge) if text else []
         expect(not found, "page", *asked.words, *names, "\n".join(["", *found]))
         rows, lives = len(judge.drawn), sum(len(judge.lives[key]) for key in judge.drawn)
         self.seen.pages.update({"pages": 1, "rows": rows, "lives": lives, "names of several labels": len(judge.apart)})
@@ -288,4 +288,4 @@ class Case:
             self.seen.pages.update({"pages about words": 1, "rows about words": rows})
         if len(judge.listeners) < len(names):
             self.seen.pages["pages by listeners"] += 1
-        return judge
+        return judge, text
