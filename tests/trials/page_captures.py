@@ -13,7 +13,7 @@ from tests.captures.real import NAMES, repeated
 from tests.captures.sources import IPV6_SOURCE
 from tests.captures.wire import AAAA, LAST_MOMENT, PTR, SECOND, SRV, ipv6_frame
 from tests.judges.judged_page import Asked
-from tests.trials.page_listeners import listeners
+from tests.trials.page_listeners import in_parts, listeners
 from tests.trials.page_names import names
 from tests.trials.page_packets import (HOST, HOSTILE, HTTP, IPP, LOCAL, OVER_UDP, SCTP, TTL, Case, address, alone, at, bye,
                                        full, nothing, says, server, service, text, wire)
@@ -253,18 +253,20 @@ def lanes(_):
     one, end = service(b"one"), nothing(at(10))
 
     def heard(what, *tenths, ttls):
-        packets = (says(START + tenth * SECOND // 10, one, ttl=ttl) for tenth, ttl in zip(tenths, ttls))
-        return alone(f"{what} in one second", *packets, end)
+        packets = [says(START + tenth * SECOND // 10, one, ttl=ttl) for tenth, ttl in zip(tenths, ttls)]
+        yield (whole := alone(f"{what} in one second", *packets, end))
+        files = in_parts("a.pcap", [*packets, end], *range(1, len(packets) + 1))
+        yield Case(f"{what} in one second, each in a file of one listener", files, Asked(listener=("a.pcap",)), alike=whole)
 
-    yield heard("a hearing and a goodbye", 2, 7, ttls=(9, 0))
-    yield heard("a goodbye and a hearing", 2, 7, ttls=(0, 9))
-    yield heard("a goodbye between hearings", 2, 5, 8, ttls=(9, 0, 9))
-    yield heard("a hearing between goodbyes", 2, 5, 8, ttls=(0, 9, 0))
-    yield heard("two hearings", 1, 9, ttls=(9, 1))
-    yield heard("two goodbyes", 1, 9, ttls=(0, 0))
-    yield heard("hearings and a goodbye in no order", 9, 2, 7, ttls=(9, 0, 9))
-    yield heard("goodbyes and a hearing in no order", 9, 2, 7, ttls=(0, 9, 0))
-    yield heard("a goodbye before a hearing of its moment", 3, 3, ttls=(0, 9))
+    yield from heard("a hearing and a goodbye", 2, 7, ttls=(9, 0))
+    yield from heard("a goodbye and a hearing", 2, 7, ttls=(0, 9))
+    yield from heard("a goodbye between hearings", 2, 5, 8, ttls=(9, 0, 9))
+    yield from heard("a hearing between goodbyes", 2, 5, 8, ttls=(0, 9, 0))
+    yield from heard("two hearings", 1, 9, ttls=(9, 1))
+    yield from heard("two goodbyes", 1, 9, ttls=(0, 0))
+    yield from heard("hearings and a goodbye in no order", 9, 2, 7, ttls=(9, 0, 9))
+    yield from heard("goodbyes and a hearing in no order", 9, 2, 7, ttls=(0, 9, 0))
+    yield from heard("a goodbye before a hearing of its moment", 3, 3, ttls=(0, 9))
     yield alone("the last nanoseconds of seconds, and the first", says(at(1) - 1, one), bye(at(1), one),
                 says(at(2) - 1, one), says(at(2), one), bye(at(3) - 1, one), bye(at(4), one), end)
     yield alone("goodbyes of an address", full(START, b"one"), bye(at(2), address(1)), full(at(3), b"two"), end)

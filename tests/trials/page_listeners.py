@@ -5,8 +5,6 @@ from tests.captures.wire import SECOND
 from tests.judges.judged_page import Asked
 from tests.trials.page_packets import Case, alone, at, bye, full, nothing, says, service, wire
 
-ONE_LABEL = service(b"one")
-
 # Nine different messages of four records each, from 22:13:20 on, a second apart; and these by a clock that is 4 s ahead.
 HEARD = [full(at(second), b"heard-%d" % second) for second in range(9)]
 AHEAD = [(moment + 4 * SECOND, frame) for moment, frame in HEARD]
@@ -53,7 +51,7 @@ def listeners(folder):
                by("a-0", "a-1", "a-2"), ("<bdi>6 captures</bdi>", "heard 3× in 3 of 6 captures"))
     yield from compared(east)
     yield from damaged(folder)
-    yield from seconds()
+    yield from goodbyes()
     yield from spans()
 
 
@@ -97,26 +95,16 @@ def damaged(folder):
                by("east"), ("<small>4 packets, 4 hearings</small>", "1 heard, 3 skipped, 0 refused", "2 packets could not be used"))
 
 
-def seconds():
+def goodbyes():
     """Seconds in which several files of a listener heard a record: each counts once, with the goodbye that is first or last in it."""
-    def heard(what, told, *tenths, ttls):
-        packets = [says(START + tenth * SECOND // 10, ONE_LABEL, ttl=ttl) for tenth, ttl in zip(tenths, ttls)]
-        files, end = in_parts("east", packets, *range(1, len(packets))), ("west", [nothing(at(10))])
-        return Case(f"{what} in the files of a listener", [*files, end], by("east"), (f"heard ① {told}, ② <b>never</b>",),
-                    Case("one file", [("east", packets), end]))
-
-    yield heard("a second", "1×", 2, 7, ttls=(9, 9))
-    yield heard("two seconds", "2×", 2, 12, 7, ttls=(9, 9, 9))
-    yield heard("a hearing and a goodbye", "1× (1\xa0goodbye)", 2, 7, ttls=(9, 0))
-    yield heard("a hearing and an earlier goodbye", "1× (1\xa0goodbye)", 7, 2, ttls=(9, 0))
-    yield heard("a goodbye between hearings", "1×", 2, 5, 8, ttls=(9, 0, 9))
-    yield heard("a hearing between goodbyes", "1× (1\xa0goodbye)", 2, 5, 8, ttls=(0, 9, 0))
-    yield heard("a goodbye at the moment of a hearing", "1× (1\xa0goodbye)", 3, 3, ttls=(9, 0))
+    one, end = service(b"one"), ("west", [nothing(at(10))])
+    yield Case("a goodbye in another file of the listener", [("east-0.pcap", [says(at(1), one)]), ("east-1.pcap", [
+        bye(at(1) + 1, one), says(at(2), one)]), end], by("east"), ("heard ① 2× (1\xa0goodbye), ② <b>never</b>",))
     many = [service(b"%d" % number) for number in range(1001)]
     packets = [*(says(at(place), *many[place * 91:][:91]) for place in range(11)), bye(at(60), *many[:500])]
     for count in (2, 7):
         yield Case(f"1001 instances that two listeners heard, one with {count} files",
-                   [*in_parts("east", packets, *range(1, count)), ("west", packets[:4])], by("east"), ("heard ① 1×, ② <b>never</b>",))
+                   [*in_parts("east", packets, *range(1, count)), end], by("east"), ("heard ① 1×, ② <b>never</b>",))
 
 
 def spans():
