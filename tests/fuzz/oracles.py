@@ -83,7 +83,9 @@ class Case:
         self.end = max(self.moments, default=0)
 
     def add(self, name, capture):
-        (self.programs["mdnsmerge"].folder / name).write_bytes(capture)
+        path = self.programs["mdnsmerge"].folder / name
+        path.parent.mkdir(exist_ok=True)
+        path.write_bytes(capture)
         self.captures[name] = capture
         return name
 
@@ -155,6 +157,7 @@ class Case:
         again = self.names + self.rng.choices(self.names, k=2)
         again = self.rng.sample(again, len(again))
         self.variants = [wholes, again, [part for name in self.names for part in self.parts(name)]]
+        self.ask("check", names=[*self.variants[-1], *self.names])
         for names in self.variants:
             expect_same(self.ask("records", names=names), self.records, "records", *names)
 
@@ -163,9 +166,7 @@ class Case:
         if not packets:
             return [name]
         cut = split_at(self.captures[name], self.rng.choice(packets).at)
-        parts = [self.add(f"{name}-{which}", part) for which, part in zip(("front", "rest"), cut)]
-        self.ask("check", names=[*parts, name])
-        return parts
+        return [self.add(f"{name}-{which}", part) for which, part in zip(("front", "rest"), cut)]
 
     def past(self):
         """What was heard before a moment is what the packets before it tell, as of it. All packets are read for it."""
@@ -192,10 +193,12 @@ class Case:
         self.ask("lives", "--pretty", names=again)
 
     def ask_listeners(self, form, names, prefixes):
+        """The text in a form over files by listeners."""
         text = self.ask(COMMAND, *form, *(f"--listener={prefix}" for prefix in prefixes), names=names, program="mdnswhy")
         for pair in filter(None, map(APART.fullmatch, text.splitlines() if form == () else ())):
             words = clock_words(pair.groupdict())
             self.seen.clocks[next((kind for kind in CLOCKS if words.startswith(kind)), "ahead")] += 1
+        return text
 
     def prefixes(self, names):
         """Beginnings of some names, as often of none; rarely one that no name has."""

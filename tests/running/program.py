@@ -60,7 +60,7 @@ class Program:
         self.statuses[status] += 1
         expect(status in (0, 1, 2), "status", status, "of", *words)
         expect(spent <= self.seconds, f"{spent:.3f} seconds of processor time for", *words)
-        return Answer(status, people_of(out) if {"page", *FORMS} & {*words} else text_of(out), text_of(err))
+        return Answer(status, people_of(out) if {"page", *FORMS} & {*words} else text_of(out), people_of(err))
 
 
 def bound_memory(mebibytes):
