@@ -1,6 +1,7 @@
 """Runs of `mdnsmerge lives`, and of `records` as of the same moments, over the captures of `examples/` and small ones of the
 measurements: in another order, twice, and cut at a packet header, too. All are judged by the definition of lives (`answers.py`)."""
 
+from random import Random
 from typing import NamedTuple
 
 from tests.captures.built import write_capture
@@ -8,9 +9,10 @@ from tests.captures.floods import ORDERS, addresses, flushes, records
 from tests.captures.link import START, Link
 from tests.captures.real import repeated
 from tests.captures.wire import SECOND
-from tests.judges.answers import answer_to
+from tests.fuzz.oracles import Case, Seen
 from tests.judges.words import moment_text
-from tests.running.runs import Case, agrees, placed
+from tests.running.program import Finding, Program
+from tests.running.runs import PATIENCE, fails, placed
 
 # How many listeners share the packets of a link, and how many moments of each kind are asked for.
 LISTENERS, MOMENTS = 3, 6
@@ -44,30 +46,26 @@ def links():
     yield Heard("records heard once", [list(records(50)), list(addresses(1, 1, "shuffled"))])
 
 
-def questions(link):
-    """What is asked of the captures of a link, and of which: whole, or cut in two."""
-    whole = [f"whole-{number}.pcap" for number in range(len(link.captures))]
-    for names in (whole, whole[::-1], whole * 2, [f"part-{number}.pcap" for number in range(2 * len(whole))]):
-        yield ["lives"], names
-    moments = sorted(moment for packets in link.captures for moment, _ in packets)
+def ask_about(case):
+    """Asks about captures, whole or cut in two, and as of moments and before them."""
+    for names in (case.names, case.names[::-1], case.names * 2, [part for name in case.names for part in case.parts(name)]):
+        case.ask("lives", names=names)
+    moments = sorted(case.moments)
     asked = [("--at", moments[-1] + seconds * SECOND) for seconds in LATER]
     asked += [("--before", moment + step) for moment in moments[::len(moments) // MOMENTS + 1] for step in (0, 1)]
     for flag, moment in asked:
         for ask in ("lives", "records"):
-            yield [ask, flag, moment_text(moment)], whole
+            case.ask(ask, flag, moment_text(moment))
 
 
 def try_lives_agree(program, folder):
-    """Tries the lives of all these captures; answers how many runs failed."""
-    count = failed = 0
+    """Tries the lives of all these captures; answers for how many of the links a run failed."""
+    asked, failed = Program(program, folder, PATIENCE), 0
     for link in links():
-        parts = [part for packets in link.captures for part in (packets[:len(packets) // 3], packets[len(packets) // 3:])]
-        captures = {name: write_capture(folder / name, "little-nano", packets)
-                    for what, some in (("whole", link.captures), ("part", parts))
-                    for name, packets in ((f"{what}-{number}.pcap", packets) for number, packets in enumerate(some))}
-        for words, names in questions(link):
-            must = answer_to("mdnsmerge", words, [(name, captures[name]) for name in names])
-            count += 1
-            failed += not agrees(Case((*words, *names), *must, place=link.place), program, folder, link.what)
-    print(f"{count} runs whose lives are those of the definition, {failed} failed")
+        captures = [write_capture(folder / "made.pcap", "little-nano", packets) for packets in link.captures]
+        try:
+            ask_about(Case({"mdnsmerge": asked}, Random(0), captures, Seen()))
+        except Finding as finding:
+            failed += fails(link.place, link.what, [str(finding)])
+    print(f"{sum(asked.statuses.values())} runs whose lives are those of the definition, {failed} failed")
     return failed
