@@ -79,30 +79,24 @@ def no_moment(words, flag, quoted):
 
 # Texts that name no moment.
 NO_MOMENTS = (
-    "", " ", "noon", "-5", "-0", "+", "1e9", "0x10", "5 ", " 5", "1_000", "4294967296", "4294967296.0",
-    "99999999999999999999",
+    "", " ", "noon", "-5", "-0", "+", "1e9", "0x10", "5 ", " 5", "1_000", "4294967296", "4294967296.0", "99999999999999999999",
     "1.", ".5", "1.5.5", "1.+5", "1.0000000001", "--5", "++5",
     # Without a zone, or with half of one.
     "2026-11-22", "2026-11-22T07:27:00", "2026-11-22T07:27", "2026-11-22Z", "2026-11-22T07:27:00+01",
-    "2026-11-22T07:27:00+0100",
-    "2026-11-22T07:27:00+1:00", "2026-11-22T07:27:00+24:00", "2026-11-22T07:27:00-01:60", "2026-11-22T07:27:00UTC",
-    "2026-11-22T07:27:00 Z", "2026-11-22T07:27:00ZZ", "2026-11-22T07:27:00Z ", "2026-11-22T07:27:00+01:00Z",
+    "2026-11-22T07:27:00+0100", "2026-11-22T07:27:00+1:00", "2026-11-22T07:27:00+24:00", "2026-11-22T07:27:00-01:60",
+    "2026-11-22T07:27:00UTC", "2026-11-22T07:27:00 Z", "2026-11-22T07:27:00ZZ", "2026-11-22T07:27:00Z ",
+    "2026-11-22T07:27:00+01:00Z",
     # Days and times that there aren't.
-    "2026-00-22T07:27:00Z", "2026-13-22T07:27:00Z", "2026-11-00T07:27:00Z", "2026-11-31T07:27:00Z",
-    "2026-01-32T07:27:00Z",
-    "2026-02-29T07:27:00Z", "2100-02-29T07:27:00Z", "2024-02-30T07:27:00Z", "2026-11-22T24:00:00Z",
-    "2026-11-22T07:60:00Z",
+    "2026-00-22T07:27:00Z", "2026-13-22T07:27:00Z", "2026-11-00T07:27:00Z", "2026-11-31T07:27:00Z", "2026-01-32T07:27:00Z",
+    "2026-02-29T07:27:00Z", "2100-02-29T07:27:00Z", "2024-02-30T07:27:00Z", "2026-11-22T24:00:00Z", "2026-11-22T07:60:00Z",
     "2026-11-22T23:59:60Z", "2026-11-22T07:27:61Z",
     # Too few or too many digits, or other marks.
     "26-11-22T07:27:00Z", "2026-1-22T07:27:00Z", "2026-11-2T07:27:00Z", "2026-11-22T7:27:00Z", "2026-11-22T07:27:0Z",
-    "02026-11-22T07:27:00Z", "2026/11/22T07:27:00Z", "20261122T072700Z", "2026-11-22_07:27:00Z",
-    "2026-11-22  07:27:00Z",
-    "2026-11-22T07.27.00Z", "+2026-11-22T07:27:00Z", "2026-11-22T07:27:00,5Z", "2026-11-22T07:27.5Z",
-    "2026-11-22T07:27:00.Z",
+    "02026-11-22T07:27:00Z", "2026/11/22T07:27:00Z", "20261122T072700Z", "2026-11-22_07:27:00Z", "2026-11-22  07:27:00Z",
+    "2026-11-22T07.27.00Z", "+2026-11-22T07:27:00Z", "2026-11-22T07:27:00,5Z", "2026-11-22T07:27.5Z", "2026-11-22T07:27:00.Z",
     "2026-11-22T07:27:00.0000000001Z", "2026-11-22T07Z",
     # Earlier and later than any moment.
-    "1969-12-31T23:59:59.999999999Z", "1970-01-01T00:00:00+00:01", "0000-01-01T00:00:00+23:59",
-    "2106-02-07T06:28:16Z",
+    "1969-12-31T23:59:59.999999999Z", "1970-01-01T00:00:00+00:01", "0000-01-01T00:00:00+23:59", "2106-02-07T06:28:16Z",
     "2106-02-07T06:28:15-00:01", "9999-12-31T23:59:59-23:59",
 )
 
@@ -115,13 +109,11 @@ REFUSALS = (
     misused([], NO_COMMAND, "<COMMAND>"),
     # Since version 5.18 Linux gives an empty name in place of none.
     misused([], NO_COMMAND, "<COMMAND>", is_nameless=True),
-    misused(["record", "one.pcap"], "unrecognized subcommand 'record'", "<COMMAND>",
-            "a similar subcommand exists: 'records'"),
+    misused(["record", "one.pcap"], "unrecognized subcommand 'record'", "<COMMAND>", "a similar subcommand exists: 'records'"),
     misused(["one.pcap"], "unrecognized subcommand 'one.pcap'", "<COMMAND>"),
     misused([""], "unrecognized subcommand ''", "<COMMAND>"),
     misused(["help"], "unrecognized subcommand 'help'", "<COMMAND>"),
-    misused(["--at", "5", "records", "one.pcap"], "unexpected argument '--at' found", "<COMMAND>",
-            "'records --at' exists"),
+    misused(["--at", "5", "records", "one.pcap"], "unexpected argument '--at' found", "<COMMAND>", "'records --at' exists"),
     misused(["--before", "5", "records", "one.pcap"], "unexpected argument '--before' found", "<COMMAND>",
             "'records --before' exists"),
     *(misused([name], NO_FILE, f"{name} <FILE>...") for name in COMMANDS),
@@ -133,10 +125,8 @@ REFUSALS = (
       for value in ("12\n3", "\x1b[2J", "1\x7f", "\u0661\u0662", "2026-11-22\u00a007:27Z")),
     no_moment(["records", "--at", "noon", "one.pcap"], "--at", "'noon' "),
     # With no tip to say `-- -5`, which would be a file's name.
-    *(misused(["records", "--at", number, "one.pcap"], f"unexpected argument '{number}' found", REPORT)
-      for number in ("-1", "-5")),
-    misused(["records", "one.pcap", "--at"],
-            "a value is required for '--at <MOMENT>' but none was supplied"),
+    *(misused(["records", "--at", number, "one.pcap"], f"unexpected argument '{number}' found", REPORT) for number in ("-1", "-5")),
+    misused(["records", "one.pcap", "--at"], "a value is required for '--at <MOMENT>' but none was supplied"),
     misused(["records", "--before", "5"], NO_FILE, "records --before <MOMENT> <FILE>..."),
     *(said(["records", *words, "one.pcap"], "--at and --before can't be given together")
       for words in (["--at", "5", "--before", "5"], ["--before=6", "--at=5"], ["--at", "noon", "--before", "5"],
@@ -154,8 +144,7 @@ REFUSALS = (
             "page [OPTIONS] <FILE>..."),
     misused(["records", "--about", "-x", "one.pcap"], "unexpected argument '-x' found", REPORT,
             "to pass '-x' as a value, use '-- -x'"),
-    misused(["lives", "one.pcap", "--about"],
-            "a value is required for '--about <WORD>' but none was supplied"),
+    misused(["lives", "one.pcap", "--about"], "a value is required for '--about <WORD>' but none was supplied"),
     *(misused(["records", *words, "one.pcap"], "a value is required for '--about <WORD>' but none was supplied")
       for words in (["--about="], ["--about", ""], ["--about", "elm", "--about", "", "--printers"])),
     *(said([command, *words, "one.pcap"], f"{one} and {other} can't be given together")
@@ -164,8 +153,7 @@ REFUSALS = (
             "to pass '--version' as a value, use '-- --version'"),
     misused(["records", "--ta", "5", "one.pcap"], "unexpected argument '--ta' found", REPORT,
             "to pass '--ta' as a value, use '-- --ta'"),
-    misused(["records", "-x", "one.pcap"], "unexpected argument '-x' found", REPORT,
-            "to pass '-x' as a value, use '-- -x'"),
+    misused(["records", "-x", "one.pcap"], "unexpected argument '-x' found", REPORT, "to pass '-x' as a value, use '-- -x'"),
     *(said([command, "--at", "5", "--before", "5", "one.pcap"], "--at and --before can't be given together")
       for command in ANSWERS),
     *unfit_prefixes("page", "mdnsmerge"),
@@ -247,8 +235,7 @@ TOLD = (
         Told((ask, "--before", "150", "a"), ask, ("a",), before=150 * SECOND))),
     Told(("lives", "a", "b", "a"), "lives", ("a", "b", "a")),
     Told(("lives", "--at=0", "a"), "lives", ("a",), 0),
-    Told(("lives", "--before", "2026-11-22 07:27Z", "--", "-x.pcap"), "lives", ("-x.pcap",),
-         before=utc(2026, 11, 22, 7, 27)),
+    Told(("lives", "--before", "2026-11-22 07:27Z", "--", "-x.pcap"), "lives", ("-x.pcap",), before=utc(2026, 11, 22, 7, 27)),
     # Seconds with a fraction, as moments are printed.
     Told(("records", "--at", "1795332403.397617000", "a"), "records", ("a",), 1795332403_397617000),
     Told(("records", "--at", "1.5", "a"), "records", ("a",), 1_500000000),
@@ -261,8 +248,7 @@ TOLD = (
          before=utc(2026, 11, 22, 6, 27) + SECOND // 4),
     Told(("records", "--before", "2026-11-21 22:57:00.000000001-08:30", "a"), "records", ("a",),
          before=utc(2026, 11, 22, 7, 27) + 1),
-    Told(("instances", "--before", "2026-11-22 07:27Z", "a", "b"), "instances", ("a", "b"),
-         before=utc(2026, 11, 22, 7, 27)),
+    Told(("instances", "--before", "2026-11-22 07:27Z", "a", "b"), "instances", ("a", "b"), before=utc(2026, 11, 22, 7, 27)),
     Told(("records", "--at", "2026-11-22t07:27:59z", "a"), "records", ("a",), utc(2026, 11, 22, 7, 27, 59)),
     Told(("records", "--at=2024-02-29T23:59:59-00:00", "a"), "records", ("a",), utc(2024, 2, 29, 23, 59, 59)),
     Told(("records", "--at=2000-02-29 00:00+00:00", "a"), "records", ("a",), utc(2000, 2, 29)),

@@ -61,8 +61,7 @@ def few(_):
 
 def hostile(_):
     yield alone("hostile instances", *(full(START + place, label) for place, label in enumerate(HOSTILE)))
-    yield alone("hostile goodbyes", *(full(START, label) for label in HOSTILE), bye(at(5), *map(service, HOSTILE)),
-                nothing(at(9)))
+    yield alone("hostile goodbyes", *(full(START, label) for label in HOSTILE), bye(at(5), *map(service, HOSTILE)), nothing(at(9)))
     types = [(label, b"_tcp", LOCAL) for label in HOSTILE]
     yield alone("hostile types", *(full(START, b"one", of_type) for of_type in types))
     yield alone("hostile hosts", *(full(START, b"one", host=(label, label, LOCAL)) for label in HOSTILE))
@@ -290,8 +289,7 @@ def captures_of_lanes(one):
     for count in (2, 3, 4, 5, 8):
         yield Case(f"{count} captures of one record", files[:count])
         yield Case(f"{count} captures of one record, the last ones", files[-count:])
-        yield Case(f"{count} captures of one record, before its first goodbye", files[-count:],
-                   Asked(before=START + SECOND // 2))
+        yield Case(f"{count} captures of one record, before its first goodbye", files[-count:], Asked(before=START + SECOND // 2))
     yield Case("captures of one record before another begins", files[::-1][:4], Asked(before=at(6)))
     yield Case("captures of one record as of a later moment", files[:3], Asked(at=at(50)))
     yield Case("five captures without packets", [(name, []) for name, _ in files[:5]])

@@ -28,19 +28,16 @@ def names(_):
                 says(at(9), pointer(b"A", b"B", *HTTP, of_type=(b"_hTTp", b"_TCP", b"Local"))))
     yield alone("a flushed name of several labels", says(START, *several[:2]),
                 says(at(5), service(b"one", flush=True)), nothing(at(9)))
-    yield alone("a name of several labels with a server", says(START, dotted), says(at(1), served, address(4)),
-                bye(at(8), served))
+    yield alone("a name of several labels with a server", says(START, dotted), says(at(1), served, address(4)), bye(at(8), served))
     yield alone("hostile names of two labels", *(
         says(START + place, pointer(label, label, *HTTP)) for place, label in enumerate(HOSTILE)))
-    yield alone("hostile names beside types", *(
-        says(START + place, pointer(label, *IPP)) for place, label in enumerate(HOSTILE)))
+    yield alone("hostile names beside types", *(says(START + place, pointer(label, *IPP)) for place, label in enumerate(HOSTILE)))
     others = (SCTP, HTTP[:2], META, (b"_sub", *HTTP), HOST)
     yield alone("names of several labels under what is no type",
                 says(START, *(pointer(b"a", b"b", *owner, of_type=owner) for owner in others)))
     yield from counted(dotted)
     files = [("a.pcap", [says(START, service(b"one"), *several), bye(at(9), dotted)]), ("b.pcap", [says(at(5), dotted)])]
-    for word in ("Hazel v2.0 Web", "hazel v2.0 web._HTTP._tcp", "Hazel v2", "0 Web", "_http._tcp", "_ipp._tcp.local", "one",
-                 "."):
+    for word in ("Hazel v2.0 Web", "hazel v2.0 web._HTTP._tcp", "Hazel v2", "0 Web", "_http._tcp", "_ipp._tcp.local", "one", "."):
         yield Case(f"about {word}, of names of several labels", files, Asked(about=(word,)))
     yield Case("names of several labels before a goodbye", files, Asked(before=at(9)))
     yield Case("names of several labels as of a later moment", files, Asked(at=at(500)))

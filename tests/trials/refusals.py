@@ -54,15 +54,12 @@ FILES = (
     Case(("records", "/dev/stdin"), WHOLE, LINE, standard_input="one.pcap"),
     Case(("records", "one.pcap"), WHOLE, LINE, is_nobody=True),
     Case(("check", "one.pcap", "one.pcap"), WHOLE, f"one.pcap: {COUNTS} whole\n" * 2),
-    Case(("check", "one.pcap", "cut.pcap"), DAMAGED,
-         f"one.pcap: {COUNTS} whole\ncut.pcap: {COUNTS} cut at 117\n"),
+    Case(("check", "one.pcap", "cut.pcap"), DAMAGED, f"one.pcap: {COUNTS} whole\ncut.pcap: {COUNTS} cut at 117\n"),
     Case(("records", "cut.pcap"), DAMAGED, LINE, "mdnsmerge: cut.pcap: cut at 117\n"),
-    Case(("records", "cut.pcap", "one.pcap", "cut.pcap"), DAMAGED, LINE,
-         "mdnsmerge: cut.pcap: cut at 117\n" * 2),
+    Case(("records", "cut.pcap", "one.pcap", "cut.pcap"), DAMAGED, LINE, "mdnsmerge: cut.pcap: cut at 117\n" * 2),
     Case(("lives", "one.pcap"), WHOLE, LIFE),
     Case(("lives", "--before", "100", "one.pcap"), WHOLE),
-    Case(("lives", "cut.pcap", "one.pcap", "cut.pcap"), DAMAGED, LIFE,
-         "mdnsmerge: cut.pcap: cut at 117\n" * 2),
+    Case(("lives", "cut.pcap", "one.pcap", "cut.pcap"), DAMAGED, LIFE, "mdnsmerge: cut.pcap: cut at 117\n" * 2),
 )
 
 # What can't be used is left out, with a line for each in the order of the words, and the answer is over the others.

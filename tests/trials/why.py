@@ -93,11 +93,9 @@ HEARINGS = (
     Case(("hearings", "./one.pcap"), WHOLE, one_line("./one.pcap")),
     Case(("hearings", "/dev/stdin"), WHOLE, one_line("/dev/stdin"), standard_input="one.pcap"),
     Case(("hearings", TWO_LINES), WHOLE, one_line("a\\032file\\010of\\032two\\032lines.pcap")),
-    Case(("hearings", QUOTED), DAMAGED, one_line('back\\\\slash\\032"\\195\\169".pcap'),
-         f"mdnswhy: {QUOTED}: cut at 117\n"),
+    Case(("hearings", QUOTED), DAMAGED, one_line('back\\\\slash\\032"\\195\\169".pcap'), f"mdnswhy: {QUOTED}: cut at 117\n"),
     Case(("hearings", "cut.pcap"), DAMAGED, CUT, "mdnswhy: cut.pcap: cut at 117\n"),
-    Case(("hearings", "cut.pcap", "one.pcap", "cut.pcap"), DAMAGED, CUT + ONE + CUT,
-         "mdnswhy: cut.pcap: cut at 117\n" * 2),
+    Case(("hearings", "cut.pcap", "one.pcap", "cut.pcap"), DAMAGED, CUT + ONE + CUT, "mdnswhy: cut.pcap: cut at 117\n" * 2),
 )
 
 PACKETS = (
@@ -114,19 +112,16 @@ PACKETS = (
 
 SPANS = (
     Case(("spans", "one.pcap"), WHOLE, ONE_SPAN),
-    Case(("spans", "skipped.pcap"), WHOLE,
-         "skipped.pcap packets 1.000000000 1.000000000 hearings - - snap 262144\n"),
+    Case(("spans", "skipped.pcap"), WHOLE, "skipped.pcap packets 1.000000000 1.000000000 hearings - - snap 262144\n"),
     # The first of three packets is the latest, and the second, which is skipped, the earliest.
     Case(("spans", "gone.pcap"), WHOLE,
          "gone.pcap packets 300.000000000 300.500000000 hearings 300.000001000 300.500000000 snap 262144\n"),
-    Case(("spans", "one.pcap", "cut.pcap", "one.pcap"), DAMAGED, ONE_SPAN + CUT_SPAN + ONE_SPAN,
-         "mdnswhy: cut.pcap: cut at 117\n"),
+    Case(("spans", "one.pcap", "cut.pcap", "one.pcap"), DAMAGED, ONE_SPAN + CUT_SPAN + ONE_SPAN, "mdnswhy: cut.pcap: cut at 117\n"),
     Case(("spans", "/dev/stdin"), WHOLE, span_line("/dev/stdin"), standard_input="one.pcap"),
     Case(("spans", "--pretty", "one.pcap", "skipped.pcap"), WHOLE, ONE_SPAN_SHOWN +
          "skipped.pcap  packets 1970-01-01T00:00:01.000Z to 1970-01-01T00:00:01.000Z  hearings none  snap 262144\n"),
     Case(("spans", TWO_LINES), WHOLE, span_line("a\\032file\\010of\\032two\\032lines.pcap")),
-    Case(("spans", QUOTED), DAMAGED, span_line('back\\\\slash\\032"\\195\\169".pcap'),
-         f"mdnswhy: {QUOTED}: cut at 117\n"),
+    Case(("spans", QUOTED), DAMAGED, span_line('back\\\\slash\\032"\\195\\169".pcap'), f"mdnswhy: {QUOTED}: cut at 117\n"),
 )
 
 FILES = (
