@@ -8,7 +8,7 @@ import struct
 from collections import Counter
 
 from tests.captures.wire import LAST_MOMENT, SECOND
-from tests.judges.answers import answer_to, counts_of, held_in, lives_in
+from tests.judges.answers import Basis, answer_to, counts_of, lives_in
 from tests.judges.json_forms import APART
 from tests.judges.judged_page import Asked, Judge
 from tests.judges.lines import lines_of
@@ -76,11 +76,8 @@ class Case:
         self.programs, self.rng, self.seen, self.captures = programs, rng, seen, {}
         self.names = [self.add(name, capture) for name, capture in zip(("a.pcap", "b.pcap", "c.pcap"), captures)]
         self.is_refused = any(reading_of(capture).fault for capture in captures)
-        held = [held_in(capture) for capture in self.captures.values()]
-        self.moments = [moment for moments, _ in held for moment in moments]
-        self.hearings = [hearing for _, hearings in held for hearing in hearings]
-        self.newest = max((hearing.moment for hearing in self.hearings), default=0)
-        self.end = max(self.moments, default=0)
+        basis = Basis(Asked(), list(self.captures.items()))
+        self.moments, self.hearings, self.newest, self.end = basis.moments, basis.hearings, basis.newest, basis.end
 
     def add(self, name, capture):
         path = self.programs["mdnsmerge"].folder / name

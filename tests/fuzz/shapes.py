@@ -2,8 +2,7 @@
 
 from tests import TOP
 from tests.captures.written import rows_of
-from tests.running.program import Answer, Finding, expect_same
-from tests.running.runs import fails
+from tests.running.runs import agrees, fails
 
 SHAPES = TOP / "fuzz/shapes"
 
@@ -16,11 +15,6 @@ def try_shapes(program):
     paths = sorted(SHAPES.glob("*.rows"))
     rows = [row for path in paths for row in rows_of({}, path)]
     failed = int(fails("fuzz/shapes", f"{len(rows)} rows", [] if len(rows) == COUNT else ["  say so in `COUNT`, if it is meant"]))
-    for row in rows:
-        case = row.case(program.folder)
-        try:
-            expect_same(program.run(*case.words), Answer(case.status, case.out, case.err))
-        except Finding as finding:
-            failed += fails(row.place, row.what, [str(finding)])
+    failed += sum(not agrees(row.case(program.folder), program.path, program.folder, row.what) for row in rows)
     print(f"{len(rows)} rows of {len(paths)} shapes, {failed} failed")
     return 1 if failed else 0

@@ -74,13 +74,13 @@ class Basis:
     def __init__(self, asked, files):
         self.asked, self.files = asked, files
         captures = [capture for _, capture in files]
-        moments = [moment for capture in captures for moment in held_in(capture)[0]]
+        self.moments = [moment for capture in captures for moment in held_in(capture)[0]]
         self.hearings = frozenset(counted_of(asked, captures))
         self.newest = max((one.moment for one in self.hearings), default=0)
         given = asked.before if asked.at is None else asked.at
         self.now = self.newest if given is None else given
-        self.end = max(moments, default=0) if given is None else given
-        self.begin = min([self.end, *moments])
+        self.end = max(self.moments, default=0) if given is None else given
+        self.begin = min([self.end, *self.moments])
         self.rows = rows_of(self.hearings)
 
     @cached_property
