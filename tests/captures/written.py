@@ -8,7 +8,8 @@ from typing import NamedTuple
 
 from tests import TOP
 from tests.captures.built import frame_of, labels, write_capture
-from tests.captures.wire import NAMED, SECOND, Content
+from tests.captures.wire import NAMED, Content
+from tests.judges.lines import moment_of
 from tests.running.runs import WHOLE, Case
 
 DEFINITION = re.compile(r"([A-Z][A-Z0-9_]*) =(?: (.*))?")
@@ -140,8 +141,7 @@ def packet_of(hearing):
     """The moment in nanoseconds, and the frame that tells of a record: MOMENT OWNER TTL[,flush] TYPE DATA. After a moment
     alone the message has no record."""
     moment, *told = hearing.split()
-    seconds, _, nanos = moment.partition(".")
-    return int(seconds) * SECOND + int(nanos or "0"), frame_of([record_of(*told)] if told else [])
+    return moment_of(moment), frame_of([record_of(*told)] if told else [])
 
 
 def record_of(owner, life, name, *words):

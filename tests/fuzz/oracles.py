@@ -7,6 +7,7 @@ import re
 import struct
 from collections import Counter
 
+from tests.captures.listening import OFFSETS
 from tests.captures.wire import LAST_MOMENT, SECOND
 from tests.judges.answers import Basis, answer_to, counts_of, lives_in
 from tests.judges.json_forms import APART
@@ -33,10 +34,6 @@ DAMAGE = re.compile(r"(?m)(?<= refused) [a-z ]+ at \d+$")
 
 # How much later than the newest hearing a moment is that is asked for, besides each end of a life.
 LATER = (0, 1, SECOND, 120 * SECOND)
-
-# How far another clock is ahead: about the tenth of a second within which clocks are one, and far from it.
-TENTH = SECOND // 10
-AHEAD = (1000, TENTH, TENTH + 1, TENTH + 1000, -TENTH, -TENTH - 1, 4 * SECOND, -86_400 * SECOND)
 
 # What is said of clocks, by the first words of it; else the one is ahead.
 CLOCKS = ("one clock", "unsteady", "can't tell", "nothing in common")
@@ -204,7 +201,7 @@ class Case:
 
     def by_another_clock(self, name):
         """A capture whose packets are those of another one, all later or earlier by as much."""
-        ahead, capture = self.rng.choice(AHEAD), self.captures[name]
+        ahead, capture = self.rng.choice(OFFSETS), self.captures[name]
         order, unit = LAYOUTS[capture[:4]]
         made = capture[:FILE_HEADER]
         for packet in self.packets_of(name):

@@ -7,7 +7,6 @@ from functools import cached_property, lru_cache
 from itertools import compress, takewhile
 from typing import Callable, NamedTuple
 
-from tests.captures.wire import SECOND
 from tests.judges.causes import DAMAGED, LOST, causes_of
 from tests.judges.hearings import hearings_of
 from tests.judges.json_forms import MEMBERS, json_text
@@ -23,16 +22,10 @@ from tests.running.commands import FORMS, TRACES
 from tests.running.program import Answer
 
 
-def nanos_of(text):
-    """A moment in seconds, with a fraction or without."""
-    seconds, _, fraction = text.partition(".")
-    return int(seconds) * SECOND + int(fraction.ljust(9, "0"))
-
-
 WORDS = argparse.ArgumentParser(add_help=False)
 WORDS.add_argument("ask")
-WORDS.add_argument("--at", type=nanos_of)
-WORDS.add_argument("--before", type=nanos_of)
+WORDS.add_argument("--at", type=moment_of)
+WORDS.add_argument("--before", type=moment_of)
 WORDS.add_argument("--about", action="append", default=[])
 WORDS.add_argument("--listener", action="append", default=[])
 for form in FORMS:

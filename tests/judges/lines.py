@@ -36,8 +36,9 @@ def line_of(text):
 
 
 def moment_of(text):
-    seconds, nanos = text.split(".")
-    return int(seconds) * SECOND + int(nanos)
+    """A moment in seconds, with a fraction or without."""
+    seconds, _, fraction = text.partition(".")
+    return int(seconds) * SECOND + int(fraction.ljust(9, "0"))
 
 
 def wire_of(name):
