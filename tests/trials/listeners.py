@@ -17,17 +17,14 @@ from tests.judges.json_forms import APART
 from tests.judges.listeners import COMMAND, FORMS, base_name, file_text, unfit_text
 from tests.judges.pretty import signed_nanos
 from tests.running import runs
-from tests.running.program import Finding, Program, expect, expect_same
-from tests.running.runs import DAMAGED, PATIENCE, WHOLE, agrees, difference, fails
+from tests.running.program import Finding, Program, expect_same
+from tests.running.runs import DAMAGED, PATIENCE, WHOLE, agrees, fails
 from tests.trials.command_lines import unfit_prefixes
 
 said = partial(runs.said, program="mdnswhy")
 
 # How many sets of captures are made.
 SETS = 200
-
-# What a listener missed, which is all that a file in two parts changes.
-MISSED = re.compile(r"(?<= missed )\d+")
 
 
 def lines_of_one(name):
@@ -68,13 +65,15 @@ def try_set(programs, number, listening):
 
 
 def in_two_parts(case, names, prefixes):
-    """A file that is cut in two where a packet begins is one again by a prefix that no other file has, its whole name."""
+    """A file that is cut in two where a packet begins is one again by a prefix that no other file has, its whole name. Only what its
+    listener missed is no number of the packets alone."""
     name = case.rng.choice(names)
     others = [other for other in names if other != name]
     at, prefix = case.rng.randint(0, len(others)), base_name(name)
     fit = [one for one in prefixes if not unfit_text(others, [one])]
     one, two = (case.ask_listeners((), [*others[:at], *parts, *others[at:]], [prefix, *fit]) for parts in ([name], case.parts(name)))
-    expect(are_alike(one, two, file_text(prefix)), name, "in two parts", *difference("  the lines", one, two))
+    missed = re.compile(rf"(?m)(^(?:\S+ )?{re.escape(file_text(prefix))} heard .*? missed )\d+")
+    expect_same(missed.sub(r"\1", two), missed.sub(r"\1", one), name, "in two parts")
 
 
 def in_order(text):
@@ -90,17 +89,6 @@ def in_order(text):
             line = f"{sorted((one, other))} {common} {ahead if int(by) % 2 else None} {bounds[::sign]} {by}"
         lines.append(line)
     return "".join(f"{line}\n" for line in sorted(lines))
-
-
-def are_alike(one, two, name):
-    """Whether two answers differ only in what the listener of this name missed, which is no more in parts."""
-    for line, parted in zip(one.splitlines(), two.splitlines()):
-        if line != parted:
-            missed, fewer = (int(MISSED.search(some)[0]) for some in (line, parted))
-            is_of_parts = re.match(rf"(?:\S+ )?{re.escape(name)} heard ", line) is not None
-            if not is_of_parts or fewer > missed or MISSED.sub("", line) != MISSED.sub("", parted):
-                return False
-    return one.count("\n") == two.count("\n")
 
 
 def try_listeners(merge, folder):
