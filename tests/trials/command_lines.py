@@ -128,7 +128,7 @@ REFUSALS = (
     *(misused(["records", "--at", number, "one.pcap"], f"unexpected argument '{number}' found", REPORT) for number in ("-1", "-5")),
     misused(["records", "one.pcap", "--at"], "a value is required for '--at <MOMENT>' but none was supplied"),
     misused(["records", "--before", "5"], NO_FILE, "records --before <MOMENT> <FILE>..."),
-    *(said(["records", *words, "one.pcap"], "--at and --before can't be given together")
+    *(said([command, *words, "one.pcap"], "--at and --before can't be given together") for command in ANSWERS
       for words in (["--at", "5", "--before", "5"], ["--before=6", "--at=5"], ["--at", "noon", "--before", "5"],
                     ["--at", "noon", "--before", ""])),
     *(misused(["records", *given(flag), *given(flag), "one.pcap"],
@@ -154,8 +154,6 @@ REFUSALS = (
     misused(["records", "--ta", "5", "one.pcap"], "unexpected argument '--ta' found", REPORT,
             "to pass '--ta' as a value, use '-- --ta'"),
     misused(["records", "-x", "one.pcap"], "unexpected argument '-x' found", REPORT, "to pass '-x' as a value, use '-- -x'"),
-    *(said([command, "--at", "5", "--before", "5", "one.pcap"], "--at and --before can't be given together")
-      for command in ANSWERS),
     *unfit_prefixes("page", "mdnsmerge"),
     misused(["check", "-x.pcap"], "unexpected argument '-x' found", "check [OPTIONS] <FILE>...",
             "to pass '-x' as a value, use '-- -x'"),
