@@ -1,20 +1,15 @@
 -- Times, offsets and date-times are read as their grammar says.
-use Rattle.std.proofs.Common.{◌≡◌, ◌∙◌, ◌<◌, ◌+◌, ◌*◌, ◌++◌, ◌∷◌, ◌==◌, ℕ, Bool, true, false, cond, IfSome, eqb-true, nat_lt, subst}
-use Rattle.std.proofs.Common.{List, [], get_or, drop, Option, Some, None, option_and_then, option_map, refl, sym, ap, arith, inl, inr}
-use Rattle.std.proofs.Common.{Result, Ok, Err}
+use Rattle.std.proofs.Common.{◌≡◌, ◌∙◌, ◌<◌, ◌+◌, ◌*◌, ◌++◌, ◌∷◌, ◌==◌, ℕ, Bool, true, false, cond}
+use Rattle.std.proofs.Common.{IfSome, eqb-true, nat_lt, subst, List, [], get_or, drop, Option, Some, None, option_and_then, option_map}
+use Rattle.std.proofs.{Common.{refl, sym, ap, arith, inl, inr, Result, Ok, Err}, lemmas.Bool.Decides.{nat_tests}}
+use Rattle.std.proofs.lemmas.{Option.{none-some, same_Some}, List.{append_assoc, append-nil}}
 use Rattle.std.specs.Result.{OkIff, result_ok}
-use Rattle.std.proofs.lemmas.Bool.Decides.{nat_tests}
-use Rattle.std.proofs.lemmas.Option.{none-some, same_Some}
-use Rattle.std.proofs.lemmas.List.{append_assoc, append-nil}
-use Rattle.mdns_capture.specs.declared.moment.Moment.{Moment}
-use Rattle.command_line.specs.declared.moments.Offset.{Offset}
-use Rattle.command_line.specs.declared.moments.Offset.TheVariants.{Ahead, Behind}
-use Rattle.command_line.specs.MomentReading as reading
-use Rattle.mdns_capture.specs.Limits.{second}
+use Rattle.mdns_capture.specs.{declared.moment.Moment.{Moment}, Limits.{second}}
+use Rattle.command_line.specs.declared.moments.{Offset.{Offset}, Offset.TheVariants.{Ahead, Behind}}
 use Rattle.command_line.specs.Moments.{IsClock, IsDateTime, IsLocal, IsOffset, IsOptionalFraction, IsOptionalSecond, IsSeparator, IsTime}
 use Rattle.command_line.specs.Moments.{day_length}
-use Rattle.people_text.specs.Calendar.{days_of_years}
-use Rattle.people_text.specs.MomentText.{two_digits}
+use Rattle.command_line.specs.MomentReading as reading
+use Rattle.people_text.specs.{Calendar.{days_of_years}, MomentText.{two_digits}}
 use Rattle.command_line.proofs.GrammarLemmas.{Stops, clock-complete, clock-sound, cond-some, date-complete, date-sound}
 use Rattle.command_line.proofs.GrammarLemmas.{dotted-complete, dotted-sound, map-some, same-parts, then-some, two-complete, two-sound}
 

@@ -1,12 +1,9 @@
 -- The digits of a fraction.
-use Rattle.std.proofs.Common.{◌≡◌, ◌∙◌, ℕ, ◌-◌, ◌*◌, ◌^◌, ◌+◌, ◌<◌, ◌≤◌, true, List, length, None, Some, ap, arith, sym}
-use Rattle.std.proofs.Math.Nat.{mul-lt-mul_of_pos_right, one-le-pow}
-use Rattle.std.proofs.lemmas.Bool.{and_parts}
-use Rattle.std.proofs.lemmas.Bool.Decides.{nat_tests}
-use Rattle.std.proofs.lemmas.Nat.{pow-add}
+use Rattle.std.proofs.Common.{◌≡◌, ◌∙◌, ℕ, ◌-◌, ◌*◌, ◌^◌, ◌+◌, ◌<◌, ◌≤◌, true, List, length, None}
+use Rattle.std.proofs.{Common.{Some, ap, arith, sym}, Math.Nat.{mul-lt-mul_of_pos_right, one-le-pow}, lemmas.Bool.{and_parts}}
+use Rattle.std.proofs.lemmas.{Bool.Decides.{nat_tests}, Nat.{pow-add}}
 use Rattle.std.proofs.lemmas.Str.Parse.{IsNumeralModel, digits_value_short, numerals_by_value, tells_all_ascii_digits}
-use Rattle.std.specs.Str.{all_ascii_digits}
-use Rattle.std.specs.Str.Parse.{digits_value}
+use Rattle.std.specs.{Str.{all_ascii_digits}, Str.Parse.{digits_value}}
 use Rattle.command_line.specs.MomentReading.{fraction_of}
 
 pub own : IsNumeralModel (λ ds. all_ascii_digits ds ≡ true) (digits_value 10)

@@ -1,13 +1,10 @@
 -- Each reader reads its rule of the grammar, and nothing else.
-use Rattle.std.proofs.Common.{◌≡◌, ◌≢◌, ◌∙◌, ◌<◌, ◌+◌, ◌*◌, ◌/◌, ◌%◌, ◌++◌, ◌∷◌, ◌&&◌, ◌==◌, ℕ, suc, Bool, true, false, cond}
-use Rattle.std.proofs.Common.{List, [], length, get_or, take, drop, Option, Some, None, option_and_then, option_map, refl, sym, ap, arith}
-use Rattle.std.proofs.Common.{eqb-true, take_at, drop_at, take-append-drop, nat_lt, nat_le, subst}
-use Rattle.std.specs.List.{prefix_len}
-use Rattle.std.proofs.lemmas.Bool.{and_parts}
-use Rattle.std.proofs.lemmas.Bool.Decides.{nat_tests}
+use Rattle.std.proofs.Common.{◌≡◌, ◌≢◌, ◌∙◌, ◌<◌, ◌+◌, ◌*◌, ◌/◌, ◌%◌, ◌++◌, ◌∷◌, ◌&&◌}
+use Rattle.std.proofs.Common.{◌==◌, ℕ, suc, Bool, true, false, cond, List, [], length, get_or, take, drop, Option, Some, None}
+use Rattle.std.proofs.Common.{option_and_then, option_map, refl, sym, ap, arith, eqb-true, take_at, drop_at, take-append-drop, nat_lt}
+use Rattle.std.proofs.{Common.{nat_le, subst}, lemmas.Bool.{and_parts}, lemmas.Bool.Decides.{nat_tests}}
 use Rattle.std.proofs.lemmas.Option.{none-some, same_Some}
-use Rattle.std.specs.Char.{is_ascii_digit}
-use Rattle.std.specs.Str.{all_ascii_digits}
+use Rattle.std.specs.{List.{prefix_len}, Char.{is_ascii_digit}, Str.{all_ascii_digits}}
 use Rattle.command_line.specs.MomentReading as reading
 use Rattle.command_line.specs.Moments.{IsClock, IsDate, IsFraction, IsOptionalFraction}
 use Rattle.people_text.specs.Calendar as calendar

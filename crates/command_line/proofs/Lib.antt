@@ -1,4 +1,5 @@
 mod DateTimeLemmas
+mod FinalDotLemmas
 mod FractionLemmas
 mod GrammarLemmas
 mod LineLemmas
@@ -6,6 +7,7 @@ mod MergeLemmas
 mod OptionLemmas
 mod PrintLemmas
 mod ReadLemmas
+mod RefusalLemmas
 mod SecondsLemmas
 mod SoundLemmas
 mod TableLemmas

@@ -2,14 +2,9 @@
 use Rattle.std.proofs.lemmas.Grind.{common_steps}
 use Rattle.std.proofs.Common.{arith, ◌≡◌, ◌&&◌, not, inl, inr, subst, refl, true, false, Bool, List, [], ◌∷◌, ◌++◌}
 use Rattle.std.proofs.lemmas.List.{map-append}
-use Rattle.clap.specs.Kinds.{HasKind, IsAmong, Kinds}
-use Rattle.clap.specs.Values.{kind_of}
-use Rattle.clap.specs.Words.{Text, with_subcommand}
-use Rattle.clap.specs.declared.error.Error.{Error}
-use Rattle.command_line.specs.Faults.{IsFaultOf, IsUnasked}
-use Rattle.command_line.specs.Line.{Flags, line_of, shape_of}
-use Rattle.command_line.specs.declared.words.WordsFault.TheVariants.{Memory, Help, Refused}
-use Rattle.command_line.specs.declared.words.AskFault.{AskFault}
+use Rattle.clap.specs.{Kinds.{HasKind, IsAmong, Kinds}, Values.{kind_of}, Words.{Text, with_subcommand}, declared.error.Error.{Error}}
+use Rattle.command_line.specs.{Faults.{IsFaultOf, IsUnasked}, Line.{Flags, line_of, shape_of}}
+use Rattle.command_line.specs.declared.words.{WordsFault.TheVariants.{Memory, Help, Refused}, AskFault.{AskFault}}
 use Rattle.command_line.specs.declared.words.AskFault.TheVariants.{Version, Words}
 
 -- a plain command has no global argument, which is the third of what makes it plain

@@ -1,18 +1,14 @@
 -- Lemmas on the values of options, as clap reads them.
 use Rattle.std.proofs.Common.{◌≡◌, ◌∙◌, codes, ◌≤◌, ◌*◌, ◌+◌, ◌↔◌, refl, subst, arith, true, false, Bool, ℕ, Option, Some, None}
 use Rattle.std.proofs.Common.{◌∷◌, ap, map, option_map, unwrap_or, List, [], Result, Ok, Err, IfSome, inl, inr}
-use Rattle.std.specs.Borrow.{Bor}
-use Rattle.std.specs.Str.{bytes_eq}
 use Rattle.std.proofs.lemmas.Slice.Eq.{bytes_eq-Decides}
-use Rattle.std.specs.Str.Parse.{ParsesUnsigned}
+use Rattle.std.specs.{Borrow.{Bor}, Str.{bytes_eq}, Str.Parse.{ParsesUnsigned}}
 use Rattle.clap.specs.Words.{Row, Text, TriesOne, one_of}
 use Rattle.mdns_capture.specs.declared.moment.Moment.{Moment}
-use Rattle.mdns_browse.specs.declared.report.Form.{Form}
-use Rattle.mdns_browse.specs.declared.report.Form.TheVariants.{Lines}
-use Rattle.command_line.specs.Line.{AsksForm, Flags, GivesForm, HasNoForm, HasOneForm, IsFlag, IsMomentOf}
-use Rattle.command_line.specs.declared.line.Takes.{Takes}
-use Rattle.command_line.specs.declared.line.Takes.TheVariants as takes
+use Rattle.mdns_browse.specs.declared.report.{Form.{Form}, Form.TheVariants.{Lines}}
+use Rattle.command_line.specs.{Line.{AsksForm, Flags, GivesForm, HasNoForm, HasOneForm, IsFlag, IsMomentOf}, declared.line.Takes.{Takes}}
 use Rattle.command_line.specs.declared.options.ConflictingFlags.{ConflictingFlags}
+use Rattle.command_line.specs.declared.line.Takes.TheVariants as takes
 
 -- what a flag is read as
 pub flag-told : (flag : Bool) (text rows : Option Text) → text ≡ rows → (text ≡ None → flag ≡ false)

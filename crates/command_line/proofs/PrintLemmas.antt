@@ -1,6 +1,5 @@
 -- Lemmas on lines that are printed.
-use Rattle.std.proofs.lemmas.Grind.{common_steps}
-use Rattle.std.proofs.Common.{◌≡◌, ◌≢◌, ◌++◌, ap, arith, refl, ℕ, List, [], ◌∷◌}
+use Rattle.std.proofs.{lemmas.Grind.{common_steps}, Common.{◌≡◌, ◌≢◌, ◌++◌, ap, arith, refl, ℕ, List, [], ◌∷◌}}
 use Rattle.command_line.specs.Program.{before_feeds, trimmed}
 
 -- one line feed more at the end

@@ -1,40 +1,27 @@
 -- Where clap finds no fault in the words of a command line, its matches ask for something, of one file or more.
 use Rattle.std.proofs.Common.{rules, ◌≡◌, ◌≢◌, ◌++◌, ◌*◌, ◌&&◌, refl, subst, sym, inl, inr, not, cond, arith, true, false}
 use Rattle.std.proofs.Common.{codes, is_some, Bool, ℕ, List, [], ◌∷◌, Option, Some, None, Result, Err, IfSome, map, option_map}
-use Rattle.std.specs.Prelude.{find, slice_get, option_and_then, ⊤, IsSomeAnd}
-use Rattle.std.specs.Borrow.{Bor}
-use Rattle.std.specs.List.{list_all, list_any}
-use Rattle.std.specs.Option.{option_map_or}
-use Rattle.std.specs.Str.{bytes_eq}
-use Rattle.std.specs.Str.Parse.{ParsesUnsigned, digits_value, without_leading_plus}
 use Rattle.std.proofs.lemmas.Slice.Eq.{bytes_eq-Decides}
-use Rattle.clap.proofs.CallerReads.{signed_reads}
-use Rattle.clap.proofs.ValueTestLemmas.{accepts-Accepts}
-use Rattle.clap.proofs.WalkLemmas.{both}
+use Rattle.std.specs.{Prelude.{find, slice_get, option_and_then, ⊤, IsSomeAnd}, Borrow.{Bor}, List.{list_all, list_any}}
+use Rattle.std.specs.{Option.{option_map_or}, Str.{bytes_eq}, Str.Parse.{ParsesUnsigned, digits_value, without_leading_plus}}
+use Rattle.clap.proofs.{CallerReads.{signed_reads}, ValueTestLemmas.{accepts-Accepts}, WalkLemmas.{both}}
 use Rattle.clap.specs.Facts.{explicit_source}
 use Rattle.clap.specs.Faults.{check_fault, defaults_fault, entered_fault, fault_of, level_fault, settle_fault, walk_fault}
 use Rattle.clap.specs.Lexer.{without_minus}
-use Rattle.clap.specs.Simple.{App, Shape, argument_words, built, built_leaf, entered, filled_from, help_rule, inherited}
-use Rattle.clap.specs.Simple.{marked_built, names_of, on_top, rows_at, subcommand_of, with_leaf_noted}
-use Rattle.clap.specs.Takes.{is_given}
-use Rattle.clap.specs.Values.{read_as}
+use Rattle.clap.specs.Simple.{App, Shape, argument_words, built, built_leaf, entered, filled_from, help_rule, inherited, marked_built}
+use Rattle.clap.specs.{Simple.{names_of, on_top, rows_at, subcommand_of, with_leaf_noted}, Takes.{is_given}, Values.{read_as}}
 use Rattle.clap.specs.ValueTests.{accepts}
-use Rattle.clap.specs.Walk.{Row, Text, first_of, all_of, finished, nothing_held, one_of, row_text, rows_after, settled, stop_after}
-use Rattle.clap.specs.Walk.{walk, walk_from}
-use Rattle.clap.specs.declared.builder.value_parser.Reading.{Reading}
+use Rattle.clap.specs.Walk.{Row, Text, first_of, all_of, finished, nothing_held, one_of, row_text, rows_after, settled, stop_after, walk}
+use Rattle.clap.specs.{Walk.{walk_from}, declared.builder.value_parser.Reading.{Reading}}
 use Rattle.clap.specs.declared.builder.value_parser.Reading.TheVariants as reading
 use Rattle.clap.specs.declared.error.kind.ErrorKind.TheVariants as kind
 use Rattle.mdns_capture.specs.declared.moment.Moment.{Moment}
-use Rattle.command_line.specs.Line.{AsksIn, Flags, HasOptions, HasSeconds, IsMomentOf, Matches, SecondsBy}
-use Rattle.command_line.specs.Line.{app_of_line, are_sound, file_rule, flags_of, is_counted, is_readable}
-use Rattle.command_line.specs.Line.{line_of, rules_of, shape_of, table_of, takes_seconds}
-use Rattle.command_line.specs.declared.line.CommandTable.{CommandTable}
-use Rattle.command_line.specs.declared.line.Subcommand.{Subcommand}
-use Rattle.command_line.specs.declared.line.Takes.{Takes}
-use Rattle.command_line.specs.declared.line.Takes.TheVariants as takes
+use Rattle.command_line.specs.Line.{AsksIn, Flags, HasOptions, HasSeconds, IsMomentOf, Matches, SecondsBy, app_of_line, are_sound}
+use Rattle.command_line.specs.Line.{file_rule, flags_of, is_counted, is_readable, line_of, rules_of, shape_of, table_of, takes_seconds}
+use Rattle.command_line.specs.declared.line.{CommandTable.{CommandTable}, Subcommand.{Subcommand}, Takes.{Takes}}
 use Rattle.command_line.specs.declared.options.Options.{Options}
-use Rattle.command_line.proofs.OptionLemmas.{flag-given, form-told, lent}
-use Rattle.command_line.proofs.WalkKeepsLemmas.{Each, each-find, in-level, split}
+use Rattle.command_line.specs.declared.line.Takes.TheVariants as takes
+use Rattle.command_line.proofs.{OptionLemmas.{flag-given, form-told, lent}, WalkKeepsLemmas.{Each, each-find, in-level, split}}
 use Rattle.command_line.proofs.SoundLemmas.{AreCounted, AreSound, all-counted, file-other, flags-keep, number}
 
 -- ---- the matches

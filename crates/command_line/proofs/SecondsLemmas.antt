@@ -1,15 +1,11 @@
 -- Seconds since 1970 are read as their grammar says: the first dot parts them from the fraction.
-use Rattle.std.proofs.Common.{◌≡◌, ◌∙◌, ◌<◌, ◌+◌, ◌++◌, ◌∷◌, ◌==◌, ℕ, Bool}
-use Rattle.std.proofs.Common.{List, [], length, get_or, take, drop, Option, Some, None, IfSome, refl, sym, ap, arith, eqb-true, take_at, drop_at, subst}
-use Rattle.std.specs.List.{after_first, before_first, position_or_len}
-use Rattle.std.proofs.lemmas.Bool.Decides.{nat_tests}
-use Rattle.std.proofs.lemmas.List.{append_assoc, append-nil, length-append}
-use Rattle.std.proofs.lemmas.List.Sums.{passes_at_first, split_at_first}
-use Rattle.std.proofs.lemmas.Str.Parse.{digit_from_value}
-use Rattle.std.specs.Str.Parse.{AllDigits, IsNumeral, without_leading_plus}
+use Rattle.std.proofs.Common.{◌≡◌, ◌∙◌, ◌<◌, ◌+◌, ◌++◌, ◌∷◌, ◌==◌, ℕ, Bool, List, [], length, get_or}
+use Rattle.std.proofs.Common.{take, drop, Option, Some, None, IfSome, refl, sym, ap, arith, eqb-true, take_at, drop_at, subst}
+use Rattle.std.proofs.lemmas.{Bool.Decides.{nat_tests}, List.{append_assoc, append-nil, length-append}}
+use Rattle.std.proofs.lemmas.{List.Sums.{passes_at_first, split_at_first}, Str.Parse.{digit_from_value}}
+use Rattle.std.specs.{List.{after_first, before_first, position_or_len}, Str.Parse.{AllDigits, IsNumeral, without_leading_plus}}
 use Rattle.mdns_capture.specs.declared.moment.Moment.{Moment}
-use Rattle.command_line.specs.MomentReading.{IsAtSecond}
-use Rattle.command_line.specs.Moments.{IsFraction, IsOptionalFraction, IsSeconds}
+use Rattle.command_line.specs.{MomentReading.{IsAtSecond}, Moments.{IsFraction, IsOptionalFraction, IsSeconds}}
 
 abbrev is_dot : ℕ → Bool
 is_dot byte = byte == 46

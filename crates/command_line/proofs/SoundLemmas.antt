@@ -1,21 +1,14 @@
 -- Words in which clap finds no fault leave sound rows: seconds that are numbers, and a file at least.
-use Rattle.std.proofs.Common.{arith, ◌≡◌, ◌≢◌, ◌++◌, ◌&&◌, ◌||◌, refl, subst, sym, not, cond, true, false}
-use Rattle.std.proofs.Common.{codes, Bool, List, [], ◌∷◌}
-use Rattle.std.specs.Prelude.{pos}
-use Rattle.std.specs.List.{list_all}
-use Rattle.std.specs.Str.{bytes_eq}
-use Rattle.std.proofs.lemmas.Slice.Eq.{bytes_eq-Decides}
+use Rattle.std.proofs.Common.{arith, ◌≡◌, ◌≢◌, ◌++◌, ◌&&◌, ◌||◌, refl, subst, sym, not, cond, true, false, codes}
+use Rattle.std.proofs.{Common.{Bool, List, [], ◌∷◌}, lemmas.Slice.Eq.{bytes_eq-Decides}}
+use Rattle.std.specs.{Prelude.{pos}, List.{list_all}, Str.{bytes_eq}}
 use Rattle.clap.proofs.WalkLemmas.{both}
-use Rattle.clap.specs.Kinds.{values_kinds}
-use Rattle.clap.specs.Simple.{filled, filled_from, help_rule, with_index}
-use Rattle.clap.specs.ValueTests.{accepts}
-use Rattle.clap.specs.Walk.{Row, Rule, Text, at_row, more_values, with_values, without}
-use Rattle.clap.specs.declared.builder.value_parser.Reading.{Reading}
+use Rattle.clap.specs.{Kinds.{values_kinds}, Simple.{filled, filled_from, help_rule, with_index}, ValueTests.{accepts}}
+use Rattle.clap.specs.{Walk.{Row, Rule, Text, at_row, more_values, with_values, without}, declared.builder.value_parser.Reading.{Reading}}
+use Rattle.clap.specs.declared.{builder.value_parser.ValueParser.{ValueParser}, parser.matches.ValueSource.{ValueSource}}
 use Rattle.clap.specs.declared.builder.value_parser.Reading.TheVariants as reading
-use Rattle.clap.specs.declared.builder.value_parser.ValueParser.{ValueParser}
 use Rattle.clap.specs.declared.builder.value_parser.ValueParser.TheVariants as parser
 use Rattle.clap.specs.declared.error.kind.ErrorKind.TheVariants as kind
-use Rattle.clap.specs.declared.parser.matches.ValueSource.{ValueSource}
 use Rattle.command_line.specs.Line.{Flags, file_rule, flag_rule, is_counted, is_sound, rules_of, takes_seconds}
 use Rattle.command_line.specs.declared.line.Takes.{Takes}
 use Rattle.command_line.specs.declared.line.Takes.TheVariants as takes

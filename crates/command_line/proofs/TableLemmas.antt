@@ -3,13 +3,10 @@ use Rattle.std.proofs.Common.{◌≡◌, ◌∙◌, ◌⊎◌, ◌++◌, ◌∷�
 use Rattle.std.proofs.Common.{drop, get_or, length, take, take-append-drop}
 use Rattle.clap.specs.Words.{Row, Text, one_of}
 use Rattle.mdns_browse.specs.declared.report.Form.{Form}
-use Rattle.command_line.specs.declared.line.Takes.{Takes}
-use Rattle.command_line.specs.declared.line.Takes.TheVariants as takes
-use Rattle.command_line.specs.declared.options.ConflictingFlags.{ConflictingFlags}
-use Rattle.command_line.specs.declared.options.Options.{Options}
+use Rattle.command_line.specs.declared.{line.Takes.{Takes}, options.ConflictingFlags.{ConflictingFlags}, options.Options.{Options}}
 use Rattle.command_line.specs.Line.{AsksForm, AsksOneOf, Flags, GivesForm, GivesForms, HasOneForm, HasOptions, HasText, IsGiven, Matches}
-use Rattle.command_line.specs.Line.{Table}
-use Rattle.command_line.specs.CommandLine.{GivesAfter, GivesTwo, both_given, form_flags}
+use Rattle.command_line.specs.{Line.{Table}, CommandLine.{GivesAfter, GivesTwo, both_given, form_flags}}
+use Rattle.command_line.specs.declared.line.Takes.TheVariants as takes
 
 -- what is asked for by other words
 pub asks-also : {A B : Type 0} (P : Text → List Row → A → Type 0) (Q : Text → List Row → B → Type 0) (a : A) (b : B)

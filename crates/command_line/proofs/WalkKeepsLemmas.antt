@@ -1,20 +1,15 @@
 -- A property of the rows that each use of an argument keeps is kept by clap's parse without a fault.
 use Rattle.std.proofs.Common.{arith, ◌≡◌, ◌++◌, refl, subst, cond, fold, true, false, is_some, Bool, ℕ, zero, suc, List}
 use Rattle.std.proofs.Common.{[], ◌∷◌, Option, Some, None, IfSome}
-use Rattle.std.specs.Prelude.{find, length, ⊤}
-use Rattle.std.specs.Option.{option_map_or}
-use Rattle.clap.specs.Faults.{bundle_step_fault, flag_word_fault, flags_fault, level_fault, long_fault, option_fault}
-use Rattle.clap.specs.Faults.{other_fault, positional_fault, react_fault, settle_fault, short_fault, step_fault}
-use Rattle.clap.specs.Faults.{stray_fault, turn_fault, use_fault, walk_fault, word_fault}
-use Rattle.clap.specs.Kinds.{Kinds, or_else}
-use Rattle.clap.specs.Lexer.{short_of}
-use Rattle.clap.specs.Simple.{Shape}
-use Rattle.clap.specs.Walk.{Held, Names, Outcome, Row, Rule, Step, Text, Waiting, Walk, after_flag, after_step}
-use Rattle.clap.specs.Walk.{arg_by_index, arg_by_long, attached_value, bundle_met, bundle_step, done, flag_met, idle, long_met}
-use Rattle.clap.specs.Walk.{long_or_other, next, nothing_held, option, option_met, plain, plain_word}
-use Rattle.clap.specs.Walk.{positional, reacted, refused, rows_after, settled, short_met, short_or_plain}
-use Rattle.clap.specs.Walk.{subcommand, subcommand_met, subcommand_or_other, takes_values, to_positional}
-use Rattle.clap.specs.Walk.{trailing, used, used_by_id, value, waits, walk, walk_from, walked, with_default, word_met}
+use Rattle.std.specs.{Prelude.{find, length, ⊤}, Option.{option_map_or}}
+use Rattle.clap.specs.Faults.{bundle_step_fault, flag_word_fault, flags_fault, level_fault, long_fault, option_fault, other_fault}
+use Rattle.clap.specs.Faults.{positional_fault, react_fault, settle_fault, short_fault, step_fault, stray_fault, turn_fault, use_fault}
+use Rattle.clap.specs.{Faults.{walk_fault, word_fault}, Kinds.{Kinds, or_else}, Lexer.{short_of}, Simple.{Shape}}
+use Rattle.clap.specs.Walk.{Held, Names, Outcome, Row, Rule, Step, Text, Waiting, Walk, after_flag, after_step, arg_by_index, arg_by_long}
+use Rattle.clap.specs.Walk.{attached_value, bundle_met, bundle_step, done, flag_met, idle, long_met, long_or_other, next, nothing_held}
+use Rattle.clap.specs.Walk.{option, option_met, plain, plain_word, positional, reacted, refused, rows_after, settled, short_met}
+use Rattle.clap.specs.Walk.{short_or_plain, subcommand, subcommand_met, subcommand_or_other, takes_values, to_positional, trailing, used}
+use Rattle.clap.specs.Walk.{used_by_id, value, waits, walk, walk_from, walked, with_default, word_met}
 use Rattle.clap.specs.declared.error.kind.ErrorKind.TheVariants as kind
 
 -- each element has the property

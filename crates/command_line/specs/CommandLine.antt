@@ -1,36 +1,26 @@
 -- The command lines of `mdnsmerge` and `mdnswhy`, and what clap's matches of them ask for.
-use Rattle.std.specs.Prelude.{◌≡◌, ◌⊎◌, ◌&&◌, ◌++◌, ◌∷◌, Bool, List, Option, Some, None, IsSomeAnd, codes, map}
-use Rattle.std.specs.Prelude.{ℕ, if◌then◌else◌, nat_le, slice_index_or, string_bytes, true, false, []}
-use Rattle.std.specs.List.{list_all}
+use Rattle.std.specs.Prelude.{◌≡◌, ◌⊎◌, ⊤, ◌&&◌, ◌++◌, ◌∷◌, Bool, List, Option, Some, None, IsSomeAnd, codes}
+use Rattle.std.specs.{Prelude.{map, ℕ, if◌then◌else◌, nat_le, slice_index_or, string_bytes, true, false, []}, List.{list_all}}
 use Rattle.clap.specs.Words.{App, Row, Text, fault_of, first_of, one_of, subcommand_of}
 use Rattle.mdns_capture.specs.declared.moment.Moment.{Moment}
 use Rattle.mdns_lives.specs.declared.life.Which.TheVariants as which
-use Rattle.mdns_browse.specs.declared.report.Ask.{Ask}
+use Rattle.mdns_browse.specs.declared.report.{Ask.{Ask}, Form.{Form}}
 use Rattle.mdns_browse.specs.declared.report.Ask.TheVariants as ask
-use Rattle.mdns_browse.specs.declared.report.Form.{Form}
 use Rattle.mdns_browse.specs.declared.report.Form.TheVariants as form
-use Rattle.mdns_survey.specs.declared.request.What.{What}
+use Rattle.mdns_survey.specs.declared.request.{What.{What}, AsOf.{AsOf}, AsOf.TheVariants.{Newest, At, Before}}
 use Rattle.mdns_survey.specs.declared.request.What.TheVariants as what
-use Rattle.mdns_survey.specs.declared.request.AsOf.{AsOf}
-use Rattle.mdns_survey.specs.declared.request.AsOf.TheVariants.{Newest, At, Before}
 use Rattle.mdns_survey.specs.declared.request.Request.TheVariants as request
 use Rattle.mdns_listeners.specs.Groups.{unfit_prefix}
 use Rattle.mdns_trace.specs.declared.inquiry.Inquiry.{Inquiry}
 use Rattle.mdns_trace.specs.declared.inquiry.Inquiry.TheVariants as inquiry
 use Rattle.mdns_trace.specs.declared.inquiry.Trace.TheVariants as trace
-use Rattle.command_line.specs.declared.line.Takes.{Takes}
-use Rattle.command_line.specs.declared.line.Takes.TheVariants as takes
-use Rattle.command_line.specs.declared.mdnsmerge.Asks.{Asks}
-use Rattle.command_line.specs.declared.mdnsmerge.Asks.TheVariants as asks
-use Rattle.command_line.specs.declared.mdnsmerge.Scope.{Scope}
-use Rattle.command_line.specs.declared.words.WordsFault.TheVariants.{Refused}
-use Rattle.command_line.specs.declared.words.AskFault.{AskFault}
-use Rattle.command_line.specs.declared.words.AskFault.TheVariants.{Words}
-use Rattle.command_line.specs.declared.words.Job.{Job}
-use Rattle.command_line.specs.declared.words.Task.{Task}
-use Rattle.command_line.specs.declared.words.Task.TheVariants.{Survey, Page}
+use Rattle.command_line.specs.declared.{line.Takes.{Takes}, mdnsmerge.Asks.{Asks}, mdnsmerge.Scope.{Scope}}
+use Rattle.command_line.specs.declared.words.{WordsFault.TheVariants.{Refused}, AskFault.{AskFault}, AskFault.TheVariants.{Words}}
+use Rattle.command_line.specs.declared.words.{Job.{Job}, Task.{Task}, Task.TheVariants.{Survey, Page}}
 use Rattle.command_line.specs.Line.{AsksOneOf, Flags, HasForm, HasLists, HasSeconds, IsFlag, IsGiven, Table, line_with, words_of}
 use Rattle.command_line.specs.Moments.{IsMomentText}
+use Rattle.command_line.specs.declared.line.Takes.TheVariants as takes
+use Rattle.command_line.specs.declared.mdnsmerge.Asks.TheVariants as asks
 
 -- ---- the flags
 
@@ -76,9 +66,9 @@ told_flags = (codes "at", takes.Seconds) ∷ []
 abbrev pub report_flags : Flags
 report_flags = at_flag ∷ before_flag ∷ (word_flags ++ skip_flag ∷ form_flags)
 
--- the flags of what has one form, as of a moment
+-- the flags of the page, which has one form, as of a moment
 abbrev pub page_flags : Flags
-page_flags = at_flag ∷ before_flag ∷ (word_flags ++ skip_flag ∷ [])
+page_flags = at_flag ∷ before_flag ∷ (word_flags ++ listener_flag ∷ skip_flag ∷ [])
 
 -- the flags of the hearings; those of the other traces are `form_flags`, and those of the files `common_forms`
 abbrev pub hearings_flags : Flags
@@ -150,8 +140,13 @@ task_of (asks.Report ask) scope =
     Survey (request.Report (record { ask = ask; form = scope.form; as_of = scope.as_of; about = scope.lists.about }))
 task_of (asks.Lives which) scope =
     Survey (request.Lives (record { which = which; form = scope.form; as_of = scope.as_of; about = scope.lists.about }))
-task_of asks.Page scope = Page scope.as_of scope.lists.about
+task_of asks.Page scope = Page scope.as_of scope.lists.about scope.lists.listeners
 task_of asks.Check scope = Survey request.Check
+
+-- each prefix of a listener fits one of the files
+abbrev pub HasFitting : Task → List Text → Type 0
+HasFitting (Survey request) names = ⊤
+HasFitting (Page as_of about listeners) names = unfit_prefix (map string_bytes listeners.items) names ≡ None
 
 abbrev pub job_of : Asks → Scope → Job
 job_of own scope = record { task = task_of own scope; skip_unusable = scope.skip_unusable }

@@ -1,11 +1,8 @@
 -- Why a command line asks for nothing: the faults that clap finds in the words, and the program's.
 use Rattle.std.specs.Prelude.{◌≡◌, ◌≢◌, ⊤, codes, string_bytes}
-use Rattle.clap.specs.Words.{IsAmong, Kinds, Text}
-use Rattle.clap.specs.declared.error.kind.ErrorKind.{ErrorKind}
+use Rattle.clap.specs.{Words.{IsAmong, Kinds, Text}, declared.error.kind.ErrorKind.{ErrorKind}}
 use Rattle.clap.specs.declared.error.kind.ErrorKind.TheVariants as kind
-use Rattle.command_line.specs.declared.words.WordsFault.{WordsFault}
-use Rattle.command_line.specs.declared.words.WordsFault.TheVariants.{Memory, Help, Refused}
-use Rattle.command_line.specs.declared.words.AskFault.{AskFault}
+use Rattle.command_line.specs.declared.words.{WordsFault.{WordsFault}, WordsFault.TheVariants.{Memory, Help, Refused}, AskFault.{AskFault}}
 use Rattle.command_line.specs.declared.words.AskFault.TheVariants.{Version, Words}
 
 -- clap finds a fault in the words that asks neither for help nor for the version

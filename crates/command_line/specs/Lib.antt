@@ -1,5 +1,6 @@
 pub mod CommandLine
 pub mod Faults
+pub mod FinalDot
 pub mod Line
 pub mod MomentReading
 pub mod Moments

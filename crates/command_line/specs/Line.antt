@@ -1,30 +1,17 @@
 -- Command lines as tables, as clap's definitions write the commands that they make, and what clap's matches ask for.
-use Rattle.std.specs.Prelude.{◌≡◌, ◌≢◌, ◌*◌, ◌⊎◌, ⊤, ◌++◌, ◌∷◌, Bool, List, map, Option, option_map, unwrap_or}
-use Rattle.std.specs.Prelude.{Result, Ok, Err, Some, None, codes, pos, string_bytes, true, false, not, [], ◌&&◌, ◌||◌}
-use Rattle.std.specs.Str.Parse.{IsNumeral, digits_value, without_leading_plus}
-use Rattle.clap.specs.Lexer.{usize_max}
-use Rattle.clap.specs.Simple.{new_shape}
-use Rattle.clap.specs.Words.{App, Row, Rule, Shape, Text, all_of, fault_of, is_simple_and_free, new_rule}
-use Rattle.clap.specs.Words.{first_of, one_of, subcommand_of}
-use Rattle.std.specs.List.{list_all}
-use Rattle.std.specs.Borrow.{Bor}
-use Rattle.std.specs.Str.{bytes_eq}
+use Rattle.std.specs.Prelude.{◌≡◌, ◌≢◌, ◌*◌, ◌⊎◌, ⊤, ◌++◌, ◌∷◌, Bool, List, map, Option, option_map}
+use Rattle.std.specs.Prelude.{unwrap_or, Result, Ok, Err, Some, None, codes, pos, string_bytes, true, false, not, [], ◌&&◌, ◌||◌}
+use Rattle.std.specs.{Str.Parse.{IsNumeral, digits_value, without_leading_plus}, List.{list_all}, Borrow.{Bor}, Str.{bytes_eq}}
+use Rattle.clap.specs.{Lexer.{usize_max}, Simple.{new_shape}}
+use Rattle.clap.specs.Words.{App, Row, Rule, Shape, Text, all_of, fault_of, is_simple_and_free, new_rule, first_of, one_of, subcommand_of}
 use Rattle.clap.specs.declared.builder.action.ArgAction.TheVariants as action
 use Rattle.clap.specs.declared.builder.value_parser.ValueParser.TheVariants as parser
-use Rattle.mdns_capture.specs.Limits.{second}
-use Rattle.mdns_capture.specs.declared.moment.Moment.{Moment}
-use Rattle.mdns_browse.specs.declared.report.Form.{Form}
-use Rattle.mdns_browse.specs.declared.report.Form.TheVariants.{Lines}
-use Rattle.command_line.specs.declared.line.Takes.{Takes}
+use Rattle.mdns_capture.specs.{Limits.{second}, declared.moment.Moment.{Moment}}
+use Rattle.mdns_browse.specs.declared.{report.Form.{Form}, report.Form.TheVariants.{Lines}, about.Subject.{Subject}}
+use Rattle.command_line.specs.declared.line.{Takes.{Takes}, Flag.{Flag}, CommandTable.{CommandTable}, Subcommand.{Subcommand}}
+use Rattle.command_line.specs.declared.{options.ConflictingFlags.{ConflictingFlags}, options.Options.{Options}, lists.Lists.{Lists}}
+use Rattle.command_line.specs.{declared.words.Asked.{Asked}, FinalDot.{asked_words}}
 use Rattle.command_line.specs.declared.line.Takes.TheVariants as takes
-use Rattle.command_line.specs.declared.line.Flag.{Flag}
-use Rattle.command_line.specs.declared.line.CommandTable.{CommandTable}
-use Rattle.command_line.specs.declared.line.Subcommand.{Subcommand}
-use Rattle.command_line.specs.declared.options.ConflictingFlags.{ConflictingFlags}
-use Rattle.command_line.specs.declared.options.Options.{Options}
-use Rattle.command_line.specs.declared.lists.Lists.{Lists}
-use Rattle.mdns_browse.specs.declared.about.Subject.{Subject}
-use Rattle.command_line.specs.declared.words.Asked.{Asked}
 
 -- `--NAME`; or `--NAME SECONDS`, a number of 32 bits; or `--NAME MOMENT`, any text; or `--NAME WORD`, any but the empty one, repeatedly
 abbrev pub flag_rule : Text → Takes → Rule
@@ -239,11 +226,12 @@ abbrev pub HasPrinters : List Row → List Text → Type 0
 HasPrinters rows words = (IsFlag (one_of (codes "printers") rows) true × (words ≡ printer_types))
     ⊎ (IsFlag (one_of (codes "printers") rows) false × (words ≡ []))
 
--- The words of the options that can be repeated. Those of `--printers` are added to those of `--about`.
+-- The words of the options that can be repeated. Those of `--about` are asked about with and without a final dot, and those of
+-- `--printers` are added to them.
 pub record HasLists (rows : List Row) (lists : Lists) : Type 0 where
   pub printers : List Text
   pub printers_are : HasPrinters rows printers
-  pub about : texts_of lists.about ≡ words_of (codes "about") rows ++ printers
+  pub about : texts_of lists.about ≡ asked_words (words_of (codes "about") rows) ++ printers
   pub listeners : map string_bytes lists.listeners.items ≡ words_of (codes "listener") rows
 
 -- a subcommand with these matches asks for the first of two; the second is the matches, or the words of such options

@@ -1,15 +1,10 @@
 -- What the functions of `moments` read from the front of a text. `proofs/` shows that it is the grammar of `Moments`.
-use Rattle.std.specs.Prelude.{◌≡◌, ℕ, ◌+◌, ◌-◌, ◌*◌, ◌^◌, ◌&&◌, ◌||◌, ◌==◌, ◌∷◌, [], Bool, List, length, nat_lt, nat_le}
-use Rattle.std.specs.Prelude.{if◌then◌else◌, Option, Some, None, drop, option_and_then, option_map, slice_index, take}
-use Rattle.std.specs.List.{prefix_len}
-use Rattle.std.specs.Char.{is_ascii_digit}
-use Rattle.std.specs.Borrow.{Bor}
-use Rattle.std.specs.Str.{all_ascii_digits}
+use Rattle.std.specs.Prelude.{◌≡◌, ℕ, ◌+◌, ◌-◌, ◌*◌, ◌^◌, ◌&&◌, ◌||◌, ◌==◌, ◌∷◌, [], Bool, List}
+use Rattle.std.specs.Prelude.{length, nat_lt, nat_le, if◌then◌else◌, Option, Some, None, drop, option_and_then, option_map}
+use Rattle.std.specs.{Prelude.{slice_index, take}, List.{prefix_len}, Char.{is_ascii_digit}, Borrow.{Bor}, Str.{all_ascii_digits}}
 use Rattle.std.specs.Str.Parse.{IsNumeral, digits_value, without_leading_plus}
-use Rattle.mdns_capture.specs.Limits.{second}
-use Rattle.mdns_capture.specs.declared.moment.Moment.{Moment}
-use Rattle.command_line.specs.declared.moments.Offset.{Offset}
-use Rattle.command_line.specs.declared.moments.Offset.TheVariants.{Ahead, Behind}
+use Rattle.mdns_capture.specs.{Limits.{second}, declared.moment.Moment.{Moment}}
+use Rattle.command_line.specs.declared.moments.{Offset.{Offset}, Offset.TheVariants.{Ahead, Behind}}
 use Rattle.people_text.specs.Calendar.{day_number}
 
 -- a value and the text after it

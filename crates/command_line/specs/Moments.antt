@@ -1,13 +1,10 @@
 -- Moments as people write them: seconds since 1970, or a date and time of RFC 3339.
 use Rattle.std.specs.Prelude.{◌≡◌, ◌<◌, ◌≤◌, ◌⊎◌, ℕ, ◌+◌, ◌-◌, ◌*◌, ◌^◌, ◌++◌, ◌∷◌, [], List, length}
 use Rattle.std.specs.Str.Parse.{IsNumeral, digits_value, without_leading_plus}
-use Rattle.mdns_capture.specs.Limits.{second}
-use Rattle.mdns_capture.specs.declared.moment.Moment.{Moment}
-use Rattle.people_text.specs.Calendar.{days_of_years}
+use Rattle.mdns_capture.specs.{Limits.{second}, declared.moment.Moment.{Moment}}
+use Rattle.people_text.specs.{Calendar.{days_of_years}, MomentText.{date_written, two_digits}}
 use Rattle.people_text.specs.Calendar as calendar
-use Rattle.people_text.specs.MomentText.{date_written, two_digits}
-use Rattle.command_line.specs.declared.moments.Offset.{Offset}
-use Rattle.command_line.specs.declared.moments.Offset.TheVariants.{Ahead, Behind}
+use Rattle.command_line.specs.declared.moments.{Offset.{Offset}, Offset.TheVariants.{Ahead, Behind}}
 
 abbrev pub day_length : ℕ
 day_length = 86400

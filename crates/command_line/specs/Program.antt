@@ -1,16 +1,12 @@
 -- What the programs do alike.
-use Rattle.std.specs.Prelude.{◌≡◌, ℕ, ◌<◌, ◌==◌, ◌⊎◌, ◌++◌, ⊤, Bool, List, [], ◌∷◌, if◌then◌else◌, length, slice_index_or, string_bytes}
-use Rattle.std.specs.Bool.{OnTrue, OnFalse}
-use Rattle.std.specs.Io.KnownBytes.{Appends}
-use Rattle.mdns_capture.specs.Calls.{WritesWell}
-use Rattle.mdns_capture.specs.Output.{AppendsPrefix}
+use Rattle.std.specs.Prelude.{◌≡◌, ℕ, ◌<◌, ◌==◌, ◌⊎◌, ◌++◌, ⊤, Bool, List, [], ◌∷◌, if◌then◌else◌}
+use Rattle.std.specs.{Prelude.{length, slice_index_or, string_bytes}, Bool.{OnTrue, OnFalse}, Io.KnownBytes.{Appends}}
+use Rattle.mdns_capture.specs.{Calls.{WritesWell}, Output.{AppendsPrefix}}
 use Rattle.mdns_capture.specs.declared.stream.Sink as sink
 use Rattle.mdns_survey.specs.ProgramLines.{open_line_text}
-use Rattle.command_line.specs.declared.program.OpenFault.{OpenFault}
+use Rattle.command_line.specs.declared.{program.OpenFault.{OpenFault}, words.WordsFault.TheVariants.{Memory, Help, Refused}}
+use Rattle.command_line.specs.declared.words.{AskFault.{AskFault}, AskFault.TheVariants.{Version, Words}}
 use Rattle.command_line.specs.declared.program.OpenFault.TheVariants as opening
-use Rattle.command_line.specs.declared.words.WordsFault.TheVariants.{Memory, Help, Refused}
-use Rattle.command_line.specs.declared.words.AskFault.{AskFault}
-use Rattle.command_line.specs.declared.words.AskFault.TheVariants.{Version, Words}
 
 -- the index of the file that can't be opened is one of so many
 abbrev pub IsIndexOf : ℕ → OpenFault → Type 0

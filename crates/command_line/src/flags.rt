@@ -7,7 +7,7 @@ pub(crate) const AT: Flag = Flag {
     name: "at",
     takes: Takes::Moment,
     value: "MOMENT",
-    help: "As of seconds since 1970, or a date and time with zone",
+    help: "As of seconds since 1970 or a date and time with zone",
 };
 
 /// The `--at` of `told`.
@@ -29,7 +29,7 @@ pub(crate) const ABOUT: Flag = Flag {
     name: "about",
     takes: Takes::Words,
     value: "WORD",
-    help: "Only what is about a name, word or address; repeatable",
+    help: "Only a name (dot or not), word or address; repeatable",
 };
 
 /// The same as `--about` with each of `PRINTER_TYPES`.
@@ -93,8 +93,8 @@ pub(crate) const REPORT_FLAGS: &[Flag] = with_forms!(
     [PRETTY]
 );
 
-/// The flags of what has one form, as of a moment.
-pub(crate) const PAGE_FLAGS: &[Flag] = &[AT, BEFORE, ABOUT, PRINTERS, SKIP_UNUSABLE];
+/// The flags of the page, which has one form, as of a moment.
+pub(crate) const PAGE_FLAGS: &[Flag] = &[AT, BEFORE, ABOUT, PRINTERS, LISTENER, SKIP_UNUSABLE];
 
 /// The flags of `check`.
 pub(crate) const CHECK_FLAGS: &[Flag] = &[SKIP_UNUSABLE];

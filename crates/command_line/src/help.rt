@@ -98,10 +98,10 @@ pub const HTML_PAGE: HelpText = HelpText {
     about: "One HTML file for people: when each instance was live, as a picture",
     more: page!(
         "\
-For each service instance a picture and words say when it was live, and how that
-ended. The page also has what was live at the end of the captures, which is that
-of `lives`, and what each file recorded. It is one file without scripts; open it
-in any browser, or print it to PDF from there:
+A picture and words say when each service instance was live, and how that ended.
+The page also has what was live at the end, which is that of `lives`, and a lane
+and a row of Captures for each file, or for all files of a --listener. It is one
+file without scripts; open it in any browser, or print it to PDF from there:
     mdnsmerge page west.pcap east.pcap > ticket.html"
     ),
 };

@@ -3,6 +3,7 @@
 
 mod clap_fault;
 mod files;
+mod final_dot;
 mod flags;
 mod help;
 mod line;

@@ -1,20 +1,19 @@
 //! The command line of `mdnsmerge`.
 
-ghost use Rattle.std.specs.Prelude.{◌≡◌, ◌≢◌, ◌⊎◌, [], IfErr, IfOk, codes, map, string_bytes};
+ghost use Rattle.std.specs.Prelude.{◌≡◌, ◌≢◌, ◌⊎◌, [], IfErr, IfOk, None, codes, map, string_bytes};
 ghost use Rattle.clap.specs.Words.{fault_of};
-ghost use Rattle.command_line.specs.Line.{IsAsked};
-ghost use Rattle.command_line.specs.Faults.{IsUnasked, IsUntold};
-ghost use Rattle.command_line.specs.CommandLine.{AsksJob, AsksWhat, GivesAsOf, GivesBoth, GivesNoMoment, GivesTwo};
-ghost use Rattle.command_line.specs.CommandLine.{IsRefusedFor, at_flag, before_flag, command_line};
-ghost use Rattle.command_line.specs.CommandLine.{command_line_with_past, form_flags, job_of, task_of, what_of};
-ghost use Rattle.command_line.specs.OptionFault.{MakesNone, MakesScope, text_of};
+ghost use Rattle.command_line.specs.{Line.{IsAsked}, Faults.{IsUnasked, IsUntold}};
+ghost use Rattle.command_line.specs.CommandLine.{AsksJob, AsksWhat, GivesAsOf, GivesBoth, GivesNoFile, GivesNoMoment, GivesTwo, HasFitting};
+ghost use Rattle.command_line.specs.CommandLine.{IsRefusedFor, at_flag, before_flag, command_line, command_line_with_past, form_flags};
+ghost use Rattle.command_line.specs.{CommandLine.{job_of, task_of, what_of}, OptionFault.{MakesFormAsOf, MakesNoAsOf, MakesNone, text_of}};
+ghost use Rattle.mdns_listeners.specs.Groups.{unfit_prefix};
 
 use crate::flags::{AT, AT_SECONDS, BEFORE, CHECK_FLAGS, PAGE_FLAGS, REPORT_FLAGS};
 use crate::help;
 use crate::line::{CommandTable, Subcommand};
 use crate::lists::Lists;
 use crate::moments::moment_of_text;
-use crate::option_fault::{OptionFault, refusal_of};
+use crate::option_fault::{OptionFault, form_of, refusal_of};
 use crate::options::{ConflictingFlags, Options};
 use crate::read::read;
 use crate::words::{AskFault, Asked, Job, Task, Told, WordsFault};
@@ -166,22 +165,27 @@ fn what_of(ask: Option<Ask>, at: Option<Moment>) -> What
 ///
 /// It is a subcommand and its flags, and then one or more files. Each subcommand takes `--skip-unusable`. One whose answer
 /// depends on a moment takes `--at` or `--before`, `--about WORD`, any number of times, and `--printers`; one that has several
-/// forms also the flag of a form. `--version` asks for the version. `--at MOMENT` and `--before MOMENT` take seconds since 1970,
-/// with up to nine digits of a fraction, or a date and time of RFC 3339 with its zone; a space may be in place of the `T`, and
-/// the second may be left out. A leap second, `23:59:60`, names no moment.
+/// forms also the flag of a form, and `page` also `--listener PREFIX`, any number of times. `--version` asks for the version.
+///
+/// `--at MOMENT` and `--before MOMENT` take seconds since 1970, with up to nine digits of a fraction, or a date and time of RFC
+/// 3339 with its zone; a space may be in place of the `T`, and the second may be left out. A leap second, `23:59:60`, names no
+/// moment. A `WORD` that ends in a dot is asked about with it and without it.
 ///
 /// # Errors
 ///
 /// `Help` where help was asked for, `Version` where the version was, `Refused` where the words are no such command
-/// line, give both moments or two forms, or give a text that names no moment, and `Memory` where an allocation failed.
+/// line, give both moments or two forms, give a text that names no moment, or a prefix with which no file's name begins,
+/// without its folders, and `Memory` where an allocation failed.
 pub fn asked(alloc: Global, words: Vec<String>) -> Result<Asked<Job>, AskFault>
     ensures asked { IfOk result (IsAsked AsksJob command_line_with_past (map string_bytes words.items)) }
     ensures files { IfOk result (λ asked. asked.names.items ≢ []) }
+    ensures fit { IfOk result (λ asked. HasFitting asked.what.task (map string_bytes asked.names.items)) }
     ensures unasked { IfErr result (λ fault.
         IsUnasked (fault_of command_line_with_past (map string_bytes words.items)) fault
         ⊎ IsRefusedFor (GivesBoth (codes "mdnsmerge") at_flag before_flag) command_line_with_past (map string_bytes words.items) fault
         ⊎ IsRefusedFor (GivesTwo (codes "mdnsmerge") form_flags) command_line_with_past (map string_bytes words.items) fault
-        ⊎ IsRefusedFor (GivesNoMoment (codes "mdnsmerge")) command_line_with_past (map string_bytes words.items) fault) }
+        ⊎ IsRefusedFor (GivesNoMoment (codes "mdnsmerge")) command_line_with_past (map string_bytes words.items) fault
+        ⊎ IsRefusedFor (GivesNoFile (codes "mdnsmerge")) command_line_with_past (map string_bytes words.items) fault) }
 {
     read_asked(alloc, words.as_slice())
 }
@@ -189,34 +193,48 @@ pub fn asked(alloc: Global, words: Vec<String>) -> Result<Asked<Job>, AskFault>
 fn read_asked(alloc: Global, words: &[String]) -> Result<Asked<Job>, AskFault>
     ensures asked { IfOk result (IsAsked AsksJob command_line_with_past (map string_bytes words.now)) }
     ensures files { IfOk result (λ asked. asked.names.items ≢ []) }
+    ensures fit { IfOk result (λ asked. HasFitting asked.what.task (map string_bytes asked.names.items)) }
     ensures unasked { IfErr result (λ fault.
         IsUnasked (fault_of command_line_with_past (map string_bytes words.now)) fault
         ⊎ IsRefusedFor (GivesBoth (codes "mdnsmerge") at_flag before_flag) command_line_with_past (map string_bytes words.now) fault
         ⊎ IsRefusedFor (GivesTwo (codes "mdnsmerge") form_flags) command_line_with_past (map string_bytes words.now) fault
-        ⊎ IsRefusedFor (GivesNoMoment (codes "mdnsmerge")) command_line_with_past (map string_bytes words.now) fault) }
+        ⊎ IsRefusedFor (GivesNoMoment (codes "mdnsmerge")) command_line_with_past (map string_bytes words.now) fault
+        ⊎ IsRefusedFor (GivesNoFile (codes "mdnsmerge")) command_line_with_past (map string_bytes words.now) fault) }
 {
     let asked = read(alloc, &ASKED, words)?;
     let ((asks, options), lists) = asked.what;
-    match scope_of(options, lists) {
-        Ok(scope) => Ok(Asked {
-            what: job_of(asks, scope),
-            names: asked.names,
+    let names = asked.names;
+    match form_as_of(options, &lists, names.as_slice()) {
+        Ok((form, as_of)) => Ok(Asked {
+            what: job_of(
+                asks,
+                Scope {
+                    form,
+                    as_of,
+                    lists,
+                    skip_unusable: options.skip_unusable,
+                },
+            ),
+            names,
         }),
         Err(option_fault) => Err(AskFault::Words(refusal_of(alloc, "mdnsmerge", option_fault))),
     }
 }
 
-// Returns what the options give, with these words.
-fn scope_of(options: Options<'_>, lists: Lists) -> Result<Scope, OptionFault<'_>>
-    ensures ok { IfOk result (MakesScope options.entry lists) }
-    ensures err { IfErr result (MakesNone options.entry) }
+// Returns the form and as of when the answer is made, where each prefix fits one of the files.
+fn form_as_of<'a>(
+    options: Options<'a>,
+    lists: &'a Lists,
+    names: &[String],
+) -> Result<(Form, AsOf), OptionFault<'a>>
+    ensures ok { IfOk result (MakesFormAsOf options.entry) }
+    ensures fit { IfOk result (λ made.
+        unfit_prefix (map string_bytes lists.now.listeners.items) (map string_bytes names.now) ≡ None) }
+    ensures err { IfErr result (MakesNone options.entry lists.now (map string_bytes names.now)) }
 {
-    Ok(Scope {
-        form: options.form?,
-        as_of: as_of(options)?,
-        lists,
-        skip_unusable: options.skip_unusable,
-    })
+    let form = form_of(options, lists, names)?;
+    let as_of = as_of(options)?;
+    Ok((form, as_of))
 }
 
 // Returns what is to be done.
@@ -240,7 +258,7 @@ fn task_of(asks: Asks, scope: Scope) -> Task
         lists,
         ..
     } = scope;
-    let Lists { about, .. } = lists;
+    let Lists { about, listeners } = lists;
     match asks {
         Asks::Report(ask) => Task::Survey(Request::Report(ReportRequest {
             ask,
@@ -254,7 +272,11 @@ fn task_of(asks: Asks, scope: Scope) -> Task
             as_of,
             about,
         })),
-        Asks::Page => Task::Page { as_of, about },
+        Asks::Page => Task::Page {
+            as_of,
+            about,
+            listeners,
+        },
         Asks::Check => Task::Survey(Request::Check),
     }
 }
@@ -262,7 +284,7 @@ fn task_of(asks: Asks, scope: Scope) -> Task
 // Returns as of when the answer is made.
 fn as_of(options: Options<'_>) -> Result<AsOf, OptionFault<'_>>
     ensures ok { IfOk result (GivesAsOf (text_of options.entry.at) (text_of options.entry.before)) }
-    ensures err { IfErr result (MakesNone options.entry) }
+    ensures err { IfErr result (MakesNoAsOf options.entry) }
 {
     match (options.at, options.before) {
         (None, None) => Ok(AsOf::Newest),

@@ -1,23 +1,19 @@
 //! The command line of `mdnswhy`.
 
-ghost use Rattle.std.specs.Prelude.{◌≡◌, ◌≢◌, ◌⊎◌, [], IfErr, IfOk, None, Ok, codes, map, string_bytes};
+ghost use Rattle.std.specs.Prelude.{◌≡◌, ◌≢◌, ◌⊎◌, [], IfErr, IfOk, None, codes, map, string_bytes};
 ghost use Rattle.clap.specs.Words.{fault_of};
-ghost use Rattle.command_line.specs.Line.{AsksWithLists, IsAsked};
-ghost use Rattle.command_line.specs.Faults.{IsUnasked};
+ghost use Rattle.command_line.specs.{Line.{AsksWithLists, IsAsked}, Faults.{IsUnasked}};
 ghost use Rattle.command_line.specs.CommandLine.{AsksInquiry, GivesNoFile, GivesTwo, IsRefusedFor, form_flags, in_form, why_line};
-ghost use Rattle.command_line.specs.OptionFault.{MakesNoInquiry};
 ghost use Rattle.mdns_listeners.specs.Groups.{unfit_prefix};
 
-use crate::flags::{FILES_FLAGS, HEARINGS_FLAGS, LISTENER, LISTENERS_FLAGS, TRACE_FLAGS};
+use crate::flags::{FILES_FLAGS, HEARINGS_FLAGS, LISTENERS_FLAGS, TRACE_FLAGS};
 use crate::help;
 use crate::line::{CommandTable, Subcommand};
 use crate::lists::Lists;
-use crate::option_fault::{OptionFault, refusal_of};
-use crate::options::Options;
+use crate::option_fault::{form_of, refusal_of};
 use crate::read::read;
 use crate::words::{AskFault, Asked};
 use mdns_browse::report::Form;
-use mdns_listeners::groups::unfit_prefix;
 use mdns_trace::{Inquiry, Trace};
 use std::alloc::Global;
 
@@ -100,26 +96,6 @@ fn read_why(alloc: Global, words: &[String]) -> Result<Asked<(Inquiry, Lists)>, 
             names,
         }),
         Err(option_fault) => Err(AskFault::Words(refusal_of(alloc, "mdnswhy", option_fault))),
-    }
-}
-
-// Returns the form that the options ask for, where each prefix fits one of the files.
-fn form_of<'a>(
-    options: Options<'a>,
-    lists: &'a Lists,
-    names: &[String],
-) -> Result<Form, OptionFault<'a>>
-    ensures ok { IfOk result (λ form. (options.entry.form ≡ Ok form)
-        × (unfit_prefix (map string_bytes lists.now.listeners.items) (map string_bytes names.now) ≡ None)) }
-    ensures err { IfErr result (MakesNoInquiry options.entry lists.now (map string_bytes names.now)) }
-{
-    let form = options.form?;
-    match unfit_prefix(lists.listeners.as_slice(), names) {
-        None => Ok(form),
-        Some(at) => Err(OptionFault::NoFile {
-            name: LISTENER.name,
-            prefix: lists.listeners[at].as_str(),
-        }),
     }
 }
 

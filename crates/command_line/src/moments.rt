@@ -1,10 +1,8 @@
 //! Moments as people write them: seconds since 1970, or a date and time of RFC 3339.
 
-ghost use Rattle.std.specs.Prelude.{◌≡◌, ℕ, ◌<◌, ◌≤◌, ◌+◌, ◌*◌, ◌^◌, length, IfSome, None, option_copied, slice_index};
-ghost use Rattle.std.specs.Char.{is_ascii_digit, IsAsciiDigit};
-ghost use Rattle.std.specs.List.{prefix_len};
-ghost use Rattle.mdns_capture.specs.Limits.{second};
-ghost use Rattle.mdns_capture.specs.declared.moment.Moment.{Moment};
+ghost use Rattle.std.specs.Prelude.{◌≡◌, ℕ, ◌<◌, ◌≤◌, ◌+◌, ◌*◌, ◌^◌, length, IfSome, None, option_copied};
+ghost use Rattle.std.specs.{Prelude.{slice_index}, Char.{is_ascii_digit, IsAsciiDigit}, List.{prefix_len}};
+ghost use Rattle.mdns_capture.specs.{Limits.{second}, declared.moment.Moment.{Moment}};
 ghost use Rattle.command_line.specs.Moments.{IsDateTime, IsLocal, IsMomentText, IsSeconds, day_length};
 ghost use Rattle.command_line.specs.MomentReading as reading;
 ghost use Rattle.people_text.specs.Calendar.{days_of_years};

@@ -1,13 +1,17 @@
 //! Options that make nothing, and their refusals.
 
-ghost use Rattle.std.specs.Prelude.{◌≡◌, IfOk, string_bytes};
-ghost use Rattle.command_line.specs.CommandLine.{invalid, is_plain, quoted};
-ghost use Rattle.command_line.specs.Faults.{IsRefusal};
-ghost use Rattle.command_line.specs.OptionFault.{option_fault_text};
+ghost use Rattle.std.specs.Prelude.{◌≡◌, IfErr, IfOk, None, Ok, map, string_bytes};
+ghost use Rattle.command_line.specs.{CommandLine.{invalid, is_plain, quoted}, Faults.{IsRefusal}};
+ghost use Rattle.command_line.specs.OptionFault.{MakesNoForm, option_fault_text};
 ghost use Rattle.command_line.specs.declared.option_fault.OptionFault.TheVariants.{ConflictingFlags};
+ghost use Rattle.mdns_listeners.specs.Groups.{unfit_prefix};
 
-use crate::options::ConflictingFlags;
+use crate::flags::LISTENER;
+use crate::lists::Lists;
+use crate::options::{ConflictingFlags, Options};
 use crate::words::WordsFault;
+use mdns_browse::report::Form;
+use mdns_listeners::groups::unfit_prefix;
 use mdns_message::Want;
 use std::alloc::Global;
 
@@ -36,6 +40,26 @@ const A_MOMENT: &str =
 
 /// Why a prefix is refused.
 const NO_FILE: &str = "no FILE's name, without folders, begins with it";
+
+/// Returns the form that the options ask for, where each prefix fits one of the files.
+pub(crate) fn form_of<'a>(
+    options: Options<'a>,
+    lists: &'a Lists,
+    names: &[String],
+) -> Result<Form, OptionFault<'a>>
+    ensures ok { IfOk result (λ form. (options.entry.form ≡ Ok form)
+        × (unfit_prefix (map string_bytes lists.now.listeners.items) (map string_bytes names.now) ≡ None)) }
+    ensures err { IfErr result (MakesNoForm options.entry lists.now (map string_bytes names.now)) }
+{
+    let form = options.form?;
+    match unfit_prefix(lists.listeners.as_slice(), names) {
+        None => Ok(form),
+        Some(at) => Err(OptionFault::NoFile {
+            name: LISTENER.name,
+            prefix: lists.listeners[at].as_str(),
+        }),
+    }
+}
 
 /// Returns the refusal of options by a program of that name.
 pub(crate) fn refusal_of(alloc: Global, program: &str, option_fault: OptionFault<'_>) -> WordsFault

@@ -1,10 +1,8 @@
 //! What `mdnsmerge` and `mdnswhy` do alike: they read their arguments, open files and print.
 
-ghost use Rattle.std.specs.Prelude.{◌≡◌, ℕ, List, [], ◌∷◌, ◌++◌, IfErr, IfOk, OnOk, MatchResult, length, map, string_bytes};
-ghost use Rattle.std.specs.Bool.{OnFalse, OnTrue};
-ghost use Rattle.std.specs.Io.KnownBytes.{Appends};
-ghost use Rattle.mdns_capture.specs.Calls.{WritesWell};
-ghost use Rattle.mdns_capture.specs.Output.{AppendsPrefix};
+ghost use Rattle.std.specs.Prelude.{◌≡◌, ℕ, List, [], ◌∷◌, ◌++◌, IfErr, IfOk, OnOk, MatchResult, length, map};
+ghost use Rattle.std.specs.{Prelude.{string_bytes}, Bool.{OnFalse, OnTrue}, Io.KnownBytes.{Appends}};
+ghost use Rattle.mdns_capture.specs.{Calls.{WritesWell}, Output.{AppendsPrefix}};
 ghost use Rattle.command_line.specs.Program.{AnswersFault, IsIndexOf, IsOpenLine, Prints, PrintsRefusal, Shows, trimmed};
 
 use crate::words::{AskFault, WordsFault};

@@ -3,8 +3,7 @@
 ghost use Rattle.std.specs.Prelude.{◌≡◌, ◌≢◌, [], List, None, IfErr, IfOk, IfSome, map, string_bytes, true};
 ghost use Rattle.clap.specs.Words.{Text, fault_of, found_of, rows_of, subcommand_rows_of};
 ghost use Rattle.command_line.specs.Line.{AsksIn, AsksWithLists, AsksWithRows, IsAsked, Matches, app_of_line, is_readable};
-ghost use Rattle.command_line.specs.Faults.{IsUnasked};
-ghost use Rattle.command_line.specs.declared.options.Options.{Options};
+ghost use Rattle.command_line.specs.{Faults.{IsUnasked}, declared.options.Options.{Options}};
 
 use crate::clap_fault::fault_of;
 use crate::files::names_of;

@@ -1,8 +1,7 @@
 //! What a command line asks for, and why it is refused.
 
 ghost use Rattle.std.specs.Prelude.{◌≡◌, Some};
-ghost use Rattle.command_line.specs.Faults.{ask_fault_name, fault_name};
-ghost use Rattle.command_line.specs.declared.words.WordsFault.TheVariants.{Memory};
+ghost use Rattle.command_line.specs.{Faults.{ask_fault_name, fault_name}, declared.words.WordsFault.TheVariants.{Memory}};
 ghost use Rattle.command_line.specs.declared.words.AskFault.TheVariants.{Words};
 
 use mdns_message::Want;
@@ -33,7 +32,12 @@ pub enum Task {
     /// What is asked of all captures together, or of each.
     Survey(Request),
     /// A page.
-    Page { as_of: AsOf, about: Subjects },
+    Page {
+        as_of: AsOf,
+        about: Subjects,
+        /// The prefixes of listeners, as they were given; each fits a file.
+        listeners: Vec<String>,
+    },
 }
 
 /// What a command line asks for, as `told` reads it.

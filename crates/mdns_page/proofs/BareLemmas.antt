@@ -5,19 +5,21 @@ use Rattle.std.specs.Prelude.{◌&&◌, nat_lt, not, option_map, slice_get, stri
 use Rattle.std.specs.List.{filter_map, find, flat_map, join_by}
 use Rattle.mdns_message.specs.{Resource.{Body}, TextData.{strings_of}, Parts.{address_of, content_of}, declared.parts.Address.{Address}}
 use Rattle.mdns_message.specs.declared.body.RecordData.TheVariants as body
+use Rattle.mdns_capture.specs.declared.savefile.Ending.{Ending}
+use Rattle.mdns_survey.specs.declared.reading.Span.{Span}
 use Rattle.mdns_lives.specs.declared.life.{Life.{Life}, EndReason.TheVariants.{Expired, Goodbye, Flushed}}
 use Rattle.mdns_browse.specs.declared.{about.Subject.{Subject}, instance.Server.{Server}}
 use Rattle.mdns_browse.specs.{Services.{GivenRow, InstanceRow, instance_row_in}, RecordShown.{shown_address, shown_string, shown_strings}}
 use Rattle.mdns_listeners.specs.declared.pairs.PairRow.{PairRow}
 use Rattle.mdns_join.specs.declared.latest.Latest.{Latest}
 use Rattle.people_text.specs.{MomentText.{duration_text}, Shown.{shown}}
-use Rattle.mdns_page.specs.declared.axis.Axis.{Axis}
-use Rattle.mdns_page.specs.Bare.{BareLive, BareRow, bare_capture, bare_end, bare_group, bare_groups, bare_instances, bare_live, bare_row}
-use Rattle.mdns_page.specs.Bare.{bare_server, bare_text, is_some_filled, unsaid}
+use Rattle.mdns_page.specs.declared.{axis.Axis.{Axis}, captures.CaptureCounts.{CaptureCounts}}
+use Rattle.mdns_page.specs.Bare.{BareLive, BareRow, bare_capture, bare_end, bare_file, bare_group, bare_groups, bare_instances, bare_live}
+use Rattle.mdns_page.specs.Bare.{bare_row, bare_server, bare_text, is_some_filled, unsaid}
 use Rattle.mdns_page.specs.Captures.{Comparison, Facts, alone_text, capture_text, captures_text, clock_text, compared_text, each_from}
 use Rattle.mdns_page.specs.{Captures.{is_shared_by}, Axis.{drawn_if, short_text}, Group.{grouped, item}, OtherRows.{is_large}}
 use Rattle.mdns_page.specs.Lanes.{base_line, base_text, bases_text, lane_top}
-use Rattle.mdns_page.specs.{Lead.{about_line, ending_warning, is_ended, live_line, pair_warning}, Picture.{goes_on, is_for}}
+use Rattle.mdns_page.specs.{Lead.{Ended, about_line, ending_warning, is_ended, live_line, pair_warning}, Picture.{goes_on, is_for}}
 use Rattle.mdns_page.specs.LiveSection.{address_html, live_group, live_row, live_text, server_html, text_html, type_of}
 use Rattle.mdns_page.specs.Document.{Shown, head, page}
 use Rattle.mdns_page.specs.Timeline.{Row, content_name, count_last, group_text, is_open, lives_in, owner_of, row_text, timeline}
@@ -28,11 +30,8 @@ use Rattle.mdns_page.proofs.SameLists.{append-same, count-same, flat_map-alike, 
 
 -- ---- captures
 
-summary-same : (capture file : Facts) → bare_capture capture ≡ bare_capture file → capture.summary ≡ file.summary
-summary-same capture file same = ap (λ bare. bare.0) same
-
-span-same : (capture file : Facts) → bare_capture capture ≡ bare_capture file → capture.span ≡ file.span
-span-same capture file same = ap (λ bare. bare.1) same
+span-same : (capture other : Facts) → bare_capture capture ≡ bare_capture other → capture.span ≡ other.span
+span-same capture other same = ap (λ (bare : CaptureCounts × Ending × Option Span). bare.2) same
 
 clock-same : (captures files : List Facts) → length captures ≡ length files → (pair : PairRow)
     → clock_text unsaid captures pair ≡ clock_text unsaid files pair
@@ -54,7 +53,8 @@ capture-same axis captures files comparison many index capture file same =
     rw (
       many,
       compared-same captures files comparison index many,
-      summary-same capture file same,
+      ap (λ (bare : CaptureCounts × Ending × Option Span). bare.0) same,
+      ap (λ (bare : CaptureCounts × Ending × Option Span). bare.1) same,
       span-same capture file same,
     ) refl
 
@@ -129,10 +129,9 @@ about-same (subject ∷ about) (other ∷ others) same =
     ap (λ (text : List ℕ). codes "<p class=\"note\">Only what is about " ++ text ++ codes ".</p>\n")
     (flat_map-alike (λ (subject : Subject). codes ", " ++ unsaid (shown (string_bytes subject.text))) (λ first second. refl) about others rest)
 
-warning-same : (capture file : Facts) → bare_capture capture ≡ bare_capture file
-    → ending_warning unsaid capture ≡ ending_warning unsaid file
+warning-same : (file other : Ended) → bare_file file ≡ bare_file other → ending_warning unsaid file ≡ ending_warning unsaid other
 unfolding ending_warning
-warning-same capture file same = rw (summary-same capture file same) refl
+warning-same file other same = rw same refl
 
 pair-same : (captures files : List Facts) (pair : PairRow) → pair_warning unsaid captures pair ≡ pair_warning unsaid files pair
 unfolding pair_warning
@@ -316,10 +315,11 @@ live-same axis opened lasts others given more same =
 pub page-same : (a b : Shown) (opened : Bool) (lasts others : List Latest) (live now : List GivenRow) → a.axis ≡ b.axis → a.lost ≡ b.lost
     → a.skipped ≡ b.skipped → a.comparison ≡ b.comparison → a.live ≡ live_text unsaid a.axis opened lasts live → b.live ≡ live_text unsaid b.axis opened others now
     → length a.about ≡ length b.about → map bare_capture a.captures ≡ map bare_capture b.captures
+    → map bare_file a.files ≡ map bare_file b.files
     → bare_groups a.rows ≡ bare_groups b.rows → map bare_row a.addresses ≡ map bare_row b.addresses
     → map bare_row a.names ≡ map bare_row b.names → bare_instances lasts live ≡ bare_instances others now → page unsaid a ≡ page unsaid b
 page-same a b opened lasts others live now same_axis same_lost same_skipped same_comparison
-    written written_too same_about same_captures same_rows same_addresses
+    written written_too same_about same_captures same_files same_rows same_addresses
     same_names same_live =
     let lanes = if is_large (length a.rows) then 0 else (if nat_lt 4 (length a.captures) then 1 else length a.captures) in
     let rows = rows-same a.rows b.rows same_rows in
@@ -336,7 +336,7 @@ page-same a b opened lasts others live now same_axis same_lost same_skipped same
       head-same b.axis lanes a.captures b.captures same_captures,
       live_line-same b.axis a.rows b.rows rows,
       about-same a.about b.about same_about,
-      flat_map-same bare_capture (ending_warning unsaid) warning-same a.captures b.captures same_captures,
+      flat_map-same bare_file (ending_warning unsaid) warning-same a.files b.files same_files,
       warnings,
       captures-same b.axis a.captures b.captures b.comparison same_captures,
       timeline-same b.axis lanes a.rows b.rows a.addresses b.addresses a.names b.names same_rows same_addresses same_names,

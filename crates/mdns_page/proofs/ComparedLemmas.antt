@@ -5,14 +5,13 @@ use Rattle.mdns_capture.proofs.SourceLemmas.{source_is_there}
 use Rattle.mdns_survey.proofs.OutcomeLemmas.{OnePayload}
 use Rattle.mdns_survey.specs.Outcomes.{Outcome, heard, refused, skipped}
 use Rattle.mdns_listeners.specs.Heard.{AreHeardIn, HeardRow, Told, message_bytes}
-use Rattle.mdns_listeners.specs.Listeners.{AreRowsOf, CapturesTell, Gathered, Gathers, IsHeardBy, TellAll, Tells, listener_at, spans_by}
+use Rattle.mdns_listeners.specs.Listeners.{CapturesTell, Gathered, Gathers, IsHeardBy, TellAll, Tells, listener_at, spans_by}
 use Rattle.mdns_listeners.specs.{Numbers.{listener_rows, FileSpans}, Together.{pairs_together}}
 use Rattle.mdns_listeners.specs.{declared.listeners.MessageCollector.{MessageCollector}, Groups.{Grouped}}
 use Rattle.mdns_listeners.specs.declared.{listeners.HeardByListeners.{HeardByListeners}, numbers.ListenerRow.{ListenerRow}}
 use Rattle.mdns_listeners.specs.declared.pairs.PairRow.{PairRow}
-use Rattle.mdns_page.specs.{Captures.{Comparison}, Collected.{AreCompared, AreGathered, Compares, GathersIf, GoesOn, each_apart}}
-use Rattle.std.specs.declared.result.{Result.{Result}, Result.TheVariants.{Ok, Err}}
-use Rattle.std.specs.Prelude.{IfOk}
+use Rattle.mdns_page.specs.{Captures.{Comparison}, Collected.{AreCompared, AreGathered, Compares, GathersIf, GoesOn}}
+use Rattle.std.specs.{declared.result.Result.{Result}, declared.result.Result.TheVariants.{Ok, Err}, Prelude.{IfOk}}
 
 -- ---- one comparison
 
@@ -56,14 +55,13 @@ module _ (payload : OnePayload) where
       let tail = one-captures_tell of (suc place) ps os rest others after after_too in
       is ∙ (λ i. head i ++ tail i) ∙ sym is_too
 
-  pub one-comparison : OneListOfRows → (names : List (List ℕ)) (packets : List (List PacketAt)) (outcomes : List (List Outcome))
-      (a b : Comparison) → Compares names packets outcomes a → Compares names packets outcomes b → a ≡ b
-  one-comparison one names packets outcomes a b (inl none) (inl too) =
+  pub one-comparison : OneListOfRows → (groups : Grouped) (packets : List (List PacketAt)) (outcomes : List (List Outcome))
+      (a b : Comparison) → Compares groups packets outcomes a → Compares groups packets outcomes b → a ≡ b
+  one-comparison one groups packets outcomes a b (inl none) (inl too) =
       λ i. record { listeners = (none.1 ∙ sym too.1) i; pairs = (none.2 ∙ sym too.2) i }
-  one-comparison one names packets outcomes a b (inl (off, listeners, pairs)) (inr (on, some)) = absurd (cc)
-  one-comparison one names packets outcomes a b (inr (on, some)) (inl (off, listeners, pairs)) = absurd (cc)
-  one-comparison one names packets outcomes a b (inr some) (inr too) =
-      let groups = each_apart names in
+  one-comparison one groups packets outcomes a b (inl (off, listeners, pairs)) (inr (on, some)) = absurd (cc)
+  one-comparison one groups packets outcomes a b (inr (on, some)) (inl (off, listeners, pairs)) = absurd (cc)
+  one-comparison one groups packets outcomes a b (inr some) (inr too) =
       let told = one-captures_tell groups.of 0 packets outcomes some.1.are_rows.told too.1.are_rows.told some.1.are_rows.tell
       too.1.are_rows.tell in
       let rows = one too.1.are_rows.told some.1.rows too.1.rows
@@ -74,17 +72,16 @@ module _ (payload : OnePayload) where
       }
 
 -- the rows of what listeners heard
-pub compared-by : (names : List (List ℕ)) (groups : Grouped) (packets : List (List PacketAt)) (outcomes : List (List Outcome))
-    (heard_by : HeardByListeners) (messages : List HeardRow) (spans : List FileSpans) (listeners : List ListenerRow) (pairs : List PairRow)
-    → groups ≡ each_apart names → IsHeardBy groups packets outcomes heard_by → messages ≡ heard_by.messages.items
-    → spans ≡ heard_by.spans.items → listeners ≡ listener_rows messages spans → pairs ≡ pairs_together messages spans
-    → AreCompared names packets outcomes (record { listeners = listeners; pairs = pairs })
-compared-by names groups packets outcomes heard_by messages spans listeners pairs apart are same_messages same_spans listed paired =
-    let all_spans : spans ≡ spans_by (each_apart names) packets =
-    same_spans ∙ are.spans ∙ ap (λ (g : Grouped). spans_by g packets) apart in
+pub compared-by : (groups : Grouped) (packets : List (List PacketAt)) (outcomes : List (List Outcome)) (heard_by : HeardByListeners)
+    (messages : List HeardRow) (spans : List FileSpans) (listeners : List ListenerRow) (pairs : List PairRow)
+    → IsHeardBy groups packets outcomes heard_by → messages ≡ heard_by.messages.items → spans ≡ heard_by.spans.items
+    → listeners ≡ listener_rows messages spans → pairs ≡ pairs_together messages spans
+    → AreCompared groups packets outcomes (record { listeners = listeners; pairs = pairs })
+compared-by groups packets outcomes heard_by messages spans listeners pairs are same_messages same_spans listed paired =
+    let all_spans : spans ≡ spans_by groups packets = same_spans ∙ are.spans in
     record {
       rows = heard_by.messages.items;
-      are_rows = subst (λ (g : Grouped). AreRowsOf g.of packets outcomes heard_by.messages.items) apart are.are_rows;
+      are_rows = are.are_rows;
       listeners = listed ∙ (λ i. listener_rows (same_messages i) (all_spans i));
       pairs = paired ∙ (λ i. pairs_together (same_messages i) (all_spans i));
     }
@@ -96,19 +93,19 @@ pub ok-and : {T E : Type 0} (r : Result T E) (P Q R : T → Type 0) → ((x : T)
 ok-and (Ok x) P Q R both one other = both x one other
 ok-and (Err fault) P Q R both one other = tt
 
-pub gathers-nothing : (names : List (List ℕ)) (messages : Option MessageCollector) → AreGathered names messages [] []
+pub gathers-nothing : (groups : Grouped) (messages : Option MessageCollector) → AreGathered groups messages [] []
     → GathersIf messages messages [] []
-gathers-nothing names None gathered = tt
-gathers-nothing names (Some messages) gathered =
+gathers-nothing groups None gathered = tt
+gathers-nothing groups (Some messages) gathered =
     subst (λ (of : List ℕ). Gathered of messages [] []) (sym gathered.1.listeners) gathered.1
 
-pub gathered-now : (names : List (List ℕ)) (begun now : Option MessageCollector) (packets : List (List PacketAt))
-    (outcomes : List (List Outcome)) → AreGathered names begun [] [] → GathersIf begun now packets outcomes
-    → AreGathered names now packets outcomes
-gathered-now names None None packets outcomes begins gathers = begins
-gathered-now names None (Some now) packets outcomes begins gathers = absurd gathers
-gathered-now names (Some begun) None packets outcomes begins gathers = absurd gathers
-gathered-now names (Some begun) (Some now) packets outcomes begins gathers =
+pub gathered-now : (groups : Grouped) (begun now : Option MessageCollector) (packets : List (List PacketAt))
+    (outcomes : List (List Outcome)) → AreGathered groups begun [] [] → GathersIf begun now packets outcomes
+    → AreGathered groups now packets outcomes
+gathered-now groups None None packets outcomes begins gathers = begins
+gathered-now groups None (Some now) packets outcomes begins gathers = absurd gathers
+gathered-now groups (Some begun) None packets outcomes begins gathers = absurd gathers
+gathered-now groups (Some begun) (Some now) packets outcomes begins gathers =
     (begins.0, subst (λ (of : List ℕ). Gathered of now packets outcomes) begins.1.listeners gathers)
 
 -- of a capture more, where none are gathered

@@ -1,8 +1,8 @@
 -- Numbers with commas.
-use Rattle.std.proofs.Common.{◌≡◌, refl, sym, ◌∙◌, ap, ℕ, ◌+◌, ◌/◌, ◌%◌, ◌^◌, ◌<◌, ◌≤◌, ◌==◌, ◌&&◌, nat_lt, not, Bool, true, false, if◌then◌else◌}
-use Rattle.std.proofs.Common.{List, [], ◌∷◌, ◌++◌, length, arith, append_assoc, length-append}
-use Rattle.std.proofs.lemmas.{Bool.Decides.{nat_tests}, Fmt.{decimal_is_IsNumeral_wide, decimal_step_wide, length-decimal-le_wide}}
-use Rattle.std.proofs.lemmas.Str.Parse.{digit_from_value}
+use Rattle.std.proofs.Common.{◌≡◌, refl, sym, ◌∙◌, ap, ℕ, ◌+◌, ◌/◌, ◌%◌, ◌^◌, ◌<◌, ◌≤◌, ◌==◌}
+use Rattle.std.proofs.Common.{◌&&◌, nat_lt, not, Bool, true, false, if◌then◌else◌, List, [], ◌∷◌, ◌++◌, length, arith}
+use Rattle.std.proofs.{Common.{append_assoc, length-append}, lemmas.Bool.Decides.{nat_tests}}
+use Rattle.std.proofs.lemmas.{Fmt.{decimal_is_IsNumeral_wide, decimal_step_wide, length-decimal-le_wide}, Str.Parse.{digit_from_value}}
 use Rattle.std.specs.{Fmt.{decimal}, List.{filter}, Str.Parse.{AllDigits}}
 use Rattle.dns_name.specs.Name.{three_digits}
 use Rattle.mdns_page.specs.Counts.{commas, in_threes}

@@ -1,18 +1,14 @@
 -- In which seconds captures heard a record.
-use Rattle.std.proofs.Common.{◌≡◌, refl, sym, ap, ◌∙◌, subst, ℕ, ◌+◌, ◌<◌, Bool, true, false, if◌then◌else◌, List, [], ◌∷◌, ◌++◌}
-use Rattle.std.proofs.Common.{get_or, length, map, take}
-use Rattle.std.specs.Prelude.{nat_lt}
-use Rattle.std.specs.List.{All, filter}
-use Rattle.std.proofs.lemmas.{List.{map-append, take_more}, List.Elements.{All-append, All-cons, All-nil, All-same, filter-append}}
+use Rattle.std.proofs.Common.{◌≡◌, refl, sym, ap, ◌∙◌, subst, ℕ, ◌+◌, ◌<◌, Bool, true, false, if◌then◌else◌}
+use Rattle.std.proofs.{Common.{List, [], ◌∷◌, ◌++◌, get_or, length, map, take}, lemmas.List.{map-append, take_more}}
+use Rattle.std.proofs.lemmas.List.Elements.{All-append, All-cons, All-nil, All-same, filter-append}
+use Rattle.std.specs.{Prelude.{nat_lt}, List.{All, filter}}
 use Rattle.mdns_message.specs.declared.{hearing.Hearing.{Hearing}, key.Key.{Key}}
 use Rattle.mdns_join.specs.declared.latest.Latest.{Latest}
 use Rattle.mdns_lives.specs.{declared.life.Life.{Life}, declared.seconds_heard.SecondHeard.{SecondHeard}, Chronicle.{Accounts, Chronicles}}
 use Rattle.mdns_lives.specs.Heard.{AreSecondsHeard}
-use Rattle.mdns_cache.specs.Live.{key_of_last}
 use Rattle.mdns_browse.specs.Services.{AreEach}
-use Rattle.mdns_page.specs.{TimelineRows.{AreShownBy, IsCounted}, Timeline.{Row, counted_lent}}
-use Rattle.mdns_page.specs.declared.timeline_rows.CountedRow.{CountedRow}
-use Rattle.mdns_page.proofs.LiveLemmas.{each-count}
+use Rattle.mdns_page.specs.{TimelineRows.{AreShownBy}, Timeline.{Row, counted_lent}, declared.timeline_rows.CountedRow.{CountedRow}}
 
 -- ---- one capture after another
 

@@ -1,6 +1,6 @@
 -- Rows in groups by type.
-use Rattle.std.proofs.Common.{◌≡◌, refl, sym, ◌∙◌, ap, subst, ℕ, suc, ◌+◌, ◌<◌, ◌≤◌, true, false, if◌then◌else◌, List, [], ◌∷◌, ◌++◌, Bool}
-use Rattle.std.proofs.Common.{length, take, drop, map, get_or, arith}
+use Rattle.std.proofs.Common.{◌≡◌, refl, sym, ◌∙◌, ap, subst, ℕ, suc, ◌+◌, ◌<◌, ◌≤◌, true, false}
+use Rattle.std.proofs.Common.{if◌then◌else◌, List, [], ◌∷◌, ◌++◌, Bool, length, take, drop, map, get_or, arith}
 use Rattle.std.proofs.lemmas.{List.{append_assoc, append-nil, at_drop_all, drop_more, drop-map, take-map}, Simd.{map-map}}
 use Rattle.std.specs.List.{flat_map}
 use Rattle.mdns_browse.specs.Services.{same_text}

@@ -1,12 +1,12 @@
 -- Which captures heard the records of rows, where there are many captures.
-use Rattle.std.proofs.Common.{◌≡◌, refl, sym, ap, ◌∙◌, subst, ℕ, zero, suc, ◌+◌, ◌<◌, ◌≤◌, ◌⊎◌, inl, inr, Bool, true, false, cond, if◌then◌else◌}
-use Rattle.std.proofs.Common.{List, [], ◌∷◌, ◌++◌, Contains, get_or, length, map, set, take, Option, None, Some, arith}
-use Rattle.std.specs.Prelude.{◌≢◌, MatchOption, nat_lt}
-use Rattle.std.specs.{List.{All, AllByRecursion, filter}, List.Sorted.{IsPartitionPoint, IsNonDecreasingBy, IsSortedBy, IsStrictlySortedBy}}
-use Rattle.std.specs.{Ordering.{is_lt, ordering_index, ordering_reverse}, declared.cmp.Ordering.{Ordering}}
-use Rattle.std.specs.declared.cmp.Ordering.TheVariants.{Less, Equal, Greater}
-use Rattle.std.proofs.lemmas.{Bool.Decides.{nat_tests}, Cmp.{tied_itself}, List.{append-nil, length-map, map-set, take_more}}
-use Rattle.std.proofs.lemmas.{List.Elements.{All-cons, All-head, All-nil, All-tail}, List.Sorted.{searchable_from_sorted}, Simd.{map-map}}
+use Rattle.std.proofs.Common.{◌≡◌, refl, sym, ap, ◌∙◌, subst, ℕ, zero, suc, ◌+◌, ◌<◌, ◌≤◌, ◌⊎◌, inl, inr}
+use Rattle.std.proofs.Common.{Bool, true, false, cond, if◌then◌else◌, List, [], ◌∷◌, ◌++◌, get_or, length, map, set, take}
+use Rattle.std.proofs.{Common.{Option, None, Some, arith}, lemmas.Bool.Decides.{nat_tests}, lemmas.Cmp.{tied_itself}}
+use Rattle.std.proofs.lemmas.{List.{append-nil, length-map, map-set, take_more}, List.Elements.{All-cons, All-head, All-nil, All-tail}}
+use Rattle.std.proofs.lemmas.{List.Sorted.{searchable_from_sorted}, Simd.{map-map}}
+use Rattle.std.specs.{Prelude.{◌≢◌, MatchOption, nat_lt}, List.{All, AllByRecursion, filter}}
+use Rattle.std.specs.List.Sorted.{IsPartitionPoint, IsNonDecreasingBy, IsSortedBy, IsStrictlySortedBy}
+use Rattle.std.specs.{Ordering.{is_lt, ordering_index, ordering_reverse}, declared.cmp.Ordering.TheVariants.{Less, Equal, Greater}}
 use Rattle.mdns_message.specs.{declared.hearing.Hearing.{Hearing}, declared.key.Key.{Key}, Resource.{key_cmp}}
 use Rattle.mdns_message.specs.laws.Resource.{key_cmp-exact, key_cmp-total}
 use Rattle.mdns_join.specs.declared.latest.Latest.{Latest}
@@ -18,7 +18,7 @@ use Rattle.mdns_browse.specs.Services.{AreEach}
 use Rattle.mdns_page.specs.TimelineRows.{AreShownBy, HearsCapture, HearsRecord, IsBegun, IsCounted, few_of, heard_too, unheard}
 use Rattle.mdns_page.specs.{KeptRecords.{is_of}, Timeline.{Row, counted_lent}, declared.kept_records.TimelinePart.{TimelinePart}}
 use Rattle.mdns_page.specs.declared.timeline_rows.CountedRow.{CountedRow}
-use Rattle.mdns_page.proofs.{CountedLemmas.{LastPair, each-last, each-more, record_in, shown-more}, KeptLemmas.{sorted-filter}}
+use Rattle.mdns_page.proofs.{CountedLemmas.{each-last, each-more, record_in, shown-more}, KeptLemmas.{sorted-filter}}
 use Rattle.mdns_page.proofs.LiveLemmas.{each-count}
 
 -- ---- lists that belong together
@@ -78,12 +78,6 @@ keys-kept rows others same = sym (map-map row_key unheard rows) ∙ ap (map row_
 pub records-kept : (rows others : List Row) → map unheard rows ≡ map unheard others → map record_in rows ≡ map record_in others
 records-kept rows others same =
     sym (map-map record_in unheard rows) ∙ ap (map record_in) same ∙ map-map record_in unheard others
-
-pub count-kept : (rows others : List CountedRow) → map unheard (map counted_lent rows) ≡ map unheard (map counted_lent others)
-    → length rows ≡ length others
-count-kept rows others same =
-    sym (length-map rows counted_lent) ∙ sym (length-map (map counted_lent rows) unheard) ∙ ap length same
-    ∙ length-map (map counted_lent others) unheard ∙ length-map others counted_lent
 
 module _ {X Y : Type 0} (Q : Y → Type 0) (f : X → Y) where
   into-map : (xs : List X) → All (λ x. Q (f x)) xs → All Q (map f xs)

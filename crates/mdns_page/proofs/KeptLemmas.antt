@@ -1,8 +1,8 @@
 -- Records that a page keeps, in key order.
-use Rattle.std.proofs.Common.{◌≡◌, refl, sym, ◌∙◌, ap, subst, ℕ, ◌+◌, ◌<◌, ◌≤◌, Bool, true, false, cond, if◌then◌else◌, List, [], ◌∷◌, ◌++◌}
-use Rattle.std.proofs.Common.{append_assoc, get_or, is_some, length, map, option_map, take, Option, None, Some}
-use Rattle.std.proofs.lemmas.{Bool.{cond_both}, List.{append-nil, map-append, take_all, take_more}, List.Elements.{filter-append}}
-use Rattle.std.proofs.lemmas.Simd.{map-map}
+use Rattle.std.proofs.Common.{◌≡◌, refl, sym, ◌∙◌, ap, subst, ℕ, ◌+◌, ◌<◌, ◌≤◌, Bool, true, false, cond}
+use Rattle.std.proofs.Common.{if◌then◌else◌, List, [], ◌∷◌, ◌++◌, append_assoc, get_or, is_some, length, map, option_map}
+use Rattle.std.proofs.{Common.{take, Option, None, Some}, lemmas.Bool.{cond_both}}
+use Rattle.std.proofs.lemmas.{List.{append-nil, map-append, take_all, take_more}, List.Elements.{filter-append}, Simd.{map-map}}
 use Rattle.std.specs.{List.{AllByRecursion, filter}, List.Sorted.{IsStrictlySortedBy}, declared.cmp.Ordering.{Ordering}}
 use Rattle.std.specs.declared.cmp.Ordering.TheVariants.{Less}
 use Rattle.mdns_message.specs.{declared.hearing.Hearing.{Hearing}, Resource.{key_cmp}}

@@ -1,10 +1,8 @@
 -- The ticks of seconds in ascending order go from left to right.
-use Rattle.std.proofs.Common.{◌≡◌, refl, sym, ℕ, ◌/◌, ◌<◌, ◌≤◌, Bool, true, false, if◌then◌else◌, Option}
-use Rattle.std.proofs.Common.{None, Some, List, [], ◌∷◌, map, arith}
-use Rattle.std.specs.Prelude.{Contains, ◌==◌}
-use Rattle.std.specs.{List.{AllByRecursion, cons_option, filter_map}, List.Sorted.{IsStrictlySortedBy}, Ordering.{nat_cmp}}
-use Rattle.std.specs.declared.cmp.Ordering.TheVariants.{Less}
-use Rattle.std.proofs.lemmas.Cmp.{ranked}
+use Rattle.std.proofs.Common.{◌≡◌, refl, sym, ℕ, ◌/◌, ◌<◌, ◌≤◌, Bool, true, false, if◌then◌else◌, Option, None}
+use Rattle.std.proofs.{Common.{Some, List, [], ◌∷◌, map, arith}, lemmas.Cmp.{ranked}}
+use Rattle.std.specs.{Prelude.{Contains, ◌==◌}, List.{AllByRecursion, cons_option, filter_map}, List.Sorted.{IsStrictlySortedBy}}
+use Rattle.std.specs.{Ordering.{nat_cmp}, declared.cmp.Ordering.TheVariants.{Less}}
 use Rattle.mdns_capture.specs.Limits.{second}
 use Rattle.mdns_cache.proofs.StandsPartLemmas.{Contains-head, Contains-later}
 use Rattle.mdns_lives.specs.declared.{life.RecordHearing.{RecordHearing}, seconds_heard.SecondHeard.{SecondHeard}}

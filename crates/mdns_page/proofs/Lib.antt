@@ -1,4 +1,5 @@
 mod BareLemmas
+mod ByListenerLemmas
 mod ComparedLemmas
 pub mod CountLemmas
 mod CountedLemmas

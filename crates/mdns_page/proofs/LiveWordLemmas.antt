@@ -1,6 +1,6 @@
 -- Strings of a text, one a line, and an address.
-use Rattle.std.proofs.Common.{◌≡◌, refl, sym, ◌∙◌, ap, arith, ℕ, ◌==◌, Bool, true, false, if◌then◌else◌, List, [], ◌∷◌, ◌++◌, codes, length}
-use Rattle.std.proofs.lemmas.{Bool.Decides.{nat_tests}, List.{append-nil, append_assoc}}
+use Rattle.std.proofs.Common.{◌≡◌, refl, sym, ◌∙◌, ap, arith, ℕ, ◌==◌, Bool, true, false, if◌then◌else◌, List, []}
+use Rattle.std.proofs.{Common.{◌∷◌, ◌++◌, codes, length}, lemmas.Bool.Decides.{nat_tests}, lemmas.List.{append-nil, append_assoc}}
 use Rattle.std.specs.List.{flat_map, join_by}
 use Rattle.mdns_message.specs.{Borrowed.{BorrowedBody, body_lent}, Parts.{address_of}, TextData.{strings_of}}
 use Rattle.mdns_message.specs.declared.body.RecordData.TheVariants as body

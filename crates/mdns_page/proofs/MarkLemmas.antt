@@ -1,7 +1,6 @@
 -- The marks of lives that are in order of time go from left to right.
-use Rattle.std.proofs.Common.{◌≡◌, refl, ℕ, ◌+◌, ◌-◌, ◌*◌, ◌/◌, ◌<◌, ◌≤◌, min, Bool, true, false, if◌then◌else◌}
-use Rattle.std.proofs.Common.{Option, None, Some, List, [], ◌∷◌, arith, div-mul-le_self}
-use Rattle.std.proofs.lemmas.Nat.{le-div}
+use Rattle.std.proofs.Common.{◌≡◌, refl, ℕ, ◌+◌, ◌-◌, ◌*◌, ◌/◌, ◌<◌, ◌≤◌, min, Bool, true, false}
+use Rattle.std.proofs.{Common.{if◌then◌else◌, Option, None, Some, List, [], ◌∷◌, arith, div-mul-le_self}, lemmas.Nat.{le-div}}
 use Rattle.std.specs.List.{cons_option, filter_map}
 use Rattle.mdns_lives.specs.{Lives.{AreApart, AreApartAfter}, declared.life.Life.{Life}}
 use Rattle.mdns_page.specs.{Axis.{place, place_end}, Picture.{AreInOrder, bar_mark, differing, goes_on, is_for, is_same, mark_of}}

@@ -1,18 +1,21 @@
 -- Readings of captures agree in all that a page tells.
-use Rattle.std.proofs.Common.{◌≡◌, ◌∙◌, ℕ, ◌+◌, ◌==◌, if◌then◌else◌, true, false, List, [], ◌∷◌, ◌++◌, Option, Some, None, ap, drop, get_or, inl, inr}
-use Rattle.std.proofs.Common.{option_map, refl, subst, sym}
-use Rattle.std.specs.Prelude.{codes, count_by, sum_by}
-use Rattle.std.specs.List.{flat_map}
+use Rattle.std.proofs.Common.{◌≡◌, ◌∙◌, ℕ, suc, ◌+◌, ◌==◌, if◌then◌else◌, Bool, true, false, not, ap, inl, inr, refl, subst, sym}
+use Rattle.std.proofs.Common.{List, [], ◌∷◌, ◌++◌, Option, Some, None, drop, get_or, length, map, option_map, unwrap_or}
 use Rattle.std.proofs.lemmas.List.Sums.{sum_by-cons}
-use Rattle.mdns_capture.specs.{declared.cause.Cause.{Cause}, Savefile.{PacketAt}}
+use Rattle.std.specs.{Prelude.{codes, count_by, sum_by}, List.{find, flat_map, fold, range_with_len}}
+use Rattle.mdns_capture.specs.{declared.cause.Cause.{Cause}, Savefile.{PacketAt}, declared.savefile.Ending.{Ending}}
+use Rattle.mdns_capture.specs.declared.savefile.Ending.TheVariants.{Whole}
 use Rattle.mdns_message.specs.Message.{IsIgnored, IsQuery}
 use Rattle.mdns_browse.specs.Services.{AreEach}
 use Rattle.mdns_survey.specs.declared.{outcome.SkipReason.{SkipReason}, reading.Reading.{Reading}, summary.Summary.{Summary}}
-use Rattle.mdns_survey.specs.{Outcomes.{Outcome}, Readings.{lost_in, refused_in, skipped_in, summaries_of}}
-use Rattle.mdns_survey.specs.{Skips.{IsSkipOf, count_of, is_why}, Surveys.{AllLeft}, Reasons.{row_of}}
+use Rattle.mdns_survey.specs.{ProgramLines.{is_whole}, Span.{joined_spans}, declared.summary.Tally.{Tally}, Outcomes.{Outcome}}
+use Rattle.mdns_survey.specs.{Readings.{lost_in, refused_in, skipped_in, summaries_of}, Skips.{IsSkipOf, count_of, is_why}}
+use Rattle.mdns_survey.specs.{Surveys.{AllLeft}, Reasons.{row_of}}
 use Rattle.mdns_survey.specs.declared.outcome.SkipReason.TheVariants as why
 use Rattle.mdns_survey.proofs.{LossLemmas.{NeverBoth, SkipsByCause, no-cause}, OutcomeLemmas.{OnePayload}}
-use Rattle.mdns_page.specs.{SkippedSection.{skipped_text, others as reasons, row_text, table_text, warnings}, Page.{facts_of}}
+use Rattle.mdns_listeners.specs.{Groups.{Grouped}, Listeners.{listener_at}}
+use Rattle.mdns_page.specs.{ByListener.{facts_by, facts_of, files_of}, Page.{endings_of}}
+use Rattle.mdns_page.specs.SkippedSection.{skipped_text, others as reasons, row_text, table_text, warnings}
 
 -- ---- why packets are skipped
 
@@ -116,17 +119,68 @@ lost-alike =
     sums-alike (λ (r : Reading). r.lost + r.summary.tally.refused)
     (λ a b same i. same.lost i + (same.summary i).tally.refused)
 
--- what the page tells of the captures
-pub facts-alike : (names : List (List ℕ)) (readings others : List Reading) → AreEach IsAlike readings others
-    → facts_of names readings ≡ facts_of names others
-facts-alike [] readings others alike = refl
-facts-alike (name ∷ names) [] [] alike = refl
-facts-alike (name ∷ names) [] (y ∷ ys) alike = absurd alike
-facts-alike (name ∷ names) (x ∷ xs) [] alike = absurd alike
-facts-alike (name ∷ names) (x ∷ xs) (y ∷ ys) alike =
+maps-alike : {Y : Type 0} (of : Reading → Y) → ((a b : Reading) → IsAlike a b → of a ≡ of b) → (readings others : List Reading)
+    → AreEach IsAlike readings others → map of readings ≡ map of others
+maps-alike of same [] [] alike = refl
+maps-alike of same [] (y ∷ ys) alike = absurd alike
+maps-alike of same (x ∷ xs) [] alike = absurd alike
+maps-alike of same (x ∷ xs) (y ∷ ys) alike =
+    let first = same x y alike.0 in
+    let rest = maps-alike of same xs ys alike.1 in
+    λ i. first i ∷ rest i
+
+keeps-alike : (b : Bool) (x y : Reading) (xs ys : List Reading) → IsAlike x y → AreEach IsAlike xs ys
+    → AreEach IsAlike (if b then x ∷ xs else xs) (if b then y ∷ ys else ys)
+keeps-alike true x y xs ys first rest = (first, rest)
+keeps-alike false x y xs ys first rest = rest
+
+files-alike : (of : List ℕ) (place listener : ℕ) (readings others : List Reading) → AreEach IsAlike readings others
+    → AreEach IsAlike (files_of of place listener readings) (files_of of place listener others)
+files-alike of place listener [] [] alike = tt
+files-alike of place listener [] (y ∷ ys) alike = absurd alike
+files-alike of place listener (x ∷ xs) [] alike = absurd alike
+files-alike of place listener (x ∷ xs) (y ∷ ys) alike =
+    keeps-alike (listener_at of place == listener) x y _ _ alike.0 (files-alike of (suc place) listener xs ys alike.1)
+
+-- what the page tells of a listener's files
+facts-same : (name : List ℕ) (readings others : List Reading) → AreEach IsAlike readings others
+    → facts_of name readings ≡ facts_of name others
+facts-same name readings others alike =
+    let sums = λ (of : Tally → ℕ). sums-alike (λ (r : Reading). of r.summary.tally) (λ a b same i. of (same.summary i).tally)
+    readings others alike in
+    let endings = maps-alike (λ (r : Reading). r.summary.ending) (λ a b same i. (same.summary i).ending) readings others alike in
+    let spans = maps-alike (λ (r : Reading). r.span) (λ a b same. same.span) readings others alike in
+    λ i. record {
+      name = name;
+      counts = record {
+        packets = sums (λ tally. tally.packets) i;
+        skipped = sums (λ tally. tally.skipped) i;
+        refused = sums (λ tally. tally.refused) i;
+        messages = sums (λ tally. tally.messages) i;
+        hearings = sums (λ tally. tally.hearings) i;
+      };
+      ending = unwrap_or (find (λ (ending : Ending). not (is_whole ending)) (endings i)) Whole;
+      span = fold joined_spans None (spans i);
+    }
+
+-- and of all
+pub facts-alike : (groups : Grouped) (readings others : List Reading) → AreEach IsAlike readings others
+    → facts_by groups readings ≡ facts_by groups others
+facts-alike groups readings others alike i =
+    map (λ (listener : ℕ). facts-same (get_or groups.names listener []) (files_of groups.of 0 listener readings)
+    (files_of groups.of 0 listener others) (files-alike groups.of 0 listener readings others alike) i)
+    (range_with_len 0 (length groups.names))
+
+pub endings-alike : (names : List (List ℕ)) (readings others : List Reading) → AreEach IsAlike readings others
+    → endings_of names readings ≡ endings_of names others
+endings-alike [] readings others alike = refl
+endings-alike (name ∷ names) [] [] alike = refl
+endings-alike (name ∷ names) [] (y ∷ ys) alike = absurd alike
+endings-alike (name ∷ names) (x ∷ xs) [] alike = absurd alike
+endings-alike (name ∷ names) (x ∷ xs) (y ∷ ys) alike =
     let same = alike.0 in
-    let rest = facts-alike names xs ys alike.1 in
-    λ i. record { name = name; summary = same.summary i; span = same.span i } ∷ rest i
+    let rest = endings-alike names xs ys alike.1 in
+    λ i. record { name = name; ending = (same.summary i).ending } ∷ rest i
 
 -- ---- the table of skipped packets
 

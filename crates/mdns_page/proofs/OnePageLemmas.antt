@@ -1,10 +1,9 @@
 -- Captures have one page.
-use Rattle.std.proofs.Common.{◌≡◌, ◌∙◌, ℕ, ◌+◌, ◌<◌, Bool, false, List, [], ◌∷◌, Some, ap, arith, inl, inr, length, map}
-use Rattle.std.proofs.Common.{refl, subst, sym}
-use Rattle.std.specs.Prelude.{Contains, max, nat_lt}
-use Rattle.std.specs.{List.{All, AllByRecursion}, List.Sorted.{IsStrictlySortedBy}, Ordering.{nat_cmp}}
+use Rattle.std.proofs.Common.{◌≡◌, ◌∙◌, ℕ, ◌+◌, ◌<◌, Bool, false, List, [], ◌∷◌, Some, ap, arith, inl, inr}
+use Rattle.std.proofs.{Common.{length, map, refl, subst, sym}, lemmas.Cmp.{ranked}, lemmas.List.Elements.{All-head, All-tail}}
+use Rattle.std.proofs.lemmas.Option.{same_Some}
+use Rattle.std.specs.{Prelude.{Contains, max, nat_lt}, List.{All, AllByRecursion}, List.Sorted.{IsStrictlySortedBy}, Ordering.{nat_cmp}}
 use Rattle.std.specs.declared.cmp.Ordering.TheVariants.{Less}
-use Rattle.std.proofs.lemmas.{Cmp.{ranked}, List.Elements.{All-head, All-tail}, Option.{same_Some}}
 use Rattle.mdns_capture.specs.Savefile.{PacketAt}
 use Rattle.mdns_join.specs.{declared.latest.Latest.{Latest}, laws.Latest.{moment-same}}
 use Rattle.mdns_message.specs.declared.hearing.Hearing.{Hearing}
@@ -19,12 +18,14 @@ use Rattle.mdns_survey.specs.{Readings.{all_moments, summaries_of}, Filter.{coun
 use Rattle.mdns_cache.proofs.StandsPartLemmas.{Contains-cases, Contains-head, Contains-later}
 use Rattle.mdns_survey.proofs.{ListenedLemmas.{known-read}, LivesLawLemmas.{OneLives, same_itself}, LossLemmas.{NeverBoth, SkipsByCause}}
 use Rattle.mdns_survey.proofs.{OneSurveyLemmas.{one-read}, OutcomeLemmas.{OnePayload, OneReading, OneTelling}}
-use Rattle.mdns_page.specs.{Axis.{dates_of}, Captures.{Comparison}, Collected.{Compares}, declared.axis.Axis.{Axis}}
-use Rattle.mdns_page.specs.declared.kept_records.{TimelinePart.{TimelinePart}, TimelinePart.TheVariants.{Addresses, Instances, Names}}
-use Rattle.mdns_page.specs.{TimelineRows.{IsCounted}, OtherRows.{is_large}, Html.{isolated}, Document.{page}, Servers.{servers_of}}
-use Rattle.mdns_page.specs.{KeptRecords.{AreRows, kept_of}, Page.{SurveysPage, WritesPage, live_at_end}, Timeline.{Row, is_open}}
+use Rattle.mdns_listeners.specs.Groups.{Grouped}
+use Rattle.mdns_page.specs.{Axis.{dates_of}, ByListener.{hearings_by}, Captures.{Comparison}, Collected.{Compares}}
+use Rattle.mdns_page.specs.declared.{axis.Axis.{Axis}, kept_records.TimelinePart.{TimelinePart}}
+use Rattle.mdns_page.specs.{declared.kept_records.TimelinePart.TheVariants.{Addresses, Instances, Names}, TimelineRows.{IsCounted}}
+use Rattle.mdns_page.specs.{OtherRows.{is_large}, Html.{isolated}, Document.{page}, Servers.{servers_of}, KeptRecords.{AreRows, kept_of}}
+use Rattle.mdns_page.specs.{Page.{SurveysPage, WritesPage, live_at_end}, Timeline.{Row, is_open}}
 use Rattle.mdns_page.proofs.{ComparedLemmas.{OneListOfRows, one-comparison}, CountedLemmas.{record_in, shown_seconds}}
-use Rattle.mdns_page.proofs.OneCaptureLemmas.{IsAlike, are-alike, facts-alike, lost-alike, section-alike, one-each}
+use Rattle.mdns_page.proofs.OneCaptureLemmas.{IsAlike, are-alike, endings-alike, facts-alike, lost-alike, section-alike, one-each}
 
 -- ---- the seconds in which a record was heard
 
@@ -137,11 +138,12 @@ one-rows part large each kept xs ys are too =
 -- ---- the page by the hearings
 
 module _ (one_lives : OneLives) where
-  one-written : (about : List Subject) (names : List (List ℕ)) (readings more : List Reading) (comparison : Comparison)
+  one-written : (about : List Subject) (names : List (List ℕ)) (groups : Grouped) (readings more : List Reading) (comparison : Comparison)
       (each : List (List Hearing)) (heard : List Hearing) (axis : Axis) (text other : List ℕ) → AreEach IsAlike readings more
-      → WritesPage about names readings comparison each heard axis text → WritesPage about names more comparison each heard axis other
+      → WritesPage about names groups readings comparison each heard axis text
+      → WritesPage about names groups more comparison each heard axis other
       → text ≡ other
-  one-written about names readings more comparison each heard axis text other alike first second =
+  one-written about names groups readings more comparison each heard axis text other alike first second =
       let rows : second.rows ≡ first.rows = one_lives heard heard second.rows first.rows (same_itself heard) second.lives first.lives in
       let own = λ (part : TimelinePart) (large was : Bool) (xs ys : List Row) (same : was ≡ large)
       (are : AreRows part large each (kept_of about first.rows) xs) (too : AreRows part was each (kept_of about second.rows) ys).
@@ -159,7 +161,8 @@ module _ (one_lives : OneLives) where
       ∙ ap (page isolated) (λ i. record {
         axis = axis;
         about = about;
-        captures = facts-alike names readings more alike i;
+        captures = facts-alike groups readings more alike i;
+        files = endings-alike names readings more alike i;
         comparison = comparison;
         lost = lost-alike readings more alike i;
         rows = instances i;
@@ -174,10 +177,10 @@ module _ (one_lives : OneLives) where
 
 module _ (one : OneReading) (telling : OneTelling) (payload : OnePayload) (never : NeverBoth) (by_cause : SkipsByCause)
     (one_rows : OneListOfRows) (one_lives : OneLives) where
-  pub one_page : (names : List (List ℕ)) (about : List Subject) (as_of : AsOf) (captures : List (List ℕ)) (summaries more : List Summary)
-      (text other : List ℕ) → SurveysPage names about as_of captures summaries text
-      → SurveysPage names about as_of captures more other → (summaries ≡ more) × (text ≡ other)
-  one_page names about as_of captures summaries more text other first second =
+  pub one_page : (names : List (List ℕ)) (groups : Grouped) (about : List Subject) (as_of : AsOf) (captures : List (List ℕ))
+      (summaries more : List Summary) (text other : List ℕ) → SurveysPage names groups about as_of captures summaries text
+      → SurveysPage names groups about as_of captures more other → (summaries ≡ more) × (text ≡ other)
+  one_page names groups about as_of captures summaries more text other first second =
       let lefts = map (λ x. Some x) captures in
       let read = known-read lefts captures first.packets first.outcomes first.readings refl first.read in
       let too = known-read lefts captures second.packets second.outcomes second.readings refl second.read in
@@ -197,17 +200,18 @@ module _ (one : OneReading) (telling : OneTelling) (payload : OnePayload) (never
       λ i. dates_of (start i).nanos (max (end i).nanos (latest_nanos (all_moments (packets i)))) in
       let dates = second.is_axis.dates ∙ lasts ∙ sym first.is_axis.dates in
       let axis : second.axis ≡ first.axis = λ i. record { start = start i; end = end i; dates = dates i } in
+      let each = λ (os : List (List Outcome)). hearings_by groups (counted_each (filter_of as_of) os) in
       let comparison : second.comparison ≡ first.comparison =
-      one-comparison payload one_rows names first.packets first.outcomes second.comparison first.comparison
-      (subst (λ (ps : List (List PacketAt)). Compares names ps first.outcomes second.comparison) packets
-      (subst (λ (os : List (List Outcome)). Compares names second.packets os second.comparison) outcomes second.compares)) first.compares in (
+      one-comparison payload one_rows groups first.packets first.outcomes second.comparison first.comparison
+      (subst (λ (ps : List (List PacketAt)). Compares groups ps first.outcomes second.comparison) packets
+      (subst (λ (os : List (List Outcome)). Compares groups second.packets os second.comparison) outcomes second.compares)) first.compares in (
         first.summed ∙ same ∙ sym second.summed,
-        one-written one_lives about names first.readings second.readings first.comparison (counted_each (filter_of as_of) first.outcomes)
+        one-written one_lives about names groups first.readings second.readings first.comparison (each first.outcomes)
             (counted (filter_of as_of) first.outcomes) first.axis text other alike first.writes
-            (subst (λ (c : Comparison). WritesPage about names second.readings c (counted_each (filter_of as_of) first.outcomes)
+            (subst (λ (c : Comparison). WritesPage about names groups second.readings c (each first.outcomes)
             (counted (filter_of as_of) first.outcomes) first.axis other) comparison
-            (subst (λ (a : Axis). WritesPage about names second.readings second.comparison (counted_each (filter_of as_of) first.outcomes)
+            (subst (λ (a : Axis). WritesPage about names groups second.readings second.comparison (each first.outcomes)
             (counted (filter_of as_of) first.outcomes) a other) axis
-            (subst (λ (os : List (List Outcome)). WritesPage about names second.readings second.comparison (counted_each (filter_of as_of) os)
+            (subst (λ (os : List (List Outcome)). WritesPage about names groups second.readings second.comparison (each os)
             (counted (filter_of as_of) os) second.axis other) outcomes second.writes))),
       )

@@ -1,20 +1,22 @@
 -- The page on captures.
 use Rattle.std.proofs.Common.{◌∙◌, ℕ, ◌≤◌, refl, sym, ap, subst, inl, inr, List, [], ◌∷◌, arith, map, Option}
 use Rattle.std.proofs.lemmas.Simd.{map-map}
-use Rattle.std.specs.Prelude.{Contains}
-use Rattle.std.specs.List.Sorted.{IsStrictlySortedBy}
+use Rattle.std.specs.{Prelude.{Contains}, List.Sorted.{IsStrictlySortedBy}}
 use Rattle.mdns_capture.specs.Savefile.{PacketAt}
 use Rattle.mdns_message.specs.{declared.hearing.Hearing.{Hearing}, Resource.{key_cmp}}
 use Rattle.mdns_join.specs.declared.latest.Latest.{Latest}
 use Rattle.mdns_cache.specs.Live.{AreLiveRecords, key_of_last}
 use Rattle.mdns_lives.specs.{Chronicle.{Chronicles}, Since.{AreLiveSince, all_since_rows, live_row}, declared.life.Life.{Life}}
 use Rattle.mdns_browse.specs.{declared.about.Subject.{Subject}, Services.{AreAscending, AreEach, GivenRow}}
-use Rattle.mdns_survey.specs.declared.{each_capture.EachChronicling.{EachChronicling}, reading.Reading.{Reading}, request.AsOf.{AsOf}}
-use Rattle.mdns_survey.specs.{Outcomes.{Outcome}, Chronicling.{EachChronicled, all_of}, Filter.{counted, counted_each, filter_of}}
-use Rattle.mdns_survey.specs.{Question.{HearsReaders, IsAnswer}, Readings.{all_moments, summaries_of}, Surveys.{AllLeft}}
+use Rattle.mdns_survey.specs.{declared.reading.Reading.{Reading}, declared.request.AsOf.{AsOf}, Outcomes.{Outcome}}
+use Rattle.mdns_survey.specs.{Filter.{counted, counted_each, filter_of}, Question.{HearsReaders, IsAnswer}}
+use Rattle.mdns_survey.specs.{Readings.{all_moments, summaries_of}, Surveys.{AllLeft}}
 use Rattle.mdns_cache.proofs.StandsPartLemmas.{Contains-cases, Contains-head, Contains-later}
-use Rattle.mdns_page.specs.{Axis.{IsAxis}, Captures.{Comparison}, Collected.{Compares}, declared.axis.Axis.{Axis}}
+use Rattle.mdns_listeners.specs.Groups.{Grouped}
+use Rattle.mdns_page.specs.{Axis.{IsAxis}, ByListener.{HoldsLives, all_of, hearings_by}, Captures.{Comparison}, Collected.{Compares}}
+use Rattle.mdns_page.specs.declared.{axis.Axis.{Axis}, listener_lives.ListenerLives.{ListenerLives}}
 use Rattle.mdns_page.specs.Page.{AreLiveGiven, IsSinceKnown, WritesPage, asked_page, given_of_since, live_given, record_given}
+use Rattle.mdns_page.proofs.ByListenerLemmas.{counted-in}
 
 -- what holds of the value of each element
 mapped-all : {X Y : Type 0} (f : X → Y) (P : Y → Type 0) (xs : List X) → ((x : X) → Contains xs x → P (f x)) → (y : Y)
@@ -48,19 +50,20 @@ module _ (heard : List Hearing) (axis : Axis) (rows : List (Latest × List Life)
 
 -- ---- the page on captures
 
-module _ {Heard : List (List PacketAt) → List (List Outcome) → Type 0} (names : List (List ℕ)) (about : List Subject) (as_of : AsOf)
-    (lefts : List (Option (List ℕ))) (readings : List Reading) (each : EachChronicling) (comparison : Comparison) (axis : Axis)
-    (text : List ℕ)
-    (hears : HearsReaders Heard lefts readings) (chronicled : EachChronicled (filter_of as_of) each hears.packets hears.outcomes)
-    (compares : Compares names hears.packets hears.outcomes comparison) (is_axis : IsAxis as_of (all_moments hears.packets) axis)
-    (none_later : (heard : List Hearing) → Chronicles (all_of each) heard
+module _ {Heard : List (List PacketAt) → List (List Outcome) → Type 0} (names : List (List ℕ)) (groups : Grouped)
+    (about : List Subject) (as_of : AsOf) (lefts : List (Option (List ℕ))) (readings : List Reading) (lives : ListenerLives)
+    (comparison : Comparison) (axis : Axis) (text : List ℕ) (hears : HearsReaders Heard lefts readings)
+    (holds : HoldsLives groups (counted_each (filter_of as_of) hears.outcomes) lives)
+    (compares : Compares groups hears.packets hears.outcomes comparison) (is_axis : IsAxis as_of (all_moments hears.packets) axis)
+    (none_later : (heard : List Hearing) → Chronicles (all_of lives) heard
     → (hearing : Hearing) → Contains heard hearing → hearing.moment.nanos ≤ axis.end.nanos)
-    (written : (each_heard : List (List Hearing)) (heard : List Hearing) → AreEach Chronicles each.captures.items each_heard
-    → Chronicles (all_of each) heard → ((hearing : Hearing) → Contains heard hearing → hearing.moment.nanos ≤ axis.end.nanos)
-    → WritesPage about names readings comparison each_heard heard axis text) where
-  pub surveys-page : IsAnswer (asked_page names about as_of) lefts (summaries_of readings) text
+    (written : (each : List (List Hearing)) (heard : List Hearing) → AreEach Chronicles lives.captures.items each
+    → Chronicles (all_of lives) heard → ((hearing : Hearing) → Contains heard hearing → hearing.moment.nanos ≤ axis.end.nanos)
+    → WritesPage about names groups readings comparison each heard axis text) where
+  pub surveys-page : IsAnswer (asked_page names groups about as_of) lefts (summaries_of readings) text
   surveys-page captures known =
-      let which = filter_of as_of in
+      let heard = counted (filter_of as_of) hears.outcomes in
+      let all = subst (Chronicles (all_of lives)) (sym (counted-in (filter_of as_of) hears.outcomes)) holds.all in
       record {
         packets = hears.packets;
         outcomes = hears.outcomes;
@@ -71,6 +74,6 @@ module _ {Heard : List (List PacketAt) → List (List Outcome) → Type 0} (name
         is_axis = is_axis;
         comparison = comparison;
         compares = compares;
-        writes = written (counted_each which hears.outcomes) (counted which hears.outcomes) chronicled.0 chronicled.1
-            (none_later (counted which hears.outcomes) chronicled.1);
+        writes = written (hearings_by groups (counted_each (filter_of as_of) hears.outcomes)) heard holds.captures all
+            (none_later heard all);
       }

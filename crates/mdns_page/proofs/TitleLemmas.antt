@@ -1,7 +1,7 @@
 -- Whether all rows have few lives.
-use Rattle.std.proofs.Common.{◌≡◌, sym, ◌∙◌, ap, subst, ℕ, ◌+◌, ◌-◌, ◌<◌, ◌≤◌, Bool, nat_le, is_some, Option, None, Some}
-use Rattle.std.proofs.Common.{List, ◌++◌, length, map, take, get_or, arith}
-use Rattle.std.proofs.lemmas.{Bool.Decides.{nat_tests}, List.{length-append}, List.Folds.{flat_map-map, length-flat_map-take}}
+use Rattle.std.proofs.Common.{◌≡◌, sym, ◌∙◌, ap, subst, ℕ, ◌+◌, ◌-◌, ◌<◌, ◌≤◌, Bool, nat_le, is_some}
+use Rattle.std.proofs.{Common.{Option, None, Some, List, ◌++◌, length, map, take, get_or, arith}, lemmas.Bool.Decides.{nat_tests}}
+use Rattle.std.proofs.lemmas.{List.{length-append}, List.Folds.{flat_map-map, length-flat_map-take}}
 use Rattle.std.specs.List.{flat_map}
 use Rattle.mdns_lives.specs.declared.life.Life.{Life}
 use Rattle.mdns_page.specs.{Timeline.{Row, lives_in}, BarTitles.{IsLess}}

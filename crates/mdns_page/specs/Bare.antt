@@ -5,8 +5,10 @@ use Rattle.mdns_message.specs.{Parts.{address_of}, TextData.{strings_of}, declar
 use Rattle.mdns_join.specs.declared.latest.Latest.{Latest}
 use Rattle.mdns_lives.specs.declared.{life.Life.{Life}, seconds_heard.SecondHeard.{SecondHeard}}
 use Rattle.mdns_browse.specs.{declared.instance.Server.{Server}, Services.{GivenRow, InstanceRow, instance_row_in}}
-use Rattle.mdns_survey.specs.declared.{reading.Span.{Span}, summary.Summary.{Summary}}
-use Rattle.mdns_page.specs.{Captures.{Facts}, Group.{grouped}, LiveSection.{type_of}, Timeline.{Row, owner_of}}
+use Rattle.mdns_capture.specs.declared.savefile.Ending.{Ending}
+use Rattle.mdns_survey.specs.declared.reading.Span.{Span}
+use Rattle.mdns_page.specs.{Captures.{Facts}, Group.{grouped}, Lead.{Ended}, LiveSection.{type_of}, Timeline.{Row, owner_of}}
+use Rattle.mdns_page.specs.declared.captures.CaptureCounts.{CaptureCounts}
 
 -- text of the network isn't written at all
 abbrev pub unsaid : List ℕ → List ℕ
@@ -14,9 +16,13 @@ unsaid text = []
 
 -- ---- captures
 
+-- all but the name of the listener
+abbrev pub bare_capture : Facts → CaptureCounts × Ending × Option Span
+bare_capture capture = (capture.counts, capture.ending, capture.span)
+
 -- all but the name of the file
-abbrev pub bare_capture : Facts → Summary × Option Span
-bare_capture capture = (capture.summary, capture.span)
+abbrev pub bare_file : Ended → Ending
+bare_file file = file.ending
 
 -- ---- rows of records
 

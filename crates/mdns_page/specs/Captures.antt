@@ -1,25 +1,25 @@
 -- The captures of a page.
-use Rattle.std.specs.Prelude.{ℕ, ◌+◌, ◌==◌, ◌&&◌, Bool, true, if◌then◌else◌, nat_lt, Option, None, Some, option_map, unwrap_or}
-use Rattle.std.specs.Prelude.{List, [], ◌∷◌, ◌++◌, codes, length, slice_get}
-use Rattle.std.specs.{Fmt.{decimal}, List.{find}}
-use Rattle.mdns_capture.specs.Text.{ending_text}
-use Rattle.mdns_survey.specs.{ProgramLines.{is_whole}, declared.reading.Span.{Span}, declared.summary.Summary.{Summary}}
-use Rattle.mdns_survey.specs.declared.summary.Tally.{Tally}
+use Rattle.std.specs.Prelude.{ℕ, ◌+◌, ◌==◌, ◌&&◌, Bool, true, if◌then◌else◌, nat_lt, Option, None, Some, option_map}
+use Rattle.std.specs.{Prelude.{unwrap_or, List, [], ◌∷◌, ◌++◌, codes, length, slice_get}, Fmt.{decimal}, List.{find}}
+use Rattle.mdns_capture.specs.{Text.{ending_text}, declared.savefile.Ending.{Ending}}
+use Rattle.mdns_survey.specs.{ProgramLines.{is_whole}, declared.reading.Span.{Span}}
 use Rattle.mdns_listeners.specs.{declared.numbers.ListenerRow.{ListenerRow}, declared.pairs.PairRow.{PairRow}, Clock.{clock_words}}
 use Rattle.mdns_listeners.specs.Warnings.{warning_words, warns}
 use Rattle.people_text.specs.{MomentText.{millis_text}, Shown.{shown}}
 use Rattle.mdns_page.specs.{Axis.{drawn_if, place, place_end, short_text}, Counts.{commas, count_text}, Group.{axis_picture, group, item}}
 use Rattle.mdns_page.specs.declared.{axis.Axis.{Axis}, axis.Dates.{Dates}, captures.CaptureFacts.{CaptureFacts}}
-use Rattle.mdns_page.specs.declared.captures.Comparison.{Comparison as LentComparison}
+use Rattle.mdns_page.specs.declared.captures.{CaptureCounts.{CaptureCounts}, Comparison.{Comparison as LentComparison}}
 
--- what is known of a capture: the name of its file, its summary, and the span of its packets, if there are any
+-- what is known of a capture: the name of its listener, its counts, how it ends, and the span of its packets, if there are any
 pub record Facts : Type 0 where
   pub name : List ℕ
-  pub summary : Summary
+  pub counts : CaptureCounts
+  pub ending : Ending
   pub span : Option Span
 
 abbrev pub facts_lent : CaptureFacts → Facts
-facts_lent capture = record { name = capture.name.now; summary = capture.summary; span = capture.span }
+facts_lent capture =
+    record { name = capture.name.now; counts = capture.counts; ending = capture.ending; span = capture.span }
 
 -- how captures compare: what each heard alone and missed, and what each two that recorded together have in common; nothing where
 -- they aren't compared
@@ -46,10 +46,10 @@ unfoldable pub number_text : Bool → ℕ → List ℕ
 number_text many index = if many then decimal (index + 1) else codes "&#" ++ decimal (9312 + index) ++ codes ";"
 
 -- how many packets and hearings a capture has
-unfoldable pub sizes_text : Tally → List ℕ
-sizes_text tally =
-    codes "<small>" ++ count_text tally.packets (codes "packet") (codes "packets") ++ codes ", "
-    ++ count_text tally.hearings (codes "hearing") (codes "hearings") ++ codes "</small>"
+unfoldable pub sizes_text : CaptureCounts → List ℕ
+sizes_text counts =
+    codes "<small>" ++ count_text counts.packets (codes "packet") (codes "packets") ++ codes ", "
+    ++ count_text counts.hearings (codes "hearing") (codes "hearings") ++ codes "</small>"
 
 -- a stroke for the time that a capture recorded, and what it says: that time to the millisecond
 unfoldable pub recorded_bar : Axis → Span → List ℕ
@@ -69,10 +69,10 @@ recorded_words dates None = codes "no packets"
 recorded_words dates (Some span) = short_text dates span.first.nanos ++ codes " &#8211; " ++ short_text dates span.last.nanos
 
 -- how many packets were heard, skipped and refused
-unfoldable pub outcomes_text : Tally → List ℕ
-outcomes_text tally =
-    codes "<small>" ++ commas tally.messages ++ codes " heard, " ++ commas tally.skipped ++ codes " skipped, "
-    ++ commas tally.refused ++ codes " refused</small>"
+unfoldable pub outcomes_text : CaptureCounts → List ℕ
+outcomes_text counts =
+    codes "<small>" ++ commas counts.messages ++ codes " heard, " ++ commas counts.skipped ++ codes " skipped, "
+    ++ commas counts.refused ++ codes " refused</small>"
 
 -- how many messages only this capture has, and how many it missed
 unfoldable pub alone_text : ListenerRow → List ℕ
@@ -102,16 +102,15 @@ compared_text say captures comparison index =
 
 -- ---- rows
 
--- one of the captures: its number, file and sizes, when it recorded, how it ends, what its packets were, and how it compares; `say`
+-- one of the captures: its number, listener and sizes, when it recorded, how it ends, what its packets were, and how it compares; `say`
 -- writes text of the network
 unfoldable pub capture_text : (List ℕ → List ℕ) → Axis → List Facts → Comparison → (index : ℕ) → Facts → List ℕ
 capture_text say axis captures comparison index capture =
-    item (number_text (nat_lt 4 (length captures)) index ++ codes "&#160;" ++ say (shown capture.name) ++ sizes_text capture.summary.tally)
+    item (number_text (nat_lt 4 (length captures)) index ++ codes "&#160;" ++ say (shown capture.name) ++ sizes_text capture.counts)
     (recorded_picture axis capture.span)
     (codes "<p>" ++ recorded_words axis.dates capture.span
-    ++ 32 ∷ (if is_whole capture.summary.ending then codes "whole"
-    else codes "<b class=\"warn\">" ++ ending_text capture.summary.ending ++ codes "</b>")
-    ++ codes "</p>" ++ outcomes_text capture.summary.tally ++ compared_text say captures comparison index)
+    ++ 32 ∷ (if is_whole capture.ending then codes "whole" else codes "<b class=\"warn\">" ++ ending_text capture.ending ++ codes "</b>")
+    ++ codes "</p>" ++ outcomes_text capture.counts ++ compared_text say captures comparison index)
 
 -- ---- the whole
 

@@ -1,30 +1,26 @@
--- How captures compare, and what a page collects of them.
+-- How listeners compare, and what a page collects of their files.
 use Rattle.std.specs.Prelude.{◌≡◌, ◌⊎◌, ℕ, true, false, List, [], ◌∷◌, ◌++◌, length, Option, None, Some}
 use Rattle.mdns_capture.specs.Savefile.{PacketAt}
-use Rattle.mdns_survey.specs.{Chronicling.{ChroniclesAll}, Outcomes.{Outcome}}
-use Rattle.mdns_listeners.specs.{Groups.{Grouped, grouped}, Heard.{HeardRow}}
-use Rattle.mdns_listeners.specs.{Listeners.{AreRowsOf, Gathered, Gathers, GathersAll, spans_by}, Numbers.{listener_rows}}
-use Rattle.mdns_listeners.specs.{Together.{are_compared, pairs_together}, declared.listeners.MessageCollector.{MessageCollector}}
-use Rattle.mdns_page.specs.{Captures.{Comparison}, declared.collector.ComparisonRows.{ComparisonRows}}
+use Rattle.mdns_survey.specs.Outcomes.{Outcome}
+use Rattle.mdns_listeners.specs.{Groups.{Grouped}, Heard.{HeardRow}, Listeners.{AreRowsOf, Gathered, Gathers, GathersAll, spans_by}}
+use Rattle.mdns_listeners.specs.{Numbers.{listener_rows}, Together.{are_compared, pairs_together}}
+use Rattle.mdns_listeners.specs.declared.listeners.MessageCollector.{MessageCollector}
+use Rattle.mdns_page.specs.{ByListener.{HearsFiles}, Captures.{Comparison}, declared.collector.ComparisonRows.{ComparisonRows}}
 use Rattle.mdns_page.specs.declared.collector.PageCollector.{PageCollector}
 
--- each capture is a listener by itself
-abbrev pub each_apart : (names : List (List ℕ)) → Grouped
-each_apart names = grouped [] names
-
--- The rows are those of the messages of captures with these names, whose packets came to these outcomes: all packets count.
-pub record AreCompared (names : List (List ℕ)) (packets : List (List PacketAt)) (outcomes : List (List Outcome))
-    (comparison : Comparison) : Type 0 where
+-- The rows are those of the messages of listeners, whose files' packets came to these outcomes: all packets count.
+pub record AreCompared (groups : Grouped) (packets : List (List PacketAt)) (outcomes : List (List Outcome)) (comparison : Comparison)
+    : Type 0 where
   pub rows : List HeardRow
-  pub are_rows : AreRowsOf (each_apart names).of packets outcomes rows
-  pub listeners : comparison.listeners ≡ listener_rows rows (spans_by (each_apart names) packets)
-  pub pairs : comparison.pairs ≡ pairs_together rows (spans_by (each_apart names) packets)
+  pub are_rows : AreRowsOf groups.of packets outcomes rows
+  pub listeners : comparison.listeners ≡ listener_rows rows (spans_by groups packets)
+  pub pairs : comparison.pairs ≡ pairs_together rows (spans_by groups packets)
 
--- the same of a few captures; a single one compares with no other, and many aren't compared
-abbrev pub Compares : (names : List (List ℕ)) → List (List PacketAt) → List (List Outcome) → Comparison → Type 0
-Compares names packets outcomes comparison =
-    ((are_compared (length names) ≡ false) × (comparison.listeners ≡ []) × (comparison.pairs ≡ []))
-    ⊎ ((are_compared (length names) ≡ true) × AreCompared names packets outcomes comparison)
+-- the same of a few listeners; a single one compares with no other, and many aren't compared
+abbrev pub Compares : Grouped → List (List PacketAt) → List (List Outcome) → Comparison → Type 0
+Compares groups packets outcomes comparison =
+    ((are_compared (length groups.names) ≡ false) × (comparison.listeners ≡ []) × (comparison.pairs ≡ []))
+    ⊎ ((are_compared (length groups.names) ≡ true) × AreCompared groups packets outcomes comparison)
 
 -- the rows, as they are lent
 abbrev pub rows_lent : ComparisonRows → Comparison
@@ -32,11 +28,11 @@ rows_lent rows = record { listeners = rows.listeners.items; pairs = rows.pairs.i
 
 -- ---- while captures are read
 
--- the messages of captures with these names were gathered, if these are compared
-abbrev pub AreGathered : (names : List (List ℕ)) → Option MessageCollector → List (List PacketAt) → List (List Outcome) → Type 0
-AreGathered names None packets outcomes = are_compared (length names) ≡ false
-AreGathered names (Some messages) packets outcomes =
-    (are_compared (length names) ≡ true) × Gathered (each_apart names).of messages packets outcomes
+-- the messages of listeners were gathered, if these are compared
+abbrev pub AreGathered : Grouped → Option MessageCollector → List (List PacketAt) → List (List Outcome) → Type 0
+AreGathered groups None packets outcomes = are_compared (length groups.names) ≡ false
+AreGathered groups (Some messages) packets outcomes =
+    (are_compared (length groups.names) ≡ true) × Gathered groups.of messages packets outcomes
 
 -- those of these captures were, from a first state to a second
 abbrev pub GathersIf : Option MessageCollector → Option MessageCollector → List (List PacketAt) → List (List Outcome) → Type 0
@@ -46,7 +42,8 @@ GathersIf _ _ packets outcomes = ⊥
 
 abbrev pub CollectsAll : PageCollector → PageCollector → List (List PacketAt) → List (List Outcome) → Type 0
 CollectsAll begun now packets outcomes =
-    ChroniclesAll begun.lives now.lives packets outcomes × GathersIf begun.messages now.messages packets outcomes
+    (now.filter ≡ begun.filter) × HearsFiles begun.filter begun.lives now.lives packets outcomes
+    × GathersIf begun.messages now.messages packets outcomes
 
 -- a collector gathered the messages of one more capture, and goes on to the next
 abbrev pub GoesOn : MessageCollector → MessageCollector → Type 0

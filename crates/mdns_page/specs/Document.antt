@@ -1,12 +1,11 @@
 -- The whole page.
-use Rattle.std.specs.Prelude.{ℕ, nat_lt, if◌then◌else◌, List, [], ◌++◌, codes, length, map}
-use Rattle.std.specs.{Fmt.{decimal}, List.{flat_map}}
+use Rattle.std.specs.{Prelude.{ℕ, nat_lt, if◌then◌else◌, List, [], ◌++◌, codes, length, map}, Fmt.{decimal}, List.{flat_map}}
 use Rattle.people_text.specs.MomentText.{date_text}
 use Rattle.mdns_browse.specs.declared.about.Subject.{Subject}
 use Rattle.mdns_page.specs.{Axis.{is_same_date}, Captures.{Comparison, Facts, captures_text, comparison_lent, facts_lent}}
-use Rattle.mdns_page.specs.{OtherRows.{is_large}, Lanes.{height}, Lead.{about_line, ending_warning, live_line, lost_warning, pair_warning}}
-use Rattle.mdns_page.specs.{Ticks.{symbols_text}, Timeline.{Row, counted_lent, timeline}, declared.axis.Axis.{Axis}}
-use Rattle.mdns_page.specs.declared.{document.PageParts.{PageParts}, style.TheConstants.{STYLE}}
+use Rattle.mdns_page.specs.Lead.{Ended, about_line, ended_lent, ending_warning, live_line, lost_warning, pair_warning}
+use Rattle.mdns_page.specs.{OtherRows.{is_large}, Lanes.{height}, Ticks.{symbols_text}, Timeline.{Row, counted_lent, timeline}}
+use Rattle.mdns_page.specs.declared.{axis.Axis.{Axis}, document.PageParts.{PageParts}, style.TheConstants.{STYLE}}
 
 -- ---- the head
 
@@ -28,12 +27,14 @@ head axis lanes captures =
 
 -- ---- the whole
 
--- what a page shows: captures, how they compare, of whose packets `lost` lost what they said, the rows of all instances heard that are about the
--- subjects, those of addresses and of names that aren't one label and the type, what was live at the end, and the packets that told nothing
+-- what a page shows: captures, their files, how they compare, how many of their packets lost what they said, the rows of all instances
+-- heard that are about the subjects, those of addresses and of names that aren't one label and the type, what was live at the end, and
+-- the packets that told nothing
 pub record Shown : Type 0 where
   pub axis : Axis
   pub about : List Subject
   pub captures : List Facts
+  pub files : List Ended
   pub comparison : Comparison
   pub lost : ℕ
   pub rows : List Row
@@ -47,6 +48,7 @@ parts_lent parts = record {
   axis = parts.axis;
   about = parts.about.now;
   captures = map facts_lent parts.captures.now;
+  files = map ended_lent parts.files.now;
   comparison = comparison_lent parts.comparison;
   lost = parts.lost;
   rows = map counted_lent parts.rows.now;
@@ -56,16 +58,19 @@ parts_lent parts = record {
   skipped = parts.skipped.now;
 }
 
+-- how many instances were live at the end of the captures, and what the captures lack
+abbrev pub lead : (List ℕ → List ℕ) → Shown → List ℕ
+lead say shown =
+    live_line shown.axis shown.rows ++ about_line say shown.about ++ flat_map (ending_warning say) shown.files
+    ++ flat_map (pair_warning say shown.captures) shown.comparison.pairs ++ lost_warning shown.lost
+
 -- the page, with links to its sections; pictures have a lane for each capture, or one for all where there are many, and none on a
 -- large page; `say` is how text of the network is written
 abbrev pub page : (List ℕ → List ℕ) → Shown → List ℕ
 page say shown =
     let axis = shown.axis in let count = length shown.captures in
     let lanes = if is_large (length shown.rows) then 0 else (if nat_lt 4 count then 1 else count) in
-    head axis lanes shown.captures ++ (live_line axis shown.rows ++ about_line say shown.about
-    ++ flat_map (ending_warning say) shown.captures ++ flat_map (pair_warning say shown.captures) shown.comparison.pairs
-    ++ lost_warning shown.lost)
-    ++ (codes "<nav><a href=\"#captures\">Captures</a><a href=\"#timeline\">Timeline</a>"
+    head axis lanes shown.captures ++ lead say shown ++ (codes "<nav><a href=\"#captures\">Captures</a><a href=\"#timeline\">Timeline</a>"
     ++ codes "<a href=\"#live\">What was live</a><a href=\"#nothing\">Skipped packets</a></nav>\n")
     ++ captures_text say axis shown.captures shown.comparison ++ timeline say axis lanes shown.rows shown.addresses shown.names ++ shown.live
     ++ shown.skipped ++ codes "</main></body></html>\n"

@@ -1,6 +1,5 @@
 -- The records of a page.
-use Rattle.std.specs.Prelude.{◌≡◌, Bool, ◌||◌, if◌then◌else◌, is_some, List, [], ◌∷◌, map}
-use Rattle.std.specs.List.{All, filter}
+use Rattle.std.specs.{Prelude.{◌≡◌, Bool, ◌||◌, if◌then◌else◌, is_some, List, [], ◌∷◌, map}, List.{All, filter}}
 use Rattle.mdns_message.specs.{Parts.{address_of, service_of}, declared.hearing.Hearing.{Hearing}}
 use Rattle.mdns_join.specs.declared.latest.Latest.{Latest}
 use Rattle.mdns_lives.specs.declared.life.Life.{Life}

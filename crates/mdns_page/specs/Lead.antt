@@ -1,14 +1,14 @@
 -- What a page begins with.
 use Rattle.std.specs.Prelude.{ℕ, ◌+◌, ◌==◌, ◌&&◌, Bool, true, false, if◌then◌else◌, List, [], ◌++◌, ◌∷◌, codes, string_bytes}
 use Rattle.std.specs.List.{join_by}
-use Rattle.mdns_capture.specs.Text.{ending_text}
+use Rattle.mdns_capture.specs.{Text.{ending_text}, declared.savefile.Ending.{Ending}}
 use Rattle.mdns_lives.specs.declared.life.{Life.{Life}, EndReason.{EndReason}, EndReason.TheVariants.{Expired, Goodbye, Flushed}}
 use Rattle.mdns_browse.specs.declared.about.Subject.{Subject}
 use Rattle.mdns_survey.specs.ProgramLines.{is_whole}
 use Rattle.mdns_listeners.specs.{declared.pairs.PairRow.{PairRow}, Warnings.{warning_words, warns}}
 use Rattle.people_text.specs.{MomentText.{millis_text}, Shown.{shown}}
 use Rattle.mdns_page.specs.{Captures.{Facts, name_at}, Counts.{commas, count_text}, Picture.{goes_on, is_for}, Timeline.{Row, count_last}}
-use Rattle.mdns_page.specs.declared.axis.Axis.{Axis}
+use Rattle.mdns_page.specs.declared.{axis.Axis.{Axis}, lead.FileEnding.{FileEnding}}
 
 -- ---- how many instances ended
 
@@ -56,11 +56,19 @@ about_line say (first ∷ others) =
 
 -- ---- warnings
 
--- that a capture isn't whole, and how it ends; nothing of one that is whole
-unfoldable pub ending_warning : (List ℕ → List ℕ) → Facts → List ℕ
-ending_warning say capture =
-    if is_whole capture.summary.ending then []
-    else codes "<p class=\"warn\">" ++ say (shown capture.name) ++ codes ": " ++ ending_text capture.summary.ending
+-- a file with its ending
+pub record Ended : Type 0 where
+  pub name : List ℕ
+  pub ending : Ending
+
+abbrev pub ended_lent : FileEnding → Ended
+ended_lent file = record { name = file.name.now; ending = file.ending }
+
+-- that a file isn't whole, and how it ends; nothing of one that is whole
+unfoldable pub ending_warning : (List ℕ → List ℕ) → Ended → List ℕ
+ending_warning say file =
+    if is_whole file.ending then []
+    else codes "<p class=\"warn\">" ++ say (shown file.name) ++ codes ": " ++ ending_text file.ending
     ++ codes ". What came later is missing, goodbyes too.</p>\n"
 
 -- that the clocks of two captures don't agree, or that the captures may come from two links; nothing where the clocks agree

@@ -1,5 +1,6 @@
 pub mod Axis
 pub mod Bare
+pub mod ByListener
 pub mod Captures
 pub mod Collected
 pub mod TimelineRows

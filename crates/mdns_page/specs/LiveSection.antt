@@ -1,6 +1,6 @@
 -- What was live at the end.
-use Rattle.std.specs.Prelude.{ℕ, ◌-◌, ◌==◌, if◌then◌else◌, Bool, List, [], ◌∷◌, ◌++◌, codes, length, option_map, unwrap_or}
-use Rattle.std.specs.{Fmt.{decimal}, List.{filter_map, flat_map, join_by}}
+use Rattle.std.specs.Prelude.{ℕ, ◌-◌, ◌==◌, if◌then◌else◌, Bool, List, [], ◌∷◌, ◌++◌, codes, length, option_map}
+use Rattle.std.specs.{Prelude.{unwrap_or}, Fmt.{decimal}, List.{filter_map, flat_map, join_by}}
 use Rattle.mdns_message.specs.{Resource.{Body}, Parts.{address_of}}
 use Rattle.people_text.specs.{MomentText.{duration_text, millis_text}, Shown.{name_shown}}
 use Rattle.mdns_browse.specs.{declared.instance.Server.{Server}, Services.{GivenRow, InstanceRow, instance_row_in}}

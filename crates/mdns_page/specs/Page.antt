@@ -10,10 +10,11 @@ use Rattle.mdns_browse.specs.{declared.about.Subject.{Subject}, Services.{GivenR
 use Rattle.mdns_survey.specs.declared.{reading.Reading.{Reading}, request.AsOf.{AsOf}, summary.Summary.{Summary}}
 use Rattle.mdns_survey.specs.{Outcomes.{Outcome}, Filter.{counted, counted_each, filter_of}, Readings.{all_moments, lost_in, summaries_of}}
 use Rattle.mdns_survey.specs.{Question.{Asked, asked_at_once}, Surveys.{AllLeft}}
+use Rattle.mdns_listeners.specs.Groups.{Grouped}
 use Rattle.mdns_page.specs.declared.{axis.Axis.{Axis}, kept_records.TimelinePart.TheVariants.{Addresses, Instances, Names}}
-use Rattle.mdns_page.specs.{Axis.{IsAxis}, Captures.{Comparison, Facts}, Collected.{Compares}, OtherRows.{is_large}, Html.{isolated}}
+use Rattle.mdns_page.specs.{Axis.{IsAxis}, ByListener.{facts_by, hearings_by}, Captures.{Comparison}, Collected.{Compares}}
 use Rattle.mdns_page.specs.{KeptRecords.{AreRows, is_drawn, kept_of, looked_up}, LiveSection.{live_text}, SkippedSection.{skipped_text}}
-use Rattle.mdns_page.specs.{Document.{page}, Timeline.{Row, is_open}}
+use Rattle.mdns_page.specs.{Document.{page}, Html.{isolated}, Lead.{Ended}, OtherRows.{is_large}, Timeline.{Row, is_open}}
 
 -- ---- what was live at the end
 
@@ -46,16 +47,16 @@ live_at_end about axis opened rows =
     live_text isolated axis opened (map (λ (row : GivenRow). row.last) given)
     (filter (λ row. is_drawn about (looked_up about rows) row.last) given)
 
--- what a page tells of captures with these names and readings
-abbrev pub facts_of : List (List ℕ) → List Reading → List Facts
-facts_of (name ∷ names) (reading ∷ readings) =
-    record { name = name; summary = reading.summary; span = reading.span } ∷ facts_of names readings
-facts_of _ _ = []
+-- the endings of files with these names and readings
+abbrev pub endings_of : List (List ℕ) → List Reading → List Ended
+endings_of (name ∷ names) (reading ∷ readings) = record { name = name; ending = reading.summary.ending } ∷ endings_of names readings
+endings_of _ _ = []
 
--- The text is the page on captures with these names and readings, which compare so, by hearings none of which is later than the
--- end of the axis: but for the seconds in which each capture heard a record, all that it shows is a function of the lives of all records.
-pub record WritesPage (about : List Subject) (names : List (List ℕ)) (readings : List Reading) (comparison : Comparison)
-    (each : List (List Hearing)) (heard : List Hearing) (axis : Axis) (text : List ℕ) : Type 0 where
+-- The text is the page on files with these names, listeners and readings, which compare so, by the hearings of each listener, none of
+-- which is later than the end of the axis: but for the seconds in which each heard a record, all that it shows is a function of the lives
+-- of all records.
+pub record WritesPage (about : List Subject) (names : List (List ℕ)) (groups : Grouped) (readings : List Reading)
+    (comparison : Comparison) (each : List (List Hearing)) (heard : List Hearing) (axis : Axis) (text : List ℕ) : Type 0 where
   pub latest : (hearing : Hearing) → Contains heard hearing → hearing.moment.nanos ≤ axis.end.nanos
   pub rows : List (Latest × List Life)
   pub lives : AreAllLives heard rows
@@ -68,7 +69,8 @@ pub record WritesPage (about : List Subject) (names : List (List ℕ)) (readings
   pub written : text ≡ page isolated (record {
     axis = axis;
     about = about;
-    captures = facts_of names readings;
+    captures = facts_by groups readings;
+    files = endings_of names readings;
     comparison = comparison;
     lost = lost_in readings;
     rows = instances;
@@ -78,8 +80,8 @@ pub record WritesPage (about : List Subject) (names : List (List ℕ)) (readings
     skipped = skipped_text readings;
   })
 
--- The text is the page on all captures, from their earliest packet to their end, by those hearings that count.
-pub record SurveysPage (names : List (List ℕ)) (about : List Subject) (as_of : AsOf) (captures : List (List ℕ))
+-- The text is the page on all files, from their earliest packet to their end, by those hearings that count.
+pub record SurveysPage (names : List (List ℕ)) (groups : Grouped) (about : List Subject) (as_of : AsOf) (captures : List (List ℕ))
     (summaries : List Summary) (text : List ℕ) : Type 0 where
   pub packets : List (List PacketAt)
   pub outcomes : List (List Outcome)
@@ -89,10 +91,10 @@ pub record SurveysPage (names : List (List ℕ)) (about : List Subject) (as_of :
   pub axis : Axis
   pub is_axis : IsAxis as_of (all_moments packets) axis
   pub comparison : Comparison
-  pub compares : Compares names packets outcomes comparison
-  pub writes : WritesPage about names readings comparison (counted_each (filter_of as_of) outcomes) (counted (filter_of as_of) outcomes)
-      axis text
+  pub compares : Compares groups packets outcomes comparison
+  pub writes : WritesPage about names groups readings comparison (hearings_by groups (counted_each (filter_of as_of) outcomes))
+      (counted (filter_of as_of) outcomes) axis text
 
--- a page on captures with these names
-abbrev pub asked_page : List (List ℕ) → List Subject → AsOf → Asked
-asked_page names about as_of = asked_at_once (SurveysPage names about as_of) as_of
+-- a page on files with these names and listeners
+abbrev pub asked_page : List (List ℕ) → Grouped → List Subject → AsOf → Asked
+asked_page names groups about as_of = asked_at_once (SurveysPage names groups about as_of) as_of

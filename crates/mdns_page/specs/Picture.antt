@@ -1,7 +1,6 @@
 -- The strokes of pictures.
-use Rattle.std.specs.Prelude.{◌≡◌, ◌≤◌, ℕ, ◌==◌, ◌&&◌, nat_lt, Bool, true, false, if◌then◌else◌, Option, None, Some}
-use Rattle.std.specs.Prelude.{List, [], ◌∷◌, ◌++◌, codes}
-use Rattle.std.specs.{Fmt.{decimal}, List.{filter_map, flat_map}}
+use Rattle.std.specs.Prelude.{◌≡◌, ◌≤◌, ℕ, ◌==◌, ◌&&◌, nat_lt, Bool, true, false, if◌then◌else◌, Option, None}
+use Rattle.std.specs.{Prelude.{Some, List, [], ◌∷◌, ◌++◌, codes}, Fmt.{decimal}, List.{filter_map, flat_map}}
 use Rattle.mdns_lives.specs.declared.life.{Life.{Life}, EndReason.{EndReason}, EndReason.TheVariants.{Expired, Goodbye, Flushed}}
 use Rattle.mdns_page.specs.{Axis.{place, place_end}, BarTitles.{life_title}, declared.axis.Axis.{Axis}, declared.picture.Mark.{Mark}}
 use Rattle.mdns_page.specs.declared.picture.{Stroke.{Stroke}, Stroke.TheVariants.{Bar, Server, Pin, Head, Tick, GoodbyeTick}}

@@ -1,6 +1,5 @@
 -- The picture of a row.
-use Rattle.std.specs.Prelude.{ℕ, ◌==◌, if◌then◌else◌, List, [], ◌++◌, codes}
-use Rattle.std.specs.{Fmt.{decimal}, List.{flat_map}}
+use Rattle.std.specs.{Prelude.{ℕ, ◌==◌, if◌then◌else◌, List, [], ◌++◌, codes}, Fmt.{decimal}, List.{flat_map}}
 use Rattle.mdns_lives.specs.declared.life.{Life.{Life}, EndReason.TheVariants.{Expired, Goodbye, Flushed}}
 use Rattle.mdns_lives.specs.declared.seconds_heard.SecondHeard.{SecondHeard}
 use Rattle.mdns_page.specs.{Captures.{each_from}, Lanes.{height, lane_text}, Picture.{bars, mark_of, path}, declared.look.Look.{Look}}

@@ -1,6 +1,5 @@
 -- The servers of instances: their SRV records (RFC 6763, section 5).
-use Rattle.std.specs.Prelude.{ℕ, List, [], map, option_map, unwrap_or}
-use Rattle.std.specs.{List.{filter}, Ordering.{is_eq}}
+use Rattle.std.specs.{Prelude.{ℕ, List, [], map, option_map, unwrap_or}, List.{filter}, Ordering.{is_eq}}
 use Rattle.mdns_message.specs.{Resource.{Body, set_key_cmp, type_number}, Parts.{pointer_of}}
 use Rattle.mdns_message.specs.declared.record_type.RecordType.TheVariants as kind
 use Rattle.mdns_join.specs.declared.latest.Latest.{Latest}

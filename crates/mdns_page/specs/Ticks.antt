@@ -1,7 +1,7 @@
 -- The ticks of the axis.
-use Rattle.std.specs.Prelude.{ℕ, ◌+◌, ◌-◌, ◌*◌, ◌/◌, ◌%◌, ◌==◌, ◌&&◌, nat_le, nat_lt, Bool, false, if◌then◌else◌}
-use Rattle.std.specs.Prelude.{List, [], ◌∷◌, ◌++◌, map, codes}
-use Rattle.std.specs.{Fmt.{decimal}, Int.{div_ceil}, List.{flat_map, range_with_len}}
+use Rattle.std.specs.Prelude.{ℕ, ◌+◌, ◌-◌, ◌*◌, ◌/◌, ◌%◌, ◌==◌, ◌&&◌, nat_le, nat_lt, Bool, false}
+use Rattle.std.specs.{Prelude.{if◌then◌else◌, List, [], ◌∷◌, ◌++◌, map, codes}, Fmt.{decimal}, Int.{div_ceil}}
+use Rattle.std.specs.List.{flat_map, range_with_len}
 use Rattle.mdns_capture.specs.Limits.{second}
 use Rattle.people_text.specs.MomentText.{clock_text, hours_text, seconds_of}
 use Rattle.mdns_page.specs.{Axis.{day_text, place}, Captures.{Facts}, Lanes.{bases_text, height}, declared.axis.Axis.{Axis}}

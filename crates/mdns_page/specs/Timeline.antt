@@ -1,7 +1,6 @@
 -- The timeline.
 use Rattle.std.specs.Prelude.{ℕ, ◌+◌, ◌-◌, ◌==◌, nat_le, nat_lt, Bool, false, if◌then◌else◌, option_map, unwrap_or}
-use Rattle.std.specs.Prelude.{List, [], ◌++◌, codes, length, map, slice_get}
-use Rattle.std.specs.{Global.{Vec}, List.{count_by, flat_map}}
+use Rattle.std.specs.{Prelude.{List, [], ◌++◌, codes, length, map, slice_get}, Global.{Vec}, List.{count_by, flat_map}}
 use Rattle.mdns_message.specs.{Parts.{content_of}, declared.parts.Content.{Content}}
 use Rattle.mdns_message.specs.declared.parts.Content.TheVariants as content
 use Rattle.mdns_join.specs.declared.latest.Latest.{Latest}

@@ -1,7 +1,7 @@
 //! What bars say of lives.
 
-ghost use Rattle.std.specs.Prelude.{◌≡◌, ◌++◌, codes, if◌then◌else◌, length, map, nat_le, OnOk};
-ghost use Rattle.std.specs.{List.{flat_map}, String.{string_bytes}};
+ghost use Rattle.std.specs.{Prelude.{◌≡◌, ◌++◌, codes, if◌then◌else◌, length, map, nat_le, OnOk}, List.{flat_map}};
+ghost use Rattle.std.specs.String.{string_bytes};
 ghost use Rattle.mdns_browse.specs.LifeText.{open_text, reason_text};
 ghost use Rattle.mdns_page.specs.{Timeline.{counted_lent, lives_in, lives_lent}, BarTitles.{IsLess, life_title}};
 

@@ -1,7 +1,7 @@
 //! The captures of a page: what each is, when it recorded, and how it ends.
 
-ghost use Rattle.std.specs.Prelude.{◌≡◌, ◌++◌, [], codes, if◌then◌else◌, length, map, nat_lt, option_map, slice_get, unwrap_or, OnOk};
-ghost use Rattle.std.specs.{Fmt.{decimal}, List.{find}, String.{string_bytes}};
+ghost use Rattle.std.specs.Prelude.{◌≡◌, ◌++◌, [], codes, if◌then◌else◌, length, map, nat_lt, option_map, slice_get};
+ghost use Rattle.std.specs.{Prelude.{unwrap_or, OnOk}, Fmt.{decimal}, List.{find}, String.{string_bytes}};
 ghost use Rattle.mdns_capture.specs.Text.{ending_text};
 ghost use Rattle.mdns_survey.specs.ProgramLines.{is_whole};
 ghost use Rattle.people_text.specs.Shown.{shown};
@@ -21,7 +21,6 @@ use mdns_listeners::{ListenerRow, PairRow};
 use mdns_message::Want;
 use mdns_survey::reading::Span;
 use mdns_survey::status::is_whole;
-use mdns_survey::{Summary, Tally};
 use people_text::moment_text::push_millis;
 use people_text::shown::push_shown;
 
@@ -32,13 +31,24 @@ pub(crate) const FEW_CAPTURES: usize = 4;
 /// The circled digit one.
 const CIRCLED_ONE: u128 = 0x2460;
 
-/// What a page tells of a capture.
+/// The counts of a capture: those of its files together.
+#[derive(Clone, Copy)]
+pub struct CaptureCounts {
+    pub packets: u128,
+    pub skipped: u128,
+    pub refused: u128,
+    pub messages: u128,
+    pub hearings: u128,
+}
+
+/// What a page tells of a capture: of all files of a listener.
 #[derive(Clone, Copy)]
 pub struct CaptureFacts<'a> {
-    /// The name of its file.
+    /// The name of the listener.
     pub name: &'a str,
-    /// Its counts, and how its reading ended.
-    pub summary: Summary,
+    pub counts: CaptureCounts,
+    /// How the first of its files that isn't whole ends; `Ending::Whole` if all are.
+    pub ending: Ending,
     /// The span of all its packets; `None` if there are none.
     pub span: Option<Span>,
 }
@@ -51,7 +61,7 @@ pub(crate) struct Comparison<'a> {
     pub(crate) pairs: &'a [PairRow],
 }
 
-/// Appends the captures as a group, with a row for each: its number, the name of its file, when it recorded, in a
+/// Appends the captures as a group, with a row for each: its number, the name of its listener, when it recorded, in a
 /// picture and in words, how it ends, how many packets and hearings it has, and how it compares with the others.
 #[tactic(auto, unfolding(crate::specs::Captures::captures_text))]
 pub(crate) fn push_captures(
@@ -78,7 +88,7 @@ pub(crate) fn push_captures(
     Ok(())
 }
 
-/// Appends the name of a file, or a subject.
+/// Appends the name of a file or a listener, or a subject.
 pub(crate) fn push_shown_word(to: &mut String, word: &str) -> Result<(), Want>
     ensures { OnOk result (string_bytes to.new ≡ string_bytes to.old ++ isolated (shown word.now)) }
 {
@@ -130,16 +140,16 @@ fn push_row(
     push_number_among(to, captures, index)?;
     to.push_str("&#160;")?;
     push_shown_word(to, capture.name)?;
-    push_sizes(to, &capture.summary.tally)?;
+    push_sizes(to, capture.counts)?;
     to.push_str("</div>")?;
     push_picture(to, axis, capture.span)?;
     to.push_str("<div>")?;
     to.push_str("<p>")?;
     push_recorded_words(to, axis.dates, capture.span)?;
     to.push_str(" ")?;
-    push_ending(to, capture.summary.ending)?;
+    push_ending(to, capture.ending)?;
     to.push_str("</p>")?;
-    push_outcomes(to, &capture.summary.tally)?;
+    push_outcomes(to, capture.counts)?;
     push_compared(to, captures, comparison, index)?;
     to.push_str("</div></li>\n")?;
     Ok(())
@@ -173,13 +183,13 @@ pub(crate) fn push_number(to: &mut String, many: bool, index: usize) -> Result<(
 }
 
 #[tactic(auto, unfolding(crate::specs::Captures::sizes_text))]
-fn push_sizes(to: &mut String, tally: &Tally) -> Result<(), Want>
-    ensures { OnOk result (string_bytes to.new ≡ string_bytes to.old ++ sizes_text tally.now) }
+fn push_sizes(to: &mut String, counts: CaptureCounts) -> Result<(), Want>
+    ensures { OnOk result (string_bytes to.new ≡ string_bytes to.old ++ sizes_text counts) }
 {
     to.push_str("<small>")?;
-    push_count(to, tally.packets as u128, "packet", "packets")?;
+    push_count(to, counts.packets, "packet", "packets")?;
     to.push_str(", ")?;
-    push_count(to, tally.hearings as u128, "hearing", "hearings")?;
+    push_count(to, counts.hearings, "hearing", "hearings")?;
     to.push_str("</small>")?;
     Ok(())
 }
@@ -256,15 +266,15 @@ fn push_ending(to: &mut String, ending: Ending) -> Result<(), Want>
 }
 
 #[tactic(auto, unfolding(crate::specs::Captures::outcomes_text))]
-fn push_outcomes(to: &mut String, tally: &Tally) -> Result<(), Want>
-    ensures { OnOk result (string_bytes to.new ≡ string_bytes to.old ++ outcomes_text tally.now) }
+fn push_outcomes(to: &mut String, counts: CaptureCounts) -> Result<(), Want>
+    ensures { OnOk result (string_bytes to.new ≡ string_bytes to.old ++ outcomes_text counts) }
 {
     to.push_str("<small>")?;
-    push_commas(to, tally.messages as u128)?;
+    push_commas(to, counts.messages)?;
     to.push_str(" heard, ")?;
-    push_commas(to, tally.skipped as u128)?;
+    push_commas(to, counts.skipped)?;
     to.push_str(" skipped, ")?;
-    push_commas(to, tally.refused as u128)?;
+    push_commas(to, counts.refused)?;
     to.push_str(" refused</small>")?;
     Ok(())
 }

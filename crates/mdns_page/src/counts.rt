@@ -1,7 +1,6 @@
 //! Counts in words.
 
-ghost use Rattle.std.specs.Prelude.{◌≡◌, ◌<◌, ◌+◌, ◌∷◌, [], ◌++◌, OnOk};
-ghost use Rattle.std.specs.String.{string_bytes};
+ghost use Rattle.std.specs.{Prelude.{◌≡◌, ◌<◌, ◌+◌, ◌∷◌, [], ◌++◌, OnOk}, String.{string_bytes}};
 ghost use Rattle.dns_name.specs.Name.{three_digits};
 ghost use Rattle.mdns_page.specs.Counts.{commas, count_text};
 

@@ -1,14 +1,13 @@
 //! The whole page.
 
-ghost use Rattle.std.specs.Prelude.{◌≡◌, ◌++◌, [], codes, if◌then◌else◌, map, OnOk};
-ghost use Rattle.std.specs.String.{string_bytes};
+ghost use Rattle.std.specs.{Prelude.{◌≡◌, ◌++◌, [], codes, if◌then◌else◌, map, OnOk}, String.{string_bytes}};
 ghost use Rattle.people_text.specs.MomentText.{date_text};
 ghost use Rattle.mdns_page.specs.{Axis.{is_same_date}, Captures.{facts_lent}, Html.{isolated}, Document.{head, page, parts_lent, title}};
 
 use crate::axis::{Axis, is_same_date};
 use crate::captures::{CaptureFacts, Comparison, push_captures};
 use crate::lanes::{lanes_for, push_height};
-use crate::lead::push_lead;
+use crate::lead::{FileEnding, push_lead};
 use crate::other_rows::is_large;
 use crate::style::STYLE;
 use crate::ticks::push_symbols;
@@ -24,8 +23,10 @@ pub(crate) struct PageParts<'a> {
     pub(crate) axis: Axis,
     /// The subjects that it is about.
     pub(crate) about: &'a [Subject],
-    /// The captures that were read.
+    /// The captures, by listener.
     pub(crate) captures: &'a [CaptureFacts<'a>],
+    /// The files that were read.
+    pub(crate) files: &'a [FileEnding<'a>],
     pub(crate) comparison: Comparison<'a>,
     /// How many of their packets lost what they said.
     pub(crate) lost: u128,
@@ -48,15 +49,7 @@ pub(crate) fn push_page(to: &mut String, parts: &PageParts<'_>) -> Result<(), Wa
     let axis = parts.axis;
     let lanes = lanes_for(is_large(parts.rows.len()), parts.captures.len());
     push_head(to, axis, lanes, parts.captures)?;
-    push_lead(
-        to,
-        axis,
-        parts.about,
-        parts.rows,
-        parts.captures,
-        parts.comparison,
-        parts.lost,
-    )?;
+    push_lead(to, parts)?;
     to.push_str(
         "<nav><a href=\"#captures\">Captures</a><a href=\"#timeline\">Timeline</a>\
          <a href=\"#live\">What was live</a><a href=\"#nothing\">Skipped packets</a></nav>\n",

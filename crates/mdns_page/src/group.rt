@@ -1,7 +1,6 @@
 //! What the headings of groups begin with, and the axis in them.
 
-ghost use Rattle.std.specs.Prelude.{◌≡◌, ◌++◌, codes, if◌then◌else◌, OnOk};
-ghost use Rattle.std.specs.String.{string_bytes};
+ghost use Rattle.std.specs.{Prelude.{◌≡◌, ◌++◌, codes, if◌then◌else◌, OnOk}, String.{string_bytes}};
 ghost use Rattle.mdns_page.specs.Group.{axis_picture};
 
 use mdns_message::Want;

@@ -1,7 +1,7 @@
 //! How often captures heard a record, in words.
 
-ghost use Rattle.std.specs.Prelude.{◌≡◌, ◌<◌, ◌^◌, ◌==◌, [], ◌++◌, codes, if◌then◌else◌, length, map, nat_lt, sum_by, OnOk};
-ghost use Rattle.std.specs.{String.{string_bytes}, List.{count_by}};
+ghost use Rattle.std.specs.Prelude.{◌≡◌, ◌<◌, ◌^◌, ◌==◌, [], ◌++◌, codes, if◌then◌else◌, length, map, nat_lt};
+ghost use Rattle.std.specs.{Prelude.{sum_by, OnOk}, String.{string_bytes}, List.{count_by}};
 ghost use Rattle.mdns_page.specs.{Captures.{each_from}, Counts.{commas}, Lanes.{is_goodbye}};
 ghost use Rattle.mdns_page.specs.{HeardWords.{capture_times, goodbyes_text, heard_text, together_text}, Timeline.{seconds_lent}};
 

@@ -1,7 +1,7 @@
 //! Where there are many captures: the seconds in which each heard the records of rows, by one walk over its records.
 
-ghost use Rattle.std.specs.Prelude.{◌≡◌, ◌<◌, ◌++◌, ◌∷◌, [], List, IfOk, OnOk, length, map, nat_lt, slice_index_or, slice_set, vec_len};
-ghost use Rattle.std.specs.{List.{All, filter}, List.Sorted.{IsStrictlySortedBy}};
+ghost use Rattle.std.specs.Prelude.{◌≡◌, ◌<◌, ◌++◌, ◌∷◌, [], List, IfOk, OnOk, length, map, nat_lt, slice_index_or};
+ghost use Rattle.std.specs.{Prelude.{slice_set, vec_len}, List.{All, filter}, List.Sorted.{IsStrictlySortedBy}};
 ghost use Rattle.mdns_message.specs.{Resource.{key_cmp, key_of}, declared.hearing.Hearing.{Hearing}};
 ghost use Rattle.mdns_cache.specs.Live.{key_of_last};
 ghost use Rattle.mdns_browse.specs.Services.{AreEach};

@@ -1,7 +1,7 @@
 //! The lanes below the bars of a row: a tick for each second in which a capture heard its record.
 
-ghost use Rattle.std.specs.Prelude.{◌≡◌, ◌<◌, ◌^◌, ◌==◌, [], ◌++◌, if◌then◌else◌, None, Some, map, nat_lt, OnOk};
-ghost use Rattle.std.specs.{Fmt.{decimal}, String.{string_bytes}};
+ghost use Rattle.std.specs.Prelude.{◌≡◌, ◌<◌, ◌^◌, ◌==◌, [], ◌++◌, if◌then◌else◌, None, Some, map, nat_lt};
+ghost use Rattle.std.specs.{Prelude.{OnOk}, Fmt.{decimal}, String.{string_bytes}};
 ghost use Rattle.mdns_page.specs.{Axis.{drawn_if}, Captures.{each_from, facts_lent}};
 ghost use Rattle.mdns_page.specs.Lanes.{base_line, base_text, bases_text, goodbye_of, height, is_goodbye, lane_text, lane_top, point};
 ghost use Rattle.mdns_page.specs.{Lanes.{second_mark}, Picture.{path}, Timeline.{seconds_lent}};

@@ -1,10 +1,9 @@
 //! Laws of the page, over its definitions alone. The contract of each function is the law; its body only cites the laws that
 //! this one follows from.
 
-ghost use Rattle.std.specs.Prelude.{◌≡◌, ◌<◌, ◌≤◌, ◌*◌, ◌/◌, ◌%◌, ◌^◌, ◌↔◌, ◌==◌, not, ◌∷◌, ◌++◌, ℕ};
-ghost use Rattle.std.specs.Prelude.{Bool, List, None, drop, length, map, slice_index};
-ghost use Rattle.std.specs.{Fmt.{decimal}, List.{All, Contains, filter, filter_map, flat_map}, List.Sorted.{IsStrictlySortedBy}};
-ghost use Rattle.std.specs.Ordering.{nat_cmp};
+ghost use Rattle.std.specs.Prelude.{◌≡◌, ◌<◌, ◌≤◌, ◌*◌, ◌/◌, ◌%◌, ◌^◌, ◌↔◌, ◌==◌, not, ◌∷◌};
+ghost use Rattle.std.specs.{Prelude.{◌++◌, ℕ, Bool, List, None, drop, length, map, slice_index}, Fmt.{decimal}};
+ghost use Rattle.std.specs.{List.{All, Contains, filter, filter_map, flat_map}, List.Sorted.{IsStrictlySortedBy}, Ordering.{nat_cmp}};
 ghost use Rattle.dns_name.specs.Name.{three_digits};
 ghost use Rattle.mdns_capture.specs.Limits.{second};
 ghost use Rattle.mdns_message.specs.declared.hearing.Hearing.{Hearing};
@@ -13,8 +12,9 @@ ghost use Rattle.mdns_lives.specs.{Chronicle.{AreAllLives}, Heard.{number_of}, L
 ghost use Rattle.mdns_lives.specs.declared.{life.Life.{Life}, seconds_heard.SecondHeard.{SecondHeard}};
 ghost use Rattle.mdns_browse.specs.{declared.about.Subject.{Subject}, Services.{GivenRow}};
 ghost use Rattle.mdns_survey.specs.declared.{request.AsOf.{AsOf}, summary.Summary.{Summary}};
+ghost use Rattle.mdns_listeners.specs.Groups.{Grouped};
 ghost use Rattle.mdns_page.specs.declared.{axis.Axis.{Axis}, picture.Stroke.{Stroke}};
-ghost use Rattle.mdns_page.specs.{Bare.{bare_capture, bare_groups, bare_instances, bare_row, unsaid}, Counts.{commas}};
+ghost use Rattle.mdns_page.specs.{Bare.{bare_capture, bare_file, bare_groups, bare_instances, bare_row, unsaid}, Counts.{commas}};
 ghost use Rattle.mdns_page.specs.{Group.{AreGroups, grouped}, Html.{html_text, BeginsReference, IsHarmless}, LiveSection.{live_text}};
 ghost use Rattle.mdns_page.specs.{Lanes.{second_mark}, Document.{Shown, page}, Picture.{AreInOrder, differing, mark_of}};
 ghost use Rattle.mdns_page.specs.{Page.{AreLiveGiven, SurveysPage, live_given}, Ticks.{step_of, ticks}, Timeline.{Row, owner_of}};
@@ -24,11 +24,11 @@ use mdns_listeners::laws::one_list_of_rows;
 use mdns_lives::laws::{live_lives_are_since, one_all};
 use mdns_survey::laws::one_telling;
 
-/// Captures with these names have at most one page about some subjects, and one list of summaries.
+/// Files with these names and listeners have at most one page about some subjects, and one list of summaries.
 pub fn one_page()
-    ensures { (names : List (List ℕ)) (about : List Subject) (as_of : AsOf) (captures : List (List ℕ))
+    ensures { (names : List (List ℕ)) (groups : Grouped) (about : List Subject) (as_of : AsOf) (captures : List (List ℕ))
         (summaries more : List Summary) (text other : List ℕ)
-        → SurveysPage names about as_of captures summaries text → SurveysPage names about as_of captures more other
+        → SurveysPage names groups about as_of captures summaries text → SurveysPage names groups about as_of captures more other
         → (summaries ≡ more) × (text ≡ other) }
 {
     one_reading();
@@ -91,12 +91,13 @@ pub fn counts()
 {}
 
 /// Names, of instances, types, hosts, files and subjects, and texts reach a page only by the function `say`. If it writes
-/// nothing, two pages are equal that have equally many subjects, and captures, rows and live instances that agree in all else.
+/// nothing, two pages are equal that have equally many subjects, and captures, files, rows and live instances that agree in all else.
 pub fn names()
     ensures { (a b : Shown) (opened : Bool) (lasts others : List Latest) (live now : List GivenRow) → a.axis ≡ b.axis → a.lost ≡ b.lost
         → a.skipped ≡ b.skipped → a.comparison ≡ b.comparison → a.live ≡ live_text unsaid a.axis opened lasts live
         → b.live ≡ live_text unsaid b.axis opened others now → length a.about ≡ length b.about
-        → map bare_capture a.captures ≡ map bare_capture b.captures → bare_groups a.rows ≡ bare_groups b.rows
+        → map bare_capture a.captures ≡ map bare_capture b.captures → map bare_file a.files ≡ map bare_file b.files
+        → bare_groups a.rows ≡ bare_groups b.rows
         → map bare_row a.addresses ≡ map bare_row b.addresses → map bare_row a.names ≡ map bare_row b.names
         → bare_instances lasts live ≡ bare_instances others now → page unsaid a ≡ page unsaid b }
 {}

@@ -1,18 +1,19 @@
 //! What a page begins with: how many instances were live at the end of the captures, which instances it shows, and what the
 //! captures lack.
 
-ghost use Rattle.std.specs.Prelude.{◌≡◌, ◌-◌, ◌&&◌, ◌∷◌, ◌++◌, codes, false, length, map, option_map, slice_get, unwrap_or, OnOk};
-ghost use Rattle.std.specs.{List.{flat_map}, String.{string_bytes}};
+ghost use Rattle.std.specs.Prelude.{◌≡◌, ◌-◌, ◌&&◌, ◌∷◌, ◌++◌, codes, false, length, map, option_map, slice_get};
+ghost use Rattle.std.specs.{Prelude.{unwrap_or, OnOk}, List.{flat_map}, String.{string_bytes}};
 ghost use Rattle.mdns_capture.specs.Text.{ending_text};
 ghost use Rattle.mdns_lives.specs.declared.life.EndReason.TheVariants.{Goodbye};
 ghost use Rattle.people_text.specs.Shown.{shown};
-ghost use Rattle.mdns_page.specs.{Captures.{comparison_lent, facts_lent}, Html.{isolated}};
-ghost use Rattle.mdns_page.specs.Lead.{about_line, ended_text, ending_warning, is_ended, live_line, lost_warning, others_text};
-ghost use Rattle.mdns_page.specs.{Lead.{pair_warning, said_text}, Picture.{goes_on, is_for}, Timeline.{count_last, counted_lent}};
+ghost use Rattle.mdns_page.specs.{Captures.{facts_lent}, Document.{lead, parts_lent}, Html.{isolated}, Picture.{goes_on, is_for}};
+ghost use Rattle.mdns_page.specs.Lead.{about_line, ended_lent, ended_text, ending_warning, is_ended, live_line, lost_warning, others_text};
+ghost use Rattle.mdns_page.specs.{Lead.{pair_warning, said_text}, Timeline.{count_last, counted_lent}};
 
 use crate::axis::Axis;
-use crate::captures::{CaptureFacts, Comparison, name_at, push_shown_word};
+use crate::captures::{CaptureFacts, name_at, push_shown_word};
 use crate::counts::{push_commas, push_count};
+use crate::document::PageParts;
 use crate::picture::{goes_on, is_for};
 use crate::row_text::live_rows;
 use crate::timeline_rows::CountedRow;
@@ -25,28 +26,25 @@ use mdns_message::Want;
 use mdns_survey::status::is_whole;
 use people_text::moment_text::push_millis;
 
+/// How the reading of a file ended.
+#[derive(Clone, Copy)]
+pub struct FileEnding<'a> {
+    /// The name of the file.
+    pub name: &'a str,
+    pub ending: Ending,
+}
+
 /// Appends what a page begins with: how many instances were live at the end of the captures, how many of them have
-/// said goodbye, and how many had ended before; the subjects, if there are any; a warning for each capture that isn't
-/// whole, one for each two whose clocks don't agree, and one of `lost` packets, if any lost what they said.
-pub(crate) fn push_lead(
-    to: &mut String,
-    axis: Axis,
-    about: &[Subject],
-    rows: &[CountedRow<'_>],
-    captures: &[CaptureFacts<'_>],
-    comparison: Comparison<'_>,
-    lost: u128,
-) -> Result<(), Want>
-    ensures { OnOk result (string_bytes to.new ≡ string_bytes to.old
-        ++ (live_line axis (map counted_lent rows.now) ++ about_line isolated about.now
-        ++ flat_map (ending_warning isolated) (map facts_lent captures.now)
-        ++ flat_map (pair_warning isolated (map facts_lent captures.now)) (comparison_lent comparison.entry).pairs ++ lost_warning lost)) }
+/// said goodbye, and how many had ended before; the subjects, if there are any; a warning for each file that isn't
+/// whole, one for each two captures whose clocks don't agree, and one of the lost packets, if any lost what they said.
+pub(crate) fn push_lead(to: &mut String, parts: &PageParts<'_>) -> Result<(), Want>
+    ensures { OnOk result (string_bytes to.new ≡ string_bytes to.old ++ lead isolated (parts_lent parts.now)) }
 {
-    push_live_line(to, axis, rows)?;
-    push_about_line(to, about)?;
-    push_ending_warnings(to, captures)?;
-    push_pair_warnings(to, captures, comparison.pairs)?;
-    push_lost_warning(to, lost)
+    push_live_line(to, parts.axis, parts.rows)?;
+    push_about_line(to, parts.about)?;
+    push_ending_warnings(to, parts.files)?;
+    push_pair_warnings(to, parts.captures, parts.comparison.pairs)?;
+    push_lost_warning(to, parts.lost)
 }
 
 #[tactic(auto, unfolding(crate::specs::Lead::live_line))]
@@ -214,29 +212,28 @@ fn push_subject(to: &mut String, subject: &Subject) -> Result<(), Want>
     push_shown_word(to, subject.text())
 }
 
-fn push_ending_warnings(to: &mut String, captures: &[CaptureFacts<'_>]) -> Result<(), Want>
+fn push_ending_warnings(to: &mut String, files: &[FileEnding<'_>]) -> Result<(), Want>
     ensures { OnOk result (string_bytes to.new
-        ≡ string_bytes to.old ++ flat_map (ending_warning isolated) (map facts_lent captures.now)) }
+        ≡ string_bytes to.old ++ flat_map (ending_warning isolated) (map ended_lent files.now)) }
 {
-    for capture in captures {
-        push_ending_warning(to, capture)?;
+    for file in files {
+        push_ending_warning(to, file)?;
     }
     Ok(())
 }
 
-// Appends that a capture isn't whole, and how it ends; nothing if it is whole.
+// Appends that a file isn't whole, and how it ends; nothing if it is whole.
 #[tactic(auto, unfolding(crate::specs::Lead::ending_warning))]
-fn push_ending_warning(to: &mut String, capture: &CaptureFacts<'_>) -> Result<(), Want>
-    ensures { OnOk result (string_bytes to.new
-        ≡ string_bytes to.old ++ ending_warning isolated (facts_lent capture.now)) }
+fn push_ending_warning(to: &mut String, file: &FileEnding<'_>) -> Result<(), Want>
+    ensures { OnOk result (string_bytes to.new ≡ string_bytes to.old ++ ending_warning isolated (ended_lent file.now)) }
 {
-    if is_whole(capture.summary.ending) {
+    if is_whole(file.ending) {
         return Ok(());
     }
     to.push_str("<p class=\"warn\">")?;
-    push_shown_word(to, capture.name)?;
+    push_shown_word(to, file.name)?;
     to.push_str(": ")?;
-    push_ending_text(to, capture.summary.ending)?;
+    push_ending_text(to, file.ending)?;
     to.push_str(". What came later is missing, goodbyes too.</p>\n")?;
     Ok(())
 }

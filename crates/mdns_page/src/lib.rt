@@ -6,6 +6,7 @@
 mod about_heard;
 mod axis;
 mod bar_titles;
+mod by_listener;
 mod captures;
 mod collector;
 mod counts;
@@ -20,6 +21,7 @@ pub mod laws;
 mod lead;
 mod legend;
 mod life_words;
+mod listener_lives;
 mod live_section;
 mod live_sheet;
 mod live_words;

@@ -1,7 +1,7 @@
 //! Lives in words.
 
-ghost use Rattle.std.specs.Prelude.{◌≡◌, ◌==◌, ◌∷◌, [], ◌++◌, codes, if◌then◌else◌, OnOk};
-ghost use Rattle.std.specs.{List.{flat_map}, String.{string_bytes}};
+ghost use Rattle.std.specs.{Prelude.{◌≡◌, ◌==◌, ◌∷◌, [], ◌++◌, codes, if◌then◌else◌, OnOk}, List.{flat_map}};
+ghost use Rattle.std.specs.String.{string_bytes};
 ghost use Rattle.mdns_page.specs.{Counts.{commas}, LifeWords.{life_words, lives_words}, Axis.{is_same_date, short_text}, Picture.{goes_on}};
 ghost use Rattle.mdns_page.specs.declared.axis.Dates.TheVariants.{Omitted};
 ghost use Rattle.mdns_browse.specs.LifeText.{open_text, reason_text};

@@ -1,7 +1,6 @@
 //! What was live at the end: the instances with their servers, addresses and texts.
 
-ghost use Rattle.std.specs.Prelude.{◌≡◌, ◌++◌, codes, map, OnOk};
-ghost use Rattle.std.specs.{List.{filter_map, flat_map}, String.{string_bytes}};
+ghost use Rattle.std.specs.{Prelude.{◌≡◌, ◌++◌, codes, map, OnOk}, List.{filter_map, flat_map}, String.{string_bytes}};
 ghost use Rattle.mdns_cache.specs.LentRecords.{last_lent};
 ghost use Rattle.mdns_browse.specs.{Given.{given_lent}, Services.{AreAscending, instance_row_in}};
 ghost use Rattle.mdns_page.specs.{Group.{grouped}, Html.{isolated}, LiveSection.{live_group, live_row, live_text, type_of}};

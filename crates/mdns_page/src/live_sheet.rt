@@ -1,7 +1,6 @@
 //! Instances as rows of a page.
 
-ghost use Rattle.std.specs.Prelude.{◌≡◌, OnOk};
-ghost use Rattle.std.specs.String.{string_bytes};
+ghost use Rattle.std.specs.{Prelude.{◌≡◌, OnOk}, String.{string_bytes}};
 ghost use Rattle.mdns_page.specs.{Html.{isolated}, LiveSheet.{Adds, type_begin}};
 
 use crate::axis::Axis;

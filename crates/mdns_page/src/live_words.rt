@@ -1,7 +1,7 @@
 //! What a page says of a live instance: since when it is live, its servers, its texts.
 
-ghost use Rattle.std.specs.Prelude.{◌≡◌, ◌-◌, ◌==◌, ◌∷◌, [], ◌++◌, codes, if◌then◌else◌, option_map, true, unwrap_or, IfOk, OnOk};
-ghost use Rattle.std.specs.{Fmt.{decimal}, String.{string_bytes}};
+ghost use Rattle.std.specs.Prelude.{◌≡◌, ◌-◌, ◌==◌, ◌∷◌, [], ◌++◌, codes, if◌then◌else◌, option_map, true};
+ghost use Rattle.std.specs.{Prelude.{unwrap_or, IfOk, OnOk}, Fmt.{decimal}, String.{string_bytes}};
 ghost use Rattle.mdns_message.specs.{Borrowed.{body_lent}, Parts.{address_of}};
 ghost use Rattle.people_text.specs.MomentText.{duration_text};
 ghost use Rattle.mdns_browse.specs.{Given.{given_lent, nanos_in}, Json.{first_after}};

@@ -1,8 +1,7 @@
 //! Rows of records that give no instance, which are addresses of hosts, and names that aren't one label and the type: when
 //! there are any, and what they name.
 
-ghost use Rattle.std.specs.Prelude.{◌≡◌, ◌++◌, codes, is_some, OnOk};
-ghost use Rattle.std.specs.String.{string_bytes};
+ghost use Rattle.std.specs.{Prelude.{◌≡◌, ◌++◌, codes, is_some, OnOk}, String.{string_bytes}};
 ghost use Rattle.mdns_message.specs.Parts.{address_of};
 ghost use Rattle.mdns_browse.specs.RecordShown.{shown_address};
 ghost use Rattle.mdns_page.specs.{OtherRows.{is_large}, Html.{isolated}};

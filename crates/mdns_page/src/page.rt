@@ -6,16 +6,17 @@ ghost use Rattle.mdns_message.specs.declared.hearing.Hearing.{Hearing};
 ghost use Rattle.mdns_cache.specs.{Live.{NoneLater}, LentRecords.{last_lent}};
 ghost use Rattle.mdns_lives.specs.{Chronicle.{Chronicles, rows_of}, Since.{live_since_lent}};
 ghost use Rattle.mdns_browse.specs.{Given.{given_lent}, Services.{AreAscending, AreEach}};
-ghost use Rattle.mdns_survey.specs.Chronicling.{all_of};
-ghost use Rattle.mdns_page.specs.{Captures.{facts_lent}, Collected.{rows_lent}, KeptRecords.{is_drawn, looked_up}};
-ghost use Rattle.mdns_page.specs.Page.{WritesPage, facts_of, given_of_since, live_at_end};
+ghost use Rattle.mdns_page.specs.{ByListener.{all_of}, Collected.{rows_lent}, KeptRecords.{is_drawn, looked_up}, Lead.{ended_lent}};
+ghost use Rattle.mdns_page.specs.Page.{WritesPage, endings_of, given_of_since, live_at_end};
 
 use crate::about_heard::heard_rows;
 use crate::axis::{Axis, axis_of};
-use crate::captures::CaptureFacts;
+use crate::by_listener::facts_by;
 use crate::collector::{ComparisonRows, PageCollector, compared};
 use crate::document::{PageParts, push_page};
 use crate::kept_records::{TimelinePart, is_drawn, kept_rows, unless_large};
+use crate::lead::FileEnding;
+use crate::listener_lives::ListenerLives;
 use crate::live_section::push_live;
 use crate::other_rows::is_large;
 use crate::skipped_section::push_skipped;
@@ -25,9 +26,9 @@ use mdns_browse::about::Subject;
 use mdns_browse::report::ReportFault;
 use mdns_browse::sheet::InstancePointer;
 use mdns_cache::{Last, LiveRecord};
+use mdns_listeners::Groups;
 use mdns_lives::{LiveSince, Lives};
 use mdns_message::Want;
-use mdns_survey::each_capture::EachChronicling;
 use mdns_survey::lives_answer::newest_after;
 use mdns_survey::question::{Question, TextAnswer};
 use mdns_survey::reading::Reading;
@@ -36,36 +37,39 @@ use mdns_survey::request::{AsOf, Subjects};
 use std::alloc::Global;
 
 /// A page on captures, about the service instances that are about one of the subjects, or about all where there are no
-/// subjects: what each of the captures `names` is, when each instance, each address, and each name that isn't one label and
-/// its type was live, how often each capture heard it, and what was live at the end. `names` has one name for each capture.
+/// subjects: what each capture is, when each instance, each address, and each name that isn't one label and its type was live, how often
+/// each capture heard it, and what was live at the end. All files of a listener are one capture.
 ///
 /// The captures end as for lives: at the moment of `as_of`, or with `AsOf::Newest` at the latest packet's moment. The
 /// page begins at the earliest packet's moment, or at the end where that is earlier.
 #[derive(Drop)]
 pub struct PageRequest<'a> {
+    /// The name of each file.
     pub names: &'a [String],
+    /// The listener of each file.
+    pub groups: &'a Groups,
     pub as_of: AsOf,
     pub about: Subjects,
 }
 
 impl<'a> Question for PageRequest<'a> {
-    ghost use Rattle.mdns_survey.specs.Chronicling.{EachChronicled};
-    ghost use Rattle.mdns_survey.specs.Filter.{filter_of};
+    ghost use Rattle.mdns_survey.specs.Filter.{counted_each, filter_of};
+    ghost use Rattle.mdns_page.specs.ByListener.{HoldsLives};
     ghost use Rattle.mdns_page.specs.Collected.{AreGathered};
     ghost use Rattle.mdns_page.specs.Page.{asked_page};
 
     type Collector = PageCollector;
 
-    ghost asked = { λ page. asked_page (map string_bytes page.names.now) page.about page.as_of };
+    ghost asked = { λ page. asked_page (map string_bytes page.names.now) page.groups.now page.about page.as_of };
 
-    // A name for each capture.
-    ghost Fits = { λ page count. length page.names.now ≡ count };
+    // A name and a listener for each file.
+    ghost Fits = { λ page count. (length page.names.now ≡ count) × (length page.groups.now.of ≡ count) };
 
-    ghost Heard = { λ page now packets outcomes. EachChronicled (filter_of page.as_of) now.lives packets outcomes
-        × AreGathered (map string_bytes page.names.now) now.messages packets outcomes };
+    ghost Heard = { λ page now packets outcomes. HoldsLives page.groups.now (counted_each (filter_of page.as_of) outcomes) now.lives
+        × AreGathered page.groups.now now.messages packets outcomes };
 
     fn collector(&self, alloc: Global) -> Result<PageCollector, Want> {
-        PageCollector::new(alloc, self.as_of.filter(), self.names)
+        PageCollector::new(alloc, self.as_of.filter(), self.groups)
     }
 }
 
@@ -76,12 +80,16 @@ impl<'a> TextAnswer for PageRequest<'a> {
         collector: PageCollector,
         readings: &[Reading],
     ) -> Result<String, ReportFault> {
-        let PageCollector { lives, messages } = collector;
+        let PageCollector {
+            lives,
+            messages,
+            ..
+        } = collector;
         let axis = axis_of(self.as_of, readings);
         if let Some(newest) = newest_after(lives.all(), axis.end) {
             return Err(ReportFault::Early { newest });
         }
-        let rows = match compared(alloc, self.names, messages, readings) {
+        let rows = match compared(alloc, self.groups, messages, readings) {
             Ok(rows) => rows,
             Err(Want) => return Err(ReportFault::Memory),
         };
@@ -96,24 +104,24 @@ impl<'a> TextAnswer for PageRequest<'a> {
 fn page_of(
     alloc: Global,
     page: &PageRequest<'_>,
-    chronicled: &EachChronicling,
+    lives: &ListenerLives,
     comparison: &ComparisonRows,
     readings: &[Reading],
     axis: Axis,
 ) -> Result<String, Want>
-    requires { NoneLater (all_of chronicled.now).newest axis.end }
+    requires { NoneLater (all_of lives.now).newest axis.end }
     ensures { IfOk result (λ text. (each : List (List Hearing)) (heard : List Hearing)
-        → AreEach Chronicles chronicled.now.captures.items each → Chronicles (all_of chronicled.now) heard
+        → AreEach Chronicles lives.now.captures.items each → Chronicles (all_of lives.now) heard
         → ((hearing : Hearing) → Contains heard hearing → hearing.moment.nanos ≤ axis.end.nanos)
-        → WritesPage page.now.about (map string_bytes page.now.names.now) readings.now (rows_lent comparison.now) each heard axis
-        (string_bytes text)) }
+        → WritesPage page.now.about (map string_bytes page.now.names.now) page.now.groups.now readings.now (rows_lent comparison.now)
+        each heard axis (string_bytes text)) }
 {
     let about = page.about.as_slice();
-    let all = chronicled.all();
+    let all = lives.all();
     let heard = heard_rows(alloc, all.walk(), about)?;
     let kept = kept_rows(alloc, all.walk(), heard.as_slice(), about)?;
     let records = kept.as_slice();
-    let chronicles = chronicled.captures.as_slice();
+    let chronicles = lives.captures.as_slice();
     let rows = counted_rows(alloc, TimelinePart::Instances, records, records, chronicles)?;
     let few = unless_large(is_large(rows.len()), records);
     let addresses = counted_rows(alloc, TimelinePart::Addresses, few, records, chronicles)?;
@@ -123,11 +131,13 @@ fn page_of(
     let mut skipped = String::new(alloc);
     push_skipped(&mut skipped, readings)?;
     let mut text = String::new(alloc);
-    let captures = facts_of(alloc, page.names, readings)?;
+    let captures = facts_by(alloc, page.groups, readings)?;
+    let files = endings_of(alloc, page.names, readings)?;
     let parts = PageParts {
         axis,
         about,
         captures: captures.as_slice(),
+        files: files.as_slice(),
         comparison: comparison.lent(),
         lost: lost_packets(readings),
         rows: rows.as_slice(),
@@ -140,29 +150,28 @@ fn page_of(
     Ok(text)
 }
 
-// Collects what the page tells of the captures.
-fn facts_of<'a>(
+// Collects the ending of each file.
+fn endings_of<'a>(
     alloc: Global,
     names: &'a [String],
     readings: &[Reading],
-) -> Result<Vec<CaptureFacts<'a>>, Want>
-    ensures { IfOk result (λ facts. map facts_lent facts.items ≡ facts_of (map string_bytes names.now) readings.now) }
+) -> Result<Vec<FileEnding<'a>>, Want>
+    ensures { IfOk result (λ endings. map ended_lent endings.items ≡ endings_of (map string_bytes names.now) readings.now) }
 {
-    let mut facts = Vec::new(alloc);
+    let mut endings = Vec::new(alloc);
     let mut names = names;
     let mut readings = readings;
     while let Some((name, more_names)) = names.split_first()
         && let Some((reading, more_readings)) = readings.split_first()
     {
-        facts.push(CaptureFacts {
+        endings.push(FileEnding {
             name: name.as_str(),
-            summary: reading.summary,
-            span: reading.span,
+            ending: reading.summary.ending,
         })?;
         names = more_names;
         readings = more_readings;
     }
-    Ok(facts)
+    Ok(endings)
 }
 
 // Writes what was live at the end.

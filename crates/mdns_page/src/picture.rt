@@ -1,7 +1,7 @@
 //! The strokes of pictures: a bar for each life, a thin one for each life of a server, and a pin where a life ended.
 
-ghost use Rattle.std.specs.Prelude.{◌≡◌, ◌++◌, codes, List, IfOk, OnOk, map};
-ghost use Rattle.std.specs.{List.{cons_option, flat_map}, String.{string_bytes}};
+ghost use Rattle.std.specs.{Prelude.{◌≡◌, ◌++◌, codes, List, IfOk, OnOk, map}, List.{cons_option, flat_map}};
+ghost use Rattle.std.specs.String.{string_bytes};
 ghost use Rattle.mdns_page.specs.declared.picture.{Mark.{Mark}, Stroke.TheVariants.{Server}};
 ghost use Rattle.mdns_page.specs.Picture.{bar_mark, bars, class_of, end_mark, goes_on, is_for, is_same, mark_of, mark_text, path};
 ghost use Rattle.mdns_page.specs.{Picture.{path_begin, path_last, path_rest, title_word, titled_bar}, Timeline.{lives_lent}};

@@ -1,7 +1,6 @@
 //! The picture of a row.
 
-ghost use Rattle.std.specs.Prelude.{◌≡◌, ◌++◌, codes, map, OnOk};
-ghost use Rattle.std.specs.{Fmt.{decimal}, String.{string_bytes}};
+ghost use Rattle.std.specs.{Prelude.{◌≡◌, ◌++◌, codes, map, OnOk}, Fmt.{decimal}, String.{string_bytes}};
 ghost use Rattle.mdns_page.specs.{Lanes.{height}, RowPicture.{picture}, Timeline.{lives_lent, seconds_lent}};
 
 use crate::lanes::{push_height, push_lanes};

@@ -1,7 +1,6 @@
 //! The servers of instances: their SRV records among all that were heard, in key order.
 
-ghost use Rattle.std.specs.Prelude.{◌≡◌, List, is_some, map};
-ghost use Rattle.std.specs.List.Sorted.{IsStrictlySortedBy};
+ghost use Rattle.std.specs.{Prelude.{◌≡◌, List, is_some, map}, List.Sorted.{IsStrictlySortedBy}};
 ghost use Rattle.mdns_message.specs.{Parts.{service_of}, Resource.{key_cmp, set_key_cmp, set_key_of, type_number}};
 ghost use Rattle.mdns_message.specs.declared.record_type.RecordType.TheVariants.{Srv};
 ghost use Rattle.mdns_join.specs.declared.latest.Latest.{Latest};

@@ -1,7 +1,6 @@
 //! The ticks of the axis, and their labels.
 
-ghost use Rattle.std.specs.Prelude.{◌≡◌, ◌<◌, ◌^◌, ◌++◌, map, IfOk, OnOk};
-ghost use Rattle.std.specs.{List.{flat_map}, String.{string_bytes}};
+ghost use Rattle.std.specs.{Prelude.{◌≡◌, ◌<◌, ◌^◌, ◌++◌, map, IfOk, OnOk}, List.{flat_map}, String.{string_bytes}};
 ghost use Rattle.mdns_page.specs.Captures.{facts_lent};
 ghost use Rattle.mdns_page.specs.Ticks.{first_step, is_long, multiples, step_of, symbols_text, tick_label, tick_line, tick_text, ticks};
 

@@ -1,7 +1,6 @@
 //! The rows of the timeline: records with their lives, those of their servers, and the seconds in which captures heard them.
 
-ghost use Rattle.std.specs.Prelude.{◌≡◌, false, List, IfOk, map};
-ghost use Rattle.std.specs.{List.{All, filter}, List.Sorted.{IsStrictlySortedBy}};
+ghost use Rattle.std.specs.{Prelude.{◌≡◌, false, List, IfOk, map}, List.{All, filter}, List.Sorted.{IsStrictlySortedBy}};
 ghost use Rattle.mdns_message.specs.{Resource.{key_cmp, key_of}, declared.hearing.Hearing.{Hearing}};
 ghost use Rattle.mdns_cache.specs.Live.{key_of_last};
 ghost use Rattle.mdns_browse.specs.Services.{AreEach, body_of};

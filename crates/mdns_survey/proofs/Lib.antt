@@ -1,6 +1,5 @@
 pub mod ByteLemmas
 pub mod CountLemmas
-pub mod EachLemmas
 pub mod FactLemmas
 pub mod FewLemmas
 pub mod HeardLemmas

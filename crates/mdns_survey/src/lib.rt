@@ -3,7 +3,6 @@
 #![tactic(auto)]
 
 pub mod answers;
-pub mod each_capture;
 pub mod error_lines;
 pub mod filter;
 mod head;
@@ -24,7 +23,6 @@ pub mod summary;
 pub mod survey;
 
 pub use answers::{NamedProgram, answer, answer_request, answer_with};
-pub use each_capture::EachChronicling;
 pub use listen::{Heard, ListenFault};
 pub use program_lines::{check_line, ending_line, fault_line, open_line};
 pub use question::{Answer, Question, TextAnswer, survey_with};

@@ -63,9 +63,9 @@ pub fn listen<R: Source + Drop>(alloc: Global, reader: R) -> Result<Heard, Liste
     })
 }
 
-/// Listens to a capture, and passes its hearings to `hearer`, of which nothing is promised after an error. It stops after
-/// 4,294,967,295 packets.
-pub(crate) fn hear_capture<R: Source + Drop, H: Hearer>(
+// Listens to a capture, and passes its hearings to `hearer`, of which nothing is promised after an error. It stops after
+// 4,294,967,295 packets.
+fn hear_capture<R: Source + Drop, H: Hearer>(
     alloc: Global,
     reader: R,
     hearer: &mut H,

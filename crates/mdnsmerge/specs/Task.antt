@@ -1,9 +1,9 @@
 -- What a task writes, and why it is refused.
-use Rattle.std.specs.Prelude.{ℕ, Bool, true, false, List, [], codes, length}
+use Rattle.std.specs.Prelude.{ℕ, Bool, true, false, List, [], codes, length, map, string_bytes}
 use Rattle.mdns_browse.specs.declared.report.{Form.{Form}, Form.TheVariants.{Pretty}}
 use Rattle.mdns_capture.specs.{declared.stream.Source.{Ghosts}, Output.{Writing}}
-use Rattle.mdns_survey.specs.{Answer.{Answers, IsRefused, IsRefusedOf, Reports}, Question.{Asked, asked_lives}}
-use Rattle.mdns_survey.specs.declared.request.{LivesRequest.{LivesRequest}, Request.{Request}, Request.TheVariants.{Lives}}
+use Rattle.mdns_survey.specs.{Answer.{IsRefusedOf, Reports}, Question.{Asked, asked_lives, asked_of}}
+use Rattle.mdns_survey.specs.declared.request.{LivesRequest.{LivesRequest}, Request.TheVariants.{Check, Lives}}
 use Rattle.mdns_listeners.specs.{Groups.{grouped}, Together.{are_compared}, WarnedLives.{asked_warned}}
 use Rattle.mdns_page.specs.Page.{asked_page}
 use Rattle.command_line.specs.declared.words.{Task.{Task}, Task.TheVariants.{Survey, Page}}
@@ -21,26 +21,23 @@ asked_lives_if false lives names = asked_lives lives
 abbrev pub asked_lives_of : LivesRequest → List (List ℕ) → Asked
 asked_lives_of lives names = asked_lives_if (is_warned lives.form (length names)) lives names
 
--- what is requested was written, and nothing else
-abbrev pub AnswersSurvey : Request → List (List ℕ) → List (List ℕ) → Writing → Writing → ℕ → Type 0
-AnswersSurvey (Lives lives) names captures out err status =
-    Reports (asked_lives_of lives names).Answers true (codes "mdnsmerge") names captures out err status
-AnswersSurvey request names captures out err status = Answers request names captures out err status
+-- what a task asks of files with these names
+abbrev pub asked_by : Task → List (List ℕ) → Asked
+asked_by (Survey (Lives lives)) names = asked_lives_of lives names
+asked_by (Survey request) names = asked_of request names
+asked_by (Page as_of about listeners) names = asked_page names (grouped (map string_bytes listeners.items) names) about as_of
 
--- what is asked for was written, and nothing else; of a page, an error line for each capture that isn't whole too
+-- of all but a check, an error line is written for each capture that isn't whole
+abbrev pub says_endings : Task → Bool
+says_endings (Survey Check) = false
+says_endings task = true
+
+-- what is asked for was written, and nothing else
 abbrev pub AnswersTask : Task → List (List ℕ) → List (List ℕ) → Writing → Writing → ℕ → Type 0
-AnswersTask (Survey request) names captures out err status = AnswersSurvey request names captures out err status
-AnswersTask (Page as_of about) names captures out err status =
-    Reports (asked_page names about as_of).Answers true (codes "mdnsmerge") names captures out err status
-
--- a request was refused for some fault
-abbrev pub IsSurveyRefused : {R : Type 0} → Ghosts R → Request → List (List ℕ) → List R → Writing → Writing → Type 0
-IsSurveyRefused source (Lives lives) names readers out err =
-    IsRefusedOf source (asked_lives_of lives names) (codes "mdnsmerge") names readers out err
-IsSurveyRefused source request names readers out err = IsRefused source request names readers out err
+AnswersTask task names captures out err status =
+    Reports (asked_by task names).Answers (says_endings task) (codes "mdnsmerge") names captures out err status
 
 -- it was refused for some fault
 abbrev pub IsTaskRefused : {R : Type 0} → Ghosts R → Task → List (List ℕ) → List R → Writing → Writing → Type 0
-IsTaskRefused source (Survey request) names readers out err = IsSurveyRefused source request names readers out err
-IsTaskRefused source (Page as_of about) names readers out err =
-    IsRefusedOf source (asked_page names about as_of) (codes "mdnsmerge") names readers out err
+IsTaskRefused source task names readers out err =
+    IsRefusedOf source (asked_by task names) (codes "mdnsmerge") names readers out err

@@ -4,7 +4,7 @@ ghost use Rattle.std.specs.Prelude.{◌≡◌, ◌≢◌, ◌≤◌, ℕ, [], Li
 ghost use Rattle.mdns_capture.specs.Output.{writing};
 ghost use Rattle.mdns_survey.specs.Answer.{IsRefusedOf, Reports};
 ghost use Rattle.mdns_listeners.specs.{Groups.{grouped}, WarnedLives.{asked_warned}};
-ghost use Rattle.mdnsmerge.specs.Task.{AnswersSurvey, AnswersTask, IsSurveyRefused, IsTaskRefused, asked_lives_of, is_warned};
+ghost use Rattle.mdnsmerge.specs.Task.{AnswersTask, IsTaskRefused, asked_lives_of, is_warned};
 
 use command_line::Task;
 use mdns_browse::report::Form;
@@ -42,48 +42,32 @@ pub(crate) fn answer_task<R: Source + Drop, O: Sink, E: Sink>(
     ensures unfailed { result ≢ REFUSED → O.failures out.new ≡ O.failures out.old }
 {
     match task {
-        Task::Survey(request) => answer_survey(alloc, request, names, readers, out, err),
-        Task::Page { as_of, about } => {
-            let page = PageRequest {
-                names,
-                as_of,
-                about,
-            };
-            answer_with(page, true, named(names), readers, out, err)
+        Task::Survey(Request::Lives(lives)) => {
+            answer_lives(alloc, lives, names, readers, out, err)
         }
-    }
-}
-
-// Answers a request over files of these names, and returns the exit status.
-fn answer_survey<R: Source + Drop, O: Sink, E: Sink>(
-    alloc: Global,
-    request: Request,
-    names: &[String],
-    readers: Vec<R>,
-    out: &mut O,
-    err: &mut E,
-) -> u8
-    requires { length names.now ≡ length readers.items }
-    ensures status { result ≤ 2 }
-    ensures answers { result ≢ REFUSED → (captures : List (List ℕ))
-        → map R.remaining readers.items ≡ map Some captures
-        → AnswersSurvey request (map string_bytes names.now) captures
-        (writing O.Sink out.old out.new) (writing E.Sink err.old err.new) result }
-    ensures refused { result ≡ REFUSED → IsSurveyRefused R.Source request (map string_bytes names.now) readers.items
-        (writing O.Sink out.old out.new) (writing E.Sink err.old err.new) }
-    ensures unfailed { result ≢ REFUSED → O.failures out.new ≡ O.failures out.old }
-{
-    match request {
-        Request::Lives(lives) => answer_lives(alloc, lives, names, readers, out, err),
-        Request::Report(report) => answer_request(
-            alloc,
-            Request::Report(report),
-            names,
-            readers,
-            out,
-            err,
-        ),
-        Request::Check => answer_request(alloc, Request::Check, names, readers, out, err),
+        Task::Survey(Request::Report(report)) => {
+            let request = Request::Report(report);
+            answer_request(alloc, request, names, readers, out, err)
+        }
+        Task::Survey(Request::Check) => {
+            answer_request(alloc, Request::Check, names, readers, out, err)
+        }
+        Task::Page {
+            as_of,
+            about,
+            listeners,
+        } => match Groups::new(alloc, names, listeners.as_slice()) {
+            Ok(groups) => {
+                let page = PageRequest {
+                    names,
+                    groups: &groups,
+                    as_of,
+                    about,
+                };
+                answer_with(page, true, named(names), readers, out, err)
+            }
+            Err(Want) => error_lines::refuse(alloc, "mdnsmerge", names, &SurveyFault::Memory, err),
+        },
     }
 }
 

@@ -81,14 +81,14 @@ fn page_fault(
     readers: Vec<SlowReader<'_>>,
     out: &mut SlowWriter,
 ) -> Option<SurveyFault> {
-    let Ok(names) = two_names(alloc) else {
-        return None;
-    };
+    let names = two_names(alloc).ok()?;
     if names.len() != readers.len() {
         return None;
     }
+    let groups = Groups::new(alloc, names.as_slice(), &[]).ok()?;
     let page = PageRequest {
         names: names.as_slice(),
+        groups: &groups,
         as_of,
         about,
     };
@@ -122,7 +122,7 @@ fn task_fault(
         Task::Survey(Request::Report(report)) => survey_request(alloc, readers, report, out).err(),
         Task::Survey(Request::Lives(lives)) => survey_with(alloc, readers, lives, out).err(),
         Task::Survey(Request::Check) => None,
-        Task::Page { as_of, about } => page_fault(alloc, as_of, about, readers, out),
+        Task::Page { as_of, about, .. } => page_fault(alloc, as_of, about, readers, out),
     }
 }
 

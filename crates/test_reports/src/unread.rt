@@ -7,6 +7,7 @@ use crate::listeners::listeners_status;
 use crate::slow::{Trial, passes_at_each_call, two_names};
 use crate::traces::{FIRST_UNREAD, FIRST_UNREAD_JSON, HEARING, SECOND_UNREAD, SPAN, files_of};
 use mdns_browse::report::{Ask, Form};
+use mdns_listeners::Groups;
 use mdns_page::page::PageRequest;
 use mdns_survey::answers::{NamedProgram, answer_request, answer_with};
 use mdns_survey::status::REFUSED;
@@ -48,11 +49,13 @@ fn request_of(alloc: Global, run: Run) -> Request {
     }
 }
 
-fn page_of<'a>(alloc: Global, names: &'a [String]) -> PageRequest<'a>
-    ensures { result.names.now ≡ names.now }
+fn page_of<'a>(alloc: Global, names: &'a [String], groups: &'a Groups) -> PageRequest<'a>
+    ensures names { result.names.now ≡ names.now }
+    ensures groups { result.groups.now ≡ groups.now }
 {
     PageRequest {
         names,
+        groups,
         as_of: AsOf::Newest,
         about: Subjects::new(Vec::new(alloc)),
     }
@@ -96,7 +99,8 @@ fn status_of(
             err,
         )),
         Run::Page => {
-            let page = page_of(alloc, names);
+            let groups = Groups::new(alloc, names, &[]).ok()?;
+            let page = page_of(alloc, names, &groups);
             let named = NamedProgram {
                 program: "mdnsmerge",
                 files: names,

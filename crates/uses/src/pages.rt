@@ -4,6 +4,7 @@ ghost use Rattle.std.specs.Prelude.{◌≡◌, [], ℕ, List, length, map, strin
 ghost use Rattle.mdns_page.specs.Page.{SurveysPage};
 
 use mdns_capture::{Source, Through};
+use mdns_listeners::Groups;
 use mdns_page::page::PageRequest;
 use mdns_survey::question::survey_with;
 use mdns_survey::request::{AsOf, Subjects};
@@ -11,20 +12,23 @@ use mdns_survey::summary::Summary;
 use mdns_survey::survey::SurveyFault;
 use std::alloc::Global;
 
-/// Returns a summary of each capture, and the page about all instances of all of them.
+/// Returns a summary of each file, and the page about all instances of all of them, by the listeners of the files.
 pub fn page_of<R: Source + Drop>(
     alloc: Global,
     names: &[String],
+    groups: &Groups,
     captures: Vec<R>,
     as_of: AsOf,
 ) -> Result<(Vec<Summary>, Vec<u8>), SurveyFault>
-    requires { length names.now ≡ length captures.items }
+    requires names { length names.now ≡ length captures.items }
+    requires groups { length groups.now.of ≡ length captures.items }
     ensures { IfOk result (λ told. (bytes : List (List ℕ)) → map R.remaining captures.items ≡ map Some bytes
-        → SurveysPage (map string_bytes names.now) [] as_of bytes told.0.items told.1.items) }
+        → SurveysPage (map string_bytes names.now) groups.now [] as_of bytes told.0.items told.1.items) }
 {
     let mut text = Through(Vec::new(alloc));
     let page = PageRequest {
         names,
+        groups,
         as_of,
         about: Subjects::new(Vec::new(alloc)),
     };

@@ -1,8 +1,6 @@
-use Rattle.std.proofs.Common.{rules, ◌≡◌, ◌∙◌, ap, ap₂, sym, take, ◌∷◌, ◌+◌, ◌++◌, []}
-use Rattle.std.proofs.lemmas.List.{map_more}
+use Rattle.std.proofs.{Common.{rules, ◌≡◌, ◌∙◌, ap, ap₂, sym, take, ◌∷◌, ◌+◌, ◌++◌, []}, lemmas.List.{map_more}}
 use Rattle.clap.specs.Words.{App, app_of, with_subcommand}
-use Rattle.command_line.specs.Line.{flags_of, line_of, subcommand_shape, table_of}
-use Rattle.command_line.specs.declared.line.Subcommand.{Subcommand}
+use Rattle.command_line.specs.{Line.{flags_of, line_of, subcommand_shape, table_of}, declared.line.Subcommand.{Subcommand}}
 use Rattle.command_line.proofs.LineLemmas.{line-more, plain-is-local}
 use Rattle.command_line.proofs.line.command_of.Goals as goal
 

@@ -1,11 +1,7 @@
-use Rattle.std.proofs.Common.{arith, rules, ◌∙◌, ap, ap₂, sym, take, List}
-use Rattle.std.proofs.lemmas.List.{map-append, map_more, take_all}
+use Rattle.std.proofs.{Common.{arith, rules, ◌∙◌, ap, ap₂, sym, take, List}, lemmas.List.{map-append, map_more, take_all}}
 use Rattle.std.proofs.lemmas.Result.{IfOk-weaker}
-use Rattle.clap.specs.Simple.{new_shape}
-use Rattle.clap.specs.Words.{Rule, Text, with_rule}
-use Rattle.command_line.specs.Line.{app_of_shape, flag_rule, flags_of, rules_of}
-use Rattle.command_line.specs.declared.line.Flag.{Flag}
-use Rattle.command_line.specs.declared.line.Takes.{Takes}
+use Rattle.clap.specs.{Simple.{new_shape}, Words.{Rule, Text, with_rule}}
+use Rattle.command_line.specs.{Line.{app_of_shape, flag_rule, flags_of, rules_of}, declared.line.Flag.{Flag}, declared.line.Takes.{Takes}}
 use Rattle.command_line.proofs.line.subcommand_of.Goals as goal
 
 pub loop-flag-preserved : goal.loop-flag-preserved

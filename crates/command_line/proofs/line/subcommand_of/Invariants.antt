@@ -1,6 +1,5 @@
 use Rattle.std.proofs.Common.{◌≡◌, take}
-use Rattle.clap.specs.Simple.{new_shape}
-use Rattle.clap.specs.Words.{app_of}
+use Rattle.clap.specs.{Simple.{new_shape}, Words.{app_of}}
 use Rattle.command_line.specs.Line.{app_of_shape, flags_of, rules_of}
 use Rattle.command_line.proofs.line.subcommand_of.Given as goal
 

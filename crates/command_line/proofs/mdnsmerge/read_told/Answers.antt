@@ -1,12 +1,8 @@
 use Rattle.std.proofs.Common.{map, string_bytes, subst}
-use Rattle.clap.specs.Words.{fault_of}
-use Rattle.clap.specs.declared.error.kind.ErrorKind.TheVariants.{DisplayVersion}
-use Rattle.command_line.specs.Line.{IsAsked}
-use Rattle.command_line.specs.Faults.{IsUnasked}
-use Rattle.command_line.specs.CommandLine.{AsksWhat, command_line, what_of}
+use Rattle.clap.specs.{Words.{fault_of}, declared.error.kind.ErrorKind.TheVariants.{DisplayVersion}}
+use Rattle.command_line.specs.{Line.{IsAsked}, Faults.{IsUnasked}, CommandLine.{AsksWhat, command_line, what_of}}
 use Rattle.command_line.specs.declared.words.AskFault.TheVariants.{Version}
-use Rattle.command_line.proofs.MergeLemmas.{AsksTold, what-asked}
-use Rattle.command_line.proofs.TableLemmas.{asks-also}
+use Rattle.command_line.proofs.{MergeLemmas.{AsksTold, what-asked}, TableLemmas.{asks-also}}
 use Rattle.command_line.proofs.mdnsmerge.read_told.Goals as goal
 
 pub returns-in-Ok-clause-told : goal.returns-in-Ok-clause-told

@@ -1,9 +1,6 @@
 use Rattle.std.proofs.Common.{◌≡◌, rules, map, string_bytes, Ok}
-use Rattle.command_line.specs.CommandLine.{AsksInquiry, in_form, why_line}
-use Rattle.command_line.specs.Line.{AsksWithLists, IsAsked}
-use Rattle.command_line.specs.OptionFault.{MakesNoInquiry}
-use Rattle.command_line.proofs.TableLemmas.{asks-also}
-use Rattle.command_line.proofs.WhyLemmas.{AsksWhy, inquiry-asked, option_fault-refused}
+use Rattle.command_line.specs.{CommandLine.{AsksInquiry, in_form, why_line}, Line.{AsksWithLists, IsAsked}, OptionFault.{MakesNoForm}}
+use Rattle.command_line.proofs.{TableLemmas.{asks-also}, WhyLemmas.{AsksWhy, inquiry-asked, option_fault-refused}}
 use Rattle.command_line.proofs.mdnswhy.read_why.Goals as goal
 
 pub returns-in-Ok-clause-asked : goal.returns-in-Ok-clause-asked
@@ -25,5 +22,5 @@ returns-in-Err-clause-unasked c =
     let names = map string_bytes c.in_ok-asked.asked.names.items in
     let asked : IsAsked AsksWhy why_line words c.in_ok-asked.asked = c.in_ok-asked.ensures.asked in
     let option_fault = c.in-Err.option_fault in
-    let none : MakesNoInquiry what.0.1 what.1 names option_fault = search rules in
+    let none : MakesNoForm what.0.1 what.1 names option_fault = search rules in
     option_fault-refused why_line words what names option_fault c.refusal_of.result asked.0 asked.1 none c.refusal_of.ensures

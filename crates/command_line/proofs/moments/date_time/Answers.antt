@@ -1,5 +1,4 @@
-use Rattle.std.proofs.Common.{rules, ◌≡◌, ◌∙◌, Some, None, refl, sym}
-use Rattle.std.proofs.lemmas.Option.{none-some}
+use Rattle.std.proofs.{Common.{rules, ◌≡◌, ◌∙◌, Some, None, refl, sym}, lemmas.Option.{none-some}}
 use Rattle.command_line.specs.MomentReading.{read_date_time}
 use Rattle.command_line.proofs.DateTimeLemmas.{date_time-complete, moments-told, unread-told}
 use Rattle.command_line.proofs.moments.date_time.Goals as goal

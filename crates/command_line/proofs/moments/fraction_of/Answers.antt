@@ -1,12 +1,10 @@
-use Rattle.std.proofs.Common.{◌≡◌, ◌*◌, ◌<◌, Some, arith}
-use Rattle.std.proofs.lemmas.Fmt.{IsAscii-from_digits}
-use Rattle.std.proofs.lemmas.Str.{IsUtf8-from_ascii}
+use Rattle.std.proofs.{Common.{◌≡◌, ◌*◌, ◌<◌, Some, arith}, lemmas.Fmt.{IsAscii-from_digits}, lemmas.Str.{IsUtf8-from_ascii}}
 use Rattle.std.proofs.lemmas.Str.Parse.{digits_value_short, not_in_digits, parse_digits, parse_plain}
 use Rattle.command_line.specs.MomentReading.{fraction_of}
 use Rattle.command_line.proofs.FractionLemmas.{own, read, unread}
-use Rattle.command_line.proofs.moments.fraction_of.Goals as goal
 use Rattle.command_line.proofs.moments.fraction_of.Goals.{then-digits-gt9-via-then-digits-gt9}
 use Rattle.command_line.proofs.moments.fraction_of.Goals.{then-digits-gt9-via-else-digits-gt9+then-byte_at-eq43}
+use Rattle.command_line.proofs.moments.fraction_of.Goals as goal
 
 pub returns-then-digits-gt9-clause-value : goal.returns-then-digits-gt9-clause-value
 returns-then-digits-gt9-clause-value c = grind (arith, unread, then-digits-gt9-via-then-digits-gt9, not_in_digits, own)

@@ -1,5 +1,4 @@
-use Rattle.std.proofs.Common.{rules, arith}
-use Rattle.std.proofs.lemmas.Grind.{common_steps}
+use Rattle.std.proofs.{Common.{rules, arith}, lemmas.Grind.{common_steps}}
 use Rattle.command_line.specs.MomentReading.{read_minutes}
 use Rattle.command_line.proofs.moments.read_minutes.Goals as goal
 

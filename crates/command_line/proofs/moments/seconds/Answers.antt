@@ -1,5 +1,4 @@
-use Rattle.std.proofs.Common.{rules, arith, ◌≡◌, ◌∙◌, Some, None, sym, subst}
-use Rattle.std.proofs.lemmas.Option.{none-some}
+use Rattle.std.proofs.{Common.{rules, arith, ◌≡◌, ◌∙◌, Some, None, sym, subst}, lemmas.Option.{none-some}}
 use Rattle.command_line.specs.MomentReading.{IsAtSecond, fraction_of}
 use Rattle.command_line.proofs.GrammarLemmas.{fraction-complete, fraction-sound}
 use Rattle.command_line.proofs.SecondsLemmas.{SplitsAt, dotted-parts, dotted-told, whole-parts, whole-told}

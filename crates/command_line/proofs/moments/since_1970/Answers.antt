@@ -1,6 +1,4 @@
-use Rattle.std.proofs.Common.{arith}
-use Rattle.std.proofs.lemmas.Grind.{common_steps}
-use Rattle.std.proofs.lemmas.Bool.Decides.{nat_tests}
+use Rattle.std.proofs.{Common.{arith}, lemmas.Grind.{common_steps}, lemmas.Bool.Decides.{nat_tests}}
 use Rattle.people_text.proofs.CalendarLemmas.{days_of_years-1970}
 use Rattle.command_line.proofs.DateTimeLemmas.{same-utc, since-told}
 use Rattle.command_line.proofs.moments.since_1970.Goals as goal

@@ -1,6 +1,5 @@
 use Rattle.std.proofs.Common.{◌≡◌, IfOk, rules, string_bytes, subst, sym}
-use Rattle.command_line.specs.OptionFault.{option_fault_text}
-use Rattle.command_line.specs.declared.option_fault.OptionFault.{OptionFault}
+use Rattle.command_line.specs.{OptionFault.{option_fault_text}, declared.option_fault.OptionFault.{OptionFault}}
 use Rattle.command_line.specs.declared.option_fault.OptionFault.TheVariants as option_fault
 use Rattle.command_line.proofs.option_fault.option_fault_line.Goals as goal
 

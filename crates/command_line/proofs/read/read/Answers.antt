@@ -2,9 +2,7 @@ use Rattle.std.proofs.Common.{◌≡◌, ◌∙◌, ap, refl, sym, subst, map, s
 use Rattle.clap.proofs.WalkLemmas.{both}
 use Rattle.clap.specs.Kinds.{HasKind}
 use Rattle.clap.specs.Words.{App, Kinds, Row, Text, app_of, fault_of, found_of, is_simple, is_simple_and_free, rows_of, subcommand_of}
-use Rattle.command_line.proofs.LineLemmas.{unasked-by-kind}
-use Rattle.command_line.proofs.TableLemmas.{asks-also}
-use Rattle.command_line.proofs.ReadLemmas.{faultless, good-asks, good-files}
+use Rattle.command_line.proofs.{LineLemmas.{unasked-by-kind}, TableLemmas.{asks-also}, ReadLemmas.{faultless, good-asks, good-files}}
 use Rattle.command_line.specs.Line.{AsksIn, AsksWithLists, AsksWithRows, HasLists, Matches, app_of_line}
 use Rattle.command_line.proofs.read.read.Goals as goal
 

@@ -1,5 +1,4 @@
-use Rattle.std.proofs.Common.{◌∙◌, ◌++◌, ap, codes, sym, ℕ}
-use Rattle.std.proofs.lemmas.List.{length-map}
+use Rattle.std.proofs.{Common.{◌∙◌, ◌++◌, ap, codes, sym, ℕ}, lemmas.List.{length-map}}
 use Rattle.std.specs.String.{string_bytes}
 use Rattle.mdns_page.specs.{Captures.{captures_text, facts_lent}, Counts.{count_text}}
 use Rattle.mdns_page.proofs.PartLemmas.{parts3, parts8}

@@ -1,7 +1,7 @@
 use Rattle.std.proofs.Common.{◌≡◌, ◌∙◌, ◌++◌, Bool, ℕ, ap, if◌then◌else◌, length, nat_lt, sym, codes}
 use Rattle.std.proofs.lemmas.List.{length-map}
 use Rattle.std.specs.String.{string_bytes}
-use Rattle.mdns_page.specs.{Captures.{captures_text, facts_lent}, OtherRows.{is_large}, Html.{isolated}, Document.{head, parts_lent}}
+use Rattle.mdns_page.specs.{Captures.{captures_text, facts_lent}, OtherRows.{is_large}, Html.{isolated}, Document.{head, lead, parts_lent}}
 use Rattle.mdns_page.specs.Timeline.{counted_lent, timeline}
 use Rattle.mdns_page.proofs.PartLemmas.{parts8}
 use Rattle.mdns_page.proofs.document.push_page.Goals as goal
@@ -17,7 +17,7 @@ returns c =
     c.lanes_for-lanes.ensures ∙ ap (λ (large : Bool). lanes_for large (length parts.captures.now)) c.is_large.ensures
     ∙ ap (λ (n : ℕ). lanes_for (is_large n) (length parts.captures.now)) (sym (length-map parts.rows.now counted_lent))
     ∙ ap (λ (n : ℕ). lanes_for (is_large (length shown.rows)) n) (sym (length-map parts.captures.now facts_lent)) in
-    parts8 (string_bytes c.args.to.now) (head axis lanes shown.captures) _ _ (captures_text isolated axis shown.captures shown.comparison)
+    parts8 (string_bytes c.args.to.now) (head axis lanes shown.captures) (lead isolated shown) _ (captures_text isolated axis shown.captures shown.comparison)
     (timeline isolated axis lanes shown.rows shown.addresses shown.names) shown.live shown.skipped (codes "</main></body></html>\n") _ _ _ _ _ _ _ _
     (c.in_ok-push_head.ensures ∙ ap (λ (n : ℕ). string_bytes c.args.to.now ++ head axis n shown.captures) is)
     c.in_ok-push_lead.ensures c.in_ok-push_str.ensures.bytes c.in_ok-push_captures.ensures

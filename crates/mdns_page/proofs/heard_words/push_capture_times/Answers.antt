@@ -1,5 +1,4 @@
-use Rattle.std.proofs.Common.{◌∙◌, ◌++◌, ◌==◌, ap, codes, if◌then◌else◌, length, ℕ}
-use Rattle.std.proofs.lemmas.Result.{on_ok_weaker}
+use Rattle.std.proofs.{Common.{◌∙◌, ◌++◌, ◌==◌, ap, codes, if◌then◌else◌, length, ℕ}, lemmas.Result.{on_ok_weaker}}
 use Rattle.std.specs.String.{string_bytes}
 use Rattle.mdns_page.specs.{Counts.{commas}, HeardWords.{capture_times, goodbyes_text}}
 use Rattle.mdns_page.proofs.PartLemmas.{parts4}

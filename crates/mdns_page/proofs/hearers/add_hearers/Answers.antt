@@ -1,5 +1,4 @@
-use Rattle.std.proofs.Common.{◌∙◌, List, ap, arith, map, refl, subst, sym}
-use Rattle.std.proofs.lemmas.List.{take_all}
+use Rattle.std.proofs.{Common.{◌∙◌, List, ap, arith, map, refl, subst, sym}, lemmas.List.{take_all}}
 use Rattle.std.specs.List.Sorted.{IsStrictlySortedBy}
 use Rattle.mdns_message.specs.Resource.{key_cmp}
 use Rattle.mdns_page.specs.{Timeline.{counted_lent}, declared.timeline_rows.CountedRow.{CountedRow}}

@@ -1,5 +1,4 @@
-use Rattle.std.proofs.Common.{◌≡◌, ◌∙◌, List, ap, map, set, sym, subst}
-use Rattle.std.proofs.lemmas.List.{set-set}
+use Rattle.std.proofs.{Common.{◌≡◌, ◌∙◌, List, ap, map, set, sym, subst}, lemmas.List.{set-set}}
 use Rattle.mdns_message.specs.Resource.{key_of}
 use Rattle.mdns_browse.specs.Services.{AreEach}
 use Rattle.mdns_page.specs.{TimelineRows.{HearsRecord, heard_too, unheard}, Timeline.{counted_lent, seconds_lent}}

@@ -1,5 +1,4 @@
-use Rattle.std.proofs.Common.{arith, ◌∙◌, refl, sym}
-use Rattle.std.proofs.lemmas.Simd.{map-map}
+use Rattle.std.proofs.{Common.{arith, ◌∙◌, refl, sym}, lemmas.Simd.{map-map}}
 use Rattle.mdns_page.specs.{Timeline.{counted_lent}, declared.timeline_rows.CountedRow.{CountedRow}}
 use Rattle.mdns_page.proofs.{HearerLemmas.{row_key}, KeptLemmas.{map-whole}}
 use Rattle.mdns_page.proofs.hearers.keys_of.Goals as goal

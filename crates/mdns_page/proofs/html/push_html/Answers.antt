@@ -1,5 +1,5 @@
-use Rattle.std.proofs.Common.{◌≡◌, ◌++◌, sym, ap, ◌∙◌, arith, length, string_bytes}
-use Rattle.std.proofs.lemmas.{Bool.Decides.{nat_tests}, List.{append-nil}}
+use Rattle.std.proofs.{Common.{◌≡◌, ◌++◌, sym, ap, ◌∙◌, arith, length, string_bytes}, lemmas.Bool.Decides.{nat_tests}}
+use Rattle.std.proofs.lemmas.List.{append-nil}
 use Rattle.mdns_page.proofs.HtmlLemmas.{html_text-nil}
 use Rattle.mdns_page.proofs.html.push_html.Goals as goal
 

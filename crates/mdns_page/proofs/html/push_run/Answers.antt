@@ -1,5 +1,4 @@
-use Rattle.std.proofs.Common.{◌≡◌, ◌<◌, ◌++◌, arith, length, string_bytes}
-use Rattle.std.proofs.lemmas.Bool.Decides.{nat_tests}
+use Rattle.std.proofs.{Common.{◌≡◌, ◌<◌, ◌++◌, arith, length, string_bytes}, lemmas.Bool.Decides.{nat_tests}}
 use Rattle.mdns_page.specs.Html.{html_text}
 use Rattle.mdns_page.proofs.HtmlLemmas.{cut-after, run-marked, run-plain}
 use Rattle.mdns_page.proofs.html.push_run.Goals as goal

@@ -1,5 +1,4 @@
-use Rattle.std.proofs.Common.{◌≡◌, ◌∙◌, ◌||◌, ap, is_some, sym, true, false}
-use Rattle.std.proofs.lemmas.Result.{IfOk-weaker}
+use Rattle.std.proofs.{Common.{◌≡◌, ◌∙◌, ◌||◌, ap, is_some, sym, true, false}, lemmas.Result.{IfOk-weaker}}
 use Rattle.mdns_cache.specs.LentRecords.{last_lent}
 use Rattle.mdns_message.specs.Parts.{address_of}
 use Rattle.mdns_browse.specs.{About.{keeps_record}, Services.{body_of, instance_given, other_given}}

@@ -1,5 +1,4 @@
-use Rattle.std.proofs.Common.{◌≡◌, ◌==◌, arith, false}
-use Rattle.std.proofs.lemmas.Bool.Decides.{nat_tests}
+use Rattle.std.proofs.{Common.{◌≡◌, ◌==◌, arith, false}, lemmas.Bool.Decides.{nat_tests}}
 use Rattle.mdns_page.specs.Lanes.{bases_text}
 use Rattle.mdns_page.proofs.PartLemmas.{parts3}
 use Rattle.mdns_page.proofs.lanes.push_bases.Goals as goal

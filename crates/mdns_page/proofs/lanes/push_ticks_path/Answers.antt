@@ -1,5 +1,4 @@
-use Rattle.std.proofs.Common.{arith}
-use Rattle.std.proofs.lemmas.Result.{on_ok_weaker}
+use Rattle.std.proofs.{Common.{arith}, lemmas.Result.{on_ok_weaker}}
 use Rattle.std.specs.String.{string_bytes}
 use Rattle.mdns_page.specs.{Lanes.{second_mark}, Picture.{path, path_rest}}
 use Rattle.mdns_page.proofs.PathLemmas.{path-all, path-more}

@@ -1,5 +1,4 @@
-use Rattle.std.specs.Prelude.{ℕ, List, ◌++◌, codes, string_bytes}
-use Rattle.std.specs.List.{flat_map}
+use Rattle.std.specs.{Prelude.{ℕ, List, ◌++◌, codes, string_bytes}, List.{flat_map}}
 use Rattle.mdns_browse.specs.declared.about.Subject.{Subject}
 use Rattle.people_text.specs.Shown.{shown}
 use Rattle.mdns_page.specs.Html.{isolated}

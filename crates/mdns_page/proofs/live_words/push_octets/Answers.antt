@@ -1,7 +1,5 @@
-use Rattle.std.proofs.Common.{◌∙◌, ◌++◌, Option, [], ap, option_map}
-use Rattle.std.proofs.lemmas.Result.{on_ok_weaker}
-use Rattle.std.specs.Prelude.{unwrap_or}
-use Rattle.std.specs.String.{string_bytes}
+use Rattle.std.proofs.{Common.{◌∙◌, ◌++◌, Option, [], ap, option_map}, lemmas.Result.{on_ok_weaker}}
+use Rattle.std.specs.{Prelude.{unwrap_or}, String.{string_bytes}}
 use Rattle.mdns_message.specs.declared.parts.Address.{Address}
 use Rattle.mdns_browse.specs.RecordShown.{shown_address}
 use Rattle.mdns_page.proofs.LiveWordLemmas.{address-lent}

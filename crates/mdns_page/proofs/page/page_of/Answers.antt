@@ -6,8 +6,8 @@ use Rattle.mdns_cache.specs.{Live.{key_of_last}, LentRecords.{last_lent}}
 use Rattle.mdns_join.specs.declared.latest.Latest.{Latest}
 use Rattle.mdns_lives.specs.{Chronicle.{Accounts, Chronicles}, LentLives.{row_lent}, declared.life.Life.{Life}}
 use Rattle.mdns_browse.specs.{declared.about.Subject.{Subject}, Services.{AreEach}}
-use Rattle.mdns_page.specs.{Captures.{comparison_lent, facts_lent}, Collected.{rows_lent}, OtherRows.{is_large}, Html.{isolated}}
-use Rattle.mdns_page.specs.{KeptRecords.{AreRows, is_kept, is_of, kept_of, looked_up}, SkippedSection.{skipped_text}}
+use Rattle.mdns_page.specs.{Captures.{comparison_lent, facts_lent}, Collected.{rows_lent}, Html.{isolated}, Lead.{ended_lent}}
+use Rattle.mdns_page.specs.{OtherRows.{is_large}, KeptRecords.{AreRows, is_kept, is_of, kept_of, looked_up}, SkippedSection.{skipped_text}}
 use Rattle.mdns_page.specs.{Document.{Shown, page}, Page.{WritesPage, live_at_end}, Timeline.{Row, counted_lent, is_open}}
 use Rattle.mdns_page.specs.declared.kept_records.{TimelinePart.{TimelinePart}, TimelinePart.TheVariants.{Addresses, Instances, Names}}
 use Rattle.mdns_page.proofs.KeptLemmas.{few-sorted, looked_up-sorted, some-sorted}
@@ -66,16 +66,17 @@ returns c = λ each heard chronicled held latest.
       axis = axis;
       about = about;
       captures = map facts_lent c.as_slice-3.result.now;
+      files = map ended_lent c.as_slice-4.result.now;
       comparison = comparison_lent c.lent.result;
       lost = c.lost_packets.result;
-      rows = map counted_lent c.as_slice-4.result.now;
-      addresses = map counted_lent c.as_slice-5.result.now;
-      names = map counted_lent c.as_slice-6.result.now;
+      rows = map counted_lent c.as_slice-5.result.now;
+      addresses = map counted_lent c.as_slice-6.result.now;
+      names = map counted_lent c.as_slice-7.result.now;
       live = c.as_str.result.now;
       skipped = c.as_str-2.result.now;
     } in
-    subst (λ (subjects : List Subject). WritesPage subjects (map string_bytes c.args.page.now.names.now) c.args.readings.now
-    (rows_lent c.args.comparison.now) each heard axis (string_bytes c.push_page.new.to)) c.as_slice-about.ensures (record {
+    subst (λ (subjects : List Subject). WritesPage subjects (map string_bytes c.args.page.now.names.now) c.args.page.now.groups.now
+    c.args.readings.now (rows_lent c.args.comparison.now) each heard axis (string_bytes c.push_page.new.to)) c.as_slice-about.ensures (record {
       latest = latest;
       rows = walk;
       lives = lives;
@@ -102,11 +103,12 @@ returns c = λ each heard chronicled held latest.
             axis = axis;
             about = about;
             captures = (ap (map facts_lent) c.as_slice-3.ensures.value ∙ c.in_ok-captures.ensures) i;
+            files = (ap (map ended_lent) c.as_slice-4.ensures.value ∙ c.in_ok-files.ensures) i;
             comparison = c.lent.ensures i;
             lost = c.lost_packets.ensures.value i;
-            rows = ap (map counted_lent) c.as_slice-4.ensures.value i;
-            addresses = ap (map counted_lent) c.as_slice-5.ensures.value i;
-            names = ap (map counted_lent) c.as_slice-6.ensures.value i;
+            rows = ap (map counted_lent) c.as_slice-5.ensures.value i;
+            addresses = ap (map counted_lent) c.as_slice-6.ensures.value i;
+            names = ap (map counted_lent) c.as_slice-7.ensures.value i;
             live = (c.as_str.ensures.value ∙ live) i;
             skipped = (c.as_str-2.ensures.value ∙ c.in_ok-push_skipped.ensures
                 ∙ ap (λ (none : List ℕ). none ++ skipped_text c.args.readings.now) c.new-skipped.ensures.bytes) i;

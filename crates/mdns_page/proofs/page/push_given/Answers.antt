@@ -1,5 +1,4 @@
-use Rattle.std.proofs.Common.{◌∙◌, ◌++◌, ◌∷◌, [], ap, append-nil, cond, map, sym}
-use Rattle.std.proofs.lemmas.List.{map-append}
+use Rattle.std.proofs.{Common.{◌∙◌, ◌++◌, ◌∷◌, [], ap, append-nil, cond, map, sym}, lemmas.List.{map-append}}
 use Rattle.mdns_browse.specs.Given.{given_lent}
 use Rattle.mdns_page.specs.Page.{given_of_since}
 use Rattle.mdns_lives.specs.Since.{live_since_lent}

@@ -1,5 +1,4 @@
-use Rattle.std.proofs.Common.{◌-◌, List, drop, length, rules, take}
-use Rattle.std.proofs.lemmas.List.Sorted.{IsPartitionPoint-from_clause}
+use Rattle.std.proofs.{Common.{◌-◌, List, drop, length, rules, take}, lemmas.List.Sorted.{IsPartitionPoint-from_clause}}
 use Rattle.std.specs.Ordering.{is_eq, is_le, is_lt}
 use Rattle.mdns_message.specs.Resource.{set_key_cmp, type_number}
 use Rattle.mdns_message.specs.declared.record_type.RecordType.TheVariants as kind

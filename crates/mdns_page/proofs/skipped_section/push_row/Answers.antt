@@ -1,5 +1,4 @@
-use Rattle.std.proofs.Common.{◌≡◌, ◌==◌, arith, false}
-use Rattle.std.proofs.lemmas.Bool.Decides.{nat_tests}
+use Rattle.std.proofs.{Common.{◌≡◌, ◌==◌, arith, false}, lemmas.Bool.Decides.{nat_tests}}
 use Rattle.mdns_page.specs.SkippedSection.{row_text}
 use Rattle.mdns_page.proofs.PartLemmas.{parts7}
 use Rattle.mdns_page.proofs.skipped_section.push_row.Goals as goal

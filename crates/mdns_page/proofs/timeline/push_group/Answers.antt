@@ -1,5 +1,4 @@
-use Rattle.std.proofs.Common.{◌∙◌, ◌++◌, ℕ, ap, codes, length, map, sym}
-use Rattle.std.proofs.lemmas.List.{length-map}
+use Rattle.std.proofs.{Common.{◌∙◌, ◌++◌, ℕ, ap, codes, length, map, sym}, lemmas.List.{length-map}}
 use Rattle.std.specs.String.{string_bytes}
 use Rattle.mdns_page.specs.{Counts.{commas}, Timeline.{counted_lent, group_count, group_text}}
 use Rattle.mdns_page.proofs.PartLemmas.{parts8}

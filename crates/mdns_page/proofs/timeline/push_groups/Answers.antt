@@ -1,5 +1,4 @@
-use Rattle.std.proofs.Common.{◌+◌, map, refl}
-use Rattle.std.proofs.lemmas.List.{take_rest}
+use Rattle.std.proofs.{Common.{◌+◌, map, refl}, lemmas.List.{take_rest}}
 use Rattle.std.specs.String.{string_bytes}
 use Rattle.mdns_page.specs.{Html.{isolated}, Timeline.{counted_lent, group_text, owner_of}}
 use Rattle.mdns_page.specs.declared.kept_records.TimelinePart.TheVariants.{Instances}

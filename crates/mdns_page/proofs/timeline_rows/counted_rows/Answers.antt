@@ -1,5 +1,4 @@
 use Rattle.std.proofs.Common.{◌≡◌, ◌∙◌, map}
-use Rattle.std.specs.List.{All}
 use Rattle.mdns_lives.specs.LentLives.{row_lent}
 use Rattle.mdns_browse.specs.Services.{body_of}
 use Rattle.mdns_page.specs.{Servers.{servers_of}, Timeline.{Row, counted_lent}}

@@ -1,5 +1,4 @@
-use Rattle.std.proofs.Common.{◌∙◌, ◌∷◌, [], ap, false, map}
-use Rattle.std.proofs.lemmas.List.{map-append}
+use Rattle.std.proofs.{Common.{◌∙◌, ◌∷◌, [], ap, false, map}, lemmas.List.{map-append}}
 use Rattle.mdns_message.specs.Resource.{key_of}
 use Rattle.mdns_page.specs.Timeline.{seconds_lent}
 use Rattle.mdns_page.proofs.CountedLemmas.{heard-more}
