@@ -21,7 +21,7 @@ from tests.judges.pretty import clock_words, pretty_text
 from tests.judges.savefile import FILE_HEADER, LAYOUTS, moment_of, reading_of, split_at
 from tests.judges.subjects import some_word
 from tests.judges.words import moment_text
-from tests.running.commands import ANSWERS, ASKS, FORMS, TRACES
+from tests.running.commands import ANSWERS, ASKS, FORMS, TRACES, taking
 from tests.running.program import expect, expect_same
 
 LAST_SECOND = 4_294_967_295
@@ -91,7 +91,7 @@ class Case:
         names = self.names if names is None else names
         must = answer_to(program, words, [(name, self.captures[name]) for name in names])
         answer = was = self.programs[program].run(*words, *names)
-        if words == ("packets",):
+        if words[0] == "packets" and out is None:
             was = was._replace(out=DAMAGE.sub("", was.out))
         elif out is not None or must.out is None:
             must = must._replace(out=(answer.out or "a page") if out is None else out)
@@ -143,6 +143,10 @@ class Case:
                 text = self.ask(trace, names=names, program="mdnswhy")
                 if len(names) == 1:
                     self.ask(trace, "--pretty", names=names, program="mdnswhy", out=pretty_text(trace, text))
+        since, until = (moment_text(min(self.about_packet(), LAST_MOMENT)) for _ in range(2))
+        for trace in taking("--since", TRACES):
+            for window in ("--since", since), ("--until", until), ("--since", since, "--until", until):
+                self.ask(trace, *window, program="mdnswhy")
 
     def same_text(self):
         """Captures without what stands after their whole packets, shuffled and repeated, or cut where a packet header begins, have the

@@ -7,6 +7,7 @@ from functools import cached_property, lru_cache
 from itertools import compress, takewhile
 from typing import Callable, NamedTuple
 
+from tests.captures.wire import LAST_MOMENT
 from tests.judges.causes import DAMAGED, LOST, causes_of
 from tests.judges.hearings import hearings_of
 from tests.judges.json_forms import MEMBERS, json_text
@@ -26,6 +27,8 @@ WORDS = argparse.ArgumentParser(add_help=False)
 WORDS.add_argument("ask")
 WORDS.add_argument("--at", type=moment_of)
 WORDS.add_argument("--before", type=moment_of)
+WORDS.add_argument("--since", type=moment_of)
+WORDS.add_argument("--until", type=moment_of)
 WORDS.add_argument("--about", action="append", default=[])
 WORDS.add_argument("--listener", action="append", default=[])
 for form in FORMS:
@@ -169,8 +172,11 @@ def check_text(files):
 
 
 def trace_text(asked, files):
-    """The text of mdnswhy, file after file; of hearings, the only ones that are asked for so, that which is about the words."""
+    """The text of mdnswhy, file after file: of hearings and packets, those in the window, and of hearings, those about the words."""
     text = traced_text(asked.ask, files)
+    if asked.since is not None or asked.until is not None:
+        begin, end = asked.since or 0, LAST_MOMENT + 1 if asked.until is None else asked.until
+        text = "".join(line for line in text.splitlines(keepends=True) if begin <= moment_of(line.split()[0]) < end)
     if asked.about:
         text = "".join(line for line in text.splitlines(keepends=True) if is_about(is_record_about, asked.about, heard_in(line)))
     if asked.form == "--json":
@@ -186,6 +192,8 @@ def answer_to(program, words, files):
     unfit = unfit_text([name for name, _ in files], asked.listener)
     if unfit:
         return Answer(2, "", f"{program}: {unfit}\n")
+    if None not in (asked.since, asked.until) and asked.since >= asked.until:
+        return Answer(2, "", f"{program}: --since must be earlier than --until: nothing lies between them\n")
     readings = [(name, reading_of(capture)) for name, capture in files]
     fault = next((f"{program}: {name}: {reading.fault}\n" for name, reading in readings if reading.fault), None)
     if fault:

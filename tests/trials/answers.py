@@ -27,7 +27,7 @@ class Table(NamedTuple):
 TABLES = (Table(("captures.rows",), 178),
           Table(("hearings.rows",), 120, has_vectors=False),
           Table(("hearings.rows", "lives.rows"), 119, has_vectors=False),
-          Table(("captures.rows", "why.rows"), 200, "mdnswhy"),
+          Table(("captures.rows", "why.rows"), 237, "mdnswhy"),
           Table(("captures.rows", "listeners.rows"), 85, "mdnswhy"))
 
 

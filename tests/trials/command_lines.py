@@ -133,7 +133,7 @@ REFUSALS = (
                     ["--at", "noon", "--before", ""])),
     *(misused(["records", *given(flag), *given(flag), "one.pcap"],
               f"the argument '{flag}{takes}' cannot be used multiple times", REPORT)
-      for flag, (takes, text) in FLAGS.items() if not text.endswith("; repeatable")),
+      for flag, (takes, text) in FLAGS.items() if flag in flags_of("records") and not text.endswith("; repeatable")),
     *(misused(["records", f"{flag}=true", "one.pcap"],
               f"unexpected value 'true' for '{flag}' found; no more were expected", f"records {flag} <FILE>...")
       for flag, (takes, _) in FLAGS.items() if not takes),

@@ -172,7 +172,8 @@ WORDS = (
               "to pass '--at' as a value, use '-- --at'") for trace in WHYS),
     *(misused([trace, flag, "a", "one.pcap"], f"unexpected argument '{flag}' found", f"{trace} [OPTIONS] <FILE>...",
               f"to pass '{flag}' as a value, use '-- {flag}'")
-      for trace in WHYS for flag in ("--about", "--printers", "--listener", "--skip-unusable") if flag not in flags_of(trace)),
+      for trace in WHYS for flag in ("--since", "--until", "--about", "--printers", "--listener", "--skip-unusable")
+      if flag not in flags_of(trace)),
     misused(["files", "--pretty", "one.pcap"], "unexpected argument '--pretty' found", "files [OPTIONS] <FILE>...",
             "to pass '--pretty' as a value, use '-- --pretty'"),
     *(said([command, *words, "one.pcap"], f"{one} and {other} can't be given together")

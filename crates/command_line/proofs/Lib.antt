@@ -7,7 +7,6 @@ mod MergeLemmas
 mod OptionLemmas
 mod PrintLemmas
 mod ReadLemmas
-mod RefusalLemmas
 mod SecondsLemmas
 mod SoundLemmas
 mod TableLemmas

@@ -1,6 +1,5 @@
 -- Lemmas on what the subcommands of `mdnsmerge` ask for.
 use Rattle.std.proofs.Common.{◌≡◌, ◌∙◌, ◌⊎◌, ap, ap₂, sym, subst, refl, inl, inr, codes, map, string_bytes, List, [], Option, Some, None}
-use Rattle.std.proofs.Math.Logic.{⊎_map}
 use Rattle.std.specs.Prelude.{IsSomeAnd}
 use Rattle.clap.specs.Words.{App, Row, Text, fault_of, first_of, subcommand_of}
 use Rattle.mdns_browse.specs.declared.report.{Ask.{Ask}, Form.{Form}}
@@ -8,16 +7,15 @@ use Rattle.mdns_survey.specs.declared.request.AsOf.{AsOf}
 use Rattle.mdns_listeners.specs.Groups.{unfit_prefix}
 use Rattle.command_line.specs.declared.{lists.Lists.{Lists}, mdnsmerge.Asks.{Asks}, mdnsmerge.Scope.{Scope}, options.Options.{Options}}
 use Rattle.command_line.specs.declared.{option_fault.OptionFault.{OptionFault}, words.WordsFault.{WordsFault}}
-use Rattle.command_line.specs.{declared.words.AskFault.TheVariants.{Words}, Line.{AsksWithLists, Flags, HasOneForm, HasOptions, Matches}}
-use Rattle.command_line.specs.Faults.{IsRefusal, IsUnasked}
+use Rattle.command_line.specs.declared.words.{WordsFault.TheVariants.{Memory, Help, Refused}, AskFault.TheVariants.{Words}}
+use Rattle.command_line.specs.{Line.{AsksWithLists, Flags, HasOneForm, HasOptions, Matches}, Faults.{IsRefusal, IsUnasked}}
 use Rattle.command_line.specs.CommandLine.{AsksJob, AsksWhat, GivesAsOf, GivesBoth, GivesNoFile, GivesNoMoment, GivesTwo, HasFitting}
 use Rattle.command_line.specs.CommandLine.{IsRefusedFor, MakesJob, MakesWhat, at_flag, before_flag, both_given, form_flags, job_of}
 use Rattle.command_line.specs.CommandLine.{no_moment, task_of, tasks, what_of, whats}
 use Rattle.command_line.specs.OptionFault.{MakesFormAsOf, MakesNoAsOf, MakesNone, option_fault_text, text_of}
 use Rattle.command_line.specs.declared.mdnsmerge.Asks.TheVariants as asks
 use Rattle.command_line.specs.declared.option_fault.OptionFault.TheVariants as option_fault
-use Rattle.command_line.proofs.RefusalLemmas.{Either, form-refused, refused-either, refused-for}
-use Rattle.command_line.proofs.TableLemmas.{IsOneOf, Known, all-known, one-asked}
+use Rattle.command_line.proofs.TableLemmas.{IsOneOf, Known, all-known, form-refused, one-asked}
 
 abbrev pub AsksTold : Text → List Row → (Option Ask × Options) × Lists → Type 0
 AsksTold = AsksWithLists (IsOneOf whats)
@@ -73,41 +71,39 @@ task-fits asks.Check scope names fit = tt
 abbrev merge : Text
 merge = codes "mdnsmerge"
 
-abbrev ForMoment : List Row → Text → Type 0
-ForMoment = Either (GivesNoMoment merge) (GivesNoFile merge)
-
-abbrev ForForm : List Row → Text → Type 0
-ForForm = Either (GivesTwo merge form_flags) ForMoment
-
 abbrev Refuses : List Row → Text → Type 0
-Refuses = Either (GivesBoth merge at_flag before_flag) ForForm
+Refuses rows line =
+    GivesBoth merge at_flag before_flag rows line ⊎ GivesTwo merge form_flags rows line ⊎ GivesNoMoment merge rows line
+    ⊎ GivesNoFile merge rows line
 
 -- options that don't say as of when are refused for that reason
-as-of-refused : (options : Options) (option_fault : OptionFault) → MakesNoAsOf options option_fault → (rows : List Row)
-    → Known rows options → Refuses rows (option_fault_text merge option_fault)
-as-of-refused options (option_fault.ConflictingFlags both) none rows has =
-    inl ((λ absent. none.2 (has.0 ∙ absent)), (λ absent. none.3 (has.1 ∙ absent)), ap₂ (both_given merge) none.0 none.1)
-as-of-refused options (option_fault.NoMoment name text) (inl at, never) rows has =
-    inr (inr (inl (inl (text.now, (sym has.0 ∙ at.1, sym has.1 ∙ at.2, never, ap (λ (n : Text). no_moment merge n text.now) at.0)))))
-as-of-refused options (option_fault.NoMoment name text) (inr before, never) rows has =
-    let line = ap (λ (n : Text). no_moment merge n text.now) before.0 in
-    inr (inr (inl (inr (text.now, (sym has.1 ∙ before.2, sym has.0 ∙ before.1, never, line)))))
-as-of-refused options (option_fault.NoFile name prefix) none rows has = absurd none
+as-of-refused : (options : Options) (option_fault : OptionFault) → MakesNoAsOf options option_fault → (rows : List Row) → Known rows options
+    → (line : Text) → line ≡ option_fault_text merge option_fault → Refuses rows line
+as-of-refused options (option_fault.ConflictingFlags both) none rows has line is =
+    inl ((λ absent. none.2 (has.0 ∙ absent)), (λ absent. none.3 (has.1 ∙ absent)), is ∙ ap₂ (both_given merge) none.0 none.1)
+as-of-refused options (option_fault.NoMoment name text) (inl at, never) rows has line is =
+    inr (inr (inl (inl (text.now, (sym has.0 ∙ at.1, sym has.1 ∙ at.2, never, is ∙ ap (λ (n : Text). no_moment merge n text.now) at.0)))))
+as-of-refused options (option_fault.NoMoment name text) (inr before, never) rows has line is =
+    inr (inr (inl (inr (
+      text.now,
+      (sym has.1 ∙ before.2, sym has.0 ∙ before.1, never, is ∙ ap (λ (n : Text). no_moment merge n text.now) before.0),
+    ))))
+as-of-refused options option_fault.EmptyWindow none rows has line is = absurd none
+as-of-refused options (option_fault.NoFile name prefix) none rows has line is = absurd none
 
-some-refused : (asked : (Asks × Options) × Lists) (names : List Text) (option_fault : OptionFault)
-    → MakesNone asked.0.1 asked.1 names option_fault → (matched : Option (Text × List Row)) → Matches AsksAsked matched asked names
-    → IsSomeAnd matched (λ (m : Text × List Row). Refuses m.1 (option_fault_text merge option_fault))
-some-refused asked names option_fault none None is_asked = absurd is_asked
-some-refused asked names option_fault (inl none) (Some m) is_asked =
-    let known = all-known tasks refl m.0 m.1 asked.0 is_asked.0.0 in
-    go (form-refused merge asked.0.1 asked.1 names option_fault none m.1 known is_asked.0.1 is_asked.1)
+some-refused : (asked : (Asks × Options) × Lists) (names : List Text) (option_fault : OptionFault) → MakesNone asked.0.1 asked.1 names option_fault
+    → (matched : Option (Text × List Row)) → Matches AsksAsked matched asked names → (line : Text) → line ≡ option_fault_text merge option_fault
+    → IsSomeAnd matched (λ (m : Text × List Row). Refuses m.1 line)
+some-refused asked names option_fault none None is_asked line is = absurd is_asked
+some-refused asked names option_fault (inl none) (Some m) is_asked line is =
+    go (form-refused merge asked.0.1 asked.1 names option_fault none m.1 (all-known tasks refl m.0 m.1 asked.0 is_asked.0.0) is_asked.0.1
+    is_asked.1 line is)
   where
-    go : Either (GivesTwo merge form_flags) (GivesNoFile merge) m.1 (option_fault_text merge option_fault)
-        → Refuses m.1 (option_fault_text merge option_fault)
+    go : GivesTwo merge form_flags m.1 line ⊎ GivesNoFile merge m.1 line → Refuses m.1 line
     go (inl forms) = inr (inl forms)
     go (inr unfit) = inr (inr (inr unfit))
-some-refused asked names option_fault (inr none) (Some m) is_asked =
-    as-of-refused asked.0.1 option_fault none m.1 (all-known tasks refl m.0 m.1 asked.0 is_asked.0.0)
+some-refused asked names option_fault (inr none) (Some m) is_asked line is =
+    as-of-refused asked.0.1 option_fault none m.1 (all-known tasks refl m.0 m.1 asked.0 is_asked.0.0) line is
 
 pub option_fault-refused : (line : App) (words : List Text) (asked : (Asks × Options) × Lists) (names : List Text) (option_fault : OptionFault)
     (fault : WordsFault) → fault_of line words ≡ [] → Matches AsksAsked (subcommand_of line words) asked names
@@ -116,16 +112,21 @@ pub option_fault-refused : (line : App) (words : List Text) (asked : (Asks × Op
     ⊎ IsRefusedFor (GivesTwo merge form_flags) line words (Words fault)
     ⊎ IsRefusedFor (GivesNoMoment merge) line words (Words fault)
     ⊎ IsRefusedFor (GivesNoFile merge) line words (Words fault)
-option_fault-refused line words asked names option_fault fault none is_asked option_fault_is is =
-    ⊎_map same (λ (refused : For Refuses). ⊎_map same (λ (more : For ForForm). ⊎_map same
-    (refused-either (GivesNoMoment merge) (GivesNoFile merge) line words fault)
-    (refused-either (GivesTwo merge form_flags) ForMoment line words fault more))
-    (refused-either (GivesBoth merge at_flag before_flag) ForForm line words fault refused))
-    (refused-for Refuses line words (option_fault_text merge option_fault) fault none
-    (some-refused asked names option_fault option_fault_is (subcommand_of line words) is_asked) is)
+option_fault-refused line words asked names option_fault Memory none is_asked option_fault_is is = inl tt
+option_fault-refused line words asked names option_fault (Help text) none is_asked option_fault_is is = absurd is
+option_fault-refused line words asked names option_fault (Refused text) none is_asked option_fault_is is =
+    let matched = subcommand_of line words in
+    inr (go matched (some-refused asked names option_fault option_fault_is matched is_asked (string_bytes text) is))
   where
-    For : (List Row → Text → Type 0) → Type 0
-    For Why = IsRefusedFor Why line words (Words fault)
+    Refused_for : (List Row → Text → Type 0) → Option (Text × List Row) → Type 0
+    Refused_for Why matched =
+        (fault_of line words ≡ []) × IsSomeAnd matched (λ (m : Text × List Row). Why m.1 (string_bytes text))
 
-    same : {A : Type 0} → A → A
-    same a = a
+    go : (matched : Option (Text × List Row)) → IsSomeAnd matched (λ (m : Text × List Row). Refuses m.1 (string_bytes text))
+        → Refused_for (GivesBoth merge at_flag before_flag) matched ⊎ Refused_for (GivesTwo merge form_flags) matched
+        ⊎ Refused_for (GivesNoMoment merge) matched ⊎ Refused_for (GivesNoFile merge) matched
+    go None why = absurd why
+    go (Some m) (inl moments) = inl (none, moments)
+    go (Some m) (inr (inl forms)) = inr (inl (none, forms))
+    go (Some m) (inr (inr (inl moment))) = inr (inr (inl (none, moment)))
+    go (Some m) (inr (inr (inr unfit))) = inr (inr (inr (none, unfit)))

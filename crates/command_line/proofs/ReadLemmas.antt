@@ -124,9 +124,19 @@ options-told counted flags rows are sound nothing =
       seconds = seconds;
       at = lent_option (first_of (codes "at") rows);
       before = lent_option (first_of (codes "before") rows);
+      since = lent_option (first_of (codes "since") rows);
+      until = lent_option (first_of (codes "until") rows);
       form = form;
       skip_unusable = skips;
-    }) (seconds_are, lent-text (first_of (codes "at") rows), lent-text (first_of (codes "before") rows), form_is, skips_are))))
+    }) (
+      seconds_are,
+      lent-text (first_of (codes "at") rows),
+      lent-text (first_of (codes "before") rows),
+      form_is,
+      skips_are,
+      lent-text (first_of (codes "since") rows),
+      lent-text (first_of (codes "until") rows),
+    ))))
 
 -- ---- the subcommand that words without a fault reach
 

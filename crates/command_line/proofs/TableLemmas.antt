@@ -1,12 +1,18 @@
--- Lemmas on tables of subcommands, and on the flags that ask for forms.
-use Rattle.std.proofs.Common.{◌≡◌, ◌∙◌, ◌⊎◌, ◌++◌, ◌∷◌, ap, subst, inl, inr, map, codes, List, [], Option, Some, None, Err}
-use Rattle.std.proofs.Common.{drop, get_or, length, take, take-append-drop}
-use Rattle.clap.specs.Words.{Row, Text, one_of}
+-- Lemmas on tables of subcommands, on the flags that ask for forms, and on the refusals of these.
+use Rattle.std.proofs.Common.{◌≡◌, ◌∙◌, ◌⊎◌, ◌++◌, ◌∷◌, ap, ap₂, subst, sym, inl, inr, map, codes, ℕ, List, [], Option, Some, None, Err}
+use Rattle.std.proofs.Common.{drop, get_or, length, string_bytes, take, take-append-drop, unwrap_or}
+use Rattle.std.specs.Prelude.{IsSomeAnd}
+use Rattle.clap.specs.Words.{Row, Text, all_of, one_of}
 use Rattle.mdns_browse.specs.declared.report.Form.{Form}
-use Rattle.command_line.specs.declared.{line.Takes.{Takes}, options.ConflictingFlags.{ConflictingFlags}, options.Options.{Options}}
-use Rattle.command_line.specs.Line.{AsksForm, AsksOneOf, Flags, GivesForm, GivesForms, HasOneForm, HasOptions, HasText, IsGiven, Matches}
-use Rattle.command_line.specs.{Line.{Table}, CommandLine.{GivesAfter, GivesTwo, both_given, form_flags}}
+use Rattle.mdns_listeners.specs.Groups.{unfit_prefix}
+use Rattle.command_line.specs.declared.{line.Takes.{Takes}, lists.Lists.{Lists}, option_fault.OptionFault.{OptionFault}}
+use Rattle.command_line.specs.declared.options.{ConflictingFlags.{ConflictingFlags}, Options.{Options}}
+use Rattle.command_line.specs.Line.{AsksForm, AsksOneOf, Flags, GivesForm, GivesForms, HasLists, HasOneForm, HasOptions, HasText, IsGiven}
+use Rattle.command_line.specs.Line.{Matches, Table, words_of}
+use Rattle.command_line.specs.CommandLine.{GivesAfter, GivesNoFile, GivesTwo, HasUnfit, both_given, form_flags, no_file}
+use Rattle.command_line.specs.OptionFault.{MakesNoForm, option_fault_text}
 use Rattle.command_line.specs.declared.line.Takes.TheVariants as takes
+use Rattle.command_line.specs.declared.option_fault.OptionFault.TheVariants as option_fault
 
 -- what is asked for by other words
 pub asks-also : {A B : Type 0} (P : Text → List Row → A → Type 0) (Q : Text → List Row → B → Type 0) (a : A) (b : B)
@@ -65,14 +71,16 @@ gives-two program (flag ∷ flags) rows both (inl (one, (form, asks), later)) li
     (is ∙ ap (λ (name : Text). both_given program name both.other.now) one))
 gives-two program (flag ∷ flags) rows both (inr gives) line is = inr (gives-two program flags rows both gives line is)
 
--- the texts of the moments, and which flags two forms are of
+-- the texts of the moments, which flags two forms are of, and the texts of the bounds
 abbrev pub Known : List Row → Options → Type 0
 Known rows options = HasText (codes "at") rows options.at × HasText (codes "before") rows options.before
     × ((both : ConflictingFlags) → options.form ≡ Err both → GivesForms form_flags rows both)
+    × HasText (codes "since") rows options.since × HasText (codes "until") rows options.until
 
 known : (rows : List Row) (flags : Flags) (options : Options) → ((both : ConflictingFlags) → GivesForms flags rows both → GivesForms form_flags rows both)
     → HasOptions flags rows options → Known rows options
-known rows flags options within has = (has.1, has.2, λ both is. within both (subst (HasOneForm flags rows) is has.3))
+known rows flags options within has =
+    (has.1, has.2, (λ both is. within both (subst (HasOneForm flags rows) is has.3)), has.5, has.6)
 
 -- ---- tables of which each subcommand takes the first of the flags that ask for forms, after its other flags
 
@@ -123,3 +131,29 @@ all-known [] are name rows asked is = absurd is
 all-known (row ∷ table) are name rows asked (inl own) =
     known rows row.1 asked.1 (within rows row.1 (ap (λ (all : List Flags). get_or all 0 []) are)) own.2
 all-known (row ∷ table) are name rows asked (inr own) = all-known table (ap (λ (all : List Flags). drop 1 all) are) name rows asked own
+
+-- ---- options that make no form
+
+-- the line of the prefix at a place
+unfit-line : (program : Text) (prefixes : List Text) (at : Option ℕ) (name prefix line : Text)
+    → IsSomeAnd at (λ i. (name ≡ codes "listener") × (prefix ≡ get_or prefixes i [])) → line ≡ no_file program name prefix
+    → HasUnfit program prefixes at line
+unfit-line program prefixes None name prefix line unfit is = absurd unfit
+unfit-line program prefixes (Some i) name prefix line unfit is = is ∙ ap₂ (no_file program) unfit.0 unfit.1
+
+-- two flags that ask for forms are refused, and a prefix that fits no file
+pub form-refused : (program : Text) (options : Options) (lists : Lists) (names : List Text) (option_fault : OptionFault)
+    → MakesNoForm options lists names option_fault → (rows : List Row) → Known rows options → HasLists rows lists
+    → all_of (codes "FILE") rows ≡ Some names → (line : Text) → line ≡ option_fault_text program option_fault
+    → GivesTwo program form_flags rows line ⊎ GivesNoFile program rows line
+form-refused program options lists names (option_fault.ConflictingFlags both) none rows has given files line is =
+    inl (gives-two program form_flags rows both (has.2 both none) line is)
+form-refused program options lists names (option_fault.NoMoment flag text) none rows has given files line is = absurd none
+form-refused program options lists names option_fault.EmptyWindow none rows has given files line is = absurd none
+form-refused program options lists names (option_fault.NoFile flag prefix) none rows has given files line is =
+    let listeners = map string_bytes lists.listeners.items in
+    let unfit = unfit-line program listeners (unfit_prefix listeners names) flag.now prefix.now line none is in
+    let own = words_of (codes "listener") rows in
+    let of_rows = subst (λ (prefixes : List Text). HasUnfit program prefixes (unfit_prefix prefixes names) line) given.listeners unfit in
+    inr (subst (λ (all : List Text). HasUnfit program own (unfit_prefix own all) line)
+    (sym (ap (λ (all : Option (List Text)). unwrap_or all []) files)) of_rows)

@@ -11,10 +11,10 @@ use Rattle.mdns_survey.specs.declared.request.{What.{What}, AsOf.{AsOf}, AsOf.Th
 use Rattle.mdns_survey.specs.declared.request.What.TheVariants as what
 use Rattle.mdns_survey.specs.declared.request.Request.TheVariants as request
 use Rattle.mdns_listeners.specs.Groups.{unfit_prefix}
-use Rattle.mdns_trace.specs.declared.inquiry.Inquiry.{Inquiry}
+use Rattle.mdns_trace.specs.{declared.inquiry.Inquiry.{Inquiry}, Window.{is_reversed}, declared.window.Window.{Window}}
 use Rattle.mdns_trace.specs.declared.inquiry.Inquiry.TheVariants as inquiry
 use Rattle.mdns_trace.specs.declared.inquiry.Trace.TheVariants as trace
-use Rattle.command_line.specs.declared.{line.Takes.{Takes}, mdnsmerge.Asks.{Asks}, mdnsmerge.Scope.{Scope}}
+use Rattle.command_line.specs.declared.{line.Takes.{Takes}, mdnsmerge.Asks.{Asks}, mdnsmerge.Scope.{Scope}, words.WhyAsks.{WhyAsks}}
 use Rattle.command_line.specs.declared.words.{WordsFault.TheVariants.{Refused}, AskFault.{AskFault}, AskFault.TheVariants.{Words}}
 use Rattle.command_line.specs.declared.words.{Job.{Job}, Task.{Task}, Task.TheVariants.{Survey, Page}}
 use Rattle.command_line.specs.Line.{AsksOneOf, Flags, HasForm, HasLists, HasSeconds, IsFlag, IsGiven, Table, line_with, words_of}
@@ -29,6 +29,10 @@ at_flag = (codes "at", takes.Moment)
 
 abbrev pub before_flag : Text × Takes
 before_flag = (codes "before", takes.Moment)
+
+-- the flags of the window of the moments that are listed
+abbrev pub window_flags : Flags
+window_flags = (codes "since", takes.Moment) ∷ (codes "until", takes.Moment) ∷ []
 
 abbrev pub about_flag : Text × Takes
 about_flag = (codes "about", takes.Words)
@@ -70,9 +74,12 @@ report_flags = at_flag ∷ before_flag ∷ (word_flags ++ skip_flag ∷ form_fla
 abbrev pub page_flags : Flags
 page_flags = at_flag ∷ before_flag ∷ (word_flags ++ listener_flag ∷ skip_flag ∷ [])
 
--- the flags of the hearings; those of the other traces are `form_flags`, and those of the files `common_forms`
+-- the flags of the hearings and of the packets; those of the spans are `form_flags`, and those of the files `common_forms`
 abbrev pub hearings_flags : Flags
-hearings_flags = word_flags ++ form_flags
+hearings_flags = window_flags ++ (word_flags ++ form_flags)
+
+abbrev pub packets_flags : Flags
+packets_flags = window_flags ++ form_flags
 
 -- the flags of what is written of listeners
 abbrev pub listeners_flags : Flags
@@ -214,7 +221,7 @@ GivesNoMoment program rows line =
 -- the subcommands, each with what it asks for where no flag asks for a form
 abbrev pub inquiries : Table Inquiry
 inquiries = (codes "hearings", hearings_flags, inquiry.Trace (trace.Hearings form.Lines))
-    ∷ (codes "packets", form_flags, inquiry.Trace (trace.Packets form.Lines))
+    ∷ (codes "packets", packets_flags, inquiry.Trace (trace.Packets form.Lines))
     ∷ (codes "spans", form_flags, inquiry.Trace (trace.Spans form.Lines))
     ∷ (codes "files", common_forms, inquiry.Files form.Lines)
     ∷ (codes "listeners", listeners_flags, inquiry.Listeners form.Lines) ∷ []
@@ -235,9 +242,37 @@ in_form (inquiry.Listeners own) form = inquiry.Listeners form
 abbrev pub MakesInquiry : Flags → List Row → Inquiry → Inquiry → Type 0
 MakesInquiry flags rows own asked = (form : Form) × HasForm flags rows form × (asked ≡ in_form own form)
 
+-- a bound of the window is the moment that the text names, and there is none without a text
+abbrev pub IsBound : Option Text → Option Moment → Type 0
+IsBound text None = text ≡ None
+IsBound text (Some moment) = Names text moment
+
+-- the texts of `--since` and of `--until` give this window, whose bounds are reversed or not
+abbrev pub GivesWindow : Option Text → Option Text → Bool → Window → Type 0
+GivesWindow since until reversed window = IsBound since window.since × IsBound until window.until
+    × (is_reversed window.since window.until ≡ reversed)
+
 -- a subcommand with these matches asks for this
-abbrev pub AsksInquiry : Text → List Row → Inquiry → Type 0
-AsksInquiry = AsksOneOf MakesInquiry inquiries
+abbrev pub AsksWhy : Text → List Row → WhyAsks → Type 0
+AsksWhy name rows asks = AsksOneOf MakesInquiry inquiries name rows asks.inquiry × HasLists rows asks.lists
+    × GivesWindow (first_of (codes "since") rows) (first_of (codes "until") rows) false asks.window
+
+-- the option of that name is given, its text names no moment, and so says the line
+abbrev pub IsNoBound : Text → Text → Option Text → Text → Type 0
+IsNoBound program name given line = (text : Text) × (given ≡ Some text)
+    × ((moment : Moment) → IsMomentText text moment → ⊥) × (line ≡ no_moment program name text)
+
+abbrev pub empty_window : Text → Text
+empty_window program = program ++ codes ": --since must be earlier than --until: nothing lies between them"
+
+-- the bounds are reversed, and so says the line
+abbrev pub IsEmptyWindow : Text → Option Text → Option Text → Text → Type 0
+IsEmptyWindow program since until line = (window : Window) × GivesWindow since until true window × (line ≡ empty_window program)
+
+-- one of these texts names no moment, or the bounds are reversed
+abbrev pub GivesNoWindow : Text → Option Text → Option Text → Text → Type 0
+GivesNoWindow program since until line = IsNoBound program (codes "since") since line
+    ⊎ IsNoBound program (codes "until") until line ⊎ IsEmptyWindow program since until line
 
 abbrev pub no_file : Text → Text → Text → Text
 no_file program name prefix = invalid program (codes "prefix") prefix name (codes "no FILE's name, without folders, begins with it")
@@ -251,3 +286,8 @@ abbrev pub GivesNoFile : Text → List Row → Text → Type 0
 GivesNoFile program rows line =
     HasUnfit program (words_of (codes "listener") rows)
     (unfit_prefix (words_of (codes "listener") rows) (words_of (codes "FILE") rows)) line
+
+-- two flags ask for forms, a prefix fits no file, or no window is given, and so says the line
+abbrev pub GivesNoInquiry : Text → List Row → Text → Type 0
+GivesNoInquiry program rows line = GivesTwo program form_flags rows line ⊎ GivesNoFile program rows line
+    ⊎ GivesNoWindow program (first_of (codes "since") rows) (first_of (codes "until") rows) line

@@ -1,6 +1,6 @@
 -- The final dot of a word of `--about`. Absolute names end in a dot (RFC 1035, section 5.1), which no output writes.
-use Rattle.std.specs.Prelude.{◌==◌, ◌&&◌, ◌∷◌, Bool, false, not, List, [], Option, Some, None, if◌then◌else◌}
-use Rattle.std.specs.{Prelude.{option_and_then, option_map, option_to_list}, List.{flat_map, fold}}
+use Rattle.std.specs.Prelude.{◌==◌, ◌&&◌, ◌∷◌, Bool, false, not, List, [], Option, Some, None, if◌then◌else◌, option_and_then, option_map, option_to_list}
+use Rattle.std.specs.List.{flat_map, fold}
 use Rattle.clap.specs.Words.{Text}
 
 -- what stands before the dot that ends a text; none where no dot does

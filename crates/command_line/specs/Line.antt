@@ -196,6 +196,8 @@ HasOptions flags rows options = HasSeconds flags rows options.seconds
     × HasText (codes "before") rows options.before
     × HasOneForm flags rows options.form
     × IsFlag (one_of (codes "skip-unusable") rows) options.skip_unusable
+    × HasText (codes "since") rows options.since
+    × HasText (codes "until") rows options.until
 
 -- a subcommand of the table has this name and asks for this, with these options
 abbrev pub AsksIn : {T : Type 0} → List (Subcommand T) → Text → List Row → T × Options → Type 0
@@ -226,8 +228,7 @@ abbrev pub HasPrinters : List Row → List Text → Type 0
 HasPrinters rows words = (IsFlag (one_of (codes "printers") rows) true × (words ≡ printer_types))
     ⊎ (IsFlag (one_of (codes "printers") rows) false × (words ≡ []))
 
--- The words of the options that can be repeated. Those of `--about` are asked about with and without a final dot, and those of
--- `--printers` are added to them.
+-- The words of the options that can be repeated. Those of `--printers` are added to those of `--about`, also without a final dot.
 pub record HasLists (rows : List Row) (lists : Lists) : Type 0 where
   pub printers : List Text
   pub printers_are : HasPrinters rows printers

@@ -25,6 +25,20 @@ pub(crate) const BEFORE: Flag = Flag {
     help: "Only what was heard before that moment, as of it",
 };
 
+pub(crate) const SINCE: Flag = Flag {
+    name: "since",
+    takes: Takes::Moment,
+    value: "MOMENT",
+    help: "From then on: seconds since 1970, or date, time and zone",
+};
+
+pub(crate) const UNTIL: Flag = Flag {
+    name: "until",
+    takes: Takes::Moment,
+    value: "MOMENT",
+    help: "Only what is earlier than that moment",
+};
+
 pub(crate) const ABOUT: Flag = Flag {
     name: "about",
     takes: Takes::Words,
@@ -100,10 +114,13 @@ pub(crate) const PAGE_FLAGS: &[Flag] = &[AT, BEFORE, ABOUT, PRINTERS, LISTENER, 
 pub(crate) const CHECK_FLAGS: &[Flag] = &[SKIP_UNUSABLE];
 
 /// The flags of `hearings`.
-pub(crate) const HEARINGS_FLAGS: &[Flag] = with_forms!([ABOUT, PRINTERS], [PRETTY]);
+pub(crate) const HEARINGS_FLAGS: &[Flag] = with_forms!([SINCE, UNTIL, ABOUT, PRINTERS], [PRETTY]);
 
-/// The flags of the other traces.
-pub(crate) const TRACE_FLAGS: &[Flag] = with_forms!([], [PRETTY]);
+/// The flags of `packets`.
+pub(crate) const PACKETS_FLAGS: &[Flag] = with_forms!([SINCE, UNTIL], [PRETTY]);
+
+/// The flags of `spans`.
+pub(crate) const SPANS_FLAGS: &[Flag] = with_forms!([], [PRETTY]);
 
 /// The flags of what is written of listeners.
 pub(crate) const LISTENERS_FLAGS: &[Flag] = with_forms!([LISTENER], [PRETTY]);

@@ -136,8 +136,7 @@ pub const HEARINGS: HelpText = HelpText {
     more: page!(
         "\
 Each line is MOMENT FILE SOURCE OWNER TYPE WORDS ttl TTL, with `flush` after it
-where the cache-flush bit is set. Moments are seconds since 1970, SOURCE is the
-address of the sender, and a TTL of 0 is a goodbye. For people:
+where the cache-flush bit is set. SOURCE sent it; a TTL of 0 is a goodbye:
     mdnswhy hearings --pretty --about elm west.pcap east.pcap | sort
     ...
     2026-11-22T07:26:43.397Z  ttl 120 flush   198.51.100.22    west.pcap  A ..."

@@ -19,4 +19,4 @@ pub mod words;
 
 pub use mdnsmerge::{asked, told};
 pub use mdnswhy::why_asked;
-pub use words::{AskFault, Asked, Job, Task, Told, WordsFault};
+pub use words::{AskFault, Asked, Job, Task, Told, WhyAsks, WordsFault};

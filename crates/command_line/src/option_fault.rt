@@ -22,6 +22,8 @@ pub(crate) enum OptionFault<'a> {
     ConflictingFlags(ConflictingFlags),
     /// The text of a flag names no moment.
     NoMoment { name: &'static str, text: &'a str },
+    /// Both ends of the window are given, and no moment is between them.
+    EmptyWindow,
     /// The prefix of a flag fits no file.
     NoFile { name: &'static str, prefix: &'a str },
 }
@@ -86,6 +88,9 @@ fn option_fault_line(
         OptionFault::NoMoment { name, text } => invalid(
             alloc, program, "moment", text, name, A_MOMENT,
         ),
+        OptionFault::EmptyWindow => Ok(format!(in alloc;
+            "{program}: --since must be earlier than --until: nothing lies between them"
+        )?),
         OptionFault::NoFile { name, prefix } => {
             invalid(alloc, program, "prefix", prefix, name, NO_FILE)
         }

@@ -27,6 +27,10 @@ pub struct Options<'a> {
     pub at: Option<&'a str>,
     /// The text of `--before`.
     pub before: Option<&'a str>,
+    /// The text of `--since`.
+    pub since: Option<&'a str>,
+    /// The text of `--until`.
+    pub until: Option<&'a str>,
     /// The form of the report, or two given flags that ask for one each.
     pub form: Result<Form, ConflictingFlags>,
     /// Whether `--skip-unusable` is given.
@@ -45,6 +49,8 @@ pub(crate) fn options_of<'a>(flags: &[Flag], given: &ArgMatches<'a>) -> Option<O
         seconds,
         at: given.get_str("at"),
         before: given.get_str("before"),
+        since: given.get_str("since"),
+        until: given.get_str("until"),
         form,
         skip_unusable: is_given(SKIP_UNUSABLE.name, given),
     })

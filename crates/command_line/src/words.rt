@@ -4,12 +4,14 @@ ghost use Rattle.std.specs.Prelude.{◌≡◌, Some};
 ghost use Rattle.command_line.specs.{Faults.{ask_fault_name, fault_name}, declared.words.WordsFault.TheVariants.{Memory}};
 ghost use Rattle.command_line.specs.declared.words.AskFault.TheVariants.{Words};
 
+use crate::lists::Lists;
 use mdns_message::Want;
 use mdns_survey::request::{AsOf, Request, Subjects, What};
+use mdns_trace::{Inquiry, Window};
 use std::error::Error;
 use std::fmt;
 
-/// What a command line asks for: a `What`, a `Job` or an `Inquiry`.
+/// What a command line asks for: a `What`, a `Job` or a `WhyAsks`.
 #[derive(Drop)]
 pub struct Asked<T> {
     /// The subcommand with its options.
@@ -38,6 +40,15 @@ pub enum Task {
         /// The prefixes of listeners, as they were given; each fits a file.
         listeners: Vec<String>,
     },
+}
+
+/// What a command line of `mdnswhy` asks for.
+#[derive(Drop)]
+pub struct WhyAsks {
+    pub inquiry: Inquiry,
+    pub lists: Lists,
+    /// The moments of the hearings and packets that are listed.
+    pub window: Window,
 }
 
 /// What a command line asks for, as `told` reads it.

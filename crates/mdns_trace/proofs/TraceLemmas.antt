@@ -10,56 +10,58 @@ use Rattle.mdns_survey.specs.declared.{listen.ListenFault.TheVariants.{Begin, Re
 use Rattle.mdns_survey.specs.declared.reading.{ReadingFault.TheVariants.{Listen as OfListen, Consumer as OfConsumer}, Reading.{Reading}}
 use Rattle.mdns_survey.specs.Outcomes.{Outcome, AllCome}
 use Rattle.mdns_survey.specs.Reading.{CaptureBegins, HasReadFault, IsNoCaptureRead, LeavesConsumer, ReadsCapture}
-use Rattle.mdns_trace.specs.declared.{inquiry.Trace.{Trace}, trace.Lines.{Lines}, trace.TraceFault.{TraceFault}}
+use Rattle.mdns_trace.specs.declared.{inquiry.Trace.{Trace}, trace.Lines.{Lines}, trace.TraceFault.{TraceFault}, window.Window.{Window}}
 use Rattle.mdns_trace.specs.{declared.trace.TraceFault.TheVariants.{Listen, Write}, TraceFaults.{Stops, WritesLines}}
-use Rattle.mdns_trace.specs.Trace.{AddsLines, AreAllLines, AreLinesOf, LeavesLines, LinesBroke, LinesTook, PrintsPart, TracesCapture}
+use Rattle.mdns_trace.specs.Trace.{AddsLines, AreAllLines, AreLinesIn, LeavesLines, LinesBroke, LinesTook, PrintsPart, TracesCapture}
 use Rattle.mdns_trace.specs.Trace.{TracesFront, trace_fault}
 
 -- THE LINE OF A RESPONSE
 
 -- ONE PACKET MORE
 
-lines-more : (trace : Trace) (about : List Subject) (file : List ℕ) (packets : List PacketAt) (outcomes : List Outcome) (text : List ℕ)
+lines-more : (trace : Trace) (about : List Subject) (window : Window) (file : List ℕ) (packets : List PacketAt)
+    (outcomes : List Outcome) (text : List ℕ)
     (packet : PacketAt) (outcome : Outcome) (lines : List ℕ)
-    → AreAllLines trace about file packets outcomes text → AreLinesOf trace about file packet outcome lines
-    → AreAllLines trace about file (packets ++ packet ∷ []) (outcomes ++ outcome ∷ []) (text ++ lines)
-lines-more trace about file [] [] text packet outcome lines all are =
+    → AreAllLines trace about window file packets outcomes text → AreLinesIn trace about window file packet outcome lines
+    → AreAllLines trace about window file (packets ++ packet ∷ []) (outcomes ++ outcome ∷ []) (text ++ lines)
+lines-more trace about window file [] [] text packet outcome lines all are =
     (lines, ([], ap (λ (front : List ℕ). front ++ lines) all ∙ sym (append-nil lines), are, refl))
-lines-more trace about file [] (other ∷ outcomes) text packet outcome lines all are = absurd all
-lines-more trace about file (first ∷ packets) [] text packet outcome lines all are = absurd all
-lines-more trace about file (first ∷ packets) (other ∷ outcomes) text packet outcome lines all are =
+lines-more trace about window file [] (other ∷ outcomes) text packet outcome lines all are = absurd all
+lines-more trace about window file (first ∷ packets) [] text packet outcome lines all are = absurd all
+lines-more trace about window file (first ∷ packets) (other ∷ outcomes) text packet outcome lines all are =
     let rest = all.1.0 in (
       all.0,
       (
         rest ++ lines,
         ap (λ (front : List ℕ). front ++ lines) all.1.1 ∙ append_assoc all.0 rest lines,
         all.1.2,
-        lines-more trace about file packets outcomes rest packet outcome lines all.1.3 are,
+        lines-more trace about window file packets outcomes rest packet outcome lines all.1.3 are,
       ),
     )
 
 -- of what waited a part was written
-pub part-on : {trace : Trace} {about : List Subject} {file : List ℕ} {packets : List PacketAt} {outcomes : List Outcome}
-    {old now waiting : _} (next : Option (List ℕ)) (piece rest : List ℕ) → PrintsPart trace about file packets outcomes old now waiting
-    → waiting ≡ piece ++ rest → Appends now next piece → PrintsPart trace about file packets outcomes old next rest
-part-on {trace} {about} {file} {packets} {outcomes} next piece rest prints parts written = record {
+pub part-on : {trace : Trace} {about : List Subject} {window : Window} {file : List ℕ} {packets : List PacketAt} {outcomes : List Outcome}
+    {old now waiting : _} (next : Option (List ℕ)) (piece rest : List ℕ)
+    → PrintsPart trace about window file packets outcomes old now waiting
+    → waiting ≡ piece ++ rest → Appends now next piece → PrintsPart trace about window file packets outcomes old next rest
+part-on {trace} {about} {window} {file} {packets} {outcomes} next piece rest prints parts written = record {
   printed = prints.printed ++ piece;
-  lines = subst (AreAllLines trace about file packets outcomes)
+  lines = subst (AreAllLines trace about window file packets outcomes)
       (ap (λ (text : List ℕ). prints.printed ++ text) parts ∙ sym (append_assoc prints.printed piece rest)) prints.lines;
   written = Appends-trans _ _ _ _ _ prints.written written;
 }
 
 -- a packet's lines were added to those that wait
-pub part-more : {trace : Trace} {about : List Subject} {file : List ℕ} {packets : List PacketAt} {outcomes : List Outcome}
+pub part-more : {trace : Trace} {about : List Subject} {window : Window} {file : List ℕ} {packets : List PacketAt} {outcomes : List Outcome}
     {old now waiting : _} (packet : PacketAt) (outcome : Outcome) (more : List ℕ)
-    → PrintsPart trace about file packets outcomes old now waiting
-    → AddsLines trace about file packet outcome waiting more
-    → PrintsPart trace about file (packets ++ packet ∷ []) (outcomes ++ outcome ∷ []) old now more
-part-more {trace} {about} {file} {packets} {outcomes} {old} {now} {waiting} packet outcome more prints adds = record {
+    → PrintsPart trace about window file packets outcomes old now waiting
+    → AddsLines (AreLinesIn trace about window file packet outcome) waiting more
+    → PrintsPart trace about window file (packets ++ packet ∷ []) (outcomes ++ outcome ∷ []) old now more
+part-more {trace} {about} {window} {file} {packets} {outcomes} {old} {now} {waiting} packet outcome more prints adds = record {
   printed = prints.printed;
-  lines = subst (AreAllLines trace about file (packets ++ packet ∷ []) (outcomes ++ outcome ∷ []))
+  lines = subst (AreAllLines trace about window file (packets ++ packet ∷ []) (outcomes ++ outcome ∷ []))
       (append_assoc prints.printed waiting adds.0 ∙ ap (λ (text : List ℕ). prints.printed ++ text) (sym adds.2))
-      (lines-more trace about file packets outcomes (prints.printed ++ waiting) packet outcome adds.0 prints.lines adds.1);
+      (lines-more trace about window file packets outcomes (prints.printed ++ waiting) packet outcome adds.0 prints.lines adds.1);
   written = prints.written;
 }
 
@@ -75,12 +77,13 @@ nothing-taken sink old empty = record {
   stays = λ steady. steady;
 }
 
-traces-front : {trace : Trace} {about : List Subject} {file : List ℕ} {packets : List PacketAt} {outcomes : List Outcome}
+traces-front : {trace : Trace} {about : List Subject} {window : Window} {file : List ℕ} {packets : List PacketAt} {outcomes : List Outcome}
     {old new : Option (List ℕ)} (left : Option (List ℕ)) (rest : List ℕ) → AllCome packets outcomes
     → IfSome left (λ bytes. CaptureBegins bytes packets)
-    → PrintsPart trace about file packets outcomes old new rest → IfSome left (λ bytes. TracesFront trace about file bytes old new)
+    → PrintsPart trace about window file packets outcomes old new rest
+    → IfSome left (λ bytes. TracesFront trace about window file bytes old new)
 traces-front None rest come begins prints = tt
-traces-front {trace} {about} {file} {packets} {outcomes} (Some bytes) rest come begins prints =
+traces-front {trace} {about} {window} {file} {packets} {outcomes} (Some bytes) rest come begins prints =
     record { packets = packets; outcomes = outcomes; begins = begins; come = come; rest = rest; prints = prints }
 
 pub lines-stop : {R W : Type 0} (source : SourceGhosts R) (sink : SinkGhosts W) (reader : R) (old new : Lines W)
@@ -88,7 +91,8 @@ pub lines-stop : {R W : Type 0} (source : SourceGhosts R) (sink : SinkGhosts W) 
     → (IsTrue (source.steady reader) → IsNoCaptureRead fault)
     → LeavesConsumer (LinesTook sink) (LinesBroke sink) (source.remaining reader) old new fault
     → (new.out.ghost_name ≡ old.out.ghost_name) × Stops source sink
-    (LeavesLines sink old.wanted.trace old.wanted.about.now old.wanted.file.now (source.remaining reader)) reader old.out.now new.out.now
+    (LeavesLines sink old.wanted.trace old.wanted.about.now old.wanted.window old.wanted.file.now (source.remaining reader))
+    reader old.out.now new.out.now
     (trace_fault fault)
 lines-stop {R} {W} source sink reader old new (OfListen (Begin fault)) empty has spares leaves = (
   ap (λ (l : Lines W). l.out.ghost_name) leaves,
@@ -153,7 +157,7 @@ lines-whole : {W : Type 0} (sink : SinkGhosts W) (left : Option (List ℕ)) (old
     → string_bytes old.text ≡ [] → ReadsCapture (LinesTook sink) left old new reading
     → Appends (sink.written new.out.now) (sink.written next) (string_bytes new.text)
     → IfSome left (λ bytes. (text : List ℕ)
-    × TracesCapture old.wanted.trace old.wanted.about.now old.wanted.file.now bytes reading.summary text
+    × TracesCapture old.wanted.trace old.wanted.about.now old.wanted.window old.wanted.file.now bytes reading.summary text
     × Appends (sink.written old.out.now) (sink.written next) text)
 lines-whole sink None old new next reading empty read written = tt
 lines-whole sink (Some bytes) old new next reading empty read written =
@@ -174,7 +178,7 @@ pub lines-written : {R W : Type 0} (source : SourceGhosts R) (sink : SinkGhosts 
     → IsOver reading.summary.ending → Appends (sink.written new.out.now) (sink.written next) (string_bytes new.text)
     → sink.failures next ≡ sink.failures new.out.now → (IsTrue (sink.steady new.out.now) → IsTrue (sink.steady next))
     → (new.out.ghost_name ≡ old.out.ghost_name) × WritesLines source sink
-    (TracesCapture old.wanted.trace old.wanted.about.now old.wanted.file.now) reader old.out.now next reading.summary
+    (TracesCapture old.wanted.trace old.wanted.about.now old.wanted.window old.wanted.file.now) reader old.out.now next reading.summary
 lines-written source sink reader old new next reading empty read over written unfailed stays =
     let took = read.took old (nothing-taken sink old empty) in (
       took.same,
@@ -193,7 +197,8 @@ pub lines-cut : {R W : Type 0} (source : SourceGhosts R) (sink : SinkGhosts W) (
     → AppendsPrefix (sink.written new.out.now) (sink.written next) (string_bytes new.text)
     → OneMoreFailed (sink.failures new.out.now) (sink.failures next) → (IsTrue (sink.steady new.out.now) → ⊥)
     → (new.out.ghost_name ≡ old.out.ghost_name) × Stops source sink
-    (LeavesLines sink old.wanted.trace old.wanted.about.now old.wanted.file.now (source.remaining reader)) reader old.out.now next Write
+    (LeavesLines sink old.wanted.trace old.wanted.about.now old.wanted.window old.wanted.file.now (source.remaining reader))
+    reader old.out.now next Write
 lines-cut source sink reader old new next reading empty read sound prefix failed unsteady =
     let took = read.took old (nothing-taken sink old empty) in (
       took.same,

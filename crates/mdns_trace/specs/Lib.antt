@@ -19,3 +19,4 @@ pub mod Usable
 pub mod Verdict
 pub mod VerdictJson
 pub mod Verdicts
+pub mod Window

@@ -1,5 +1,5 @@
 -- The lines of a capture's hearings, or of its packets that told nothing, and how far they went out.
-use Rattle.std.specs.Prelude.{◌≡◌, ℕ, IsTrue, List, [], ◌∷◌, ◌++◌, Option, IfSome, string_bytes}
+use Rattle.std.specs.Prelude.{◌≡◌, ℕ, Bool, true, false, IsTrue, List, [], ◌∷◌, ◌++◌, Option, IfSome, string_bytes}
 use Rattle.std.specs.{List.{filter, flat_map}, Io.KnownBytes.{Appends}}
 use Rattle.mdns_browse.specs.{About.{keeps_record}, declared.about.Subject.{Subject}, declared.report.Form.{Form}}
 use Rattle.mdns_capture.specs.{declared.source_address.SourceAddress.{SourceAddress}, Savefile.{PacketAt}, Stream.{OneMoreFailed}}
@@ -12,7 +12,8 @@ use Rattle.mdns_survey.specs.Why.{IsRefusedFor, IsSkippedFor}
 use Rattle.mdns_survey.specs.declared.reading.ReadingFault.TheVariants as reading
 use Rattle.mdns_trace.specs.declared.{entry.Untold.{Untold}, inquiry.Trace.{Trace}, inquiry.Trace.TheVariants.{Hearings, Packets, Spans}}
 use Rattle.mdns_trace.specs.declared.trace.{Lines.{Lines}, TraceFault.{TraceFault}, TraceFault.TheVariants.{Listen, Write}}
-use Rattle.mdns_trace.specs.{Entry.{hearing_entry, packet_entry}, EntryText.{entry_text}}
+use Rattle.mdns_trace.specs.{declared.window.Window.{Window}, Entry.{hearing_entry, packet_entry}, EntryText.{entry_text}}
+use Rattle.mdns_trace.specs.Window.{in_window}
 use Rattle.mdns_trace.specs.declared.entry.Untold.TheVariants as untold
 
 -- WHAT A CAPTURE'S LINES ARE
@@ -50,61 +51,71 @@ AreLinesOf (Hearings form) about file packet outcome text = AreHearingLines abou
 AreLinesOf (Packets form) about file packet outcome text = IsPacketLine form file packet outcome text
 AreLinesOf (Spans form) about file packet outcome text = text ≡ []
 
+abbrev pub If : Bool → Type 0 → Type 0 → Type 0
+If true Then Else = Then
+If false Then Else = Else
+
+-- the text is the lines of a packet that comes to that outcome, and nothing where its moment isn't in the window
+abbrev pub AreLinesIn : Trace → List Subject → Window → List ℕ → PacketAt → Outcome → List ℕ → Type 0
+AreLinesIn trace about window file packet outcome text =
+    If (in_window window packet.moment) (AreLinesOf trace about file packet outcome text) (text ≡ [])
+
 -- the text is the lines of packets that come to these outcomes, packet after packet
-abbrev pub AreAllLines : Trace → List Subject → List ℕ → List PacketAt → List Outcome → List ℕ → Type 0
-AreAllLines trace about file [] [] text = text ≡ []
-AreAllLines trace about file [] (outcome ∷ outcomes) text = ⊥
-AreAllLines trace about file (packet ∷ packets) [] text = ⊥
-AreAllLines trace about file (packet ∷ packets) (outcome ∷ outcomes) text =
+abbrev pub AreAllLines : Trace → List Subject → Window → List ℕ → List PacketAt → List Outcome → List ℕ → Type 0
+AreAllLines trace about window file [] [] text = text ≡ []
+AreAllLines trace about window file [] (outcome ∷ outcomes) text = ⊥
+AreAllLines trace about window file (packet ∷ packets) [] text = ⊥
+AreAllLines trace about window file (packet ∷ packets) (outcome ∷ outcomes) text =
     (lines : List ℕ) × ((rest : List ℕ) × (text ≡ lines ++ rest)
-    × AreLinesOf trace about file packet outcome lines × AreAllLines trace about file packets outcomes rest)
+    × AreLinesIn trace about window file packet outcome lines × AreAllLines trace about window file packets outcomes rest)
 
 -- The bytes are a capture with the summary's ending, its tally counts what the packets come to, and the text is the
 -- lines of all of them.
-pub record TracesCapture (trace : Trace) (about : List Subject) (file bytes : List ℕ) (summary : Summary) (text : List ℕ) : Type 0 where
+pub record TracesCapture (trace : Trace) (about : List Subject) (window : Window) (file bytes : List ℕ) (summary : Summary)
+    (text : List ℕ) : Type 0 where
   pub outcomes : List Outcome
   pub tells : CaptureTells bytes outcomes summary.ending
   pub counts : Counts outcomes summary.tally
-  pub lines : AreAllLines trace about file tells.packets outcomes text
+  pub lines : AreAllLines trace about window file tells.packets outcomes text
 
 -- WHAT WENT OUT BEFORE A FAULT
 
 -- Of the lines of these packets a prefix was written, and the rest wasn't.
-pub record PrintsPart (trace : Trace) (about : List Subject) (file : List ℕ) (packets : List PacketAt) (outcomes : List Outcome)
-    (old new : Option (List ℕ)) (rest : List ℕ) : Type 0 where
+pub record PrintsPart (trace : Trace) (about : List Subject) (window : Window) (file : List ℕ) (packets : List PacketAt)
+    (outcomes : List Outcome) (old new : Option (List ℕ)) (rest : List ℕ) : Type 0 where
   pub printed : List ℕ
-  pub lines : AreAllLines trace about file packets outcomes (printed ++ rest)
+  pub lines : AreAllLines trace about window file packets outcomes (printed ++ rest)
   pub written : Appends old new printed
 
 -- The bytes begin as a capture, and of the lines of its first packets a prefix went out, which may be the whole.
-pub record TracesFront (trace : Trace) (about : List Subject) (file bytes : List ℕ) (old new : Option (List ℕ)) : Type 0 where
+pub record TracesFront (trace : Trace) (about : List Subject) (window : Window) (file bytes : List ℕ)
+    (old new : Option (List ℕ)) : Type 0 where
   pub packets : List PacketAt
   pub outcomes : List Outcome
   pub begins : CaptureBegins bytes packets
   pub come : AllCome packets outcomes
   pub rest : List ℕ
-  pub prints : PrintsPart trace about file packets outcomes old new rest
+  pub prints : PrintsPart trace about window file packets outcomes old new rest
 
 -- what went out before a fault: nothing before the file header was read, and after it a prefix of the lines of the
 -- packets that were read
-abbrev pub LeavesLines : {W : Type 0} → Ghosts W → Trace → List Subject → List ℕ → Option (List ℕ) → W → W → TraceFault → Type 0
-LeavesLines sink trace about file left old new (Listen (Begin fault)) = new ≡ old
-LeavesLines sink trace about file left old new fault =
-    IfSome left (λ bytes. TracesFront trace about file bytes (sink.written old) (sink.written new))
+abbrev pub LeavesLines : {W : Type 0} → Ghosts W → Trace → List Subject → Window → List ℕ → Option (List ℕ) → W → W → TraceFault → Type 0
+LeavesLines sink trace about window file left old new (Listen (Begin fault)) = new ≡ old
+LeavesLines sink trace about window file left old new fault =
+    IfSome left (λ bytes. TracesFront trace about window file bytes (sink.written old) (sink.written new))
 
 -- WHILE A CAPTURE IS READ
 
--- the lines of a packet that comes to that outcome were added to a text
-abbrev pub AddsLines : Trace → List Subject → List ℕ → PacketAt → Outcome → List ℕ → List ℕ → Type 0
-AddsLines trace about file packet outcome old new =
-    (lines : List ℕ) × AreLinesOf trace about file packet outcome lines × (new ≡ old ++ lines)
+-- such lines were added to a text
+abbrev pub AddsLines : (List ℕ → Type 0) → List ℕ → List ℕ → Type 0
+AddsLines AreLines old new = (lines : List ℕ) × AreLines lines × (new ≡ old ++ lines)
 
 -- A consumer took these packets: of their lines some went out, no write failed, and the others wait.
 pub record LinesTook {W : Type 0} (sink : Ghosts W) (begun now : Lines W) (packets : List PacketAt) (outcomes : List Outcome)
     : Type 0 where
   pub wanted : now.wanted ≡ begun.wanted
   pub same : now.out.ghost_name ≡ begun.out.ghost_name
-  pub prints : PrintsPart begun.wanted.trace begun.wanted.about.now begun.wanted.file.now packets outcomes
+  pub prints : PrintsPart begun.wanted.trace begun.wanted.about.now begun.wanted.window begun.wanted.file.now packets outcomes
       (sink.written begun.out.now) (sink.written now.out.now) (string_bytes now.text)
   pub unfailed : sink.failures now.out.now ≡ sink.failures begun.out.now
   pub stays : IsTrue (sink.steady begun.out.now) → IsTrue (sink.steady now.out.now)
@@ -120,7 +131,7 @@ pub record LinesBroke {W : Type 0} (sink : Ghosts W) (begun now : Lines W) (pack
     (fault : TraceFault) : Type 0 where
   pub same : now.out.ghost_name ≡ begun.out.ghost_name
   pub rest : List ℕ
-  pub prints : PrintsPart begun.wanted.trace begun.wanted.about.now begun.wanted.file.now packets outcomes
+  pub prints : PrintsPart begun.wanted.trace begun.wanted.about.now begun.wanted.window begun.wanted.file.now packets outcomes
       (sink.written begun.out.now) (sink.written now.out.now) rest
   pub fails : FailsLines sink begun.out.now now.out.now fault
 

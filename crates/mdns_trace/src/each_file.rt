@@ -84,9 +84,9 @@ impl<R: Source + Drop, W: Sink> Scribe<R, W> for Tracer<'_> {
 
     type Finding = Summary;
 
-    ghost Writes = { λ tracer. WritesTrace R.Source W.Sink tracer.trace tracer.about.now };
+    ghost Writes = { λ tracer. WritesTrace R.Source W.Sink tracer.trace tracer.about.now tracer.window };
 
-    ghost Stops = { λ tracer. StopsTrace R.Source W.Sink tracer.trace tracer.about.now };
+    ghost Stops = { λ tracer. StopsTrace R.Source W.Sink tracer.trace tracer.about.now tracer.window };
 
     fn write(
         &self,
@@ -95,7 +95,7 @@ impl<R: Source + Drop, W: Sink> Scribe<R, W> for Tracer<'_> {
         reader: R,
         out: &mut W,
     ) -> Result<Summary, TraceFault> {
-        write_trace(alloc, self.trace, self.about, name, reader, out)
+        write_trace(alloc, *self, name, reader, out)
     }
 }
 
@@ -113,10 +113,13 @@ pub fn write_traces<R: Source + Drop, W: Sink>(
     out: &mut W,
 ) -> Result<Vec<Summary>, FilesFault>
     requires { length names.now ≡ length readers.items }
-    ensures written { IfOk result (λ summaries. WritesEach (WritesTrace R.Source W.Sink tracer.entry.trace tracer.entry.about.now) out.old
-        (map string_bytes names.now) readers.items out.new summaries.items) }
-    ensures stops { IfErr result (StopsAmong (WritesTrace R.Source W.Sink tracer.entry.trace tracer.entry.about.now)
-        (StopsTrace R.Source W.Sink tracer.entry.trace tracer.entry.about.now) (map string_bytes names.now) readers.items out.old out.new) }
+    ensures written { IfOk result (λ summaries. WritesEach
+        (WritesTrace R.Source W.Sink tracer.entry.trace tracer.entry.about.now tracer.entry.window)
+        out.old (map string_bytes names.now) readers.items out.new summaries.items) }
+    ensures stops { IfErr result (StopsAmong
+        (WritesTrace R.Source W.Sink tracer.entry.trace tracer.entry.about.now tracer.entry.window)
+        (StopsTrace R.Source W.Sink tracer.entry.trace tracer.entry.about.now tracer.entry.window)
+        (map string_bytes names.now) readers.items out.old out.new) }
     ensures within { IfErr result (NamesFile (length names.now)) }
 {
     write_each(alloc, &tracer, names, readers, out)

@@ -1,5 +1,6 @@
 //! What is written of captures and other files.
 
+use crate::window::Window;
 use mdns_browse::about::Subject;
 use mdns_browse::report::Form;
 use std::alloc::Global;
@@ -15,12 +16,13 @@ pub enum Trace {
     Spans(Form),
 }
 
-/// What is written of captures, and of hearings what the records are about: one of the subjects, or anything where there are
-/// none.
+/// What is written of captures: of hearings those of records about one of the subjects, or of any record where there are none; of
+/// hearings and packets those whose moments are in the window.
 #[derive(Clone, Copy)]
 pub struct Tracer<'a> {
     pub trace: Trace,
     pub about: &'a [Subject],
+    pub window: Window,
 }
 
 /// What is written of one capture, whose file's name is written as it is.
@@ -29,6 +31,7 @@ pub(crate) struct Wanted<'a> {
     pub(crate) alloc: Global,
     pub(crate) trace: Trace,
     pub(crate) about: &'a [Subject],
+    pub(crate) window: Window,
     pub(crate) file: &'a str,
 }
 

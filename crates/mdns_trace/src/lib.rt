@@ -23,6 +23,7 @@ pub mod usable;
 mod verdict;
 mod verdict_json;
 pub mod verdicts;
+pub mod window;
 
 pub use each_file::{FilesFault, write_traces};
 pub use flaw::Flaw;
@@ -33,3 +34,4 @@ pub use trace::{TraceFault, write_trace};
 pub use trace_answer::answer_traces;
 pub use verdict::Verdict;
 pub use verdicts::{answer_files, write_verdicts};
+pub use window::Window;

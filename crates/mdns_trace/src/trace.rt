@@ -6,13 +6,14 @@ ghost use Rattle.mdns_browse.specs.About.{keeps_record};
 ghost use Rattle.mdns_capture.specs.{Calls.{WritesWell}, Capture.{packet_lent}, Output.{AppendsPrefix}};
 ghost use Rattle.mdns_message.specs.TextData.{string_text};
 ghost use Rattle.mdns_survey.specs.{Listen.{outcome_of}, Why.{SaysWhy}};
-ghost use Rattle.mdns_trace.specs.{TraceFaults.{Stops, WritesLines}, declared.inquiry.Trace.TheVariants.{Hearings}};
+ghost use Rattle.mdns_trace.specs.{TraceFaults.{Stops, WritesLines}};
 ghost use Rattle.mdns_trace.specs.Inquiry.{StopsTrace, WritesTrace};
-ghost use Rattle.mdns_trace.specs.Trace.{AddsLines, IsPacketLine, LeavesLines, TracesCapture, hearing_text, packet_text, trace_fault};
+ghost use Rattle.mdns_trace.specs.Trace.{AddsLines, AreHearingLines, AreLinesIn, IsPacketLine, LeavesLines, TracesCapture};
+ghost use Rattle.mdns_trace.specs.Trace.{hearing_text, packet_text, trace_fault};
 
 use crate::entry::{Entry, Untold};
 use crate::entry_text::push_entry;
-use crate::inquiry::{Trace, Wanted};
+use crate::inquiry::{Trace, Tracer, Wanted};
 use crate::span_line::write_span;
 use mdns_browse::about::{Subject, keeps_record};
 use mdns_browse::report::Form;
@@ -42,7 +43,8 @@ pub enum TraceFault {
 
 /// Writes to `out` the lines of a capture, in order, while it reads it: of `Hearings` one for each hearing of a record
 /// that is about one of the subjects, or of any record where there are none; of `Packets` one for each packet that told
-/// nothing, which says why, of `Spans` the one that `write_span` writes, whatever the subjects are.
+/// nothing, which says why, of `Spans` the one that `write_span` writes, whatever the subjects and the window are. Packets whose
+/// moments aren't in the window are read and counted, but have no lines.
 /// `name` is the file's name; a byte of it outside 0x21 to 0x7E is written as `\DDD`, and a `\` as `\\`. It stops after
 /// 4,294,967,295 packets.
 ///
@@ -54,36 +56,35 @@ pub enum TraceFault {
 /// After any fault a prefix of the lines of the packets that were read was written; nothing if `Capture::begin` failed.
 pub fn write_trace<R: Source + Drop, W: Sink>(
     alloc: Global,
-    trace: Trace,
-    about: &[Subject],
+    tracer: Tracer<'_>,
     name: &str,
     reader: R,
     out: &mut W,
 ) -> Result<Summary, TraceFault>
-    ensures written { IfOk result (WritesTrace R.Source W.Sink trace about.now name.now reader out.old out.new) }
-    ensures stops { IfErr result (StopsTrace R.Source W.Sink trace about.now name.now reader out.old out.new) }
+    ensures written { IfOk result (WritesTrace R.Source W.Sink tracer.entry.trace tracer.entry.about.now tracer.entry.window
+        name.now reader out.old out.new) }
+    ensures stops { IfErr result (StopsTrace R.Source W.Sink tracer.entry.trace tracer.entry.about.now tracer.entry.window
+        name.now reader out.old out.new) }
 {
-    match trace {
+    match tracer.trace {
         Trace::Spans(form) => write_span(alloc, form, name, reader, out),
-        Trace::Hearings(_) | Trace::Packets(_) => write_lines(
-            alloc, trace, about, name, reader, out,
-        ),
+        Trace::Hearings(_) | Trace::Packets(_) => write_lines(alloc, tracer, name, reader, out),
     }
 }
 
 // Writes the lines of a capture's packets.
 fn write_lines<R: Source + Drop, W: Sink>(
     alloc: Global,
-    trace: Trace,
-    about: &[Subject],
+    tracer: Tracer<'_>,
     name: &str,
     reader: R,
     out: &mut W,
 ) -> Result<Summary, TraceFault>
     ensures written { IfOk result (WritesLines R.Source W.Sink
-        (TracesCapture trace about.now (string_text name.now)) reader out.old out.new) }
+        (TracesCapture tracer.entry.trace tracer.entry.about.now tracer.entry.window (string_text name.now)) reader out.old out.new) }
     ensures stops { IfErr result (Stops R.Source W.Sink
-        (LeavesLines W.Sink trace about.now (string_text name.now) (R.remaining reader)) reader out.old out.new) }
+        (LeavesLines W.Sink tracer.entry.trace tracer.entry.about.now tracer.entry.window (string_text name.now) (R.remaining reader))
+        reader out.old out.new) }
 {
     let file = match word_of(alloc, name) {
         Ok(file) => file,
@@ -92,8 +93,9 @@ fn write_lines<R: Source + Drop, W: Sink>(
     let mut lines = Lines {
         wanted: Wanted {
             alloc,
-            trace,
-            about,
+            trace: tracer.trace,
+            about: tracer.about,
+            window: tracer.window,
             file: file.as_str(),
         },
         text: String::new(alloc),
@@ -117,11 +119,11 @@ fn print_lines<R: Source + Drop, W: Sink>(
     requires empty { string_bytes lines.old.text ≡ [] }
     ensures same { lines.new.out.ghost_name ≡ lines.old.out.ghost_name }
     ensures written { IfOk result (WritesLines R.Source W.Sink
-        (TracesCapture lines.old.wanted.trace lines.old.wanted.about.now lines.old.wanted.file.now) reader
+        (TracesCapture lines.old.wanted.trace lines.old.wanted.about.now lines.old.wanted.window lines.old.wanted.file.now) reader
         lines.old.out.now lines.new.out.now) }
     ensures stops { IfErr result (Stops R.Source W.Sink
-        (LeavesLines W.Sink lines.old.wanted.trace lines.old.wanted.about.now lines.old.wanted.file.now (R.remaining reader))
-        reader lines.old.out.now lines.new.out.now) }
+        (LeavesLines W.Sink lines.old.wanted.trace lines.old.wanted.about.now lines.old.wanted.window lines.old.wanted.file.now
+        (R.remaining reader)) reader lines.old.out.now lines.new.out.now) }
 {
     let summary = match read_capture(alloc, reader, lines) {
         Ok(reading) => reading.summary,
@@ -187,7 +189,7 @@ pub(crate) fn word_of(alloc: Global, name: &str) -> Result<String, Want>
     Ok(word)
 }
 
-// Appends the lines of a packet.
+// Appends the lines of a packet, if its moment is in the window.
 fn push_packet(
     wanted: Wanted<'_>,
     found: &PacketOutcome,
@@ -195,9 +197,12 @@ fn push_packet(
     text: &mut String,
 ) -> Result<(), Want>
     requires { SaysWhy packet.now.frame.now found.now }
-    ensures { OnOk result (AddsLines wanted.entry.trace wanted.entry.about.now wanted.entry.file.now (packet_lent packet.now)
-        (outcome_of found.now) (string_bytes text.old) (string_bytes text.new)) }
+    ensures { OnOk result (AddsLines (AreLinesIn wanted.entry.trace wanted.entry.about.now wanted.entry.window wanted.entry.file.now
+        (packet_lent packet.now) (outcome_of found.now)) (string_bytes text.old) (string_bytes text.new)) }
 {
+    if !wanted.window.holds(packet.moment) {
+        return Ok(());
+    }
     match wanted.trace {
         Trace::Hearings(form) => push_hearings(wanted, form, found, packet, text),
         Trace::Packets(form) => push_why(wanted, form, found, packet, text),
@@ -215,8 +220,8 @@ fn push_hearings(
     text: &mut String,
 ) -> Result<(), Want>
     requires { SaysWhy packet.now.frame.now found.now }
-    ensures { OnOk result (AddsLines (Hearings form) wanted.entry.about.now wanted.entry.file.now (packet_lent packet.now)
-        (outcome_of found.now) (string_bytes text.old) (string_bytes text.new)) }
+    ensures { OnOk result (AddsLines (AreHearingLines wanted.entry.about.now form wanted.entry.file.now (packet_lent packet.now)
+        (outcome_of found.now)) (string_bytes text.old) (string_bytes text.new)) }
 {
     match found {
         PacketOutcome::Heard { source, message } => push_hearing_lines(
@@ -261,9 +266,8 @@ fn push_why(
     text: &mut String,
 ) -> Result<(), Want>
     requires { SaysWhy packet.now.frame.now found.now }
-    ensures { OnOk result ((lines : List ℕ)
-        × IsPacketLine form wanted.entry.file.now (packet_lent packet.now) (outcome_of found.now) lines
-        × (string_bytes text.new ≡ string_bytes text.old ++ lines)) }
+    ensures { OnOk result (AddsLines (IsPacketLine form wanted.entry.file.now (packet_lent packet.now) (outcome_of found.now))
+        (string_bytes text.old) (string_bytes text.new)) }
 {
     match found {
         PacketOutcome::Skipped(why) => push_untold_packet(

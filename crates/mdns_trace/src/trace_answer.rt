@@ -30,9 +30,9 @@ pub fn answer_traces<R: Source + Drop, O: Sink, E: Sink>(
     // The lines of all captures were written on `out`; on `err` a line for each capture that isn't whole, or where it
     // failed a prefix of that.
     ensures answers { result ≢ REFUSED → IsTraced R.Source O.Sink tracer.entry.trace tracer.entry.about.now
-        (map string_bytes names.now) readers.items out.old out.new (writing E.Sink err.old err.new) result }
+        tracer.entry.window (map string_bytes names.now) readers.items out.old out.new (writing E.Sink err.old err.new) result }
     ensures refused { result ≡ REFUSED → IsTraceRefused R.Source O.Sink tracer.entry.trace tracer.entry.about.now
-        (map string_bytes names.now) readers.items out.old out.new (writing E.Sink err.old err.new) }
+        tracer.entry.window (map string_bytes names.now) readers.items out.old out.new (writing E.Sink err.old err.new) }
 {
     match write_traces(alloc, tracer, names, readers, out) {
         Ok(summaries) => {

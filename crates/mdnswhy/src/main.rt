@@ -4,17 +4,15 @@
 
 ghost use Rattle.std.specs.Prelude.{◌≡◌, length};
 
-use command_line::lists::Lists;
 use command_line::program::{MDNSWHY, arguments, open_each, open_or_refuse, print_fault, refuse};
-use command_line::{Asked, why_asked};
-use mdns_browse::about::Subject;
+use command_line::{Asked, WhyAsks, why_asked};
 use mdns_browse::report::Form;
 use mdns_capture::Through;
 use mdns_listeners::Groups;
 use mdns_listeners::listeners::ListenersRequest;
 use mdns_message::Want;
 use mdns_survey::answers::{NamedProgram, answer_with};
-use mdns_trace::inquiry::{Inquiry, Trace, Tracer};
+use mdns_trace::inquiry::{Inquiry, Tracer};
 use mdns_trace::trace_answer::answer_traces;
 use mdns_trace::verdicts::answer_files;
 use std::process::ExitCode;
@@ -41,11 +39,22 @@ fn run(rt: &HostRuntime) -> u8 {
 }
 
 // Writes what is asked of the files.
-fn answer(rt: &HostRuntime, asked: Asked<(Inquiry, Lists)>) -> u8 {
+fn answer(rt: &HostRuntime, asked: Asked<WhyAsks>) -> u8 {
     let Asked { what, names } = asked;
-    let (inquiry, lists) = what;
+    let WhyAsks {
+        inquiry,
+        lists,
+        window,
+    } = what;
     match inquiry {
-        Inquiry::Trace(trace) => trace_files(rt, trace, lists.about.as_slice(), names.as_slice()),
+        Inquiry::Trace(trace) => {
+            let tracer = Tracer {
+                trace,
+                about: lists.about.as_slice(),
+                window,
+            };
+            trace_files(rt, tracer, names.as_slice())
+        }
         Inquiry::Files(form) => judge_files(rt, form, names.as_slice()),
         Inquiry::Listeners(form) => {
             group_files(rt, form, lists.listeners.as_slice(), names.as_slice())
@@ -54,12 +63,12 @@ fn answer(rt: &HostRuntime, asked: Asked<(Inquiry, Lists)>) -> u8 {
 }
 
 // Opens the files, and writes their traces.
-fn trace_files(rt: &HostRuntime, trace: Trace, about: &[Subject], names: &[String]) -> u8 {
+fn trace_files(rt: &HostRuntime, tracer: Tracer<'_>, names: &[String]) -> u8 {
     let mut err = Through(rt.stderr());
     match open_or_refuse(rt, MDNSWHY, names, &mut err) {
         Ok(readers) => answer_traces(
             rt.alloc(),
-            Tracer { trace, about },
+            tracer,
             names,
             readers,
             &mut Through(rt.stdout()),

@@ -6,7 +6,9 @@ use crate::slow::{FAILING_CALLS, Trial, passes_at_each_call, passes_unread, two_
 use mdns_browse::report::Form;
 use mdns_survey::ListenFault;
 use mdns_survey::survey::SurveyFault;
-use mdns_trace::{FilesFault, Trace, TraceFault, Tracer, Verdict, write_traces, write_verdicts};
+use mdns_trace::{
+    FilesFault, Trace, TraceFault, Tracer, Verdict, Window, write_traces, write_verdicts,
+};
 use std::alloc::Global;
 use test_values::streams::{SlowReader, SlowWriter, slow_writer};
 
@@ -28,7 +30,12 @@ fn trace_fault(
     if names.len() != readers.len() {
         return None;
     }
-    match write_traces(alloc, Tracer { trace, about: &[] }, names, readers, out) {
+    let tracer = Tracer {
+        trace,
+        about: &[],
+        window: Window::ALL,
+    };
+    match write_traces(alloc, tracer, names, readers, out) {
         Err(
             FilesFault::File {
                 index,

@@ -12,7 +12,7 @@ use mdns_page::page::PageRequest;
 use mdns_survey::answers::{NamedProgram, answer_request, answer_with};
 use mdns_survey::status::REFUSED;
 use mdns_survey::{AsOf, LivesRequest, ReportRequest, Request, Subjects, Which};
-use mdns_trace::{Trace, Tracer, answer_files, answer_traces};
+use mdns_trace::{Trace, Tracer, Window, answer_files, answer_traces};
 use std::alloc::Global;
 use test_values::streams::{SlowReader, SlowWriter, slow_writer};
 
@@ -92,7 +92,11 @@ fn status_of(
         Run::Listeners(form) => listeners_status(alloc, form, names, readers, out, err),
         Run::Trace(trace) => Some(answer_traces(
             alloc,
-            Tracer { trace, about: &[] },
+            Tracer {
+                trace,
+                about: &[],
+                window: Window::ALL,
+            },
             names,
             readers,
             out,

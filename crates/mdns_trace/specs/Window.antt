@@ -1,0 +1,14 @@
+-- The moments whose hearings and packets are listed.
+use Rattle.std.specs.Prelude.{Bool, true, false, ◌&&◌, nat_le, nat_lt, Option, Some, option_map, unwrap_or}
+use Rattle.mdns_capture.specs.declared.moment.Moment.{Moment}
+use Rattle.mdns_trace.specs.declared.window.Window.{Window}
+
+-- the moment is not before the beginning, and before the end
+abbrev pub in_window : Window → Moment → Bool
+in_window window moment = unwrap_or (option_map (λ (since : Moment). nat_le since.nanos moment.nanos) window.since) true
+    && unwrap_or (option_map (λ (until : Moment). nat_lt moment.nanos until.nanos) window.until) true
+
+-- there are both, and no moment is between them
+abbrev pub is_reversed : Option Moment → Option Moment → Bool
+is_reversed (Some since) (Some until) = nat_le until.nanos since.nanos
+is_reversed since until = false
