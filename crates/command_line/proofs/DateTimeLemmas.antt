@@ -5,9 +5,8 @@ use Rattle.std.proofs.{Common.{refl, sym, ap, arith, inl, inr, Result, Ok, Err},
 use Rattle.std.proofs.lemmas.{Option.{none-some, same_Some}, List.{append_assoc, append-nil}}
 use Rattle.std.specs.Result.{OkIff, result_ok}
 use Rattle.mdns_capture.specs.{declared.moment.Moment.{Moment}, Limits.{second}}
-use Rattle.command_line.specs.declared.moments.{Offset.{Offset}, Offset.TheVariants.{Ahead, Behind}}
-use Rattle.command_line.specs.Moments.{IsClock, IsDateTime, IsLocal, IsOffset, IsOptionalFraction, IsOptionalSecond, IsSeparator, IsTime}
-use Rattle.command_line.specs.Moments.{day_length}
+use Rattle.command_line.specs.{declared.moments.Offset.{Offset}, declared.moments.Offset.TheVariants.{Ahead, Behind}, Moments.{IsClock}}
+use Rattle.command_line.specs.Moments.{IsDateTime, IsLocal, IsOffset, IsOptionalFraction, IsOptionalSecond, IsSeparator, IsTime, day_length}
 use Rattle.command_line.specs.MomentReading as reading
 use Rattle.people_text.specs.{Calendar.{days_of_years}, MomentText.{two_digits}}
 use Rattle.command_line.proofs.GrammarLemmas.{Stops, clock-complete, clock-sound, cond-some, date-complete, date-sound}

@@ -60,10 +60,6 @@ day-sound : (days year month day : ℕ) → calendar.day_number year month day �
 unfolding calendar.day_number
 day-sound days year month day e = grind (arith, cond-some, nat_tests)
 
-abbrev dated : ℕ → ℕ → ℕ → List ℕ → List ℕ
-dated year month day rest =
-    two_digits (year / 100) ++ (two_digits (year % 100) ++ 45 ∷ (two_digits month ++ 45 ∷ (two_digits day ++ rest)))
-
 pub date-complete : (date rest : List ℕ) (days : ℕ) → IsDate date days → reading.read_date (date ++ rest) ≡ Some (days, rest)
 unfolding reading.read_date date_written
 date-complete date rest days is = grind (arith, month_length-few, two-complete, day-complete)

@@ -1,7 +1,6 @@
 -- Lemmas on command lines as tables.
-use Rattle.std.proofs.lemmas.Grind.{common_steps}
-use Rattle.std.proofs.Common.{arith, ◌≡◌, ◌&&◌, not, inl, inr, subst, refl, true, false, Bool, List, [], ◌∷◌, ◌++◌}
-use Rattle.std.proofs.lemmas.List.{map-append}
+use Rattle.std.proofs.{lemmas.Grind.{common_steps}, Common.{arith, ◌≡◌, ◌&&◌, not, inl, inr, subst, refl, true, false, Bool}}
+use Rattle.std.proofs.{Common.{List, [], ◌∷◌, ◌++◌}, lemmas.List.{map-append}}
 use Rattle.clap.specs.{Kinds.{HasKind, IsAmong, Kinds}, Values.{kind_of}, Words.{Text, with_subcommand}, declared.error.Error.{Error}}
 use Rattle.command_line.specs.{Faults.{IsFaultOf, IsUnasked}, Line.{Flags, line_of, shape_of}}
 use Rattle.command_line.specs.declared.words.{WordsFault.TheVariants.{Memory, Help, Refused}, AskFault.{AskFault}}

@@ -7,12 +7,10 @@ use Rattle.std.specs.{Option.{option_map_or}, Str.{bytes_eq}, Str.Parse.{ParsesU
 use Rattle.clap.proofs.{CallerReads.{signed_reads}, ValueTestLemmas.{accepts-Accepts}, WalkLemmas.{both}}
 use Rattle.clap.specs.Facts.{explicit_source}
 use Rattle.clap.specs.Faults.{check_fault, defaults_fault, entered_fault, fault_of, level_fault, settle_fault, walk_fault}
-use Rattle.clap.specs.Lexer.{without_minus}
-use Rattle.clap.specs.Simple.{App, Shape, argument_words, built, built_leaf, entered, filled_from, help_rule, inherited, marked_built}
-use Rattle.clap.specs.{Simple.{names_of, on_top, rows_at, subcommand_of, with_leaf_noted}, Takes.{is_given}, Values.{read_as}}
-use Rattle.clap.specs.ValueTests.{accepts}
-use Rattle.clap.specs.Walk.{Row, Text, first_of, all_of, finished, nothing_held, one_of, row_text, rows_after, settled, stop_after, walk}
-use Rattle.clap.specs.{Walk.{walk_from}, declared.builder.value_parser.Reading.{Reading}}
+use Rattle.clap.specs.{Lexer.{without_minus}, Simple.{App, Shape, argument_words, built, built_leaf, entered, filled_from, help_rule}}
+use Rattle.clap.specs.{Simple.{inherited, marked_built, names_of, on_top, rows_at, subcommand_of, with_leaf_noted}, Takes.{is_given}}
+use Rattle.clap.specs.{Values.{read_as}, ValueTests.{accepts}, Walk.{Row, Text, first_of, all_of, finished, nothing_held, one_of, row_text}}
+use Rattle.clap.specs.{Walk.{rows_after, settled, stop_after, walk, walk_from}, declared.builder.value_parser.Reading.{Reading}}
 use Rattle.clap.specs.declared.builder.value_parser.Reading.TheVariants as reading
 use Rattle.clap.specs.declared.error.kind.ErrorKind.TheVariants as kind
 use Rattle.mdns_capture.specs.declared.moment.Moment.{Moment}

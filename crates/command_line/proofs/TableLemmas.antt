@@ -6,11 +6,10 @@ use Rattle.clap.specs.Words.{Row, Text, all_of, one_of}
 use Rattle.mdns_browse.specs.declared.report.Form.{Form}
 use Rattle.mdns_listeners.specs.Groups.{unfit_prefix}
 use Rattle.command_line.specs.declared.{line.Takes.{Takes}, lists.Lists.{Lists}, option_fault.OptionFault.{OptionFault}}
-use Rattle.command_line.specs.declared.options.{ConflictingFlags.{ConflictingFlags}, Options.{Options}}
-use Rattle.command_line.specs.Line.{AsksForm, AsksOneOf, Flags, GivesForm, GivesForms, HasLists, HasOneForm, HasOptions, HasText, IsGiven}
-use Rattle.command_line.specs.Line.{Matches, Table, words_of}
-use Rattle.command_line.specs.CommandLine.{GivesAfter, GivesNoFile, GivesTwo, HasUnfit, both_given, form_flags, no_file}
-use Rattle.command_line.specs.OptionFault.{MakesNoForm, option_fault_text}
+use Rattle.command_line.specs.{declared.options.ConflictingFlags.{ConflictingFlags}, declared.options.Options.{Options}, Line.{AsksForm}}
+use Rattle.command_line.specs.Line.{AsksOneOf, Flags, GivesForm, GivesForms, HasLists, HasOneForm, HasOptions, HasText, IsGiven, Matches}
+use Rattle.command_line.specs.{Line.{Table, words_of}, CommandLine.{GivesAfter, GivesNoFile, GivesTwo, HasUnfit, both_given, form_flags}}
+use Rattle.command_line.specs.{CommandLine.{no_file}, OptionFault.{MakesNoForm, option_fault_text}}
 use Rattle.command_line.specs.declared.line.Takes.TheVariants as takes
 use Rattle.command_line.specs.declared.option_fault.OptionFault.TheVariants as option_fault
 

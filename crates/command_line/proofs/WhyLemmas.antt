@@ -7,9 +7,8 @@ use Rattle.mdns_trace.specs.declared.{inquiry.Inquiry.{Inquiry}, window.Window.{
 use Rattle.command_line.specs.declared.{lists.Lists.{Lists}, options.Options.{Options}, option_fault.OptionFault.{OptionFault}}
 use Rattle.command_line.specs.declared.words.{WhyAsks.{WhyAsks}, WordsFault.{WordsFault}, WordsFault.TheVariants.{Memory, Help, Refused}}
 use Rattle.command_line.specs.{declared.words.AskFault.TheVariants.{Words}, Line.{AsksWithLists, Flags, HasOneForm, HasOptions, Matches}}
-use Rattle.command_line.specs.Faults.{IsRefusal, IsUnasked}
-use Rattle.command_line.specs.CommandLine.{AsksWhy, GivesNoFile, GivesNoInquiry, GivesNoWindow, GivesTwo, GivesWindow, IsRefusedFor}
-use Rattle.command_line.specs.CommandLine.{MakesInquiry, form_flags, in_form, inquiries}
+use Rattle.command_line.specs.{Faults.{IsRefusal, IsUnasked}, CommandLine.{AsksWhy, GivesNoFile, GivesNoInquiry, GivesNoWindow, GivesTwo}}
+use Rattle.command_line.specs.CommandLine.{GivesWindow, IsRefusedFor, MakesInquiry, form_flags, in_form, inquiries}
 use Rattle.command_line.specs.OptionFault.{MakesFormWindow, MakesNoInquiry, MakesNoWindow, option_fault_text, text_of}
 use Rattle.command_line.proofs.TableLemmas.{IsOneOf, Known, all-known, form-refused, one-asked}
 

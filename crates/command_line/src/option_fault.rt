@@ -1,9 +1,8 @@
 //! Options that make nothing, and their refusals.
 
 ghost use Rattle.std.specs.Prelude.{◌≡◌, IfErr, IfOk, None, Ok, map, string_bytes};
-ghost use Rattle.command_line.specs.{CommandLine.{invalid, is_plain, quoted}, Faults.{IsRefusal}};
-ghost use Rattle.command_line.specs.OptionFault.{MakesNoForm, option_fault_text};
-ghost use Rattle.command_line.specs.declared.option_fault.OptionFault.TheVariants.{ConflictingFlags};
+ghost use Rattle.command_line.specs.{CommandLine.{invalid, is_plain, quoted}, Faults.{IsRefusal}, OptionFault.{MakesNoForm}};
+ghost use Rattle.command_line.specs.{OptionFault.{option_fault_text}, declared.option_fault.OptionFault.TheVariants.{ConflictingFlags}};
 ghost use Rattle.mdns_listeners.specs.Groups.{unfit_prefix};
 
 use crate::flags::LISTENER;

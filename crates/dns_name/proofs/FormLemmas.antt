@@ -1,7 +1,6 @@
 -- Forms, one label at a time.
 use Rattle.std.proofs.Common.{◌≡◌, ℕ, zero, suc, ◌+◌, List, [], ◌∷◌, ◌++◌, length, drop, refl, sym, ap, ◌∙◌}
-use Rattle.std.proofs.Common.{subst, arith, length-append, slice_get, Some, ◌-◌}
-use Rattle.std.proofs.Math.Seq.{drop-append_seam}
+use Rattle.std.proofs.{Common.{subst, arith, length-append, slice_get, Some, ◌-◌}, Math.Seq.{drop-append_seam}}
 use Rattle.dns_name.specs.Name.{IsForm, IsLabel, AreLabels, wire_of, pieces_of, labels_of}
 
 -- the zero octet alone is a form

@@ -1,14 +1,12 @@
 -- Each offset reads as a name or meets a first fault, whatever the message.
-use Rattle.std.proofs.Common.{◌≡◌, ℕ, zero, suc, ◌+◌, ◌-◌, ◌%◌, ◌<◌, ◌≤◌, ◌⊎◌, inl, inr, List, [], ◌∷◌, ◌++◌, length}
-use Rattle.std.proofs.Common.{drop, refl, arith, length-append}
+use Rattle.std.proofs.Common.{◌≡◌, ℕ, zero, suc, ◌+◌, ◌-◌, ◌%◌, ◌<◌, ◌≤◌, ◌⊎◌, inl, inr, List, []}
+use Rattle.std.proofs.{Common.{◌∷◌, ◌++◌, length, drop, refl, arith, length-append}, lemmas.Bool.{cases_lt}}
 use Rattle.std.specs.Prelude.{slice_index, slice_range}
 use Rattle.byteorder.specs.Endian.{big_number}
-use Rattle.std.proofs.lemmas.Bool.{cases_lt}
 use Rattle.dns_name.specs.{NameAt.{NameStands, NameReads, LabelAt, PointerAt}, NameAt.NameStands.{root, label, pointer}}
-use Rattle.dns_name.specs.FirstFault.{NameFailsUnder, NameFails}
-use Rattle.dns_name.specs.FirstFault.NameFailsUnder.{no_octet, label_cut, label_long, label_form, pointer_cut, pointer_target, after_label}
-use Rattle.dns_name.specs.{FirstFault.NameFailsUnder.{after_pointer}, declared.fault.NameReadFault.{NameReadFault}}
-use Rattle.dns_name.specs.declared.fault.NameReadFault.TheVariants.{Cut, Label, Pointer, LongName}
+use Rattle.dns_name.specs.{FirstFault.{NameFailsUnder, NameFails}, FirstFault.NameFailsUnder.{no_octet, label_cut, label_long, label_form}}
+use Rattle.dns_name.specs.FirstFault.NameFailsUnder.{pointer_cut, pointer_target, after_label, after_pointer}
+use Rattle.dns_name.specs.declared.fault.{NameReadFault.{NameReadFault}, NameReadFault.TheVariants.{Cut, Label, Pointer, LongName}}
 use Rattle.dns_name.proofs.NameLemmas.{label_length}
 
 -- at p is a name that fits after u octets, or reading it meets a fault

@@ -1,13 +1,11 @@
 -- Reading a name step by step: the octets read so far, followed by any name at the offset where reading goes on.
 use Rattle.std.proofs.Common.{◌≡◌, ℕ, suc, ◌+◌, ◌-◌, ◌<◌, ◌≤◌, List, [], ◌∷◌, ◌++◌, length, take, drop, refl, sym, ◌∙◌}
 use Rattle.std.proofs.Common.{ap, subst, arith, append_assoc, length-append, length-take, length-drop}
-use Rattle.std.specs.Prelude.{Option, Some, None, unwrap_or, slice_range}
-use Rattle.std.specs.Option.{option_or}
+use Rattle.std.specs.{Prelude.{Option, Some, None, unwrap_or, slice_range}, Option.{option_or}}
 use lib.Seq.{take-add}
 use Rattle.std.proofs.lemmas.List.{append-nil, drop-drop, drop_more}
-use Rattle.dns_name.specs.Name.{IsForm, IsWire, wire_of}
-use Rattle.dns_name.specs.NameAt.{NameStands, NameReads, ReadsOnto, RootAt, LabelAt, LabelEnds, PointerLeads}
-use Rattle.dns_name.specs.{NameAt.NameStands.{root, label, pointer}, FirstFault.{NameFailsUnder, NameFails}}
+use Rattle.dns_name.specs.{Name.{IsForm, IsWire, wire_of}, NameAt.{NameStands, NameReads, ReadsOnto, RootAt, LabelAt, LabelEnds}}
+use Rattle.dns_name.specs.{NameAt.{PointerLeads}, NameAt.NameStands.{root, label, pointer}, FirstFault.{NameFailsUnder, NameFails}}
 use Rattle.dns_name.specs.{FirstFault.NameFailsUnder.{after_label, after_pointer}, declared.fault.NameReadFault.{NameReadFault}}
 use Rattle.dns_name.specs.Pointer.{PointersLead}
 use Rattle.dns_name.proofs.{NameLemmas.{label_length}, PointerLemmas.{name_along, fault_along}}

@@ -1,8 +1,7 @@
 //! Folding, by which names are compared: the ASCII letters `A` to `Z` count as `a` to `z`, and no other byte is changed
 //! (RFC 6762, section 16).
 
-ghost use Rattle.std.specs.Prelude.{◌≡◌, ◌↔◌, IsTrue};
-ghost use Rattle.std.specs.{Cmp.Lexicographic.{slice_cmp}, Ordering.{nat_cmp}};
+ghost use Rattle.std.specs.{Prelude.{◌≡◌, ◌↔◌, IsTrue}, Cmp.Lexicographic.{slice_cmp}, Ordering.{nat_cmp}};
 ghost use Rattle.dns_name.specs.Name.{folded};
 
 use std::cmp::Ordering;

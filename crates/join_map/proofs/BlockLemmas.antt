@@ -1,10 +1,9 @@
 -- Entries in blocks: what a change of one block changes of the entries.
-use Rattle.std.proofs.lemmas.Grind.{common_steps}
-use Rattle.std.proofs.lemmas.List.{take-append-drop, take_all, drop_all, append-nil, take_at, take-take, drop_at, drop-drop, drop-append-le}
-use Rattle.std.proofs.lemmas.List.{drop-set-lt, drop_more, take_more_set, set_split, get_or_at, get_or_read, length-take-le, length_push}
-use Rattle.std.proofs.{lemmas.Bool.Decides.{nat_tests}, Math.Seq.{take-add}}
-use Rattle.std.proofs.Common.{Bool, true, ◌==◌, ◌≡◌, ℕ, zero, suc, ◌+◌, ◌-◌, ◌<◌, ◌≤◌, List, [], ◌∷◌, length-append, length-drop}
-use Rattle.std.proofs.Common.{◌++◌, length, get_or, take, drop, set, refl, sym, ap, ◌∙◌, subst, arith, append_assoc}
+use Rattle.std.proofs.lemmas.{Grind.{common_steps}, List.{take-append-drop, take_all, drop_all, append-nil, take_at, take-take, drop_at}}
+use Rattle.std.proofs.lemmas.List.{drop-drop, drop-append-le, drop-set-lt, drop_more, take_more_set, set_split, get_or_at, get_or_read}
+use Rattle.std.proofs.{lemmas.List.{length-take-le, length_push}, lemmas.Bool.Decides.{nat_tests}, Math.Seq.{take-add}, Common.{Bool, true}}
+use Rattle.std.proofs.Common.{◌==◌, ◌≡◌, ℕ, zero, suc, ◌+◌, ◌-◌, ◌<◌, ◌≤◌, List, [], ◌∷◌, length-append}
+use Rattle.std.proofs.Common.{length-drop, ◌++◌, length, get_or, take, drop, set, refl, sym, ap, ◌∙◌, subst, arith, append_assoc}
 use Rattle.std.specs.List.{insert}
 use Rattle.join_map.specs.{Blocks.{entries_of, AllFilled, block_at, before, after, IsGap, IsMoved}, declared.blocks.Spot.{Spot}}
 

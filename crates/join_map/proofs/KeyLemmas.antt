@@ -2,14 +2,13 @@
 use Rattle.std.proofs.Common.{◌≡◌, ℕ, suc, zero, ◌+◌, ◌-◌, ◌/◌, ◌<◌, ◌≤◌, length, take, drop, get_or, arith}
 use Rattle.std.proofs.Common.{true≢false, Bool, true, false, cond, List, [], ◌∷◌, ◌++◌, Some, None, Ordering, Less}
 use Rattle.std.proofs.Common.{Equal, Greater, refl, sym, ap, ◌∙◌, subst, is_eq}
+use Rattle.std.proofs.lemmas.List.{take-append-drop, take_more, drop_more, get_or_read}
 use Rattle.std.specs.{Ordering.{match_ordering, ordering_reverse, is_lt}, BTreeMap.{insert_entry}, Cmp.{IsTotalOrder}}
 use Rattle.std.specs.{List.Sorted.{IsStrictlySortedBy}, Map.{keys_of, set_value}}
-use Rattle.std.proofs.lemmas.List.{take-append-drop, take_more, drop_more, get_or_read}
 use Rattle.join_map.proofs.BlockLemmas.{entries_of-cut, entries_of-from}
 use Rattle.join_map.specs.{Blocks.{AllAbove, AllBelow, IsOffset, IsAt, IsFree, block_at, entries_of}, declared.blocks.Spot.{Spot}}
-use Rattle.join_map.specs.Entries.{value_at}
-use Rattle.join_map.specs.laws.Entries.{sorted_none, greater_back, sorted_above, sorted_rest, above_trans, value_at-above, value_at-equal}
-use Rattle.join_map.specs.laws.Entries.{value_at-greater}
+use Rattle.join_map.specs.{Entries.{value_at}, laws.Entries.{sorted_none, greater_back, sorted_above, sorted_rest, above_trans}}
+use Rattle.join_map.specs.laws.Entries.{value_at-above, value_at-equal, value_at-greater}
 
 not_less : (o : Ordering) → o ≡ Equal → o ≡ Less → ⊥
 not_less o e l = absurd (cc)

@@ -4,11 +4,10 @@ use Rattle.std.proofs.Common.{Ordering, Less, Equal, refl, sym, ap, ◌∙◌, s
 use borrow.Rule.Slice.PartMut.{mid_of, post_of, put_mid, put_same, same_len_mid}
 use Rattle.std.specs.{Cmp.{IsTotalOrder}, List.{All, AllByRecursion, Contains}, List.Sorted.{IsPermutation, IsStrictlySortedBy}}
 use Rattle.std.specs.Map.{keys_of}
-use Rattle.std.proofs.lemmas.Bool.{cases_lt}
-use Rattle.std.proofs.lemmas.List.{append-nil, length-map, map-append, drop_all, drop_more, get_or_default, take-append-drop}
-use Rattle.std.proofs.lemmas.List.Elements.{All-contains, All-from_recursion, Contains-append_left, Contains-push, recursion_from_All}
-use Rattle.std.proofs.lemmas.List.Sorted.{All-permutation, Contains-permutation, IsPermutation-append_left}
-use Rattle.std.proofs.lemmas.List.Sorted.{IsPermutation-append_right, length_permutation}
+use Rattle.std.proofs.lemmas.{Bool.{cases_lt}, List.{append-nil, length-map, map-append, drop_all, drop_more, get_or_default}}
+use Rattle.std.proofs.lemmas.{List.{take-append-drop}, List.Elements.{All-contains, All-from_recursion, Contains-append_left}}
+use Rattle.std.proofs.lemmas.List.{Elements.{Contains-push, recursion_from_All}, Sorted.{All-permutation, Contains-permutation}}
+use Rattle.std.proofs.lemmas.List.Sorted.{IsPermutation-append_left, IsPermutation-append_right, length_permutation}
 use Rattle.join_map.specs.Blocks.{AllFilled, AllWithin, ArePlaces, IsOrder, entries_of, picked, places_of}
 use Rattle.join_map.specs.{Entries.{AllValid, IsJoinMap, gathered, joined, one_entry}, Join.{JoinLaws, IsAtMost}}
 use Rattle.join_map.specs.laws.Entries.{above_trans, joined-none, sorted_above, IsJoinMap-none, IsJoinMap-one, joined-laws}

@@ -1,9 +1,8 @@
 -- Entries by their places.
-use Rattle.std.proofs.lemmas.Grind.{common_steps}
-use Rattle.std.proofs.lemmas.List.{drop_more, drop_at, take_at, get_or_default, get_or_read, get_or-set_other, get_or-set_same, length-set}
-use Rattle.std.proofs.Common.{◌≡◌, ◌≢◌, ℕ, zero, suc, ◌+◌, ◌<◌, ◌≤◌}
-use Rattle.std.proofs.Common.{List, [], ◌∷◌, ◌++◌, length, get_or, take, drop, set, refl, sym, ap, ◌∙◌}
-use Rattle.std.proofs.Common.{subst, arith, append_assoc, length-append, Ordering, Less, Equal, Greater}
+use Rattle.std.proofs.lemmas.{Grind.{common_steps}, List.{drop_more, drop_at, take_at, get_or_default, get_or_read, get_or-set_other}}
+use Rattle.std.proofs.{lemmas.List.{get_or-set_same, length-set}, Common.{◌≡◌, ◌≢◌, ℕ, zero, suc, ◌+◌, ◌<◌}}
+use Rattle.std.proofs.Common.{◌≤◌, List, [], ◌∷◌, ◌++◌, length, get_or, take, drop, set, refl, sym, ap, ◌∙◌, subst}
+use Rattle.std.proofs.Common.{arith, append_assoc, length-append, Ordering, Less, Equal, Greater}
 use Rattle.std.specs.{List.{AllByRecursion}, Map.{keys_of}, Cmp.{IsTotalOrder}, List.Sorted.{IsStrictlySortedBy}}
 use Rattle.std.specs.Ordering.{ordering_reverse}
 use Rattle.join_map.specs.Blocks.{AllAbove, AllBelow, AllFilled, AllWithin, ArePlaces, IsEntry, IsGap, IsRewritten, IsSpot, block_at}

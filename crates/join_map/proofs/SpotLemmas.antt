@@ -3,12 +3,10 @@ use Rattle.std.proofs.Common.{arith, ◌≡◌, List, ◌∷◌, ◌++◌, Some,
 use Rattle.std.proofs.Common.{OnErr, Ordering, Equal, sym, ap, ◌∙◌, subst}
 use Rattle.std.specs.{BTreeMap.{insert_entry}, Cmp.{IsTotalOrder}}
 use Rattle.join_map.specs.{Blocks.{entries_of, before, after, IsEntry, IsAt, IsFree, IsRewritten, JoinsAt}, declared.blocks.Spot.{Spot}}
-use Rattle.join_map.specs.Entries.{value_at, IsJoinMap, put_entry, joined, one_entry}
-use Rattle.join_map.specs.{laws.Entries.{insert_entry-put, joined-laws, IsJoinMap-one, IsJoinMap-put}, Join.{JoinLaws, IsPartOfJoin}}
-use Rattle.join_map.specs.laws.Join.{IsPartOfJoin-old}
-use Rattle.join_map.proofs.BlockLemmas.{entries_of-gap, entries_of-split}
-use Rattle.join_map.proofs.KeyLemmas.{Sorted, Written, value_at-free, insert_free, value_at-entry, written_entry, sorted_written}
-use Rattle.join_map.proofs.PutLemmas.{written_ok, written_err, written_map}
+use Rattle.join_map.specs.{Entries.{value_at, IsJoinMap, put_entry, joined, one_entry}, laws.Entries.{insert_entry-put, joined-laws}}
+use Rattle.join_map.specs.{laws.Entries.{IsJoinMap-one, IsJoinMap-put}, Join.{JoinLaws, IsPartOfJoin}, laws.Join.{IsPartOfJoin-old}}
+use Rattle.join_map.proofs.{BlockLemmas.{entries_of-gap, entries_of-split}, KeyLemmas.{Sorted, Written, value_at-free, insert_free}}
+use Rattle.join_map.proofs.{KeyLemmas.{value_at-entry, written_entry, sorted_written}, PutLemmas.{written_ok, written_err, written_map}}
 
 same_first : {E : Type 0} (x y : E) (xs ys : List E) → x ∷ xs ≡ y ∷ ys → x ≡ y
 same_first x y xs ys e = cc

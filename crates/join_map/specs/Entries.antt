@@ -1,7 +1,6 @@
 -- Finite maps as the list of their entries in key order, and their join key by key.
-use Rattle.std.specs.Prelude.{List, [], ◌∷◌, Option, Some, None}
-use Rattle.std.specs.{declared.cmp.Ordering.{Ordering}, Ordering.{match_ordering, is_eq}, Map.{keys_of, lookup}}
-use Rattle.std.specs.List.Sorted.{IsStrictlySortedBy}
+use Rattle.std.specs.{Prelude.{List, [], ◌∷◌, Option, Some, None}, declared.cmp.Ordering.{Ordering}, Ordering.{match_ordering, is_eq}}
+use Rattle.std.specs.{Map.{keys_of, lookup}, List.Sorted.{IsStrictlySortedBy}}
 
 -- the value at the key k
 abbrev pub value_at : {K V : Type 0} → (K → K → Ordering) → K → List (K × V) → Option V

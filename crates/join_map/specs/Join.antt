@@ -1,6 +1,5 @@
 -- Joins: operations that combine two values so that neither order nor repeats matter.
-use Rattle.std.specs.Prelude.{◌≡◌}
-use Rattle.std.specs.{declared.cmp.Ordering.{Ordering}, Ordering.{match_ordering}}
+use Rattle.std.specs.{Prelude.{◌≡◌}, declared.cmp.Ordering.{Ordering}, Ordering.{match_ordering}}
 
 -- the laws of a join, on the values that `Valid` holds of
 pub record JoinLaws {A : Type 0} (Valid : A → Type 0) (join : A → A → A) : Type 0 where

@@ -1,7 +1,6 @@
 //! Keys that can be copied.
 
-ghost use Rattle.std.specs.Prelude.{◌≡◌, IfOk};
-ghost use Rattle.std.specs.declared.cmp.Ordering.{Ordering};
+ghost use Rattle.std.specs.{Prelude.{◌≡◌, IfOk}, declared.cmp.Ordering.{Ordering}};
 
 use memory::Want;
 use std::alloc::Global;

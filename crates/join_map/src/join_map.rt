@@ -1,9 +1,8 @@
 //! Finite maps that are joined key by key.
 
 ghost use Rattle.std.specs.Prelude.{◌≡◌, ◌↔◌, ◌&&◌, List, [], ◌∷◌, ◌++◌, length, IsTrue, IfOk, IfErr, IfSome};
-ghost use Rattle.std.specs.Prelude.{OnOk, OnErr, option_copied};
-ghost use Rattle.std.specs.{Cmp.{on_per, and_per}, Cmp.Lexicographic.{pointwise, lists_per}, Iterator.{at_most}};
-ghost use Rattle.std.specs.Map.Iter.{TakesFirst, deref_pair};
+ghost use Rattle.std.specs.{Prelude.{OnOk, OnErr, option_copied}, Cmp.{on_per, and_per}, Cmp.Lexicographic.{pointwise, lists_per}};
+ghost use Rattle.std.specs.{Iterator.{at_most}, Map.Iter.{TakesFirst, deref_pair}};
 ghost use Rattle.join_map.specs.{Blocks.{entries_of, IsGap, before, after}, Join.{IsPartOfJoin}};
 ghost use Rattle.join_map.specs.{Entries.{AllValid, IsJoinMap, value_at, joined, gathered, one_entry}, laws.Entries.{joined-laws}};
 

@@ -1,7 +1,6 @@
 //! The entries of a map, one after another.
 
-ghost use Rattle.std.specs.Prelude.{◌≡◌, ◌<◌, length, slice_index_or};
-ghost use Rattle.std.specs.{Iterator.{at_most}, Map.Iter.{TakesFirst, deref_pair}};
+ghost use Rattle.std.specs.{Prelude.{◌≡◌, ◌<◌, length, slice_index_or}, Iterator.{at_most}, Map.Iter.{TakesFirst, deref_pair}};
 ghost use Rattle.join_map.specs.Blocks.{ArePlaces, entries_of, rows};
 
 use crate::block::Block;

@@ -4,9 +4,8 @@ use Rattle.std.specs.declared.string.String.{String}
 use Rattle.mdns_join.specs.declared.latest.Latest.{Latest}
 use Rattle.mdns_browse.specs.declared.{about.Subject.{Subject}, report_json.Objects.{Objects}, report.Ask.{Ask}}
 use Rattle.mdns_browse.specs.declared.report.{Ask.TheVariants.{Records, Types, Instances}, Form.TheVariants.{Json, Lines}}
-use Rattle.mdns_browse.specs.Report.{instances_about, records_about, text_about, types_about}
-use Rattle.mdns_browse.specs.{Sheet.{live_record, report_pieces, service_type, writes}, LinePieces.{piece_lines}}
-use Rattle.mdns_browse.specs.JsonPieces.{Grows, pieces_json, pieces_next}
+use Rattle.mdns_browse.specs.{Report.{instances_about, records_about, text_about, types_about}, Sheet.{live_record, report_pieces}}
+use Rattle.mdns_browse.specs.{Sheet.{service_type, writes}, LinePieces.{piece_lines}, JsonPieces.{Grows, pieces_json, pieces_next}}
 use Rattle.mdns_browse.proofs.{LineLemmas.{flat_map-map, instances_text}, ObjectLemmas.{records_json, types_json, instances_json}}
 
 -- the text of a sheet that was empty

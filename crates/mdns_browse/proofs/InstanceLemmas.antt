@@ -42,9 +42,6 @@ module _ (rows : List Latest) where
   abbrev pub shown_in : List GivenRow → List InstanceRow
   shown_in given = filter_map (instance_row_in rows) given
 
-  abbrev kept_in : (InstanceRow → Bool) → List GivenRow → List InstanceRow
-  kept_in keep given = filter keep (shown_in given)
-
   -- what one record shows
   pub shown-one : (given : GivenRow) (o : Option (List ℕ)) → o ≡ pointer_of (body_of given.last)
       → shown_in (given ∷ []) ≡ cons_option (option_map (row_named given) o) []

@@ -8,11 +8,10 @@ use Rattle.mdns_message.specs.{Resource.{Body, type_name, type_of}, declared.res
 use Rattle.mdns_join.specs.declared.latest.Latest.{Latest}
 use Rattle.mdns_lives.specs.declared.life.Life.{Life}
 use Rattle.mdns_browse.specs.{declared.instance.Server.{Server}, declared.report_json.Objects.{Objects}, RecordShown.{shown_record}}
-use Rattle.mdns_browse.specs.RecordText.{data_words, text_words}
-use Rattle.mdns_browse.specs.Json.{escaped, parted, comma_unless, first_after, json_string, json_words, json_member, json_object}
-use Rattle.mdns_browse.specs.{Json.{record_json, type_json, server_json, instance_json}, Services.{InstanceRow}}
-use Rattle.mdns_browse.specs.Sheet.{Piece, live_record, service_type, server_address, instance_text, server_pieces, instance_pieces}
-use Rattle.mdns_browse.specs.LifeText.{end_text, life_json, life_rest, resource_json}
+use Rattle.mdns_browse.specs.{RecordText.{data_words, text_words}, Json.{escaped, parted, comma_unless, first_after, json_string}}
+use Rattle.mdns_browse.specs.Json.{json_words, json_member, json_object, record_json, type_json, server_json, instance_json}
+use Rattle.mdns_browse.specs.{Services.{InstanceRow}, Sheet.{Piece, live_record, service_type, server_address, instance_text}}
+use Rattle.mdns_browse.specs.{Sheet.{server_pieces, instance_pieces}, LifeText.{end_text, life_json, life_rest, resource_json}}
 use Rattle.mdns_browse.specs.JsonPieces.{piece_json, piece_next, pieces_json, pieces_next, strings_json, Grows}
 use Rattle.mdns_browse.specs.laws.JsonPieces.{strings-append, pieces-append, next-append}
 

@@ -1,6 +1,5 @@
 -- Sheets that take pieces one after another.
-use Rattle.std.proofs.Common.{◌≡◌, refl, sym, ◌∙◌, ap, subst, List, [], ◌++◌}
-use Rattle.std.proofs.lemmas.List.{append-nil, append_assoc}
+use Rattle.std.proofs.{Common.{◌≡◌, refl, sym, ◌∙◌, ap, subst, List, [], ◌++◌}, lemmas.List.{append-nil, append_assoc}}
 use Rattle.mdns_browse.specs.Sheet.{TakeLaws}
 
 -- a sheet has taken the pieces before the rest

@@ -1,9 +1,7 @@
 -- Rows in key order are decided by which rows there are, and so is what is a function of them.
-use Rattle.std.proofs.Common.{◌≡◌, refl, sym, ◌∙◌, ap, subst, ℕ, inl, inr, List, [], ◌∷◌, map}
-use Rattle.std.specs.Prelude.{Contains}
-use Rattle.std.specs.{List.{AllByRecursion}, List.Sorted.{IsStrictlySortedBy}, Cmp.{IsTotalOrder}, Ordering.{ordering_reverse}}
-use Rattle.std.specs.declared.cmp.{Ordering.{Ordering}, Ordering.TheVariants.{Less, Greater}}
-use Rattle.std.proofs.lemmas.Simd.{map-map}
+use Rattle.std.proofs.{Common.{◌≡◌, refl, sym, ◌∙◌, ap, subst, ℕ, inl, inr, List, [], ◌∷◌, map}, lemmas.Simd.{map-map}}
+use Rattle.std.specs.{Prelude.{Contains}, List.{AllByRecursion}, List.Sorted.{IsStrictlySortedBy}, Cmp.{IsTotalOrder}}
+use Rattle.std.specs.{Ordering.{ordering_reverse}, declared.cmp.Ordering.{Ordering}, declared.cmp.Ordering.TheVariants.{Less, Greater}}
 use Rattle.mdns_message.specs.{declared.hearing.Hearing.{Hearing}, declared.key.Key.{Key}, Resource.{key_cmp}}
 use Rattle.mdns_message.specs.laws.Resource.{key_cmp-total}
 use Rattle.mdns_join.specs.declared.latest.Latest.{Latest}

@@ -1,7 +1,6 @@
 -- Names as people write them.
-use Rattle.std.proofs.lemmas.Grind.{common_steps}
-use Rattle.std.proofs.Common.{arith}
-use Rattle.std.proofs.Common.{◌≡◌, refl, sym, ◌∙◌, ap, ℕ, Bool, true, false, if◌then◌else◌, List, [], ◌∷◌, ◌++◌, append_assoc}
+use Rattle.std.proofs.{lemmas.Grind.{common_steps}, Common.{arith, ◌≡◌, refl, sym, ◌∙◌, ap, ℕ, Bool, true, false}}
+use Rattle.std.proofs.Common.{if◌then◌else◌, List, [], ◌∷◌, ◌++◌, append_assoc}
 use Rattle.std.specs.List.{flat_map}
 use Rattle.people_text.specs.Shown.{dotted, shown}
 use Rattle.mdns_browse.specs.NameSaid.{after_front, before_type, from_type, front, is_of_type}

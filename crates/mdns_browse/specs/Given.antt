@@ -1,6 +1,5 @@
 -- Instances by the live records that give them, as these are lent.
-use Rattle.std.specs.Prelude.{ℕ, List, map, Option, option_map}
-use Rattle.std.specs.List.{filter, filter_map}
+use Rattle.std.specs.{Prelude.{ℕ, List, map, Option, option_map}, List.{filter, filter_map}}
 use Rattle.mdns_capture.specs.declared.moment.Moment.{Moment}
 use Rattle.mdns_join.specs.declared.latest.Latest.{Latest}
 use Rattle.mdns_cache.specs.LentRecords.{last_lent}

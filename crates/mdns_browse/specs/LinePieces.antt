@@ -1,6 +1,5 @@
 -- The pieces of a report as lines.
-use Rattle.std.specs.Prelude.{ℕ, if◌then◌else◌, List, [], ◌∷◌, ◌++◌, codes}
-use Rattle.std.specs.Fmt.{decimal}
+use Rattle.std.specs.{Prelude.{ℕ, if◌then◌else◌, List, [], ◌∷◌, ◌++◌, codes}, Fmt.{decimal}}
 use Rattle.dns_name.specs.Name.{name_text}
 use Rattle.mdns_browse.specs.Sheet.{Piece, live_record, service_type, instance_begin, server_begin, server_address, server_end, servers_end}
 use Rattle.mdns_browse.specs.{Sheet.{instance_text, instance_end}, RecordText.{data_words, record_line, spaced, text_words}}

@@ -1,7 +1,6 @@
 -- Records and services as text: presentation form after RFC 1035, section 5.1, and this project's own lines.
-use Rattle.std.specs.Prelude.{ℕ, false, ◌+◌, ◌*◌, ◌/◌, ◌%◌, ◌==◌, nat_lt, if◌then◌else◌}
-use Rattle.std.specs.Prelude.{List, [], ◌∷◌, ◌++◌, length, slice_index, codes}
-use Rattle.std.specs.{Fmt.{decimal, digit_glyph}, List.{flat_map}}
+use Rattle.std.specs.Prelude.{ℕ, false, ◌+◌, ◌*◌, ◌/◌, ◌%◌, ◌==◌, nat_lt, if◌then◌else◌, List, [], ◌∷◌}
+use Rattle.std.specs.{Prelude.{◌++◌, length, slice_index, codes}, Fmt.{decimal, digit_glyph}, List.{flat_map}}
 unfoldable pub use Rattle.mdns_capture.specs.Text.{moment_text}
 use Rattle.dns_name.specs.Name.{name_text}
 use Rattle.mdns_message.specs.{Resource.{type_name, type_of, Body}, TextData.{string_text, strings_of}}

@@ -1,17 +1,15 @@
 -- The text of a report.
-use Rattle.std.specs.Prelude.{ℕ, List, [], ◌∷◌, ◌++◌, map}
-use Rattle.std.specs.List.{filter, flat_map}
+use Rattle.std.specs.{Prelude.{ℕ, List, [], ◌∷◌, ◌++◌, map}, List.{filter, flat_map}}
 use Rattle.dns_name.specs.Name.{name_text}
 use Rattle.mdns_capture.specs.declared.moment.Moment.{Moment}
 use Rattle.mdns_message.specs.declared.hearing.Hearing.{Hearing}
 use Rattle.mdns_join.specs.declared.latest.Latest.{Latest}
 use Rattle.mdns_browse.specs.{About.{keeps_instance, keeps_record, keeps_type}, declared.about.Subject.{Subject}}
 use Rattle.mdns_browse.specs.{RecordText.{instance_lines, record_line}, Json.{record_json, type_json, instance_json}}
-use Rattle.mdns_browse.specs.Columns.{instances_pretty, records_pretty, types_pretty}
-use Rattle.mdns_browse.specs.Services.{InstanceRow, IsOfLive, given_of, instance_rows_in, instances_in, lasts_in, others_in, types_in}
-use Rattle.mdns_browse.specs.declared.report.{Ask.{Ask}, Ask.TheVariants.{Records, Types, Instances}, Form.{Form}}
-use Rattle.mdns_browse.specs.declared.report.{Form.TheVariants.{Lines, Json, Pretty}, ReportFault.{ReportFault}}
-use Rattle.mdns_browse.specs.declared.report.ReportFault.TheVariants.{Early, Memory}
+use Rattle.mdns_browse.specs.{Columns.{instances_pretty, records_pretty, types_pretty}, Services.{InstanceRow, IsOfLive, given_of}}
+use Rattle.mdns_browse.specs.{Services.{instance_rows_in, instances_in, lasts_in, others_in, types_in}, declared.report.Ask.{Ask}}
+use Rattle.mdns_browse.specs.declared.report.{Ask.TheVariants.{Records, Types, Instances}, Form.{Form}, Form.TheVariants.{Lines, Json}}
+use Rattle.mdns_browse.specs.declared.report.{Form.TheVariants.{Pretty}, ReportFault.{ReportFault}, ReportFault.TheVariants.{Early, Memory}}
 
 -- the lines of words that answer the question of live records with their ends: a line for each record, for each service type,
 -- or the lines of each service instance, in key order

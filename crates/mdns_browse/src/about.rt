@@ -1,7 +1,6 @@
 //! What people ask about: names, words of data, addresses.
 
-ghost use Rattle.std.specs.Prelude.{◌≡◌, string_bytes, MatchOption};
-ghost use Rattle.std.specs.Net.Grammar.{IsIpText};
+ghost use Rattle.std.specs.{Prelude.{◌≡◌, string_bytes, MatchOption}, Net.Grammar.{IsIpText}};
 
 pub(crate) use crate::keeps::keeps_type;
 pub use crate::keeps::{keeps_heard_instance, keeps_record};

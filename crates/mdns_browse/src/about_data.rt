@@ -1,7 +1,6 @@
 //! Which data of records has a subject.
 
-ghost use Rattle.std.specs.Prelude.{◌≡◌, ◌||◌, ◌++◌, ◌∷◌, IfOk, string_bytes};
-ghost use Rattle.std.specs.{Fmt.{decimal}, List.{list_any}};
+ghost use Rattle.std.specs.{Prelude.{◌≡◌, ◌||◌, ◌++◌, ◌∷◌, IfOk, string_bytes}, Fmt.{decimal}, List.{list_any}};
 ghost use Rattle.mdns_message.specs.{Borrowed.{body_lent}, Parts.{content_lent, service_lent}};
 ghost use Rattle.people_text.specs.Shown.{name_shown};
 ghost use Rattle.mdns_browse.specs.About.{is_in_content, is_in_data, is_one_of, is_text_about, matches_address};

@@ -1,7 +1,6 @@
 //! Which service instances have a subject.
 
-ghost use Rattle.std.specs.Prelude.{◌≡◌, IfOk, map};
-ghost use Rattle.std.specs.List.{list_any};
+ghost use Rattle.std.specs.{Prelude.{◌≡◌, IfOk, map}, List.{list_any}};
 ghost use Rattle.mdns_message.specs.Resource.{type_number};
 ghost use Rattle.mdns_cache.specs.LentRecords.{last_lent};
 ghost use Rattle.mdns_browse.specs.About.{is_in_data, is_instance_about, is_served_about};

@@ -1,7 +1,6 @@
 //! The words of a record's data, one after another.
 
-ghost use Rattle.std.specs.Prelude.{◌≡◌, ◌++◌, List, ℕ, [], ◌∷◌, OnOk};
-ghost use Rattle.std.specs.String.{string_bytes};
+ghost use Rattle.std.specs.{Prelude.{◌≡◌, ◌++◌, List, ℕ, [], ◌∷◌, OnOk}, String.{string_bytes}};
 ghost use Rattle.mdns_message.specs.{Borrowed.{body_lent}, Parts.{content_lent}};
 ghost use Rattle.mdns_browse.specs.RecordText.{word_text, string_words, text_words, address_text, content_words, data_words};
 ghost use Rattle.mdns_browse.specs.Sheet.{TakeLaws};

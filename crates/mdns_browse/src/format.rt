@@ -1,8 +1,7 @@
 //! Records, addresses and moments as text. After `Want` the contents of `to` are not specified, except where a call says
 //! that they are unchanged.
 
-ghost use Rattle.std.specs.Prelude.{◌≡◌, ◌++◌, ◌+◌, ◌<◌, ◌≤◌, length, OnOk, OnErr};
-ghost use Rattle.std.specs.String.{string_bytes};
+ghost use Rattle.std.specs.{Prelude.{◌≡◌, ◌++◌, ◌+◌, ◌<◌, ◌≤◌, length, OnOk, OnErr}, String.{string_bytes}};
 ghost use Rattle.mdns_message.specs.Borrowed.{resource_lent};
 ghost use Rattle.mdns_browse.specs.RecordText.{ipv4_text, ipv6_text, placed_group, hex_octet, resource_text};
 ghost use Rattle.mdns_capture.specs.Text.{moment_text};

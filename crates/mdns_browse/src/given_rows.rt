@@ -1,7 +1,6 @@
 //! The live records that give instances, and which of these instances are about the subjects.
 
-ghost use Rattle.std.specs.Prelude.{◌≡◌, ◌++◌, ◌∷◌, [], List, map, IfOk, OnOk};
-ghost use Rattle.std.specs.List.{filter};
+ghost use Rattle.std.specs.{Prelude.{◌≡◌, ◌++◌, ◌∷◌, [], List, map, IfOk, OnOk}, List.{filter}};
 ghost use Rattle.mdns_cache.specs.LentRecords.{last_lent};
 ghost use Rattle.mdns_browse.specs.{About.{keeps_instance}, Given.{given_lent, kept_given}, Report.{instances_about}};
 ghost use Rattle.mdns_browse.specs.Services.{AreAscending, GivenRow, given_of, gives_instance, instance_rows_in, lasts_in};

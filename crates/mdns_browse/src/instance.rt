@@ -1,7 +1,6 @@
 //! Service instances, with their servers and texts (RFC 6763, sections 4 to 6).
 
-ghost use Rattle.std.specs.Prelude.{◌≡◌, ◌<◌, ◌^◌, length};
-ghost use Rattle.std.specs.{Iterator.Adapters.{IterYieldsInOrder}, Slice.Iter.{iter_rest}};
+ghost use Rattle.std.specs.{Prelude.{◌≡◌, ◌<◌, ◌^◌, length}, Iterator.Adapters.{IterYieldsInOrder}, Slice.Iter.{iter_rest}};
 
 use mdns_message::{Body, Bytes, Name};
 use std::marker::Model;

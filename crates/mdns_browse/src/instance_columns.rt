@@ -1,7 +1,6 @@
 //! The report of service instances in readable columns.
 
-ghost use Rattle.std.specs.Prelude.{◌≡◌, List, [], map, max, IfOk, OnOk};
-ghost use Rattle.std.specs.{List.{filter_map}, String.{string_bytes}};
+ghost use Rattle.std.specs.{Prelude.{◌≡◌, List, [], map, max, IfOk, OnOk}, List.{filter_map}, String.{string_bytes}};
 ghost use Rattle.mdns_message.specs.declared.hearing.Hearing.{Hearing};
 ghost use Rattle.mdns_cache.specs.{Contents.{StandsFor}, Live.{NoneLater}, LentRecords.{last_lent, live_record_lent}};
 ghost use Rattle.mdns_browse.specs.{Given.{given_lent}, ColumnPieces.{Writes, row_pieces, rows_pieces, type_pieces}};

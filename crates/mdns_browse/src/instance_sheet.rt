@@ -1,7 +1,6 @@
 //! The lines of one service instance in readable columns.
 
-ghost use Rattle.std.specs.Prelude.{◌≡◌, ◌++◌, ◌∷◌, [], codes, OnOk};
-ghost use Rattle.std.specs.String.{string_bytes};
+ghost use Rattle.std.specs.{Prelude.{◌≡◌, ◌++◌, ◌∷◌, [], codes, OnOk}, String.{string_bytes}};
 ghost use Rattle.mdns_browse.specs.Columns.{spaces};
 
 use crate::columns::{push_padded_time_left, push_spaces};

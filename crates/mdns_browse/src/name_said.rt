@@ -1,8 +1,7 @@
 //! Names as people write them: dots within labels look like those between them. After `Want` the contents of `to` are not
 //! specified.
 
-ghost use Rattle.std.specs.Prelude.{◌≡◌, ◌∷◌, ◌++◌, IfOk, OnOk};
-ghost use Rattle.std.specs.{List.{flat_map}, String.{string_bytes}};
+ghost use Rattle.std.specs.{Prelude.{◌≡◌, ◌∷◌, ◌++◌, IfOk, OnOk}, List.{flat_map}, String.{string_bytes}};
 ghost use Rattle.dns_name.specs.Name.{IsForm, labels_of};
 ghost use Rattle.people_text.specs.Shown.{dotted, shown};
 ghost use Rattle.mdns_browse.specs.NameSaid.{after_front, before_type, from_type, front, is_of_type};

@@ -1,7 +1,6 @@
 //! Names that live records of a service give, and that no instance has, in readable columns.
 
-ghost use Rattle.std.specs.Prelude.{◌≡◌, ◌++◌, map, IfOk, OnOk};
-ghost use Rattle.std.specs.{List.{flat_map}, String.{string_bytes}};
+ghost use Rattle.std.specs.{Prelude.{◌≡◌, ◌++◌, map, IfOk, OnOk}, List.{flat_map}, String.{string_bytes}};
 ghost use Rattle.mdns_cache.specs.LentRecords.{live_record_lent};
 ghost use Rattle.mdns_browse.specs.{Columns.{other_row, others_pretty}, Report.{records_about}, Services.{others_in}};
 

@@ -5,10 +5,9 @@ ghost use Rattle.std.specs.{List.{filter, flat_map}, String.{string_bytes}};
 ghost use Rattle.mdns_message.specs.{declared.hearing.Hearing.{Hearing}, Resource.{type_name, type_of}};
 ghost use Rattle.mdns_join.specs.declared.latest.Latest.{Latest};
 ghost use Rattle.mdns_cache.specs.{Contents.{StandsFor}, Live.{NoneLater}, LentRecords.{live_record_lent}};
-ghost use Rattle.mdns_browse.specs.About.{keeps_type};
-ghost use Rattle.mdns_browse.specs.Columns.{record_heads, record_row, record_table, records_pretty, type_row, types_pretty, widest};
-ghost use Rattle.mdns_browse.specs.{Report.{IsReportIn, records_about, types_about}, declared.report.Ask.TheVariants.{Records, Types}};
-ghost use Rattle.mdns_browse.specs.declared.report.Form.TheVariants.{Pretty};
+ghost use Rattle.mdns_browse.specs.{About.{keeps_type}, Columns.{record_heads, record_row, record_table, records_pretty, type_row}};
+ghost use Rattle.mdns_browse.specs.{Columns.{types_pretty, widest}, Report.{IsReportIn, records_about, types_about}};
+ghost use Rattle.mdns_browse.specs.declared.report.{Ask.TheVariants.{Records, Types}, Form.TheVariants.{Pretty}};
 
 use crate::about::{Subject, keeps_record, keeps_type};
 use crate::columns::{push_heading, push_padded, push_padded_time_left, time_left_width, wider};

@@ -1,7 +1,6 @@
 //! Records and services as text for people. After `Want` the contents of `to` are not specified.
 
-ghost use Rattle.std.specs.Prelude.{◌≡◌, ◌++◌, ◌∷◌, codes, OnOk};
-ghost use Rattle.std.specs.{Fmt.{decimal}, String.{string_bytes}};
+ghost use Rattle.std.specs.{Prelude.{◌≡◌, ◌++◌, ◌∷◌, codes, OnOk}, Fmt.{decimal}, String.{string_bytes}};
 ghost use Rattle.mdns_message.specs.{Borrowed.{body_lent, resource_lent}, Parts.{content_lent}};
 ghost use Rattle.people_text.specs.Shown.{name_shown};
 ghost use Rattle.mdns_browse.specs.RecordShown.{shown_address, shown_content, shown_instance, shown_order, shown_record};

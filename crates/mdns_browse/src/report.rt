@@ -1,7 +1,6 @@
 //! Reports over a cache.
 
-ghost use Rattle.std.specs.Prelude.{◌≡◌, ◌<◌, List, Err, IfOk, IfErr, IfSome, IfNone};
-ghost use Rattle.std.specs.String.{string_bytes};
+ghost use Rattle.std.specs.{Prelude.{◌≡◌, ◌<◌, List, Err, IfOk, IfErr, IfSome, IfNone}, String.{string_bytes}};
 ghost use Rattle.mdns_message.specs.declared.hearing.Hearing.{Hearing};
 ghost use Rattle.mdns_cache.specs.{Live.{NoneLater}, Contents.{StandsFor}};
 ghost use Rattle.mdns_browse.specs.{Report.{IsReport, IsReportIn, IfEarly}, declared.report.Form.TheVariants.{Json, Lines, Pretty}};

@@ -1,7 +1,6 @@
 //! Reports as JSON (RFC 8259): one object a line.
 
-ghost use Rattle.std.specs.Prelude.{◌≡◌, ◌++◌, [], codes, take, true, false, OnOk};
-ghost use Rattle.std.specs.{Fmt.{decimal}, String.{string_bytes}};
+ghost use Rattle.std.specs.{Prelude.{◌≡◌, ◌++◌, [], codes, take, true, false, OnOk}, Fmt.{decimal}, String.{string_bytes}};
 ghost use Rattle.dns_name.specs.Name.{name_text};
 ghost use Rattle.mdns_browse.specs.RecordText.{word_text, data_words};
 ghost use Rattle.mdns_browse.specs.Json.{json_string, comma_unless, first_after, parted, resource_members};

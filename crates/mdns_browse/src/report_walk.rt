@@ -1,14 +1,12 @@
 //! The walk over live records and services, which hands what it finds to a sheet.
 
-ghost use Rattle.std.specs.Prelude.{◌∷◌, [], List, map, option_map, OnOk};
-ghost use Rattle.std.specs.List.{filter, filter_map, flat_map};
+ghost use Rattle.std.specs.{Prelude.{◌∷◌, [], List, map, option_map, OnOk}, List.{filter, filter_map, flat_map}};
 ghost use Rattle.mdns_message.specs.{Parts.{service_of}, declared.hearing.Hearing.{Hearing}};
 ghost use Rattle.mdns_cache.specs.{Contents.{StandsFor}, Live.{NoneLater, AreLiveRecords}, LentRecords.{last_lent, live_record_lent}};
 ghost use Rattle.mdns_browse.specs.{About.{keeps_type}, Given.{given_lent}, Report.{instances_about, records_about, types_about}};
 ghost use Rattle.mdns_browse.specs.Services.{AreAscending, body_of, instance_in, instance_row_in, lasts_in, server_at, servers_in};
-ghost use Rattle.mdns_browse.specs.Services.{texts_in};
-ghost use Rattle.mdns_browse.specs.Sheet.{AddsPieces, instance_pieces, instance_text, live_record, report_pieces, server_address};
-ghost use Rattle.mdns_browse.specs.Sheet.{server_pieces, servers_pieces, service_type};
+ghost use Rattle.mdns_browse.specs.{Services.{texts_in}, Sheet.{AddsPieces, instance_pieces, instance_text, live_record, report_pieces}};
+ghost use Rattle.mdns_browse.specs.Sheet.{server_address, server_pieces, servers_pieces, service_type};
 
 use crate::about::{Subject, keeps_record, keeps_type};
 use crate::given_rows::given_in;

@@ -1,12 +1,10 @@
 //! Service types and service instances among the live records (RFC 6763, sections 4, 5 and 9).
 
-ghost use Rattle.std.specs.Prelude.{◌≡◌, ◌++◌, List, map, option_map, IfOk, OnOk};
-ghost use Rattle.std.specs.List.{filter_map};
+ghost use Rattle.std.specs.{Prelude.{◌≡◌, ◌++◌, List, map, option_map, IfOk, OnOk}, List.{filter_map}};
 ghost use Rattle.mdns_message.specs.{Resource.{type_number}, declared.hearing.Hearing.{Hearing}};
 ghost use Rattle.mdns_cache.specs.{Live.{NoneLater}, Contents.{StandsFor}, LentRecords.{last_lent}};
-ghost use Rattle.mdns_browse.specs.Given.{given_lent};
-ghost use Rattle.mdns_browse.specs.Services.{AreAscending, AreInstances, AreTypes, InstanceRow, types_owner};
-ghost use Rattle.mdns_browse.specs.Services.{body_of, data_of_set, instance_given, instance_in, instance_row_in, is_instance_of, lasts_in};
+ghost use Rattle.mdns_browse.specs.{Given.{given_lent}, Services.{AreAscending, AreInstances, AreTypes, InstanceRow, types_owner, body_of}};
+ghost use Rattle.mdns_browse.specs.Services.{data_of_set, instance_given, instance_in, instance_row_in, is_instance_of, lasts_in};
 ghost use Rattle.mdns_browse.specs.Services.{is_service_name, other_given, same_text, servers_in, texts_in, type_given, types_in};
 
 use crate::given_rows::gather;

@@ -3,9 +3,8 @@
 ghost use Rattle.std.specs.Prelude.{List, [], ◌∷◌, OnOk};
 ghost use Rattle.mdns_message.specs.Borrowed.{body_lent};
 ghost use Rattle.mdns_cache.specs.LentRecords.{live_record_lent};
-ghost use Rattle.mdns_browse.specs.Given.{given_lent};
-ghost use Rattle.mdns_browse.specs.Sheet.{Piece, TakeLaws, live_record, service_type, instance_begin};
-ghost use Rattle.mdns_browse.specs.Sheet.{server_begin, server_address, server_end, servers_end, instance_text, instance_end};
+ghost use Rattle.mdns_browse.specs.{Given.{given_lent}, Sheet.{Piece, TakeLaws, live_record, service_type, instance_begin, server_begin}};
+ghost use Rattle.mdns_browse.specs.Sheet.{server_address, server_end, servers_end, instance_text, instance_end};
 
 pub use crate::report_walk::walk_given;
 use mdns_cache::LiveRecord;

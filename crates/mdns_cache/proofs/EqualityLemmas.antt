@@ -1,8 +1,8 @@
 -- Tests of equality that decide it, of options, lists of pairs and contents.
 use Rattle.std.proofs.Common.{arith, ◌≡◌, ℕ, Bool, true, ◌&&◌, ◌↔◌, List, Option, None, Some, refl, sym, ap, ◌∙◌}
-use Rattle.std.specs.{Option.{option_eq}, Cmp.Lexicographic.{pointwise, pointwise_decides, bytes_decides}, declared.cmp.Ordering.{Ordering}}
-use Rattle.std.specs.{declared.cmp.Ordering.TheVariants.{Equal}, Ordering.{on, is_eq, eq_by_cmp}, Cmp.{IsTotalOrder}}
 use Rattle.std.proofs.lemmas.{Bool.{false≢true, and_parts, and_from, eqb-true, eq-eqb}, Cmp.{tied_itself}}
+use Rattle.std.specs.{Option.{option_eq}, Cmp.Lexicographic.{pointwise, pointwise_decides, bytes_decides}, declared.cmp.Ordering.{Ordering}}
+use Rattle.std.specs.{declared.cmp.Ordering.TheVariants.{Equal}, Ordering.{on, is_eq, eq_by_cmp}, Cmp.{IsTotalOrder}, Prelude.{nat_eq}}
 use Rattle.mdns_capture.specs.declared.moment.Moment.{Moment}
 use Rattle.mdns_message.specs.{declared.key.Key.{Key}, RecordSet.{RecordSet}, Resource.{key_cmp, set_key_cmp}}
 use Rattle.mdns_message.specs.laws.Resource.{key_cmp-total, key_cmp-exact, set_key_cmp-total, set_key_cmp-exact}
@@ -10,7 +10,6 @@ use Rattle.mdns_join.specs.{declared.latest.Latest.{Latest}, Latest.{latest_cmp}
 use Rattle.mdns_join.specs.laws.Latest.{latest_cmp-total, latest_cmp-exact, moment-same}
 use Rattle.mdns_cache.specs.{Contents.{Contents}, Equal.{eq_newest, eq_lasts, eq_flushes, eq_contents}}
 use Rattle.mdns_cache.proofs.ContentsLemmas.{same_contents}
-use Rattle.std.specs.Prelude.{nat_eq}
 use Rattle.join_map.specs.laws.Entries.{is_Equal}
 
 abbrev pub DecidesEquality : {A : Type 0} → (A → A → Bool) → Type 0

@@ -1,9 +1,7 @@
 -- Of ascending flush moments the first that came late enough to strike decides when a record ends.
 use Rattle.std.proofs.Common.{◌≡◌, ℕ, zero, suc, ◌+◌, ◌<◌, ◌≤◌, true, false, nat_lt, min, List, [], ◌∷◌, length}
-use Rattle.std.proofs.Common.{get_or, refl, arith, if◌then◌else◌, leb-true, le-leb}
-use Rattle.std.specs.Prelude.{nat_le}
-use Rattle.std.specs.List.Sorted.{IsPartitionedBy}
-use Rattle.std.proofs.lemmas.Bool.{ltb-true, ltb-false}
+use Rattle.std.proofs.{Common.{get_or, refl, arith, if◌then◌else◌, leb-true, le-leb}, lemmas.Bool.{ltb-true, ltb-false}}
+use Rattle.std.specs.{Prelude.{nat_le}, List.Sorted.{IsPartitionedBy}}
 use Rattle.mdns_capture.specs.{declared.moment.Moment.{Moment}, Limits.{second}}
 use Rattle.mdns_join.specs.{Nanos.{nanos_of}, Kept.{IsAscending, IsAscendingAbove}, laws.Kept.{IsAscending-from_above}}
 use Rattle.mdns_cache.specs.LentRecords.{end_of}

@@ -2,9 +2,9 @@
 use Rattle.std.proofs.Common.{◌≡◌, ℕ, ◌+◌, ◌<◌, ◌≤◌, Bool, true, false, ◌==◌, ◌&&◌, List, [], ◌∷◌, length}
 use Rattle.std.proofs.Common.{Option, None, Some, Contains, MatchOption, IfSome, IsSome, is_some, IsTrue, ◌↔◌}
 use Rattle.std.proofs.Common.{unwrap_or, refl, sym, ap, ◌∙◌, subst, arith, cond, if◌then◌else◌}
-use Rattle.std.specs.{Ordering.{is_eq, eq_by_cmp}, Map.{keys_of}}
 use Rattle.std.proofs.lemmas.{Bool.{false≢true, or_left, eq-eqb}, Cmp.{tied_itself, eq_by_cmp_equiv}}
 use Rattle.std.proofs.lemmas.Map.{Views.{IsSome-lookup_from_Contains, Contains-keys_from_lookup}, Entries.{length-keys_of}}
+use Rattle.std.specs.{Ordering.{is_eq, eq_by_cmp}, Map.{keys_of}}
 use Rattle.mdns_capture.specs.{declared.moment.Moment.{Moment}, Limits.{second}}
 use Rattle.mdns_message.specs.{declared.hearing.Hearing.{Hearing}, declared.key.Key.{Key}, RecordSet.{RecordSet}, RecordAt.{HeardRecord}}
 use Rattle.mdns_message.specs.{Resource.{key_of, set_key_of, key_cmp, set_key_cmp}, laws.Resource.{key_cmp-total, key_cmp-exact}}
@@ -13,9 +13,8 @@ use Rattle.mdns_join.specs.Kept.{has, newest, kept, IsGreatest, IsKept, IsKeptLi
 use Rattle.mdns_join.specs.laws.Kept.{struck-kept, struck-kept_iff, has-kept_iff, has-le-newest, has-newest, kept-one}
 use Rattle.join_map.specs.{Entries.{value_at, one_entry}, laws.Entries.{is_Equal}}
 use Rattle.mdns_cache.specs.Live.{IsUnheard, IsHeard, IsLast, IsNewest, CountsRecords, life_of, IsStruck, IsLive, is_flush_of}
-use Rattle.mdns_cache.specs.{Live.{flush_moments, IsEnd}, LentRecords.{end_of, end_held}}
-use Rattle.mdns_cache.specs.Contents.{Contents, last_at, flushes_at, kept_of, StandsFor, contents_of}
-use Rattle.mdns_cache.specs.Repeats.{record_heard, at_each, contents_at_each}
+use Rattle.mdns_cache.specs.{Live.{flush_moments, IsEnd}, LentRecords.{end_of, end_held}, Contents.{Contents, last_at, flushes_at, kept_of}}
+use Rattle.mdns_cache.specs.{Contents.{StandsFor, contents_of}, Repeats.{record_heard, at_each, contents_at_each}}
 use Rattle.mdns_cache.proofs.StandsPartLemmas.{Contains-nil, IsFlushedAt-from_has, has-from_flush, has-head, same-itself, IsLast-same}
 use Rattle.mdns_cache.proofs.{BetweenLemmas.{IsContents-each}, RepeatLemmas.{heard_each, itself_heard, no_greater}}
 use Rattle.mdns_cache.proofs.EndLemmas.{until_end_of, IsEnd-by_kept}

@@ -5,15 +5,12 @@ use Rattle.std.proofs.lemmas.{List.{length-map}, List.Elements.{Contains-append_
 use Rattle.mdns_capture.specs.declared.moment.Moment.{Moment}
 use Rattle.mdns_message.specs.{declared.hearing.Hearing.{Hearing}, Message.{MessageReads, hearing_of}, RecordAt.{HeardRecord}}
 use Rattle.mdns_message.proofs.FaultKindLemmas.{few_hearings}
-use Rattle.mdns_join.specs.{Nanos.{nanos_of}, Kept.{has, newest, kept, union}}
-use Rattle.mdns_join.specs.laws.Kept.{heard_is_kept_or_stale, stale_best, kept_from_heard, kept_not_stale, heard_from_kept, union_parts}
-use Rattle.mdns_join.specs.laws.Kept.{union_left, union_right}
-use Rattle.mdns_cache.specs.Contents.{Contents, StandsFor}
-use Rattle.mdns_cache.specs.Repeats.{record_heard, at_each, all_at_each, IsHeardAt, IsReadOf, ReadsAs, Remembered, remembered}
-use Rattle.mdns_cache.specs.Repeats.{Recalls, IsRecalled, IsHeld, IsCovered, Covers, StandsWith, ComesAgain}
+use Rattle.mdns_join.specs.{Nanos.{nanos_of}, Kept.{has, newest, kept, union}, laws.Kept.{heard_is_kept_or_stale, stale_best}}
+use Rattle.mdns_join.specs.laws.Kept.{kept_from_heard, kept_not_stale, heard_from_kept, union_parts, union_left, union_right}
+use Rattle.mdns_cache.specs.{Contents.{Contents, StandsFor}, Repeats.{record_heard, at_each, all_at_each, IsHeardAt, IsReadOf, ReadsAs}}
+use Rattle.mdns_cache.specs.Repeats.{Remembered, remembered, Recalls, IsRecalled, IsHeld, IsCovered, Covers, StandsWith, ComesAgain}
 use Rattle.mdns_cache.proofs.StandsPartLemmas.{Contains-nil, Contains-head, Contains-later, Contains-cases, has-head, has-one}
-use Rattle.mdns_cache.proofs.BetweenLemmas.{has-kept_newest}
-use Rattle.mdns_cache.proofs.RepeatLemmas.{reads-at, moment_in, IsReadOf-heard, heard-IsReadOf}
+use Rattle.mdns_cache.proofs.{BetweenLemmas.{has-kept_newest}, RepeatLemmas.{reads-at, moment_in, IsReadOf-heard, heard-IsReadOf}}
 use Rattle.mdns_cache.proofs.RepeatLemmas.{heard_parts, heard_each, overtaken, covered-same, covers-more, stands-covered}
 
 pub IfSome-weaker : {X : Type 0} (o : Option X) (P Q : X → Type 0) → ((x : X) → P x → Q x) → IfSome o P → IfSome o Q

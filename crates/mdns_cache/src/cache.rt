@@ -1,8 +1,7 @@
 //! The cache: the last hearing of each record, and the flush moments of each record set.
 
 ghost use Rattle.std.specs.Prelude.{◌≡◌, ◌↔◌, ◌∷◌, ◌++◌, [], List, ℕ, length, IsTrue, OnOk, OnErr, MatchOption};
-ghost use Rattle.std.specs.Prelude.{option_copied, option_map, unwrap_or, true, Some};
-ghost use Rattle.std.specs.{List.Sorted.{IsStrictlySortedBy}, Map.{keys_of}};
+ghost use Rattle.std.specs.{Prelude.{option_copied, option_map, unwrap_or, true, Some}, List.Sorted.{IsStrictlySortedBy}, Map.{keys_of}};
 ghost use Rattle.mdns_message.specs.{declared.hearing.Hearing.{Hearing}, Resource.{key_cmp}, Borrowed.{hearing_lent}};
 ghost use Rattle.join_map.specs.{Join.{IsPartOfJoin}, Entries.{joined_at}};
 ghost use Rattle.mdns_join.specs.{Kept.{IsAscending, IsKept, has}, Nanos.{nanos_of}};

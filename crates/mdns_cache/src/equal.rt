@@ -1,7 +1,6 @@
 //! When two caches are equal.
 
-ghost use Rattle.std.specs.Prelude.{◌≡◌, ◌&&◌, ◌↔◌, true};
-ghost use Rattle.std.specs.declared.cmp.Ordering.{Ordering};
+ghost use Rattle.std.specs.{Prelude.{◌≡◌, ◌&&◌, ◌↔◌, true}, declared.cmp.Ordering.{Ordering}};
 
 use crate::cache::Cache;
 use mdns_capture::Moment;

@@ -1,19 +1,16 @@
 -- Lemmas on the state of a capture that is being read.
 use Rattle.std.proofs.{lemmas.Grind.{common_steps}, KnownBytes.{Consumes-nil}, lemmas.List.{take-append-le, take-take, length-take-le}}
-use Rattle.std.proofs.lemmas.{Bool.{false≢true}, Bool.Decides.{nat_tests}}
-use Rattle.std.proofs.Common.{rules, ◌≡◌, ◌≢◌, ◌↔◌, ℕ, ◌+◌, ◌<◌, ◌≤◌, Bool, IsTrue, List, [], ◌∷◌, ◌++◌, Option}
-use Rattle.std.proofs.Common.{Some, None, IfSome, Result, Ok, Err, OnOk, OnErr, arith, eq-eqb, length, take, refl}
-use Rattle.std.proofs.Common.{◌∙◌, subst, append_assoc}
+use Rattle.std.proofs.{lemmas.Bool.{false≢true}, lemmas.Bool.Decides.{nat_tests}, Common.{rules, ◌≡◌, ◌≢◌, ◌↔◌, ℕ}}
+use Rattle.std.proofs.Common.{◌+◌, ◌<◌, ◌≤◌, Bool, IsTrue, List, [], ◌∷◌, ◌++◌, Option, Some, None, IfSome, Result}
+use Rattle.std.proofs.Common.{Ok, Err, OnOk, OnErr, arith, eq-eqb, length, take, refl, ◌∙◌, subst, append_assoc}
 use Rattle.std.specs.Io.KnownBytes.{Consumes}
 use Rattle.mdns_capture.specs.declared.savefile.{Format.{Format}, PacketHeader.{PacketHeader}}
 use Rattle.mdns_capture.specs.declared.savefile.{PacketOrEnd.TheVariants.{Packet as PacketStep}, Ending.{Ending}}
 use Rattle.mdns_capture.specs.declared.capture.ReadFault.{ReadFault}
 use Rattle.mdns_capture.specs.declared.savefile.Ending.TheVariants.{Going, Whole, Cut, Fraction, Long, Many, Failed}
-use Rattle.mdns_capture.specs.Stream.{TakesAtMost, OneMoreFailed}
-use Rattle.mdns_capture.specs.Savefile.{PacketAt, snap_length, snap_length_of, stop_of, IsFileHeader, IsPacketHeader, PacketsRead}
-use Rattle.mdns_capture.specs.Savefile.{CaptureReads}
-use Rattle.mdns_capture.specs.Capture.{Shown, Standing, IsOver, IsDamaged, IsShown, shown as shown_of, IsPacketOrEnd, Goes, Leads, Begins}
-use Rattle.mdns_capture.specs.Capture.{Moves, Advances}
+use Rattle.mdns_capture.specs.{Stream.{TakesAtMost, OneMoreFailed}, Savefile.{PacketAt, snap_length, snap_length_of, stop_of, IsFileHeader}}
+use Rattle.mdns_capture.specs.{Savefile.{IsPacketHeader, PacketsRead, CaptureReads}, Capture.{Shown, Standing, IsOver, IsDamaged, IsShown}}
+use Rattle.mdns_capture.specs.Capture.{shown as shown_of, IsPacketOrEnd, Goes, Leads, Begins, Moves, Advances}
 use Rattle.mdns_capture.proofs.{HeaderLemmas.{header_fault-append}, FramePartLemmas.{number-within}}
 use Rattle.mdns_capture.proofs.OneReadingLemmas.{same_header, format_fault-header}
 

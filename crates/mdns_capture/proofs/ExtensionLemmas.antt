@@ -1,7 +1,6 @@
 -- Chains of extension headers, one header at a time.
-use Rattle.std.proofs.Common.{◌≡◌, refl, ℕ, zero, suc, ◌+◌, ◌*◌, ◌<◌, ◌≤◌, Bool, true, false, ◌||◌}
-use Rattle.std.proofs.Common.{List, [], ◌∷◌, length, drop, slice_index, arith}
-use Rattle.std.proofs.lemmas.Bool.Decides.{nat_tests}
+use Rattle.std.proofs.Common.{◌≡◌, refl, ℕ, zero, suc, ◌+◌, ◌*◌, ◌<◌, ◌≤◌, Bool, true, false, ◌||◌, List, []}
+use Rattle.std.proofs.{Common.{◌∷◌, length, drop, slice_index, arith}, lemmas.Bool.Decides.{nat_tests}}
 use Rattle.mdns_capture.specs.Frame.{is_before_fragments, is_fragment_header, leads_to_fragment}
 
 -- the bytes that are left of a header

@@ -1,18 +1,15 @@
 -- What the first bytes of a file decide about the whole file, and what a step of the reading found.
 use Rattle.std.proofs.Common.{◌≡◌, ◌⊎◌, inl, inr, ℕ, ◌<◌, ◌≤◌, Bool, true, false, cond, ltb, List, [], ◌++◌}
-use Rattle.std.proofs.Common.{Option, Some, None, IfSome, Result, Ok, Err, IfErr, arith, length, take, refl}
-use Rattle.std.proofs.Common.{sym, ap, ◌∙◌, subst, length-append, le-ltb, lt-ltb}
-use Rattle.std.specs.{Option.{option_or}, Io.KnownBytes.{Consumes, IsAtEnd}}
-use Rattle.std.proofs.{KnownBytes.{Consumes-trans}, lemmas.Bool.{cases_lt, ltb-true, ltb-false}}
+use Rattle.std.proofs.Common.{Option, Some, None, IfSome, Result, Ok, Err, IfErr, arith, length, take, refl, sym, ap, ◌∙◌, subst}
+use Rattle.std.proofs.{Common.{length-append, le-ltb, lt-ltb}, KnownBytes.{Consumes-trans}, lemmas.Bool.{cases_lt, ltb-true, ltb-false}}
 use Rattle.std.proofs.lemmas.{List.{append-nil, length-take, length-take-le, take-append-le, take_all}, Bool.Decides.{nat_tests}}
+use Rattle.std.specs.{Option.{option_or}, Io.KnownBytes.{Consumes, IsAtEnd}}
 use Rattle.mdns_capture.specs.declared.savefile.{Order.TheVariants.{Big}, Format.{Format}, FileHeader.{FileHeader}, Ending.{Ending}}
-use Rattle.mdns_capture.specs.declared.savefile.{Ending.TheVariants.{Cut}, BeginFault.{BeginFault}}
-use Rattle.mdns_capture.specs.declared.savefile.BeginFault.TheVariants.{Memory, Read, ShortHeader, Magic, Version, Link}
-use Rattle.mdns_capture.specs.declared.savefile.{PacketHeader.{PacketHeader}, PacketOrEnd.{PacketOrEnd}}
-use Rattle.mdns_capture.specs.declared.savefile.PacketOrEnd.TheVariants.{Packet, End}
-use Rattle.mdns_capture.specs.{Capture.{HasFault, IsDamagedStep, IsPacketOrEnd, packet_by}, Stream.{TakesAtMost}}
-use Rattle.mdns_capture.specs.Savefile.{number_at, captured_of, format_of, format_fault, header_fault, head_stop, header_stop, stop_of}
-use Rattle.mdns_capture.specs.Savefile.{IsPacketHeader}
+use Rattle.mdns_capture.specs.declared.savefile.{Ending.TheVariants.{Cut}, BeginFault.{BeginFault}, BeginFault.TheVariants.{Memory, Read}}
+use Rattle.mdns_capture.specs.declared.savefile.{BeginFault.TheVariants.{ShortHeader, Magic, Version, Link}, PacketHeader.{PacketHeader}}
+use Rattle.mdns_capture.specs.declared.savefile.{PacketOrEnd.{PacketOrEnd}, PacketOrEnd.TheVariants.{Packet, End}}
+use Rattle.mdns_capture.specs.{Capture.{HasFault, IsDamagedStep, IsPacketOrEnd, packet_by}, Stream.{TakesAtMost}, Savefile.{number_at}}
+use Rattle.mdns_capture.specs.Savefile.{captured_of, format_of, format_fault, header_fault, head_stop, header_stop, stop_of, IsPacketHeader}
 use Rattle.mdns_capture.proofs.FramePartLemmas.{number-within}
 
 -- the fault of a text is that of its first 24 bytes

@@ -202,9 +202,6 @@ format_none : (header : List ℕ) (format : Option Format) → format_fault head
 format_none header None e = cc
 format_none header (Some f) e = (f, refl, e)
 
-abbrev is_version : Format → List ℕ → Bool
-is_version format header = (number_at format.order 2 4 header == 2) && (number_at format.order 2 6 header == 4)
-
 abbrev is_ethernet : Format → List ℕ → Bool
 is_ethernet format header = number_at format.order 4 20 header % 65536 == 1
 

@@ -1,7 +1,6 @@
 -- A range of a list, and the rest of it; reads that failed.
-use Rattle.std.proofs.Common.{rules, Result, Ok, Err, Option, IsErr, take-append-drop, drop-drop}
-use Rattle.std.proofs.Common.{◌≡◌, ℕ, ◌+◌, ◌-◌, ◌≤◌, List, [], ◌++◌, take, drop, slice_range, ap, arith}
-use Rattle.std.proofs.lemmas.List.{drop-take}
+use Rattle.std.proofs.Common.{rules, Result, Ok, Err, Option, IsErr, take-append-drop, drop-drop, ◌≡◌, ℕ, ◌+◌, ◌-◌}
+use Rattle.std.proofs.{Common.{◌≤◌, List, [], ◌++◌, take, drop, slice_range, ap, arith}, lemmas.List.{drop-take}}
 use Rattle.std.specs.Io.KnownBytes.{Keeps, ReadConsumes}
 
 -- a range up to an offset that isn't greater is empty

@@ -1,6 +1,5 @@
 -- Numbers of nine digits.
-use Rattle.std.proofs.Common.{◌≡◌, ℕ, ◌-◌, ◌^◌, false, []}
-use Rattle.std.proofs.{Math.Nat.{sub-zero}, lemmas.List.{append-nil}}
+use Rattle.std.proofs.{Common.{◌≡◌, ℕ, ◌-◌, ◌^◌, false, []}, Math.Nat.{sub-zero}, lemmas.List.{append-nil}}
 use Rattle.std.specs.Fmt.{decimal, padded_integral, char_count, format_spec}
 use Rattle.mdns_capture.specs.Text.{nine_digits}
 

@@ -1,6 +1,5 @@
 -- How the calls of a stream's reads or writes leave it.
-use Rattle.std.specs.Prelude.{◌≡◌, ℕ, Bool, IsTrue, Option}
-use Rattle.std.specs.Bool.{OnTrue, OnFalse}
+use Rattle.std.specs.{Prelude.{◌≡◌, ℕ, Bool, IsTrue, Option}, Bool.{OnTrue, OnFalse}}
 use Rattle.mdns_capture.specs.Stream.{OneMoreFailed}
 use Rattle.mdns_capture.specs.declared.stream.Sink as sink
 use Rattle.mdns_capture.specs.declared.stream.Source as source

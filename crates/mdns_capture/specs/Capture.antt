@@ -2,15 +2,13 @@
 use Rattle.std.specs.Prelude.{◌≡◌, ◌≢◌, ℕ, ◌+◌, ◌*◌, ◌≤◌, ◌↔◌, nat_lt, if◌then◌else◌, IsTrue, IsOk, IsErr, IfSome}
 use Rattle.std.specs.Prelude.{List, [], ◌∷◌, ◌++◌, length, take, Option, Some, None, Result, Ok, Err, Bool}
 use Rattle.std.specs.{Option.{option_map}, Io.KnownBytes.{Consumes}}
-use Rattle.mdns_capture.specs.declared.savefile.{Format.{Format}, Ending.{Ending}}
-use Rattle.mdns_capture.specs.declared.savefile.Ending.TheVariants.{Going, Whole, Cut, Fraction, Long, Many, Failed}
-use Rattle.mdns_capture.specs.declared.savefile.BeginFault.{BeginFault}
+use Rattle.mdns_capture.specs.declared.savefile.{Format.{Format}, Ending.{Ending}, Ending.TheVariants.{Going, Whole, Cut, Fraction, Long}}
+use Rattle.mdns_capture.specs.declared.savefile.{Ending.TheVariants.{Many, Failed}, BeginFault.{BeginFault}}
 use Rattle.mdns_capture.specs.declared.savefile.BeginFault.TheVariants.{Memory, Read, ShortHeader, Magic, Version, Link}
 use Rattle.mdns_capture.specs.declared.savefile.{PacketHeader.{PacketHeader}, PacketOrEnd.{PacketOrEnd}}
 use Rattle.mdns_capture.specs.declared.{savefile.PacketOrEnd.TheVariants.{Packet as PacketStep, End}, capture.ReadFault.{ReadFault}}
-use Rattle.mdns_capture.specs.declared.{stream.Broken.{Broken}, capture.Packet.{Packet}}
-use Rattle.mdns_capture.specs.Limits.{file_header_size, packet_header_size, longest_packet, most_packets}
-use Rattle.mdns_capture.specs.Stream.{TakesAtMost, OneMoreFailed}
+use Rattle.mdns_capture.specs.{declared.stream.Broken.{Broken}, declared.capture.Packet.{Packet}, Limits.{file_header_size}}
+use Rattle.mdns_capture.specs.{Limits.{packet_header_size, longest_packet, most_packets}, Stream.{TakesAtMost, OneMoreFailed}}
 use Rattle.mdns_capture.specs.Savefile.{PacketAt, IsFileHeader, IsPacketHeader, PacketsRead, CaptureReads, header_fault, snap_length}
 use Rattle.mdns_capture.specs.Savefile.{stop_of}
 

@@ -1,6 +1,5 @@
 -- The bytes that a call writes, and how many of its writes fail.
-use Rattle.std.specs.Prelude.{◌≡◌, ℕ, ◌<◌, Bool, List, ◌++◌, length, Option}
-use Rattle.std.specs.Io.KnownBytes.{Appends}
+use Rattle.std.specs.{Prelude.{◌≡◌, ℕ, ◌<◌, Bool, List, ◌++◌, length, Option}, Io.KnownBytes.{Appends}}
 use Rattle.mdns_capture.specs.declared.stream.Sink.{Ghosts}
 
 -- A writer before a call and after it: the bytes that it was given and how many of its writes failed, each where that

@@ -1,7 +1,6 @@
 -- The classic savefile of libpcap, version 2.4: which bytes are a capture, of which packets, and how it ends.
-use Rattle.std.specs.Prelude.{◌≡◌, ℕ, ◌+◌, ◌*◌, ◌%◌, ◌<◌, ◌≤◌, ◌==◌, nat_lt, nat_le, not, ◌&&◌, if◌then◌else◌, List}
-use Rattle.std.specs.Prelude.{[], ◌∷◌, ◌++◌, length, drop, Option, Some, None}
-use Rattle.std.specs.Option.{option_or}
+use Rattle.std.specs.Prelude.{◌≡◌, ℕ, ◌+◌, ◌*◌, ◌%◌, ◌<◌, ◌≤◌, ◌==◌, nat_lt, nat_le, not, ◌&&◌}
+use Rattle.std.specs.{Prelude.{if◌then◌else◌, List, [], ◌∷◌, ◌++◌, length, drop, Option, Some, None}, Option.{option_or}}
 use Rattle.byteorder.specs.Endian.{big_number, little_number}
 use Rattle.mdns_capture.specs.Limits.{file_header_size, packet_header_size, longest_packet, most_packets, second}
 use Rattle.mdns_capture.specs.declared.{moment.Moment.{Moment}, savefile.Order.{Order}, savefile.Order.TheVariants.{Little, Big}}

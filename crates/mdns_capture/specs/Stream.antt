@@ -1,6 +1,5 @@
 -- How many bytes calls take from a reader, and how many of the calls failed, where these are known.
-use Rattle.std.specs.Prelude.{◌≡◌, ℕ, ◌+◌, ◌≤◌, List, length, Option}
-use Rattle.std.specs.{Option.{option_map}, Io.KnownBytes.{Consumes}}
+use Rattle.std.specs.{Prelude.{◌≡◌, ℕ, ◌+◌, ◌≤◌, List, length, Option}, Option.{option_map}, Io.KnownBytes.{Consumes}}
 
 -- at most so many bytes were taken
 abbrev pub TakesAtMost : Option (List ℕ) → Option (List ℕ) → ℕ → Type 0

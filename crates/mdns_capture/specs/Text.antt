@@ -1,6 +1,5 @@
 -- Moments and endings as text.
-use Rattle.std.specs.Prelude.{ℕ, ◌-◌, ◌/◌, ◌%◌, List, ◌∷◌, ◌++◌, length, replicate, codes}
-use Rattle.std.specs.Fmt.{decimal}
+use Rattle.std.specs.{Prelude.{ℕ, ◌-◌, ◌/◌, ◌%◌, List, ◌∷◌, ◌++◌, length, replicate, codes}, Fmt.{decimal}}
 use Rattle.mdns_capture.specs.{Limits.{second}, declared.savefile.Ending.{Ending}}
 use Rattle.mdns_capture.specs.declared.savefile.Ending.TheVariants.{Going, Whole, Cut, Fraction, Long, Many, Failed}
 

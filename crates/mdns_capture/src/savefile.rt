@@ -1,8 +1,7 @@
 //! The headers of a classic savefile, version 2.4: of the file, and of each packet in it.
 
-ghost use Rattle.std.specs.Prelude.{◌≡◌, ◌≢◌, ℕ, ◌+◌, ◌*◌, ◌≤◌, ◌↔◌, Some, None, Err, IfSome, IfOk, IfErr, OnOk};
-ghost use Rattle.std.specs.Prelude.{OnErr, is_ok, MatchResult, IsTrue, IsOk, List, length};
-ghost use Rattle.std.specs.Io.KnownBytes.{Consumes};
+ghost use Rattle.std.specs.Prelude.{◌≡◌, ◌≢◌, ℕ, ◌+◌, ◌*◌, ◌≤◌, ◌↔◌, Some, None, Err, IfSome, IfOk};
+ghost use Rattle.std.specs.{Prelude.{IfErr, OnOk, OnErr, is_ok, MatchResult, IsTrue, IsOk, List, length}, Io.KnownBytes.{Consumes}};
 ghost use Rattle.mdns_capture.specs.{Limits.{file_header_size, packet_header_size, longest_packet, second}, Calls.{ReadsWell}};
 ghost use Rattle.mdns_capture.specs.Stream.{TakesAtMost, OneMoreFailed};
 ghost use Rattle.mdns_capture.specs.Savefile.{number_at, scale_of, format_of, format_fault, header_fault, head_stop, header_stop};

@@ -1,8 +1,7 @@
 //! Byte streams: readers of captures, and writers of reports.
 
-ghost use Rattle.std.specs.Prelude.{◌≡◌, ℕ, ◌<◌, ◌≤◌, List, Bool, Option, Some, None, true, false, IsTrue, IsOk};
-ghost use Rattle.std.specs.Prelude.{IfOk, OnOk, OnErr, length};
-ghost use Rattle.std.specs.{Io.{ReadsAtMost, WritesAtMost}, Io.KnownBytes.{ReadConsumes, WriteAppends}};
+ghost use Rattle.std.specs.Prelude.{◌≡◌, ℕ, ◌<◌, ◌≤◌, List, Bool, Option, Some, None, true, false, IsTrue, IsOk, IfOk};
+ghost use Rattle.std.specs.{Prelude.{OnOk, OnErr, length}, Io.{ReadsAtMost, WritesAtMost}, Io.KnownBytes.{ReadConsumes, WriteAppends}};
 ghost use Rattle.mdns_capture.specs.Stream.{OneMoreFailed};
 
 use std::io::{Read, Write};

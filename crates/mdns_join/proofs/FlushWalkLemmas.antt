@@ -4,8 +4,7 @@ use Rattle.std.specs.{Borrow.{Bor}, declared.cmp.Ordering.{Ordering}, declared.c
 use Rattle.std.specs.{Ordering.{ordering_reverse}, Cmp.{tied_itself}, List.Sorted.{IsStrictlySortedBy}, Map.{keys_of}}
 use Rattle.std.specs.Map.Iter.{TakesFirst, deref_pair}
 use Rattle.mdns_message.specs.{RecordSet.{RecordSet}, Resource.{set_key_cmp}, laws.Resource.{set_key_cmp-total, set_key_cmp-exact}}
-use Rattle.join_map.specs.Entries.{value_at}
-use Rattle.join_map.specs.laws.Entries.{greater_back, sorted_above, sorted_rest, above_trans, value_at-above}
+use Rattle.join_map.specs.{Entries.{value_at}, laws.Entries.{greater_back, sorted_above, sorted_rest, above_trans, value_at-above}}
 use Rattle.join_map.specs.laws.Entries.{value_at-equal, value_at-greater}
 use Rattle.mdns_join.specs.FlushWalk.{with_next}
 

@@ -2,17 +2,16 @@
 use Rattle.std.proofs.Common.{◌≡◌, ◌≢◌, ℕ, zero, suc, ◌+◌, ◌-◌, ◌<◌, ◌≤◌, Bool, true, false, cond, ◌||◌, ◌==◌, nat_lt}
 use Rattle.std.proofs.Common.{◌⊎◌, List, [], ◌∷◌, ◌++◌, length, get_or, take, drop, insert, refl, sym, ap, ◌∙◌, subst}
 use Rattle.std.proofs.Common.{inl, inr, arith, true≢false, ltb-true, ltb-false, eqb-true, lt-ltb, Result, Ok, Err, OnOk, OnErr}
-use Rattle.std.specs.{Bool.{OnTrue, OnFalse}, List.Sorted.{IsPartitionPoint, IsPartitionedBy}, Cmp.Lexicographic.{pointwise}}
 use Rattle.std.proofs.lemmas.{Bool.{or_cases, or_right, cases_Bool, cases_lt}, Bool.Decides.{nat_tests}, Grind.{take_at_read}}
 use Rattle.std.proofs.lemmas.List.{take-map, drop-map, map-append, get_or-map, length-map}
+use Rattle.std.specs.{Bool.{OnTrue, OnFalse}, List.Sorted.{IsPartitionPoint, IsPartitionedBy}, Cmp.Lexicographic.{pointwise}}
 use Rattle.std.specs.Prelude.{nat_eq, ◌&&◌}
 use Rattle.mdns_capture.specs.{declared.moment.Moment.{Moment}, Limits.{second}}
-use Rattle.mdns_join.specs.Nanos.{nanos_of}
-use Rattle.mdns_join.specs.Kept.{has, newest, IsAscending, IsAscendingAbove, IsGreatest, put, place_of, union, kept, kept_union, IsKeptList}
-use Rattle.mdns_join.specs.Kept.{IsStale, IsAbsorbed}
-use Rattle.mdns_join.specs.laws.Kept.{has-append, has-put, IsAscending-put, IsAscending-union, IsAscending-kept, IsAscending-from_above}
-use Rattle.mdns_join.specs.laws.Kept.{IsAscendingAbove-has, IsStale-up, has-le-newest, same_ascending, kept_between, kept_from_heard}
-use Rattle.mdns_join.specs.laws.Kept.{heard_from_kept, kept-kept, has-newest, not_stale_from_kept, union_left, union_right, union_parts}
+use Rattle.mdns_join.specs.{Nanos.{nanos_of}, Kept.{has, newest, IsAscending, IsAscendingAbove, IsGreatest, put, place_of, union, kept}}
+use Rattle.mdns_join.specs.{Kept.{kept_union, IsKeptList, IsStale, IsAbsorbed}, laws.Kept.{has-append, has-put, IsAscending-put}}
+use Rattle.mdns_join.specs.laws.Kept.{IsAscending-union, IsAscending-kept, IsAscending-from_above, IsAscendingAbove-has, IsStale-up}
+use Rattle.mdns_join.specs.laws.Kept.{has-le-newest, same_ascending, kept_between, kept_from_heard, heard_from_kept, kept-kept, has-newest}
+use Rattle.mdns_join.specs.laws.Kept.{not_stale_from_kept, union_left, union_right, union_parts}
 
 -- ---- the place of a moment
 

@@ -1,6 +1,5 @@
 -- The last hearing of a record: the greatest by moment, then TTL, then spelling.
-use Rattle.std.specs.Prelude.{◌≡◌, ℕ}
-use Rattle.std.specs.{declared.cmp.Ordering.{Ordering}, Ordering.{nat_cmp, on, then_cmp}}
+use Rattle.std.specs.{Prelude.{◌≡◌, ℕ}, declared.cmp.Ordering.{Ordering}, Ordering.{nat_cmp, on, then_cmp}}
 use Rattle.mdns_capture.specs.declared.moment.Moment.{Moment}
 use Rattle.mdns_message.specs.declared.{hearing.Hearing.{Hearing}, resource.Resource.{Resource}, key.Key.{Key}}
 use Rattle.mdns_message.specs.Resource.{key_of, resource_cmp}

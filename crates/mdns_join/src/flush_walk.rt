@@ -1,7 +1,6 @@
 //! The flush moments of record sets that are asked for in key order.
 
-ghost use Rattle.std.specs.Prelude.{◌≡◌, ◌≢◌, option_copied};
-ghost use Rattle.std.specs.declared.cmp.Ordering.TheVariants.{Greater};
+ghost use Rattle.std.specs.{Prelude.{◌≡◌, ◌≢◌, option_copied}, declared.cmp.Ordering.TheVariants.{Greater}};
 ghost use Rattle.mdns_message.specs.{RecordSet.{RecordSet}, Resource.{set_key_cmp}};
 ghost use Rattle.join_map.specs.Entries.{value_at};
 

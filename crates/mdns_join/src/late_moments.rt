@@ -1,7 +1,6 @@
 //! Flush moments of a record set, added in any order.
 
-ghost use Rattle.std.specs.Prelude.{◌≡◌, ◌+◌, ◌≤◌, [], ◌∷◌, length, IfOk, OnOk, OnErr};
-ghost use Rattle.std.specs.Bool.{OnTrue};
+ghost use Rattle.std.specs.{Prelude.{◌≡◌, ◌+◌, ◌≤◌, [], ◌∷◌, length, IfOk, OnOk, OnErr}, Bool.{OnTrue}};
 ghost use Rattle.mdns_join.specs.{Kept.{kept_union, IsKeptList}, Nanos.{nanos_of}, laws.Kept.{kept_union-laws}};
 
 use crate::kept_moments::Moments;

@@ -1,7 +1,6 @@
 //! The last hearing of a record.
 
-ghost use Rattle.std.specs.Prelude.{◌≡◌, IfOk, OnOk, OnErr};
-ghost use Rattle.std.specs.Ordering.{is_lt, nat_cmp, ordering_then};
+ghost use Rattle.std.specs.{Prelude.{◌≡◌, IfOk, OnOk, OnErr}, Ordering.{is_lt, nat_cmp, ordering_then}};
 ghost use Rattle.mdns_message.specs.Borrowed.{resource_lent};
 ghost use Rattle.mdns_join.specs.Latest.{latest, latest_cmp, later};
 

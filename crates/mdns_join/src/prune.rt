@@ -1,8 +1,7 @@
 //! Flush moments in ascending lists: one more moment, several more, and pruning of those that aren't kept.
 
-ghost use Rattle.std.specs.Prelude.{◌≡◌, ℕ, ◌+◌, ◌≤◌, [], ◌∷◌, length, take, drop, insert, true, false};
-ghost use Rattle.std.specs.Prelude.{IsOk, OnOk, OnErr, IfNone, IfOk, IfSome};
-ghost use Rattle.std.specs.Bool.{OnTrue, OnFalse};
+ghost use Rattle.std.specs.Prelude.{◌≡◌, ℕ, ◌+◌, ◌≤◌, [], ◌∷◌, length, take, drop, insert, true, false, IsOk, OnOk};
+ghost use Rattle.std.specs.{Prelude.{OnErr, IfNone, IfOk, IfSome}, Bool.{OnTrue, OnFalse}};
 ghost use Rattle.mdns_join.specs.Kept.{has, kept, kept_union, place_of, IsAbsorbed, IsKeptList, IsAscending, IsGreatest};
 ghost use Rattle.mdns_join.specs.Nanos.{nanos_of};
 

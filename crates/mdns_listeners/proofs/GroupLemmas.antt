@@ -4,8 +4,7 @@ use Rattle.std.proofs.lemmas.List.{get_or-map, get_or-replicate, get_or-set_othe
 use Rattle.std.proofs.{lemmas.List.Quantifiers.{position-Some}, lemmas.Option.{none-some, same_Some}, Math.Seq.{take-append_seam}}
 use Rattle.std.proofs.Common.{◌≡◌, ◌∙◌, ◌<◌, ◌++◌, ◌∷◌, refl, sym, ap, arith, cond, true, false, ℕ, Bool, List, [], Option, Some, None}
 use Rattle.std.proofs.Common.{drop, get_or, length, map, replicate, take, set, string_bytes, Global, String, append-nil, append_assoc, length-append}
-use Rattle.std.specs.Prelude.{◌==◌}
-use Rattle.std.specs.List.{list_any, position, position_or_len}
+use Rattle.std.specs.{Prelude.{◌==◌}, List.{list_any, position, position_or_len}}
 use Rattle.mdns_listeners.specs.Groups.{HasBegun, base_name, before_first, begun_by, fits, is_beside, is_same, is_slash, listener_names}
 use Rattle.mdns_listeners.specs.Groups.{listener_positions, name_by, names_after, position_of, positions_after, prefix_of, takes}
 

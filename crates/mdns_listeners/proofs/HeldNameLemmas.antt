@@ -1,15 +1,13 @@
 -- Names that are held suffice for those that hearings tell: one more name, a lesser spelling, and sorted names of which each is
 -- kept once.
-use Rattle.std.proofs.lemmas.{Bool.Decides.{nat_tests}, Bool.{false≢true, cases_eq}}
-use Rattle.std.proofs.lemmas.Cmp.{nat_list_cmp_total, on_total, then_total, tied_itself, upto}
-use Rattle.std.proofs.lemmas.List.{length-set, get_or-set_same, get_or-set_other, get_or_default, set-get_or}
+use Rattle.std.proofs.lemmas.{Bool.Decides.{nat_tests}, Bool.{false≢true, cases_eq}, Cmp.{nat_list_cmp_total, on_total, then_total}}
+use Rattle.std.proofs.lemmas.{Cmp.{tied_itself, upto}, List.{length-set, get_or-set_same, get_or-set_other, get_or_default, set-get_or}}
 use Rattle.std.proofs.lemmas.List.Elements.{Contains-append_left, Contains-append_right, Contains-append_cases, Contains-push}
 use Rattle.std.proofs.lemmas.List.Elements.{Contains-push_cases, Contains-get_or, All-head, All-tail, filter_map-append}
-use Rattle.std.proofs.lemmas.List.Kept.{IsStrictlySortedBy-dedup, Contains-from_dedup}
-use Rattle.std.proofs.lemmas.List.Sorted.{IsPermutation-sym, Contains-permutation, sorted_far, ranks_by}
-use Rattle.std.proofs.Common.{◌≡◌, ◌≢◌, ℕ, suc, ◌<◌, ◌≤◌, ◌⊎◌, ⊎_elim, Bool, true, false, cond, List, [], ◌∷◌, ◌++◌}
-use Rattle.std.proofs.Common.{length, get_or, set, Contains, Some, None, append-nil, append_assoc, refl, sym, ap, subst, ◌∙◌, arith}
-use Rattle.std.proofs.Common.{if◌then◌else◌}
+use Rattle.std.proofs.lemmas.List.{Kept.{IsStrictlySortedBy-dedup, Contains-from_dedup}, Sorted.{IsPermutation-sym, Contains-permutation}}
+use Rattle.std.proofs.{lemmas.List.Sorted.{sorted_far, ranks_by}, Common.{◌≡◌, ◌≢◌, ℕ, suc, ◌<◌, ◌≤◌, ◌⊎◌}}
+use Rattle.std.proofs.Common.{⊎_elim, Bool, true, false, cond, List, [], ◌∷◌, ◌++◌, length, get_or, set, Contains, Some, None}
+use Rattle.std.proofs.Common.{append-nil, append_assoc, refl, sym, ap, subst, ◌∙◌, arith, if◌then◌else◌}
 use Rattle.std.specs.{List.{All, dedup, dedup_from, cons_option}, Option.{option_map}}
 use Rattle.std.specs.{List.Sorted.{IsPermutation, IsSorted, IsStrictlySortedBy}, Cmp.{IsTotalOrder}, Cmp.Lexicographic.{slice_cmp}}
 use Rattle.std.specs.{Ordering.{nat_cmp, is_lt, is_gt, is_eq, ordering_then, ordering_reverse}, declared.cmp.Ordering.{Ordering}}

@@ -1,14 +1,12 @@
 -- The laws of the rows of what listeners heard.
 use Rattle.std.proofs.lemmas.{Bool.Decides.{nat_tests}, List.Sorted.{sum_by-IsPermutation}, List.Sums.{sum_by-cons}}
-use Rattle.std.proofs.lemmas.Map.Lookups.{exact_bytes}
-use Rattle.std.proofs.Common.{◌≡◌, ℕ, ◌+◌, Bool, true, false, cond, List, [], ◌∷◌, ◌++◌, map, Option, Some}
-use Rattle.std.proofs.Common.{refl, sym, ap, ◌∙◌, subst, arith, zero-add}
+use Rattle.std.proofs.{lemmas.Map.Lookups.{exact_bytes}, Common.{◌≡◌, ℕ, ◌+◌, Bool, true, false, cond, List, [], ◌∷◌}}
+use Rattle.std.proofs.Common.{◌++◌, map, Option, Some, refl, sym, ap, ◌∙◌, subst, arith, zero-add}
 use Rattle.std.specs.{Cmp.Lexicographic.{slice_cmp, nat_list_cmp_total}, List.{filter, sum_by}}
 use Rattle.std.specs.{List.Sorted.{IsPermutation, IsStrictlySortedBy}, Map.{keys_of}, Option.{option_map}, Ordering.{nat_cmp}}
 use Rattle.join_map.specs.{Entries.{value_at, joined, joined_at}, laws.Entries.{sorted-joined, value_at-join}}
-use Rattle.mdns_listeners.specs.declared.heard.HeardAt.{HeardAt}
-use Rattle.mdns_listeners.specs.Heard.{AreHeardIn, HeardRow, Told, is_same, messages_of, row_at, some_times, times_of}
-use Rattle.mdns_listeners.specs.Parts.{joined_rows}
+use Rattle.mdns_listeners.specs.{declared.heard.HeardAt.{HeardAt}, Heard.{AreHeardIn, HeardRow, Told, is_same, messages_of, row_at}}
+use Rattle.mdns_listeners.specs.{Heard.{some_times, times_of}, Parts.{joined_rows}}
 use Rattle.mdns_listeners.proofs.HeardLemmas.{Entry, entries_of, keys-entries, one-list, row_at-entries, row_of}
 use Rattle.mdns_listeners.proofs.HeardLemmas.{some_times-append, times_of-append}
 

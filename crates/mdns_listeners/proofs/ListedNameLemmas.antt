@@ -2,10 +2,9 @@
 use Rattle.std.proofs.{lemmas.Bool.Decides.{nat_tests}, Math.ListN.{get_or-map}, lemmas.Bool.{false≢true, cases_lt}}
 use Rattle.std.proofs.lemmas.Cmp.{nat_list_cmp_total, tied_itself, tied_back}
 use Rattle.std.proofs.lemmas.{List.{get_or_default, take-map, get_or-drop, length-drop, length-map}, List.Kept.{IsStrictlySortedBy-filter}}
-use Rattle.std.proofs.lemmas.{Map.Keys.{Less-from_sorted}, Option.{none-some, same_Some}}
-use Rattle.std.proofs.Common.{◌≡◌, ◌≢◌, ℕ, zero, suc, ◌+◌, ◌-◌, ◌<◌, ◌≤◌, ◌⊎◌, ⊎_elim, inl, inr, Bool, true, false, cond}
-use Rattle.std.proofs.Common.{List, [], ◌∷◌, length, map, take, drop, get_or, None, Some, Contains, refl, sym, ap, subst}
-use Rattle.std.proofs.Common.{◌∙◌, arith}
+use Rattle.std.proofs.{lemmas.Map.Keys.{Less-from_sorted}, lemmas.Option.{none-some, same_Some}, Common.{◌≡◌, ◌≢◌, ℕ, zero}}
+use Rattle.std.proofs.Common.{suc, ◌+◌, ◌-◌, ◌<◌, ◌≤◌, ◌⊎◌, ⊎_elim, inl, inr, Bool, true, false, cond, List, []}
+use Rattle.std.proofs.Common.{◌∷◌, length, map, take, drop, get_or, None, Some, Contains, refl, sym, ap, subst, ◌∙◌, arith}
 use Rattle.std.specs.List.{AllByRecursion, AllWithin, filter, cons_option, drop-map}
 use Rattle.std.specs.{List.Sorted.{IsStrictlySortedBy, IsPartitionPoint, IsPartitionedBy}, Option.{option_map}}
 use Rattle.std.specs.{Cmp.Lexicographic.{slice_cmp}, Ordering.{nat_cmp, is_lt, is_le, is_eq, ordering_then, ordering_reverse}}
@@ -16,9 +15,8 @@ use Rattle.mdns_message.specs.{declared.hearing.Hearing.{Hearing}, laws.Resource
 use Rattle.mdns_cache.proofs.StandsPartLemmas.{Contains-nil, Contains-head, Contains-later, Contains-cases, Contains-map, from_map}
 use Rattle.mdns_lives.proofs.FilterLemmas.{from-filter, to-filter}
 use Rattle.mdns_browse.proofs.SearchLemmas.{NotAbove, below-before, eq_is, not_above-before}
-use Rattle.mdns_listeners.specs.declared.names.SenderAddressName.{SenderAddressName}
-use Rattle.mdns_listeners.specs.Names.{IsNameOf, IsLeastName, AreNames, HoldsNames, address_in, by_folded}
-use Rattle.mdns_listeners.specs.Names.{named, named_in, told_in, address_cmp, by_name}
+use Rattle.mdns_listeners.specs.{declared.names.SenderAddressName.{SenderAddressName}, Names.{IsNameOf, IsLeastName, AreNames, HoldsNames}}
+use Rattle.mdns_listeners.specs.Names.{address_in, by_folded, named, named_in, told_in, address_cmp, by_name}
 use Rattle.mdns_listeners.proofs.HeldNameLemmas.{address_cmp-total, address_cmp-exact, by_name-total}
 
 -- ---- what hearings tell

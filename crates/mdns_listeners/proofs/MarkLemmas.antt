@@ -4,17 +4,12 @@ use Rattle.std.proofs.Common.{Option, Some, None, ℤ, arith, refl, ap, sym, ◌
 use Rattle.std.proofs.lemmas.{List.{get_or-drop, drop-drop}, List.Sums.{sum_by-append, sum_by-cons}, List.Elements.{filter_map-append}}
 use Rattle.std.specs.List.{count_by, cons_option, filter, filter_map, list_any}
 use Rattle.mdns_capture.specs.declared.moment.Moment.{Moment}
-use Rattle.mdns_listeners.specs.{Heard.{HeardRow}, Marks.{is_seen, mark_at, marks_by, marks_from, only_of, seen_by, seen_more, seen_of}}
+use Rattle.mdns_listeners.specs.{Heard.{HeardRow}, Marks.{is_seen, mark_at, marks_by, marks_from, only_of, seen_by, seen_of}}
 use Rattle.mdns_listeners.specs.{Numbers.{has, is_of}, Pairs.{common, difference, differences, nanos_ahead, once, only_moment}}
 use Rattle.mdns_listeners.specs.declared.{heard.HeardAt.{HeardAt}, marks.Mark.{Mark}, marks.Seen.{Seen}}
 use Rattle.mdns_listeners.specs.declared.marks.Seen.TheVariants.{Never, Once, Often}
 
 -- ---- how often a message was heard
-
-pub seen-push : (ats : List HeardAt) (at : HeardAt) → seen_of (ats ++ at ∷ []) ≡ seen_more (seen_of ats) at.moment
-seen-push [] at = refl
-seen-push (a ∷ []) at = refl
-seen-push (a ∷ b ∷ ats) at = refl
 
 some-seen : (at : HeardAt) (ats : List HeardAt) → true ≡ is_seen (seen_of (at ∷ ats))
 some-seen at [] = refl
@@ -42,16 +37,6 @@ once-seen listener row = only-seen (filter (is_of listener) row.times)
 -- ---- the marks of all messages
 
 -- a message that was not heard leaves no mark
-pub no-mark : (n : ℕ) (s : Seen) → is_seen s ≡ false → mark_at n s ≡ []
-no-mark n Never e = refl
-no-mark n (Once m) e = cc
-no-mark n Often e = cc
-
-pub one-mark : (n : ℕ) (s : Seen) → is_seen s ≡ true → mark_at n s ≡ record { position = n; seen = s } ∷ []
-one-mark n Never e = cc
-one-mark n (Once m) e = refl
-one-mark n Often e = refl
-
 count-mark : (p : Mark → Bool) (n : ℕ) (s : Seen) (b : Bool) → ((q : Seen) → p (record { position = n; seen = q }) ≡ b)
     → count_by p (mark_at n s) ≡ cond (b && is_seen s) 1 0
 count-mark p n Never true e = refl

@@ -1,8 +1,7 @@
 -- Values of an array and members of an object, one after another.
-use Rattle.std.proofs.Common.{arith}
-use Rattle.std.proofs.lemmas.{Bool.Decides.{nat_tests}, List.{at_drop_more, drop_all}}
-use Rattle.std.proofs.Common.{◌≡◌, sym, ap, ◌∙◌, ℕ, ◌+◌, ◌<◌, ◌≤◌, Bool, true, false, List, [], ◌∷◌, ◌++◌, length, drop, get_or}
-use Rattle.std.proofs.Common.{append_assoc, append-nil}
+use Rattle.std.proofs.Common.{arith, ◌≡◌, sym, ap, ◌∙◌, ℕ, ◌+◌, ◌<◌, ◌≤◌, Bool, true, false, List, []}
+use Rattle.std.proofs.{Common.{◌∷◌, ◌++◌, length, drop, get_or, append_assoc, append-nil}, lemmas.Bool.Decides.{nat_tests}}
+use Rattle.std.proofs.lemmas.List.{at_drop_more, drop_all}
 use Rattle.mdns_browse.specs.Json.{comma_unless, json_object, parted}
 
 -- the end of an object, and of its line

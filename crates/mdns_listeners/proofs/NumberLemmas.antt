@@ -1,14 +1,12 @@
 -- Counting the times of a listener tells whether it heard a message, and whether another did.
-use Rattle.std.proofs.Common.{◌≡◌, ℕ, ◌+◌, ◌<◌, Bool, true, false, not, ◌&&◌, cond}
-use Rattle.std.proofs.Common.{eqb, ltb, List, [], ◌∷◌, ◌++◌, length, drop, get_or, zero, suc}
-use Rattle.std.proofs.Common.{append-nil, append_assoc, Option, Some, None, arith, refl, ap, sym, ◌∙◌, ◌||◌}
-use Rattle.std.proofs.lemmas.{Bool.Decides.{nat_tests}, List.{drop_all, get_or_past}}
+use Rattle.std.proofs.Common.{◌≡◌, ℕ, ◌+◌, ◌<◌, Bool, true, false, not, ◌&&◌, cond, eqb, ltb, List, [], ◌∷◌}
+use Rattle.std.proofs.Common.{◌++◌, length, drop, get_or, zero, suc, append-nil, append_assoc, Option, Some, None, arith, refl, ap, sym}
+use Rattle.std.proofs.{Common.{◌∙◌, ◌||◌}, lemmas.Bool.Decides.{nat_tests}, lemmas.List.{drop_all, get_or_past}}
 use Rattle.std.proofs.lemmas.List.Sums.{fold_push, sum_by-cons, count_by-le-length}
 use Rattle.std.specs.{List.{count_by, list_any}, Option.{option_to_list}}
 use Rattle.mdns_survey.specs.{declared.reading.Span.{Span}, Span.{joined_spans}}
-use Rattle.mdns_listeners.specs.Heard.{HeardRow}
-use Rattle.mdns_listeners.specs.Numbers.{is_of, is_alone, is_missed, listened, times_heard}
-use Rattle.mdns_listeners.specs.Numbers.{FileSpans, file_spans, span_of_file, whole_span, spans_of_listener}
+use Rattle.mdns_listeners.specs.{Heard.{HeardRow}, Numbers.{is_of, is_alone, is_missed, listened, times_heard, FileSpans, file_spans}}
+use Rattle.mdns_listeners.specs.Numbers.{span_of_file, whole_span, spans_of_listener}
 
 -- ---- counting the times of a listener
 

@@ -1,8 +1,6 @@
 -- Rows of pairs, one pair after another.
-use Rattle.std.proofs.Common.{arith}
-use Rattle.std.proofs.lemmas.{Bool.Decides.{nat_tests}, List.{drop_more}}
-use Rattle.std.proofs.Common.{◌≡◌, ℕ, ◌+◌, ◌<◌, Bool, List, [], ◌∷◌, ◌++◌, length, drop, get_or}
-use Rattle.std.proofs.Common.{ap, cond, append_assoc}
+use Rattle.std.proofs.Common.{arith, ◌≡◌, ℕ, ◌+◌, ◌<◌, Bool, List, [], ◌∷◌, ◌++◌, length, drop, get_or, ap, cond}
+use Rattle.std.proofs.{Common.{append_assoc}, lemmas.Bool.Decides.{nat_tests}, lemmas.List.{drop_more}}
 use Rattle.std.specs.List.{enumerate_from}
 use Rattle.mdns_listeners.specs.{Heard.{HeardRow}, Numbers.{FileSpans}}
 use Rattle.mdns_listeners.specs.{Pairs.{is_pair, pair_row, pair_rows_at, pair_rows_of, pair_rows_with}, declared.pairs.PairRow.{PairRow}}

@@ -1,11 +1,9 @@
 -- How sorted messages are made rows, and their times are added.
-use Rattle.std.proofs.lemmas.{Bool.Decides.{nat_tests}, Bool.{cond_both}}
-use Rattle.std.proofs.lemmas.List.{append-nil, get_or_append_left, get_or_at, length-map, map_more}
-use Rattle.std.proofs.lemmas.List.{Elements.{All-contains, All-head, All-map, All-tail}, Folds.{list_any_at}}
-use Rattle.std.proofs.lemmas.Map.Keys.{Less-from_sorted, sorted_head, sorted_tail}
-use Rattle.std.proofs.Common.{◌≡◌, ℕ, zero, suc, ◌+◌, ◌<◌, Bool, true, false, cond, ◌||◌}
-use Rattle.std.proofs.Common.{List, [], ◌∷◌, ◌++◌, length, map, get_or, set, take, Option, Some, refl, sym, ap}
-use Rattle.std.proofs.Common.{◌∙◌, subst, arith, true≢false, length-append, Less, Equal}
+use Rattle.std.proofs.lemmas.{Bool.Decides.{nat_tests}, Bool.{cond_both}, List.{append-nil, get_or_append_left, get_or_at, length-map}}
+use Rattle.std.proofs.lemmas.{List.{map_more}, List.Elements.{All-contains, All-head, All-map, All-tail}, List.Folds.{list_any_at}}
+use Rattle.std.proofs.{lemmas.Map.Keys.{Less-from_sorted, sorted_head, sorted_tail}, Common.{◌≡◌, ℕ, zero, suc, ◌+◌, ◌<◌}}
+use Rattle.std.proofs.Common.{Bool, true, false, cond, ◌||◌, List, [], ◌∷◌, ◌++◌, length, map, get_or, set, take, Option}
+use Rattle.std.proofs.Common.{Some, refl, sym, ap, ◌∙◌, subst, arith, true≢false, length-append, Less, Equal}
 use Rattle.std.specs.{Cmp.{tied_itself}, Cmp.Lexicographic.{slice_cmp, nat_list_cmp_total}, List.{All, AllByRecursion, filter, list_any}}
 use Rattle.std.specs.{List.Sorted.{IsStrictlySortedBy}, Ordering.{nat_cmp}}
 use Rattle.mdns_listeners.specs.declared.{heard.HeardAt.{HeardAt}, kept.Noted.{Noted}}

@@ -1,8 +1,7 @@
 -- A sheet after rows.
-use Rattle.std.proofs.Common.{arith}
-use Rattle.std.proofs.lemmas.{Bool.Decides.{nat_tests}, Grind.{flat_map-append}, List.{at_drop_more, get_or_default}}
-use Rattle.std.proofs.Common.{◌≡◌, refl, sym, ap, ◌∙◌, ℕ, ◌+◌, ◌<◌, Bool, true, false, List, [], ◌∷◌, ◌++◌, length, map, drop, get_or}
-use Rattle.std.proofs.Common.{append_assoc, append-nil}
+use Rattle.std.proofs.Common.{arith, ◌≡◌, refl, sym, ap, ◌∙◌, ℕ, ◌+◌, ◌<◌, Bool, true, false, List, [], ◌∷◌}
+use Rattle.std.proofs.{Common.{◌++◌, length, map, drop, get_or, append_assoc, append-nil}, lemmas.Bool.Decides.{nat_tests}}
+use Rattle.std.proofs.lemmas.{Grind.{flat_map-append}, List.{at_drop_more, get_or_default}}
 use Rattle.std.specs.List.{flat_map, fold}
 use Rattle.mdns_browse.specs.declared.report.{Form.{Form}, Form.TheVariants.{Pretty}}
 use Rattle.mdns_listeners.specs.{Fields.{Field}, Sheet.{SheetNow, cells_of, row_text, taken, widened}, Table.{table_text}}

@@ -1,7 +1,6 @@
 -- Texts that were worked by hand.
 use Rattle.std.proofs.Common.{◌≡◌, refl, ℕ, List, [], ◌∷◌, Option, Some, None, codes}
-use Rattle.std.specs.Prelude.{ℤ, pos, negsuc}
-use Rattle.std.specs.Fmt.{digits}
+use Rattle.std.specs.{Prelude.{ℤ, pos, negsuc}, Fmt.{digits}}
 use Rattle.mdns_browse.specs.Columns.{padded, spaces, widest}
 use Rattle.mdns_capture.specs.{Text.{moment_text}, declared.source_address.SourceAddress.TheVariants.{V4, V6}}
 use Rattle.mdns_listeners.specs.declared.pairs.{PairRow.{PairRow}, Quartiles.{Quartiles}}

@@ -1,7 +1,6 @@
 -- What the messages that two listeners heard say of the second listener's clock.
-use Rattle.std.specs.Prelude.{ℕ, ◌==◌, Bool, ◌&&◌, nat_le, if◌then◌else◌, ℤ, ◌-ℤ◌, neg_ℤ, unsigned_abs}
-use Rattle.std.specs.Prelude.{List, ◌∷◌, ◌++◌, Option, Some, None, codes}
-use Rattle.std.specs.Fmt.{decimal}
+use Rattle.std.specs.Prelude.{ℕ, ◌==◌, Bool, ◌&&◌, nat_le, if◌then◌else◌, ℤ, ◌-ℤ◌, neg_ℤ, unsigned_abs, List}
+use Rattle.std.specs.{Prelude.{◌∷◌, ◌++◌, Option, Some, None, codes}, Fmt.{decimal}}
 use Rattle.mdns_listeners.specs.{declared.pairs.PairRow.{PairRow}, declared.pairs.Quartiles.{Quartiles}, Seconds.{signed_text}}
 
 -- A tenth of the second in which goodbyes and cache flushes act (RFC 6762, sections 10.1 and 10.2), in nanoseconds.

@@ -1,13 +1,11 @@
 -- All that is written of listeners, in a form.
-use Rattle.std.specs.Prelude.{ℕ, List, ◌∷◌, ◌++◌, map, string_bytes}
-use Rattle.std.specs.List.{enumerate_from, flat_map}
+use Rattle.std.specs.{Prelude.{ℕ, List, ◌∷◌, ◌++◌, map, string_bytes}, List.{enumerate_from, flat_map}}
 use Rattle.mdns_browse.specs.{Columns.{unless_none}, declared.report.Form.{Form}, declared.report.Form.TheVariants.{Json, Lines, Pretty}}
 use Rattle.mdns_message.specs.TextData.{string_text}
-use Rattle.mdns_listeners.specs.declared.{facts.Facts.{Facts as LentFacts}, fields.Kind.{Kind}}
-use Rattle.mdns_listeners.specs.declared.{fields.Kind.TheVariants.{Listeners, Pairs, Senders}, numbers.ListenerRow.{ListenerRow}}
-use Rattle.mdns_listeners.specs.{declared.pairs.PairRow.{PairRow}, Fields.{Field, heads_of, listener_fields, pair_row_in, sender_row_in}}
-use Rattle.mdns_listeners.specs.{Named.{NamedSender, listener_name_at, sender_lent}, Sheet.{cells_of, line_text, object_text}}
-use Rattle.mdns_listeners.specs.Table.{table_text}
+use Rattle.mdns_listeners.specs.declared.{facts.Facts.{Facts as LentFacts}, fields.Kind.{Kind}, fields.Kind.TheVariants.{Listeners, Pairs}}
+use Rattle.mdns_listeners.specs.declared.{fields.Kind.TheVariants.{Senders}, numbers.ListenerRow.{ListenerRow}, pairs.PairRow.{PairRow}}
+use Rattle.mdns_listeners.specs.{Fields.{Field, heads_of, listener_fields, pair_row_in, sender_row_in}, Named.{NamedSender}}
+use Rattle.mdns_listeners.specs.{Named.{listener_name_at, sender_lent}, Sheet.{cells_of, line_text, object_text}, Table.{table_text}}
 
 -- the names of the listeners in their order, a row for each of them, and the rows of pairs and of senders
 pub record Facts : Type 0 where

@@ -1,7 +1,6 @@
 -- Which listener each file belongs to. A listener is a file, or all files whose names, without folders, begin with a PREFIX.
-use Rattle.std.specs.Prelude.{◌≡◌, ℕ, Bool, false, not, List, [], ◌∷◌, ◌++◌, ◌==◌, Option, Some, None}
-use Rattle.std.specs.Prelude.{◌<◌, if◌then◌else◌, length, nat_eq, slice_index_or}
-use Rattle.std.specs.List.{list_any, position, starts_with}
+use Rattle.std.specs.Prelude.{◌≡◌, ℕ, Bool, false, not, List, [], ◌∷◌, ◌++◌, ◌==◌, Option, Some, None, ◌<◌}
+use Rattle.std.specs.{Prelude.{if◌then◌else◌, length, nat_eq, slice_index_or}, List.{list_any, position, starts_with}}
 
 -- a file's name without folders, which is all behind the last `/`
 abbrev pub is_slash : ℕ → Bool

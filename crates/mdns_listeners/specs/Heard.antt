@@ -1,9 +1,8 @@
 -- Which messages listeners heard, and when. A message is a packet that told at least one hearing; two messages are the same if
 -- their sender's addresses and their payloads are the same bytes.
-use Rattle.std.specs.Prelude.{◌≡◌, ℕ, ◌≤◌, Bool, if◌then◌else◌, ◌⊎◌, List, [], ◌∷◌, ◌++◌, length, map, slice_index}
-use Rattle.std.specs.Prelude.{Option, Some, None}
-use Rattle.std.specs.{List.{filter}, Option.{is_some}, List.Sorted.{IsStrictlySortedBy}, Str.{bytes_eq}, Cmp.Lexicographic.{slice_cmp}}
-use Rattle.std.specs.Ordering.{nat_cmp}
+use Rattle.std.specs.Prelude.{◌≡◌, ℕ, ◌≤◌, Bool, if◌then◌else◌, ◌⊎◌, List, [], ◌∷◌, ◌++◌, length, map}
+use Rattle.std.specs.{Prelude.{slice_index, Option, Some, None}, List.{filter}, Option.{is_some}, List.Sorted.{IsStrictlySortedBy}}
+use Rattle.std.specs.{Str.{bytes_eq}, Cmp.Lexicographic.{slice_cmp}, Ordering.{nat_cmp}}
 use Rattle.mdns_capture.specs.declared.source_address.{SourceAddress.{SourceAddress}, SourceAddress.TheVariants.{V4, V6}}
 use Rattle.mdns_listeners.specs.declared.heard.HeardAt.{HeardAt}
 

@@ -1,6 +1,5 @@
 -- The rows of what was told in two parts.
-use Rattle.std.specs.Prelude.{List, ◌++◌, map}
-use Rattle.std.specs.{Cmp.Lexicographic.{slice_cmp}, Ordering.{nat_cmp}}
+use Rattle.std.specs.{Prelude.{List, ◌++◌, map}, Cmp.Lexicographic.{slice_cmp}, Ordering.{nat_cmp}}
 use Rattle.join_map.specs.Entries.{joined}
 use Rattle.mdns_listeners.specs.{declared.heard.HeardAt.{HeardAt}, Heard.{HeardRow}}
 

@@ -1,7 +1,6 @@
 -- What each listener heard of each sender.
-use Rattle.std.specs.Prelude.{ℕ, ◌==◌, not, if◌then◌else◌, Bool, List, []}
-use Rattle.std.specs.Prelude.{◌∷◌, map, slice_index, slice_range, take, Option, Some, None}
-use Rattle.std.specs.{List.{enumerate_from, filter, flat_map, fold}, Str.{bytes_eq}}
+use Rattle.std.specs.Prelude.{ℕ, ◌==◌, not, if◌then◌else◌, Bool, List, [], ◌∷◌, map, slice_index, slice_range, take}
+use Rattle.std.specs.{Prelude.{Option, Some, None}, List.{enumerate_from, filter, flat_map, fold}, Str.{bytes_eq}}
 use Rattle.mdns_capture.specs.declared.source_address.{SourceAddress.{SourceAddress}, SourceAddress.TheVariants.{V4, V6}}
 use Rattle.mdns_survey.specs.{declared.reading.Span.{Span}, Span.{joined_spans, span_at}}
 use Rattle.mdns_listeners.specs.{Heard.{HeardRow}, Numbers.{FileSpans, heard, is_of, missed}, declared.heard.HeardAt.{HeardAt}}

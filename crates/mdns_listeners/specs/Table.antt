@@ -1,7 +1,6 @@
 -- Tables in readable columns: rows of cells, the first of which has the heads of the columns. Only a last cell may have more than
 -- ASCII, so that the columns are straight whatever the widths of other characters.
-use Rattle.std.specs.Prelude.{ℕ, ◌+◌, List, [], ◌∷◌, ◌++◌, map, slice_index_or, codes}
-use Rattle.std.specs.List.{flat_map}
+use Rattle.std.specs.{Prelude.{ℕ, ◌+◌, List, [], ◌∷◌, ◌++◌, map, slice_index_or, codes}, List.{flat_map}}
 use Rattle.mdns_browse.specs.Columns.{padded, widest}
 
 -- a row's cell in a column; empty after its last cell

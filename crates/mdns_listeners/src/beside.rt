@@ -1,7 +1,6 @@
 //! Gathering of messages beside a hearer, so that captures are read once for both.
 
-ghost use Rattle.std.specs.Prelude.{◌≡◌, ◌++◌, ◌∷◌, [], List, OnOk};
-ghost use Rattle.std.specs.Bool.{OnFalse, OnTrue};
+ghost use Rattle.std.specs.{Prelude.{◌≡◌, ◌++◌, ◌∷◌, [], List, OnOk}, Bool.{OnFalse, OnTrue}};
 ghost use Rattle.mdns_capture.specs.{Capture.{packet_lent}, Savefile.{PacketAt}};
 ghost use Rattle.mdns_survey.specs.{Listen.{outcome_of}, Outcomes.{ComesTo, Outcome, ReadsTo}, Why.{IsPayloadOf, SaysWhy}};
 

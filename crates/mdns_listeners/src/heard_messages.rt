@@ -5,9 +5,8 @@ ghost use Rattle.std.specs.Prelude.{◌≡◌, ◌≢◌, ◌<◌, ◌-◌, ◌+
 ghost use Rattle.std.specs.List.{All};
 ghost use Rattle.mdns_message.specs.{declared.hearing.Hearing.{Hearing}, Message.{MessageReads}};
 ghost use Rattle.mdns_cache.specs.Repeats.{ReadsAs};
-ghost use Rattle.mdns_listeners.specs.Heard.{message_bytes, AreHeardIn, HasWholeAddress};
-ghost use Rattle.mdns_listeners.specs.Kept.{HearsMessage, kept_messages, next_kept, payload_in, told_again};
-ghost use Rattle.mdns_listeners.specs.Names.{HoldsNames, ListsNames};
+ghost use Rattle.mdns_listeners.specs.{Heard.{message_bytes, AreHeardIn, HasWholeAddress}, Kept.{HearsMessage, kept_messages, next_kept}};
+ghost use Rattle.mdns_listeners.specs.{Kept.{payload_in, told_again}, Names.{HoldsNames, ListsNames}};
 
 use crate::heard::{HeardAt, HeardMessage};
 use crate::kept::{Kept, Noted};

@@ -1,7 +1,6 @@
 //! Laws of the definitions. Each function does nothing: its contract is the law.
 
-ghost use Rattle.std.specs.Prelude.{◌≡◌, ◌++◌, [], ℕ, List};
-ghost use Rattle.std.specs.{List.{All, sum_by}, List.Sorted.{IsPermutation}};
+ghost use Rattle.std.specs.{Prelude.{◌≡◌, ◌++◌, [], ℕ, List}, List.{All, sum_by}, List.Sorted.{IsPermutation}};
 ghost use Rattle.mdns_listeners.specs.declared.heard.HeardAt.{HeardAt};
 ghost use Rattle.mdns_listeners.specs.Heard.{AreHeardIn, HasWholeAddress, HeardRow, Told, messages_of, times_of};
 ghost use Rattle.mdns_listeners.specs.{Pairs.{AreAhead, ascending_of, differences}, Parts.{joined_rows}, Names.{AreNames}};

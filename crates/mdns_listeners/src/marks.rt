@@ -1,7 +1,6 @@
 //! Marks of the messages that a listener heard: enough to compare listeners by walking over these messages alone.
 
-ghost use Rattle.std.specs.Prelude.{◌≡◌, ◌++◌, ◌∷◌, [], map, IfOk, OnOk};
-ghost use Rattle.std.specs.List.{filter};
+ghost use Rattle.std.specs.{Prelude.{◌≡◌, ◌++◌, ◌∷◌, [], map, IfOk, OnOk}, List.{filter}};
 ghost use Rattle.mdns_listeners.specs.{Marks.{is_seen, marks_by, seen_by, seen_more, seen_of}, Numbers.{is_of}};
 
 use crate::heard::{HeardAt, HeardMessage};

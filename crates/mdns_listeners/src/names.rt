@@ -1,8 +1,7 @@
 //! The names that a sender goes by: the owners of the A and AAAA records whose data is its address.
 
-ghost use Rattle.std.specs.Prelude.{◌≡◌, ◌↔◌, ◌<◌, ◌++◌, ◌∷◌, [], List, length, map, IfOk, IfSome, IsTrue, OnOk, OnErr, HoldsAt};
-ghost use Rattle.std.specs.Prelude.{slice_set, slice_index_or};
-ghost use Rattle.std.specs.List.Sorted.{IsPermutation, IsSorted, IsStrictlySortedBy};
+ghost use Rattle.std.specs.Prelude.{◌≡◌, ◌↔◌, ◌<◌, ◌++◌, ◌∷◌, [], List, length, map, IfOk, IfSome, IsTrue, OnOk};
+ghost use Rattle.std.specs.{Prelude.{OnErr, HoldsAt, slice_set, slice_index_or}, List.Sorted.{IsPermutation, IsSorted, IsStrictlySortedBy}};
 ghost use Rattle.dns_name.specs.Name.{folded};
 ghost use Rattle.mdns_message.specs.{declared.hearing.Hearing.{Hearing}, Borrowed.{body_lent, hearing_lent}};
 ghost use Rattle.mdns_listeners.specs.Names.{AddsNames, AreNames, Covers, HoldsNames, ListsNames, SufficeFor};

@@ -1,7 +1,6 @@
 //! Sorting messages by their bytes.
 
-ghost use Rattle.std.specs.Prelude.{◌≡◌, ◌<◌, ◌≤◌, length};
-ghost use Rattle.std.specs.List.Sorted.{IsPermutation};
+ghost use Rattle.std.specs.{Prelude.{◌≡◌, ◌<◌, ◌≤◌, length}, List.Sorted.{IsPermutation}};
 ghost use Rattle.mdns_listeners.specs.Kept.{AreSorted};
 
 use crate::kept::Kept;

@@ -2,9 +2,8 @@
 
 ghost use Rattle.std.specs.Prelude.{◌≡◌, ◌++◌, ◌∷◌, [], codes, if◌then◌else◌, map, slice_index, true, false, OnOk, string_bytes};
 ghost use Rattle.mdns_browse.specs.{Columns.{padded}, Json.{comma_unless}};
-ghost use Rattle.mdns_listeners.specs.Fields.{field_lent};
-ghost use Rattle.mdns_listeners.specs.Sheet.{cells_of, columns_text, line_text, member_text, object_text, taken, widened, widened_at};
-ghost use Rattle.mdns_listeners.specs.Values.{cell_text, value_lent};
+ghost use Rattle.mdns_listeners.specs.{Fields.{field_lent}, Sheet.{cells_of, columns_text, line_text, member_text, object_text, taken}};
+ghost use Rattle.mdns_listeners.specs.{Sheet.{widened, widened_at}, Values.{cell_text, value_lent}};
 
 use crate::fields::Field;
 use crate::values::{Value, push_cell, push_json_value, push_word};

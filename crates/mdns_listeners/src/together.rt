@@ -1,8 +1,7 @@
 //! Pairs of listeners that recorded together: only what these heard tells whether their clocks agree. Two files of one listener
 //! that follow each other are no such pair: the same messages came again later.
 
-ghost use Rattle.std.specs.Prelude.{◌≡◌, ◌-◌, ◌*◌, ◌≤◌, max, min, IfOk};
-ghost use Rattle.std.specs.List.{filter};
+ghost use Rattle.std.specs.{Prelude.{◌≡◌, ◌-◌, ◌*◌, ◌≤◌, max, min, IfOk}, List.{filter}};
 ghost use Rattle.mdns_listeners.specs.Together.{are_compared, is_together, nanos_of, nanos_of_both, pairs_together, recorded_together, span_at};
 
 use crate::heard::HeardMessage;

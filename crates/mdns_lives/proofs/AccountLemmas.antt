@@ -1,9 +1,8 @@
 -- Accounts that were joined, or joined in part.
-use Rattle.std.proofs.Common.{arith, ◌≡◌, Result, OnErr, sym, subst}
+use Rattle.std.proofs.{Common.{arith, ◌≡◌, Result, OnErr, sym, subst}, lemmas.Result.{on_err_weaker}}
 use Rattle.join_map.specs.{Join.{IsPartOfJoin}, laws.Join.{IsPartOfJoin-old, IsPartOfJoin-join}}
 use Rattle.mdns_join.specs.{declared.latest.Latest.{Latest}, Latest.{later}, laws.Latest.{later-laws}}
 use Rattle.mdns_cache.proofs.BetweenLemmas.{on_err_any}
-use Rattle.std.proofs.lemmas.Result.{on_err_weaker}
 use Rattle.mdns_lives.specs.{declared.account.Account.{Account}, Account.{account, join_account, IsAccount}}
 use Rattle.mdns_lives.specs.{Seconds.{Seconds, join_seconds}, laws.Seconds.{seconds-laws}}
 

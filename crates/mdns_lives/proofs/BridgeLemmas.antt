@@ -1,8 +1,7 @@
 -- The lives of a record by its history are those by all hearings.
 use Rattle.std.proofs.Common.{rules, ◌≡◌, ◌≢◌, ℕ, ◌+◌, ◌<◌, ◌≤◌, List, Contains, refl, sym, ap, ◌∙◌, subst, arith, leb-true, le-leb}
-use Rattle.std.specs.Prelude.{nat_le}
-use Rattle.std.specs.declared.cmp.Ordering.TheVariants.{Greater}
 use Rattle.std.proofs.lemmas.Bool.{cases_lt}
+use Rattle.std.specs.{Prelude.{nat_le}, declared.cmp.Ordering.TheVariants.{Greater}}
 use Rattle.mdns_capture.specs.{Limits.{second}, declared.moment.Moment.{Moment}}
 use Rattle.mdns_message.specs.declared.{hearing.Hearing.{Hearing}, key.Key.{Key}}
 use Rattle.mdns_join.specs.{declared.latest.Latest.{Latest}, Latest.{latest_cmp, latest_of}, Kept.{IsStruckBy}, laws.Latest.{moment-same}}

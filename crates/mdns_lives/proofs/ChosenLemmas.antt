@@ -2,10 +2,10 @@
 use Rattle.std.proofs.Common.{◌≡◌, ◌≢◌, Bool, true, false, ◌&&◌, ◌||◌, ◌==◌, not, nat_le, nat_lt, if◌then◌else◌, cond, IsTrue, ◌↔◌, ℕ, ◌<◌}
 use Rattle.std.proofs.Common.{List, [], ◌∷◌, ◌++◌, map, slice_get, Option, None, Some, unwrap_or}
 use Rattle.std.proofs.Common.{refl, sym, ap, ◌∙◌, subst, true≢false, append_assoc, append-nil, arith}
-use Rattle.std.specs.{List.{AllByRecursion, filter, list_all, list_any}, List.Sorted.{IsStrictlySortedBy}, declared.cmp.Ordering.{Ordering}}
-use Rattle.std.specs.{declared.cmp.Ordering.TheVariants.{Less, Equal, Greater}, Ordering.{is_eq}, Cmp.{tied_itself}}
 use Rattle.std.proofs.lemmas.{Bool.{and_parts, or_left, or_right}, Bool.Decides.{nat_tests}, List.{map-append}}
 use Rattle.std.proofs.lemmas.List.Elements.{filter-append}
+use Rattle.std.specs.{List.{AllByRecursion, filter, list_all, list_any}, List.Sorted.{IsStrictlySortedBy}, declared.cmp.Ordering.{Ordering}}
+use Rattle.std.specs.{declared.cmp.Ordering.TheVariants.{Less, Equal, Greater}, Ordering.{is_eq}, Cmp.{tied_itself}}
 use Rattle.mdns_message.specs.{RecordSet.{RecordSet}, Resource.{key_cmp, set_key_cmp, set_key_of}}
 use Rattle.mdns_message.specs.laws.Resource.{set_key_cmp-exact, set_key_cmp-total}
 use Rattle.join_map.specs.laws.Entries.{is_Equal}
@@ -13,10 +13,9 @@ use Rattle.mdns_join.specs.{declared.latest.Latest.{Latest}, Kept.{ascending, ha
 use Rattle.mdns_join.specs.laws.Kept.{has-append, has-ascending, IsAscending-ascending}
 use Rattle.mdns_cache.specs.LentRecords.{last_lent}
 use Rattle.mdns_lives.specs.declared.life.{Life.{Life}, Which.{Which}, Which.TheVariants.{All, Changes}}
-use Rattle.mdns_lives.specs.declared.lives.RecordLives.{RecordLives}
-use Rattle.mdns_lives.specs.Changes.{AreOf, AreOfOne, begins_in, begins_of, by_sets, changes_in, chosen, comes_back, goes_on, has_change}
-use Rattle.mdns_lives.specs.Changes.{has_changed, is_between, is_of_set, is_pointer_record, kept_if, left_after, left_of, maybe_next}
-use Rattle.mdns_lives.specs.{Changes.{maybe_row, strays}, Lives.{AreApart}, LentLives.{row_lent}}
+use Rattle.mdns_lives.specs.{declared.lives.RecordLives.{RecordLives}, Changes.{AreOf, AreOfOne, begins_in, begins_of, by_sets, changes_in}}
+use Rattle.mdns_lives.specs.Changes.{chosen, comes_back, goes_on, has_change, has_changed, is_between, is_of_set, is_pointer_record}
+use Rattle.mdns_lives.specs.{Changes.{kept_if, left_after, left_of, maybe_next, maybe_row, strays}, Lives.{AreApart}, LentLives.{row_lent}}
 use Rattle.mdns_lives.proofs.{ChangesLemmas.{BeganAt, changes-stray}, LiveLifeLemmas.{Row, row_record}}
 use Rattle.mdns_cache.proofs.LiveWalkLemmas.{key_after}
 

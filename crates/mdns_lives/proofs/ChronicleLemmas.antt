@@ -1,22 +1,19 @@
 -- The hearings that the contents of a chronicle stand for.
 use Rattle.std.proofs.Common.{rules, arith, ◌≡◌, ◌↔◌, ◌⊎◌, ℕ, List, [], ◌++◌, Option, None, Some, refl, sym, ap, ◌∙◌}
 use Rattle.std.proofs.Common.{subst, inl, inr}
-use Rattle.std.specs.Prelude.{MatchOption}
-use Rattle.std.specs.Ordering.{nat_cmp}
 use Rattle.std.proofs.lemmas.List.Elements.{Contains-append_left, Contains-append_right, Contains-append_cases}
-use Rattle.mdns_message.specs.{declared.hearing.Hearing.{Hearing}, declared.key.Key.{Key}, RecordSet.{RecordSet}}
-use Rattle.mdns_message.specs.Resource.{key_cmp, set_key_cmp}
-use Rattle.mdns_message.specs.laws.Resource.{key_cmp-total, key_cmp-exact, set_key_cmp-total, set_key_cmp-exact}
+use Rattle.std.specs.{Prelude.{MatchOption}, Ordering.{nat_cmp}}
+use Rattle.mdns_message.specs.{declared.hearing.Hearing.{Hearing}, declared.key.Key.{Key}, RecordSet.{RecordSet}, Resource.{key_cmp}}
+use Rattle.mdns_message.specs.{Resource.{set_key_cmp}, laws.Resource.{key_cmp-total, key_cmp-exact, set_key_cmp-total, set_key_cmp-exact}}
 use Rattle.join_map.specs.Entries.{value_at, joined, joined_at, IsJoinMap}
 use Rattle.join_map.specs.laws.Entries.{joined_at-None, ValidAt, valid_at, value_at-join, IsJoinMap-none, IsJoinMap-join}
 use Rattle.mdns_join.specs.{declared.latest.Latest.{Latest}, Latest.{later}, Kept.{union}, laws.Kept.{union_parts, union_left, union_right}}
 use Rattle.mdns_cache.specs.Live.{IsUnheard, IsLast, IsFlushedAt}
 use Rattle.mdns_cache.proofs.{StandsPartLemmas.{Contains-nil, lasts-append}, StandsForLemmas.{newest-append}}
-use Rattle.mdns_lives.specs.declared.{account.Account.{Account}, life.RecordHearing.{RecordHearing}}
-use Rattle.mdns_lives.specs.{Account.{join_account, IsAccount}, History.{IsHeardAs}}
-use Rattle.mdns_lives.specs.{Seconds.{Ends, AreEndsIn, Seconds, join_ends, IsSeconds, join_seconds, ends_at}, laws.Account.{account-laws}}
-use Rattle.mdns_lives.specs.laws.Flushes.{union-laws}
-use Rattle.mdns_lives.specs.Chronicle.{Accounts, join_accounts, no_accounts, latest_in, history_in, ends_held, IsFlushIn, Chronicles}
+use Rattle.mdns_lives.specs.{declared.account.Account.{Account}, declared.life.RecordHearing.{RecordHearing}, Account.{join_account}}
+use Rattle.mdns_lives.specs.{Account.{IsAccount}, History.{IsHeardAs}, Seconds.{Ends, AreEndsIn, Seconds, join_ends, IsSeconds}}
+use Rattle.mdns_lives.specs.{Seconds.{join_seconds, ends_at}, laws.Account.{account-laws}, laws.Flushes.{union-laws}, Chronicle.{Accounts}}
+use Rattle.mdns_lives.specs.Chronicle.{join_accounts, no_accounts, latest_in, history_in, ends_held, IsFlushIn, Chronicles}
 use Rattle.mdns_lives.proofs.SecondsLemmas.{ends-joined, at-join}
 
 -- ---- hearings of lists

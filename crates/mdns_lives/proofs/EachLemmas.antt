@@ -1,9 +1,8 @@
 -- A hearing at each of some moments: what its contents stand for.
 use Rattle.std.proofs.Common.{inl, inr, rules, Contains, MatchOption, Result, OnOk, OnErr, refl, sym, ap, ◌∙◌, subst, arith}
-use Rattle.std.proofs.Common.{◌≡◌, ◌≢◌, ◌↔◌, ℕ, ◌≤◌, Bool, true, false, ◌&&◌, cond, List, [], ◌∷◌, ◌++◌, Option, None, Some}
-use Rattle.std.proofs.Common.{if◌then◌else◌, true≢false}
+use Rattle.std.proofs.Common.{◌≡◌, ◌≢◌, ◌↔◌, ℕ, ◌≤◌, Bool, true, false, ◌&&◌, cond, List, [], ◌∷◌}
+use Rattle.std.proofs.{Common.{◌++◌, Option, None, Some, if◌then◌else◌, true≢false}, lemmas.Result.{on_err_weaker}}
 use Rattle.std.specs.{declared.cmp.Ordering.TheVariants.{Greater}, Ordering.{nat_cmp, is_eq}, Cmp.{tied_itself}}
-use Rattle.std.proofs.lemmas.Result.{on_err_weaker}
 use Rattle.mdns_capture.specs.declared.moment.Moment.{Moment}
 use Rattle.mdns_message.specs.{declared.hearing.Hearing.{Hearing}, declared.key.Key.{Key}, RecordSet.{RecordSet}}
 use Rattle.mdns_message.specs.Resource.{key_of, key_cmp, set_key_of, set_key_cmp}

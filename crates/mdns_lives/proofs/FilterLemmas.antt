@@ -1,9 +1,8 @@
 -- Which elements a filter leaves.
-use Rattle.std.proofs.Common.{◌≡◌, ◌+◌, Bool, true, List, ◌∷◌, ◌++◌, Contains, take, drop, refl, sym, ap, ◌∙◌, subst}
+use Rattle.std.proofs.Common.{◌≡◌, ◌+◌, Bool, true, List, ◌∷◌, ◌++◌, Contains, take, drop, refl, sym, ap, ◌∙◌}
+use Rattle.std.proofs.{Common.{subst}, lemmas.List.{drop_more, take-append-drop}, lemmas.List.Elements.{All-contains, All-contains_itself}}
+use Rattle.std.proofs.lemmas.List.Elements.{All-filter, Contains-append_right, filter-append, filter_passes}
 use Rattle.std.specs.List.{filter}
-use Rattle.std.proofs.lemmas.List.{drop_more, take-append-drop}
-use Rattle.std.proofs.lemmas.List.Elements.{All-contains, All-contains_itself, All-filter, Contains-append_right, filter-append}
-use Rattle.std.proofs.lemmas.List.Elements.{filter_passes}
 use Rattle.mdns_cache.proofs.StandsPartLemmas.{Contains-head}
 
 -- an element that is left by a filter is in the list, and passes the test

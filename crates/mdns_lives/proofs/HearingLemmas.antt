@@ -6,8 +6,7 @@ use Rattle.mdns_message.specs.{declared.hearing.Hearing.{Hearing}, declared.key.
 use Rattle.mdns_message.specs.RecordAt.{HeardRecord}
 use Rattle.mdns_join.specs.declared.latest.Latest.{Latest}
 use Rattle.mdns_cache.specs.{Live.{IsUnheard, IsLast, IsNewest, SameHearings}, Repeats.{at_each, all_at_each}}
-use Rattle.mdns_cache.proofs.RepeatLemmas.{moment_in, nothing}
-use Rattle.mdns_cache.proofs.StandsPartLemmas.{Contains-nil, Contains-head, Contains-map}
+use Rattle.mdns_cache.proofs.{RepeatLemmas.{moment_in, nothing}, StandsPartLemmas.{Contains-nil, Contains-head, Contains-map}}
 use Rattle.mdns_cache.proofs.StandsPartLemmas.{Contains-flat_map, from_flat_map, from_map, IsLast-among}
 use Rattle.mdns_lives.specs.{History.{IsHeardAs}, Chronicle.{Accounts, Chronicles, ends_held, last_held}}
 use Rattle.mdns_lives.specs.MessageChronicle.{IsHearingAt, ChroniclesAt}

@@ -1,14 +1,13 @@
 -- The hearings that seconds hold, as a list in order, give the lives by all hearings.
 use Rattle.std.proofs.Common.{◌≡◌, ℕ, true, List, [], ◌∷◌, Option, None, Some, Contains, refl, subst, inl, inr, arith}
-use Rattle.std.specs.{declared.cmp.Ordering.TheVariants.{Less}, Ordering.{nat_cmp, eq_by_cmp}, Cmp.{nat_cmp_total}, List.{AllByRecursion}}
-use Rattle.std.specs.{List.Sorted.{IsStrictlySortedBy}, Map.{keys_of}}
 use Rattle.std.proofs.lemmas.{Cmp.{eq_by_cmp_equiv}, Map.Keys.{IsDistinct-from_sorted}, Map.Lookups.{exact_unsigned}}
 use Rattle.std.proofs.lemmas.Map.Views.{Contains-from_lookup, lookup-from_Contains}
+use Rattle.std.specs.{declared.cmp.Ordering.TheVariants.{Less}, Ordering.{nat_cmp, eq_by_cmp}, Cmp.{nat_cmp_total}, List.{AllByRecursion}}
+use Rattle.std.specs.{List.Sorted.{IsStrictlySortedBy}, Map.{keys_of}}
 use Rattle.join_map.specs.{Entries.{value_at}, laws.Entries.{is_Equal}}
 use Rattle.mdns_cache.proofs.StandsPartLemmas.{Contains-nil, Contains-head, Contains-later, Contains-cases}
-use Rattle.mdns_lives.specs.{declared.life.RecordHearing.{RecordHearing}, History.{IsUpTo, AreInOrder}}
-use Rattle.mdns_lives.specs.Seconds.{second_of, IsBetween, AreEndsOf, Ends, AreEnds, AreEndsIn, Seconds, IsSeconds, seconds_of, listed_ends}
-use Rattle.mdns_lives.specs.LifeWalk.{walked}
+use Rattle.mdns_lives.specs.{declared.life.RecordHearing.{RecordHearing}, History.{IsUpTo, AreInOrder}, Seconds.{second_of, IsBetween}}
+use Rattle.mdns_lives.specs.{Seconds.{AreEndsOf, Ends, AreEnds, AreEndsIn, Seconds, IsSeconds, seconds_of, listed_ends}, LifeWalk.{walked}}
 use Rattle.mdns_lives.proofs.{EndsLemmas.{AreLivesBy-from_ends}, OneListLemmas.{one_list}, SecondsLemmas.{IsSeconds-of, at-seconds_of}}
 use Rattle.mdns_lives.proofs.WalkLemmas.{AreLivesBy-walked}
 

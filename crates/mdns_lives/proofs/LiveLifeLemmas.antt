@@ -1,8 +1,8 @@
 -- As of a moment that no hearing is later than, the lives that go on after it are those of the records that are live then.
 use Rattle.std.proofs.Common.{◌≡◌, ◌⊎◌, ℕ, zero, suc, ◌<◌, ◌≤◌, Bool, nat_lt, List, [], ◌∷◌, ◌++◌, map}
 use Rattle.std.proofs.Common.{Contains, refl, sym, ap, ◌∙◌, subst, inl, inr, arith}
-use Rattle.std.specs.{List.{AllByRecursion, filter, flat_map}, List.Sorted.{IsStrictlySortedBy}, declared.cmp.Ordering.TheVariants.{Less}}
 use Rattle.std.proofs.lemmas.Bool.{cases_lt, ltb-true, lt-ltb, le-ltb}
+use Rattle.std.specs.{List.{AllByRecursion, filter, flat_map}, List.Sorted.{IsStrictlySortedBy}, declared.cmp.Ordering.TheVariants.{Less}}
 use Rattle.mdns_message.specs.{declared.hearing.Hearing.{Hearing}, declared.key.Key.{Key}, Resource.{key_cmp}}
 use Rattle.mdns_join.specs.declared.latest.Latest.{Latest}
 use Rattle.mdns_cache.specs.Live.{AreLiveRecords, IsEnd, IsLast, IsLive, SameHearings, key_of_last}
@@ -10,9 +10,8 @@ use Rattle.mdns_cache.proofs.StandsPartLemmas.{Contains-nil, Contains-head, Cont
 use Rattle.mdns_cache.proofs.StandsPartLemmas.{IsLast-same, same-itself, Contains-map, Contains-flat_map, from_map, from_flat_map}
 use Rattle.mdns_lives.specs.{declared.life.Life.{Life}, Lives.{AreApart, AreApartAfter, AreLives, IsDuring, IsInOne, heard_until}}
 use Rattle.mdns_lives.specs.Chronicle.{AreAllLives, live_rows}
-use Rattle.mdns_lives.proofs.FilterLemmas.{from-filter, to-filter}
-use Rattle.mdns_lives.proofs.LawLemmas.{NoneAfter, SomeEnd, UntilEnd, during, ends_as_reported, live-whole, none-after, until-all}
-use Rattle.mdns_lives.proofs.OneListLemmas.{after_low, apart-rest}
+use Rattle.mdns_lives.proofs.{FilterLemmas.{from-filter, to-filter}, LawLemmas.{NoneAfter, SomeEnd, UntilEnd, during, ends_as_reported}}
+use Rattle.mdns_lives.proofs.{LawLemmas.{live-whole, none-after, until-all}, OneListLemmas.{after_low, apart-rest}}
 
 -- ---- lives that are apart
 

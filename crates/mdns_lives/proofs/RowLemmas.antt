@@ -1,9 +1,8 @@
 -- The rows of a chronicle are the records that were heard, with their lives.
-use Rattle.std.proofs.Common.{arith, ◌≡◌, ◌↔◌, ℕ, true, List, [], ◌∷◌, map, Option, None, Some, Contains, MatchOption, refl, sym}
-use Rattle.std.proofs.Common.{ap, ◌∙◌, subst, unwrap_or, true≢false}
+use Rattle.std.proofs.Common.{arith, ◌≡◌, ◌↔◌, ℕ, true, List, [], ◌∷◌, map, Option, None, Some, Contains, MatchOption}
+use Rattle.std.proofs.{Common.{refl, sym, ap, ◌∙◌, subst, unwrap_or, true≢false}, lemmas.Cmp.{eq_by_cmp_equiv}}
+use Rattle.std.proofs.lemmas.Map.{Views.{Contains-from_lookup, lookup-from_Contains}, Keys.{IsDistinct-from_sorted}}
 use Rattle.std.specs.{List.{AllByRecursion}, List.Sorted.{IsStrictlySortedBy}, declared.cmp.Ordering.TheVariants.{Less}, Map.{keys_of}}
-use Rattle.std.proofs.lemmas.{Cmp.{eq_by_cmp_equiv}, Map.Views.{Contains-from_lookup, lookup-from_Contains}}
-use Rattle.std.proofs.lemmas.Map.Keys.{IsDistinct-from_sorted}
 use Rattle.mdns_message.specs.{declared.hearing.Hearing.{Hearing}, declared.key.Key.{Key}, RecordSet.{RecordSet}}
 use Rattle.mdns_message.specs.{Resource.{key_cmp, set_key_cmp}, laws.Resource.{key_cmp-total, key_cmp-exact}}
 use Rattle.mdns_join.specs.{declared.latest.Latest.{Latest}, Kept.{has}}

@@ -1,20 +1,18 @@
 -- Which hearings the seconds of a list hold, and those of a join.
 use Rattle.std.proofs.Common.{rules, arith, ◌+◌, ◌<◌, length, get_or, take, drop, sym, ap, ◌∙◌, subst, inl, inr}
 use Rattle.std.proofs.Common.{◌≡◌, ◌⊎◌, ℕ, Bool, true, false, cond, List, [], ◌∷◌, ◌++◌, Option, None, Some, Contains, refl}
-use Rattle.std.specs.declared.cmp.Ordering.TheVariants.{Less, Equal, Greater}
-use Rattle.std.specs.{Ordering.{nat_cmp, is_eq, is_lt, match_ordering, ordering_reverse, flip_args}, Cmp.{nat_cmp_total}}
-use Rattle.std.specs.List.Sorted.{IsPermutation}
 use Rattle.std.proofs.lemmas.List.{take_more, take-append-drop}
 use Rattle.std.proofs.lemmas.List.Elements.{Contains-append_left, Contains-append_right, Contains-append_cases}
 use Rattle.std.proofs.lemmas.{List.Sorted.{IsPermutation-sym, Contains-permutation}, Map.Lookups.{exact_unsigned}}
+use Rattle.std.specs.{declared.cmp.Ordering.TheVariants.{Less, Equal, Greater}, Ordering.{nat_cmp, is_eq, is_lt, match_ordering}}
+use Rattle.std.specs.{Ordering.{ordering_reverse, flip_args}, Cmp.{nat_cmp_total}, List.Sorted.{IsPermutation}}
 use Rattle.join_map.specs.{Entries.{value_at, joined_at}, Join.{IsPartOfJoin, greater_of}, laws.Join.{IsAtMost-left}}
 use Rattle.join_map.specs.laws.Entries.{is_Equal, same_entries, value_at-put, value_at-join, IsJoinMap-none, IsJoinMap-one, IsJoinMap-put}
 use Rattle.join_map.specs.laws.Entries.{IsJoinMap-join}
 use Rattle.mdns_cache.proofs.StandsPartLemmas.{Contains-nil, Contains-head, Contains-later, Contains-cases}
-use Rattle.mdns_lives.specs.{declared.life.RecordHearing.{RecordHearing}, History.{IsUpTo}}
-use Rattle.mdns_lives.specs.Seconds.{heard_cmp, second_of, IsBetween, AreEndsOf, Ends, ends, AreEnds, IsUnheardIn, AreEndsIn, Seconds}
-use Rattle.mdns_lives.specs.Seconds.{join_ends, IsSeconds, join_seconds, only, seconds_of, JoinsFirst}
-use Rattle.mdns_lives.specs.laws.Seconds.{heard_cmp-total, ends-laws, seconds-laws}
+use Rattle.mdns_lives.specs.{declared.life.RecordHearing.{RecordHearing}, History.{IsUpTo}, Seconds.{heard_cmp, second_of, IsBetween}}
+use Rattle.mdns_lives.specs.Seconds.{AreEndsOf, Ends, ends, AreEnds, IsUnheardIn, AreEndsIn, Seconds, join_ends, IsSeconds, join_seconds}
+use Rattle.mdns_lives.specs.{Seconds.{only, seconds_of, JoinsFirst}, laws.Seconds.{heard_cmp-total, ends-laws, seconds-laws}}
 use Rattle.mdns_lives.proofs.OrderLemmas.{IsUpTo-itself, IsUpTo-onward, IsUpTo-from_lt, same_heard}
 
 -- ---- the lesser and the greater of two hearings

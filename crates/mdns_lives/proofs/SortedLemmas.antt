@@ -1,11 +1,9 @@
 -- Sorted hearings are in order, and sorted moments without repeats are the same moments.
-use Rattle.std.proofs.Common.{◌≡◌, ◌↔◌, ℕ, suc, ◌+◌, get_or, Bool, true, false, List, [], ◌∷◌, Contains, sym}
-use Rattle.std.proofs.Common.{subst, arith, true≢false, eqb-true, eq-eqb}
+use Rattle.std.proofs.Common.{◌≡◌, ◌↔◌, ℕ, suc, ◌+◌, get_or, Bool, true, false, List, [], ◌∷◌, Contains, sym, subst}
+use Rattle.std.proofs.{Common.{arith, true≢false, eqb-true, eq-eqb}, lemmas.List.Kept.{Contains-dedup, Contains-from_dedup}}
+use Rattle.std.proofs.lemmas.{List.Sorted.{IsPermutation-sym, Contains-permutation}, Bool.{or_cases, or_left, or_right}}
 use Rattle.std.specs.{Ordering.{on, is_lt}, Cmp.{IsEquivalence, on_equiv, nat_eq_equiv}, List.{dedup}}
-use Rattle.std.specs.List.Sorted.{IsPermutation, IsSorted}
-use Rattle.std.specs.Prelude.{nat_eq}
-use Rattle.std.proofs.lemmas.List.{Kept.{Contains-dedup, Contains-from_dedup}, Sorted.{IsPermutation-sym, Contains-permutation}}
-use Rattle.std.proofs.lemmas.Bool.{or_cases, or_left, or_right}
+use Rattle.std.specs.{List.Sorted.{IsPermutation, IsSorted}, Prelude.{nat_eq}}
 use Rattle.mdns_join.specs.{laws.Latest.{moment-same}, Nanos.{nanos_of}, Kept.{has}}
 use Rattle.mdns_capture.specs.declared.moment.Moment.{Moment}
 use Rattle.mdns_lives.specs.{declared.life.RecordHearing.{RecordHearing}, History.{AreInOrder}, Seconds.{heard_cmp}}

@@ -1,12 +1,11 @@
 -- The walk over a record's hearings in order gives its lives.
 use Rattle.std.proofs.Common.{◌≡◌, ℕ, zero, suc, ◌+◌, ◌<◌, ◌≤◌, true, false, nat_lt, List, [], ◌∷◌, Contains, refl, sym, ap}
 use Rattle.std.proofs.Common.{◌∙◌, subst, inl, inr, ◌⊎◌, arith, if◌then◌else◌, leb-true, leb-false}
-use Rattle.std.specs.Prelude.{nat_le}
 use Rattle.std.proofs.lemmas.{Bool.{ltb-true, ltb-false, eqb-true, cases_lt}, Bool.Decides.{nat_tests}}
-use Rattle.mdns_lives.specs.declared.life.{RecordHearing.{RecordHearing}, Life.{Life}}
-use Rattle.mdns_lives.specs.History.{IsUpTo, AreInOrder, IsLastAt, IsLiveAt, IsEndBy, EndsBy, AreLivesBy}
-use Rattle.mdns_lives.specs.Lives.{IsInOne, AreApartAfter, AreApart}
-use Rattle.mdns_lives.specs.LifeWalk.{out_of, end_after, reason_after, life_after, carried_on, lives_from, walked}
+use Rattle.std.specs.Prelude.{nat_le}
+use Rattle.mdns_lives.specs.{declared.life.RecordHearing.{RecordHearing}, declared.life.Life.{Life}, History.{IsUpTo, AreInOrder, IsLastAt}}
+use Rattle.mdns_lives.specs.{History.{IsLiveAt, IsEndBy, EndsBy, AreLivesBy}, Lives.{IsInOne, AreApartAfter, AreApart}, LifeWalk.{out_of}}
+use Rattle.mdns_lives.specs.LifeWalk.{end_after, reason_after, life_after, carried_on, lives_from, walked}
 use Rattle.mdns_cache.specs.{Live.{life_of}, LentRecords.{end_of}}
 use Rattle.mdns_lives.proofs.OrderLemmas.{IsUpTo-itself, IsUpTo-onward, no_later, same_moment, same_ttl, first_least}
 use Rattle.mdns_cache.proofs.StandsPartLemmas.{Contains-nil, Contains-head, Contains-later, Contains-cases}

@@ -1,6 +1,5 @@
 -- Live records, and since when each has been live.
-use Rattle.std.specs.Prelude.{◌≡◌, ℕ, nat_lt, List, map, Contains}
-use Rattle.std.specs.List.{filter, flat_map}
+use Rattle.std.specs.{Prelude.{◌≡◌, ℕ, nat_lt, List, map, Contains}, List.{filter, flat_map}}
 use Rattle.mdns_message.specs.declared.{hearing.Hearing.{Hearing}, key.Key.{Key}}
 use Rattle.mdns_join.specs.declared.latest.Latest.{Latest}
 use Rattle.mdns_cache.specs.{Live.{AreLiveRecords, key_of_last}, LentRecords.{last_lent}}

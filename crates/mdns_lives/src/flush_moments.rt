@@ -1,7 +1,6 @@
 //! All flush moments of a record set, sorted.
 
-ghost use Rattle.std.specs.Prelude.{◌≡◌, [], option_copied, unwrap_or, vec_capacity};
-ghost use Rattle.std.specs.List.Sorted.{IsPermutation, IsSorted};
+ghost use Rattle.std.specs.{Prelude.{◌≡◌, [], option_copied, unwrap_or, vec_capacity}, List.Sorted.{IsPermutation, IsSorted}};
 ghost use Rattle.mdns_join.specs.{Kept.{ascending, union, IsAscending}, Nanos.{nanos_of}};
 ghost use Rattle.mdns_lives.specs.laws.Flushes.{union-laws};
 

@@ -1,8 +1,7 @@
 //! The lives of all records, in key order, and those of several chronicles together.
 
-ghost use Rattle.std.specs.Prelude.{◌≡◌, ◌++◌, [], false, List, IfOk, IfSome, MatchOption, OnErr, OnOk};
+ghost use Rattle.std.specs.{Prelude.{◌≡◌, ◌++◌, [], false, List, IfOk, IfSome, MatchOption, OnErr, OnOk}, Map.Iter.{TakesFirst}};
 ghost use Rattle.join_map.specs.{Entries.{joined, joined_at}, Join.{IsPartOfJoin}};
-ghost use Rattle.std.specs.Map.Iter.{TakesFirst};
 ghost use Rattle.mdns_message.specs.{Resource.{key_cmp, set_key_cmp}, declared.hearing.Hearing.{Hearing}};
 ghost use Rattle.mdns_cache.specs.{Contents.{later_moment}, Live.{IsNewest}, LentRecords.{last_lent}};
 ghost use Rattle.mdns_lives.specs.{Account.{join_account}, Changes.{kept_if}};

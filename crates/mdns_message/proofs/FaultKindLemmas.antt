@@ -1,8 +1,7 @@
 -- Faults after a header have an offset, so none of them is one of the header's; and how many hearings a
 -- message can have.
 use Rattle.std.proofs.Common.{◌≡◌, ℕ, zero, suc, ◌+◌, ◌*◌, ◌<◌, ◌≤◌, List, Option, None, Some, length, get_or}
-use Rattle.std.proofs.Common.{sym, ap, subst, inl, inr, arith, length-append, get_or-drop}
-use Rattle.std.proofs.lemmas.List.{length-map}
+use Rattle.std.proofs.{Common.{sym, ap, subst, inl, inr, arith, length-append, get_or-drop}, lemmas.List.{length-map}}
 use Rattle.mdns_capture.specs.{declared.moment.Moment.{Moment}, Frame.{word_at}, Savefile.{number_at}}
 use Rattle.mdns_message.specs.declared.{hearing.Hearing.{Hearing}, fault.MessageFault.{MessageFault}}
 use Rattle.mdns_message.specs.declared.fault.MessageFault.TheVariants.{Header, Query, Ignored, Cut, Label, Pointer, LongName, Memory}

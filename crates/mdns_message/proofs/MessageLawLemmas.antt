@@ -1,14 +1,12 @@
 -- Questions, records and whole messages read or fail, never both, each with one outcome.
-use Rattle.std.proofs.Common.{◌≡◌, ◌≢◌, ◌⊎◌, ◌∙◌, ℕ, ◌+◌, List, [], ◌∷◌, Option, None, Some, length, map, refl, sym}
-use Rattle.std.proofs.Common.{ap, subst, inl, inr, arith}
-use Rattle.std.proofs.lemmas.Bool.{cases_lt}
+use Rattle.std.proofs.Common.{◌≡◌, ◌≢◌, ◌⊎◌, ◌∙◌, ℕ, ◌+◌, List, [], ◌∷◌, Option, None, Some, length}
+use Rattle.std.proofs.{Common.{map, refl, sym, ap, subst, inl, inr, arith}, lemmas.Bool.{cases_lt}}
 use Rattle.mdns_message.specs.{Resource.{Body}, declared.fault.MessageFault.{MessageFault}, declared.record_at.Section.{Section}}
 use Rattle.mdns_message.specs.declared.{record_at.Section.TheVariants.{Answer, Authority, Additional}, record_type.RecordType.{RecordType}}
-use Rattle.mdns_message.specs.declared.record_at.RecordHeader.{RecordHeader}
-use Rattle.mdns_message.specs.RecordAt.{DataFails, DataNameFails, DataNameReads, DataReads, HeaderFails, HeaderStands, HeardRecord, IsCut}
-use Rattle.mdns_message.specs.RecordAt.{LastNameFails, Named, NamedFails, QuestionFails, QuestionRest, QuestionStands, RecordFails}
-use Rattle.mdns_message.specs.RecordAt.{RecordRest, RecordRestFails, RecordStands, RecordTells, RecordTellingFails, data_in, header_of}
-use Rattle.mdns_message.specs.RecordAt.{heard_record, wanted}
+use Rattle.mdns_message.specs.{declared.record_at.RecordHeader.{RecordHeader}, RecordAt.{DataFails, DataNameFails, DataNameReads}}
+use Rattle.mdns_message.specs.RecordAt.{DataReads, HeaderFails, HeaderStands, HeardRecord, IsCut, LastNameFails, Named, NamedFails}
+use Rattle.mdns_message.specs.RecordAt.{QuestionFails, QuestionRest, QuestionStands, RecordFails, RecordRest, RecordRestFails, RecordStands}
+use Rattle.mdns_message.specs.RecordAt.{RecordTells, RecordTellingFails, data_in, header_of, heard_record, wanted}
 use Rattle.mdns_message.specs.Message.{HasHeader, MessageReads, RecordSection, Sections, count_offset, hearing_of}
 use Rattle.mdns_message.specs.{FirstMessageFault.{MessageFails, RecordSectionFails, SectionsFail}, declared.hearing.Hearing.{Hearing}}
 use Rattle.mdns_message.specs.declared.body.RecordData.TheVariants as body

@@ -1,7 +1,7 @@
 -- What a record adds to the hearings.
 use Rattle.std.proofs.lemmas.{Grind.{common_steps}, List.{append-nil}}
 use Rattle.std.proofs.Common.{◌≡◌, ℕ, ◌+◌, List, [], ◌∷◌, length, map, length-append, Some, inl, inr, sym, ap, subst, arith}
-use Rattle.std.specs.Prelude.{Result, Ok, Err, IfOk, OnErr}
+use Rattle.std.specs.{Prelude.{Result, Ok, Err, IfOk, OnErr}, List.{All}}
 use Rattle.mdns_capture.specs.declared.moment.Moment.{Moment}
 use Rattle.dns_name.specs.{Name.{Extends}, NameAt.{NameReads}}
 use Rattle.mdns_message.specs.{declared.fault.MessageFault.{MessageFault}, Resource.{Body}, declared.flat.FlatHearing.{FlatHearing}}
@@ -9,7 +9,6 @@ use Rattle.mdns_message.specs.declared.{record_at.Section.{Section}, record_type
 use Rattle.mdns_message.specs.declared.{record_at.RecordHeader.{RecordHeader}, flat.KnownName.{KnownName}}
 use Rattle.mdns_message.specs.{Flat.{AreFlat, Fits, hearing_in}, Known.{AddsKnown}, FlatRecord.{AddsRecord}}
 use Rattle.mdns_message.specs.{RecordAt.{DataReads, HeaderStands, RecordStands, header_of, heard_record, wanted}, Message.{Adds}}
-use Rattle.std.specs.List.{All}
 use Rattle.mdns_message.proofs.FlatLemmas.{all_fit, all_kept, one_longer, one_more_fits, one_more_heard}
 
 -- a wanted record's hearing has its data

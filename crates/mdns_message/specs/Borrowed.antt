@@ -1,6 +1,5 @@
 -- The values of borrowed records and hearings.
-use Rattle.std.specs.Prelude.{ℕ, List}
-use Rattle.std.specs.Borrow.{Bor}
+use Rattle.std.specs.{Prelude.{ℕ, List}, Borrow.{Bor}}
 use Rattle.mdns_message.specs.{Resource.{Body, data_by, data_of}, declared.body.RecordData.{RecordData}}
 use Rattle.mdns_message.specs.declared.{body.RecordData.TheVariants.{Srv}, resource.Resource.{Resource}, hearing.Hearing.{Hearing}}
 use Rattle.mdns_message.specs.declared.borrowed.{BorrowedResource.{BorrowedResource}, BorrowedHearing.{BorrowedHearing}}

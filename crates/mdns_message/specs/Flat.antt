@@ -1,6 +1,5 @@
 -- Hearings in flat buffers: their values, given the bytes that hold their names and texts.
-use Rattle.std.specs.Prelude.{◌≡◌, ℕ, ◌≤◌, List, [], ◌∷◌, ◌++◌, length, slice_range}
-use Rattle.std.specs.List.{All}
+use Rattle.std.specs.{Prelude.{◌≡◌, ℕ, ◌≤◌, List, [], ◌∷◌, ◌++◌, length, slice_range}, List.{All}}
 use Rattle.dns_name.specs.Name.{IsWire}
 use Rattle.mdns_message.specs.{Resource.{Body, data_by}, declared.hearing.Hearing.{Hearing}, declared.flat.ByteRange.{ByteRange}}
 use Rattle.mdns_message.specs.declared.{body.RecordData.{RecordData}, flat.FlatHearing.{FlatHearing}, flat.KnownName.{KnownName}}

@@ -1,6 +1,5 @@
 -- The names of a message that are known, and hearings with the buffer that holds their names and texts.
-use Rattle.std.specs.Prelude.{◌≡◌, ◌⊎◌, ℕ, List, ◌++◌}
-use Rattle.std.specs.List.{All}
+use Rattle.std.specs.{Prelude.{◌≡◌, ◌⊎◌, ℕ, List, ◌++◌}, List.{All}}
 use Rattle.dns_name.specs.NameAt.{PointerLeads}
 use Rattle.mdns_message.specs.declared.{flat.Buffer.{Buffer}, flat.KnownName.{KnownName}, hearing.Hearing.{Hearing}}
 use Rattle.mdns_message.specs.FlatRecord.{HoldsName}

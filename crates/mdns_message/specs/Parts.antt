@@ -1,6 +1,5 @@
 -- What data has, by its type; none where data of another type doesn't have it.
-use Rattle.std.specs.Prelude.{ℕ, List, Option, None, Some}
-use Rattle.std.specs.Borrow.{Bor}
+use Rattle.std.specs.{Prelude.{ℕ, List, Option, None, Some}, Borrow.{Bor}}
 use Rattle.mdns_message.specs.{declared.body.RecordData.{RecordData}, Resource.{Body}, declared.parts.Address.{Address}}
 use Rattle.mdns_message.specs.declared.parts.{Address.TheVariants.{V4, V6}, Content.{Content}, Service.{Service}}
 use Rattle.mdns_message.specs.declared.body.RecordData.TheVariants as body

@@ -1,7 +1,6 @@
 //! The hearings of a message, one after another.
 
-ghost use Rattle.std.specs.Prelude.{◌≡◌, length};
-ghost use Rattle.std.specs.{Iterator.{at_most}, Map.Iter.{TakesFirst}};
+ghost use Rattle.std.specs.{Prelude.{◌≡◌, length}, Iterator.{at_most}, Map.Iter.{TakesFirst}};
 ghost use Rattle.mdns_message.specs.Borrowed.{hearing_lent};
 
 use crate::borrowed::BorrowedHearing;

@@ -1,7 +1,6 @@
 //! The names of a message that were read: a pointer to one of them needs no second reading (RFC 1035, section 4.1.4).
 
-ghost use Rattle.std.specs.Prelude.{◌≡◌, ◌+◌, ◌<◌, ◌≤◌, length, IfOk, IfErr, IfSome};
-ghost use Rattle.std.specs.List.{Contains};
+ghost use Rattle.std.specs.{Prelude.{◌≡◌, ◌+◌, ◌<◌, ◌≤◌, length, IfOk, IfErr, IfSome}, List.{Contains}};
 ghost use Rattle.dns_name.specs.{Name.{Extends}, NameAt.{PointerLeads}, Pointer.{IsReaderOf}};
 ghost use Rattle.mdns_message.specs.{Fault.{HasNameFault}, FlatRecord.{HoldsName}, Known.{AddsKnown, BeginsAt, IsBufferOf}};
 ghost use Rattle.mdns_message.specs.RecordAt.{MemoryOr};

@@ -13,12 +13,11 @@ use Rattle.mdns_browse.specs.{Services.{GivenRow, InstanceRow, instance_row_in},
 use Rattle.mdns_listeners.specs.declared.pairs.PairRow.{PairRow}
 use Rattle.mdns_join.specs.declared.latest.Latest.{Latest}
 use Rattle.people_text.specs.{MomentText.{duration_text}, Shown.{shown}}
-use Rattle.mdns_page.specs.declared.{axis.Axis.{Axis}, captures.CaptureCounts.{CaptureCounts}}
-use Rattle.mdns_page.specs.Bare.{BareLive, BareRow, bare_capture, bare_end, bare_file, bare_group, bare_groups, bare_instances, bare_live}
-use Rattle.mdns_page.specs.Bare.{bare_row, bare_server, bare_text, is_some_filled, unsaid}
-use Rattle.mdns_page.specs.Captures.{Comparison, Facts, alone_text, capture_text, captures_text, clock_text, compared_text, each_from}
-use Rattle.mdns_page.specs.{Captures.{is_shared_by}, Axis.{drawn_if, short_text}, Group.{grouped, item}, OtherRows.{is_large}}
-use Rattle.mdns_page.specs.Lanes.{base_line, base_text, bases_text, lane_top}
+use Rattle.mdns_page.specs.{declared.axis.Axis.{Axis}, declared.captures.CaptureCounts.{CaptureCounts}, Bare.{BareLive, BareRow}}
+use Rattle.mdns_page.specs.Bare.{bare_capture, bare_end, bare_file, bare_group, bare_groups, bare_instances, bare_live, bare_row}
+use Rattle.mdns_page.specs.{Bare.{bare_server, bare_text, is_some_filled, unsaid}, Captures.{Comparison, Facts, alone_text, capture_text}}
+use Rattle.mdns_page.specs.{Captures.{captures_text, clock_text, compared_text, each_from, is_shared_by}, Axis.{drawn_if, short_text}}
+use Rattle.mdns_page.specs.{Group.{grouped, item}, OtherRows.{is_large}, Lanes.{base_line, base_text, bases_text, lane_top}}
 use Rattle.mdns_page.specs.{Lead.{Ended, about_line, ending_warning, is_ended, live_line, pair_warning}, Picture.{goes_on, is_for}}
 use Rattle.mdns_page.specs.LiveSection.{address_html, live_group, live_row, live_text, server_html, text_html, type_of}
 use Rattle.mdns_page.specs.Document.{Shown, head, page}

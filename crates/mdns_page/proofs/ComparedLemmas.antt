@@ -4,10 +4,9 @@ use Rattle.mdns_capture.specs.Savefile.{PacketAt}
 use Rattle.mdns_capture.proofs.SourceLemmas.{source_is_there}
 use Rattle.mdns_survey.proofs.OutcomeLemmas.{OnePayload}
 use Rattle.mdns_survey.specs.Outcomes.{Outcome, heard, refused, skipped}
-use Rattle.mdns_listeners.specs.Heard.{AreHeardIn, HeardRow, Told, message_bytes}
-use Rattle.mdns_listeners.specs.Listeners.{CapturesTell, Gathered, Gathers, IsHeardBy, TellAll, Tells, listener_at, spans_by}
-use Rattle.mdns_listeners.specs.{Numbers.{listener_rows, FileSpans}, Together.{pairs_together}}
-use Rattle.mdns_listeners.specs.{declared.listeners.MessageCollector.{MessageCollector}, Groups.{Grouped}}
+use Rattle.mdns_listeners.specs.{Heard.{AreHeardIn, HeardRow, Told, message_bytes}, Listeners.{CapturesTell, Gathered, Gathers, IsHeardBy}}
+use Rattle.mdns_listeners.specs.{Listeners.{TellAll, Tells, listener_at, spans_by}, Numbers.{listener_rows, FileSpans}}
+use Rattle.mdns_listeners.specs.{Together.{pairs_together}, declared.listeners.MessageCollector.{MessageCollector}, Groups.{Grouped}}
 use Rattle.mdns_listeners.specs.declared.{listeners.HeardByListeners.{HeardByListeners}, numbers.ListenerRow.{ListenerRow}}
 use Rattle.mdns_listeners.specs.declared.pairs.PairRow.{PairRow}
 use Rattle.mdns_page.specs.{Captures.{Comparison}, Collected.{AreCompared, AreGathered, Compares, GathersIf, GoesOn}}

@@ -1,10 +1,9 @@
 -- The ticks of an axis.
-use Rattle.std.proofs.Common.{◌≡◌, refl, sym, ◌∙◌, ap, ℕ, ◌+◌, ◌-◌, ◌*◌, ◌/◌, ◌<◌, ◌≤◌, Bool, true, false, cond}
-use Rattle.std.proofs.Common.{List, [], ◌∷◌, ◌++◌, length, map, nat_lt, ◌↔◌, arith, add-mul, lt_of_mul-lt-mul_right, mul-le-mul_right, div-mul-le_self}
-use Rattle.std.proofs.lemmas.Bool.Decides.{nat_tests}
-use Rattle.std.proofs.lemmas.Grind.{div_ceil_times}
-use Rattle.std.proofs.lemmas.List.FromFn.{get_or-map-range_with_len, length-map-range_with_len, map-range_with_len_more}
-use Rattle.std.proofs.lemmas.Nat.{div_below, le-div}
+use Rattle.std.proofs.Common.{◌≡◌, refl, sym, ◌∙◌, ap, ℕ, ◌+◌, ◌-◌, ◌*◌, ◌/◌, ◌<◌, ◌≤◌, Bool, true}
+use Rattle.std.proofs.Common.{false, cond, List, [], ◌∷◌, ◌++◌, length, map, nat_lt, ◌↔◌, arith, add-mul}
+use Rattle.std.proofs.{Common.{lt_of_mul-lt-mul_right, mul-le-mul_right, div-mul-le_self}, lemmas.Bool.Decides.{nat_tests}}
+use Rattle.std.proofs.lemmas.{Grind.{div_ceil_times}, List.FromFn.{get_or-map-range_with_len, length-map-range_with_len}}
+use Rattle.std.proofs.lemmas.{List.FromFn.{map-range_with_len_more}, Nat.{div_below, le-div}}
 use Rattle.std.specs.{Int.{div_ceil}, List.{range_with_len, Contains}}
 use Rattle.mdns_capture.specs.Limits.{second}
 use Rattle.mdns_page.specs.{declared.axis.Axis.{Axis}, Ticks.{first_step, multiples, step_of, steps, ticks}}

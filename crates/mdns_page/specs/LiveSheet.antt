@@ -2,9 +2,8 @@
 use Rattle.std.specs.Prelude.{◌≡◌, ℕ, if◌then◌else◌, Bool, true, false, List, [], ◌∷◌, ◌++◌, codes, string_bytes}
 use Rattle.mdns_message.specs.Resource.{Body}
 use Rattle.people_text.specs.Shown.{name_shown}
-use Rattle.mdns_browse.specs.RecordShown.{shown_instance}
-use Rattle.mdns_browse.specs.Sheet.{Piece, live_record, service_type, instance_begin, server_begin, server_address}
-use Rattle.mdns_browse.specs.Sheet.{server_end, servers_end, instance_text, instance_end}
+use Rattle.mdns_browse.specs.{RecordShown.{shown_instance}, Sheet.{Piece, live_record, service_type, instance_begin, server_begin}}
+use Rattle.mdns_browse.specs.Sheet.{server_address, server_end, servers_end, instance_text, instance_end}
 use Rattle.mdns_page.specs.{declared.axis.Axis.{Axis}, declared.live_sheet.LiveSheet.{LiveSheet}, Html.{isolated}}
 use Rattle.mdns_page.specs.LiveSection.{address_html, given_words, server_line, text_html}
 

@@ -2,9 +2,8 @@
 use Rattle.std.proofs.lemmas.{Grind.{common_steps}, List.Sums.{sum_by-append, sum_by-cons}, List.Concat.{flat_map-append, flat_map-cons}}
 use Rattle.std.proofs.Common.{◌≡◌, ℕ, ◌+◌, ◌*◌, ◌≤◌, Bool, List, [], ◌∷◌, ◌++◌, length, refl, arith, length-append}
 use Rattle.std.specs.Prelude.{count_by, if◌then◌else◌}
-use Rattle.mdns_survey.specs.declared.summary.Tally.{Tally}
-use Rattle.mdns_survey.specs.Outcomes.{Counts, Outcome, heard, hearings_in, hearings_of_outcome, is_heard, is_refused}
-use Rattle.mdns_survey.specs.Outcomes.{is_skipped, refused, skipped}
+use Rattle.mdns_survey.specs.{declared.summary.Tally.{Tally}, Outcomes.{Counts, Outcome, heard, hearings_in, hearings_of_outcome, is_heard}}
+use Rattle.mdns_survey.specs.Outcomes.{is_refused, is_skipped, refused, skipped}
 
 -- 1 for an outcome of the kind
 abbrev pub one_if : (Outcome → Bool) → Outcome → ℕ

@@ -1,8 +1,7 @@
 -- The rows of the records that are about the subjects.
-use Rattle.std.proofs.Common.{◌≡◌, ◌∙◌, ℕ, true, false, List, [], ◌∷◌, ◌++◌, ◌⊎◌, Option, refl, sym, ap, subst, inl, inr}
-use Rattle.std.proofs.Common.{append_assoc}
+use Rattle.std.proofs.Common.{◌≡◌, ◌∙◌, ℕ, true, false, List, [], ◌∷◌, ◌++◌, ◌⊎◌, Option, refl, sym, ap}
+use Rattle.std.proofs.{Common.{subst, inl, inr, append_assoc}, lemmas.List.Concat.{flat_map-append}, lemmas.List.Elements.{filter-append}}
 use Rattle.std.specs.{List.{flat_map}, Io.KnownBytes.{Appends}}
-use Rattle.std.proofs.lemmas.List.{Concat.{flat_map-append}, Elements.{filter-append}}
 use Rattle.mdns_join.specs.declared.latest.Latest.{Latest}
 use Rattle.mdns_lives.specs.declared.life.Life.{Life}
 use Rattle.mdns_browse.specs.{declared.about.Subject.{Subject}, declared.life_text.Layout.{Layout}, About.{keeps_record}}

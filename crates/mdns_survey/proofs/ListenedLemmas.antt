@@ -1,8 +1,7 @@
 -- The readers listened to, one more at a time, and what is known of them where their bytes are.
-use Rattle.std.proofs.Common.{◌≡◌, ◌∙◌, ℕ, ◌+◌, List, [], ◌∷◌, ◌++◌, map, Option, Some, append_assoc, append-nil, ap, arith, refl}
-use Rattle.std.proofs.Common.{subst, sym}
+use Rattle.std.proofs.Common.{◌≡◌, ◌∙◌, ℕ, ◌+◌, List, [], ◌∷◌, ◌++◌, map, Option, Some, append_assoc}
+use Rattle.std.proofs.{Common.{append-nil, ap, arith, refl, subst, sym}, lemmas.List.{map-append}, lemmas.List.Sums.{sum_by-cons}}
 use Rattle.std.specs.Prelude.{sum_by}
-use Rattle.std.proofs.lemmas.{List.{map-append}, List.Sums.{sum_by-cons}}
 use Rattle.mdns_capture.specs.Savefile.{PacketAt}
 use Rattle.mdns_message.specs.declared.hearing.Hearing.{Hearing}
 use Rattle.mdns_browse.specs.declared.report.{Form.{Form}, Form.TheVariants.{Pretty}}

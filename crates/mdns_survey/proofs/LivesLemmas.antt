@@ -1,9 +1,8 @@
 -- The chronicle of the readers listened to, and the end of their captures.
 use Rattle.std.proofs.Common.{◌≡◌, ◌∙◌, ℕ, ◌<◌, ◌≤◌, List, [], ◌∷◌, ◌++◌, Option, None, Some, length, map}
 use Rattle.std.proofs.Common.{refl, ap, subst, sym, inl, inr, append_assoc, append-nil, arith, IsSomeAnd}
-use Rattle.std.specs.Prelude.{Contains, option_map}
-use Rattle.std.specs.{List.{flat_map}, Io.KnownBytes.{Appends}}
 use Rattle.std.proofs.{Math.Nat.{le-max_left, le-max_right}, lemmas.List.Elements.{Contains-append_cases}}
+use Rattle.std.specs.{Prelude.{Contains, option_map}, List.{flat_map}, Io.KnownBytes.{Appends}}
 use Rattle.mdns_capture.specs.{declared.moment.Moment.{Moment}, Output.{AppendsPrefix, Writing}, Savefile.{PacketAt}}
 use Rattle.mdns_message.specs.declared.hearing.Hearing.{Hearing}
 use Rattle.mdns_cache.specs.Live.{IsNewest}
@@ -14,13 +13,12 @@ use Rattle.mdns_browse.specs.declared.{life_text.Layout.{Layout}, report.Form.{F
 use Rattle.mdns_browse.specs.LifeText.{end_width, lives_head, lives_in, lives_report, lives_text}
 use Rattle.mdns_survey.specs.declared.{request.LivesRequest.{LivesRequest}, reading.Reading.{Reading}, summary.Summary.{Summary}}
 use Rattle.mdns_survey.specs.declared.{request.AsOf.{AsOf}, request.AsOf.TheVariants.{Newest, At, Before}, survey.SurveyFault.{SurveyFault}}
-use Rattle.mdns_survey.specs.declared.survey.SurveyFault.TheVariants.{File, Early, Memory, Write}
-use Rattle.mdns_survey.specs.Outcomes.{AllCome, ComesTo, Outcome, heard, hearings_in, hearings_of_outcome, refused, skipped}
-use Rattle.mdns_survey.specs.{Chronicling.{FitsForm, StopsRows}, Head.{Heads, IsHead}, Listen.{packet_moments}}
-use Rattle.mdns_survey.specs.LivesAnswer.{SurveysLives, WritesFirstRows, captures_begin, captures_end, kept_rows, latest_nanos}
-use Rattle.mdns_survey.specs.Question.{Asked, HearsReaders, IsAnswer, IsTooEarly, Refuses, WritesAnswer, asked_after, asked_lives, past}
-use Rattle.mdns_survey.specs.{Readings.{all_moments, summaries_of}, Filter.{counted, filter_of}, Request.{moment_of}}
-use Rattle.mdns_survey.specs.Surveys.{AllLeft, all_hearings}
+use Rattle.mdns_survey.specs.{declared.survey.SurveyFault.TheVariants.{File, Early, Memory, Write}, Outcomes.{AllCome, ComesTo, Outcome}}
+use Rattle.mdns_survey.specs.{Outcomes.{heard, hearings_in, hearings_of_outcome, refused, skipped}, Chronicling.{FitsForm, StopsRows}}
+use Rattle.mdns_survey.specs.{Head.{Heads, IsHead}, Listen.{packet_moments}, LivesAnswer.{SurveysLives, WritesFirstRows, captures_begin}}
+use Rattle.mdns_survey.specs.{LivesAnswer.{captures_end, kept_rows, latest_nanos}, Question.{Asked, HearsReaders, IsAnswer, IsTooEarly}}
+use Rattle.mdns_survey.specs.{Question.{Refuses, WritesAnswer, asked_after, asked_lives, past}, Readings.{all_moments, summaries_of}}
+use Rattle.mdns_survey.specs.{Filter.{counted, filter_of}, Request.{moment_of}, Surveys.{AllLeft, all_hearings}}
 use Rattle.mdns_survey.proofs.{KeptLemmas.{Row}, SelectedLemmas.{counted-among}, SurveyLemmas.{too-early}}
 use Rattle.mdns_survey.proofs.ListenedLemmas.{known-head, known-read}
 

@@ -3,9 +3,8 @@ use Rattle.std.proofs.Common.{◌≡◌, ℕ, ◌+◌, Bool, List, [], ◌∷◌
 use Rattle.std.proofs.Common.{sym, ap, ◌∙◌, ◌≤◌, subst, length-append, append_assoc}
 use Rattle.std.proofs.lemmas.{List.{map-append}, List.Sums.{count_by-le-length}}
 use Rattle.std.specs.Io.KnownBytes.{Consumes}
-use Rattle.mdns_capture.specs.{Limits.{file_header_size, packet_header_size}, declared.savefile.Format.{Format}}
-use Rattle.mdns_capture.specs.{Savefile.{PacketAt, BeginsWith, CaptureReads, IsPacketHeader}, Capture.{Standing, Begins, Gives}}
-use Rattle.mdns_capture.specs.Cut.{offset_after}
+use Rattle.mdns_capture.specs.{Limits.{file_header_size, packet_header_size}, declared.savefile.Format.{Format}, Savefile.{PacketAt}}
+use Rattle.mdns_capture.specs.{Savefile.{BeginsWith, CaptureReads, IsPacketHeader}, Capture.{Standing, Begins, Gives}, Cut.{offset_after}}
 use Rattle.mdns_survey.specs.declared.{reading.Span.{Span}, skips.Skips.{Skips}, summary.Tally.{Tally}}
 use Rattle.mdns_survey.specs.{Outcomes.{Outcome, ComesTo, Counts, AllCome}, Listen.{packet_moments}}
 use Rattle.mdns_survey.specs.{Reading.{CountsLoss, GoesOn, PacketsStand, ReadSoFar, TakesPacket}, Skips.{CountsSkip, CountsSkips}}

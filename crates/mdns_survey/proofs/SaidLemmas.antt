@@ -1,10 +1,8 @@
 -- Lines that are written to the error writer one after another.
-use Rattle.std.proofs.Common.{map, length, arith, Bool, true, false, cond, IsTrue, ◌≡◌, refl, sym, ap, subst, ◌∙◌}
-use Rattle.std.proofs.Common.{◌⊎◌, inl, inr, ℕ, ◌<◌, List, [], ◌∷◌, ◌++◌, append_assoc, append-nil, Option, Result, Ok}
-use Rattle.std.proofs.Common.{Err, IfOk, String, string_bytes}
-use Rattle.std.specs.Prelude.{codes}
-use Rattle.std.proofs.{lemmas.Bool.{false≢true}, KnownBytes.{Appends-trans}}
-use Rattle.std.specs.{Global.{Global}, Bool.{OnTrue, OnFalse}, Io.KnownBytes.{Appends}}
+use Rattle.std.proofs.Common.{map, length, arith, Bool, true, false, cond, IsTrue, ◌≡◌, refl, sym, ap, subst, ◌∙◌, ◌⊎◌}
+use Rattle.std.proofs.Common.{inl, inr, ℕ, ◌<◌, List, [], ◌∷◌, ◌++◌, append_assoc, append-nil, Option, Result, Ok, Err}
+use Rattle.std.proofs.{Common.{IfOk, String, string_bytes}, lemmas.Bool.{false≢true}, KnownBytes.{Appends-trans}}
+use Rattle.std.specs.{Prelude.{codes}, Global.{Global}, Bool.{OnTrue, OnFalse}, Io.KnownBytes.{Appends}}
 use Rattle.memory.specs.declared.want.Want.{Want}
 use Rattle.mdns_capture.specs.{Stream.{OneMoreFailed}, Output.{AppendsPrefix, Writing}}
 use Rattle.mdns_survey.specs.declared.{summary.Summary.{Summary}, survey.SurveyFault.{SurveyFault}}

@@ -1,9 +1,7 @@
 -- Which hearings count.
-use Rattle.std.proofs.Common.{rules, arith}
-use Rattle.std.proofs.Common.{◌≡◌, ◌↔◌, ℕ, ◌<◌, Bool, true, false, List, [], ◌∷◌, ◌++◌, refl, sym, ap, ◌∙◌, subst, append-nil}
-use Rattle.std.specs.Prelude.{Contains}
-use Rattle.std.specs.List.{filter}
-use Rattle.std.proofs.lemmas.{Bool.{lt-ltb, ltb-true}, List.Elements.{filter-append}}
+use Rattle.std.proofs.Common.{rules, arith, ◌≡◌, ◌↔◌, ℕ, ◌<◌, Bool, true, false, List, [], ◌∷◌, ◌++◌, refl, sym}
+use Rattle.std.proofs.{Common.{ap, ◌∙◌, subst, append-nil}, lemmas.Bool.{lt-ltb, ltb-true}, lemmas.List.Elements.{filter-append}}
+use Rattle.std.specs.{Prelude.{Contains}, List.{filter}}
 use Rattle.mdns_capture.specs.{declared.moment.Moment.{Moment}, Savefile.{PacketAt}}
 use Rattle.mdns_message.specs.{declared.hearing.Hearing.{Hearing}, Message.{MessageReads}}
 use Rattle.mdns_cache.proofs.{RepeatLemmas.{moment_in}, StandsPartLemmas.{Contains-head, Contains-later}}

@@ -7,10 +7,9 @@ use Rattle.mdns_capture.specs.{Savefile.{CaptureReads, PacketAt}, Cut.{ending_at
 use Rattle.mdns_message.specs.declared.hearing.Hearing.{Hearing}
 use Rattle.mdns_survey.specs.{declared.summary.Summary.{Summary}, Outcomes.{AllCome, Outcome, hearings_in}}
 use Rattle.mdns_survey.specs.{Laws.{with_both_parts, with_capture}, Listen.{packet_moments}}
-use Rattle.mdns_survey.proofs.CountLemmas.{AreFew, tallied, tallied_together}
-use Rattle.mdns_survey.proofs.FactLemmas.{AllTold, Fact, Has, IsByFacts, IsIn, IsTold, Told, has-cases, has-left, has-right, one-survey}
-use Rattle.mdns_survey.proofs.{FactLemmas.{one-told, shared-survey, told-by}, FewLemmas.{few_come, frames_of_parts}}
-use Rattle.mdns_survey.proofs.OutcomeLemmas.{OneReading, OneTelling, SomeOutcome, some_outcomes}
+use Rattle.mdns_survey.proofs.{CountLemmas.{AreFew, tallied, tallied_together}, FactLemmas.{AllTold, Fact, Has, IsByFacts, IsIn, IsTold}}
+use Rattle.mdns_survey.proofs.FactLemmas.{Told, has-cases, has-left, has-right, one-survey, one-told, shared-survey, told-by}
+use Rattle.mdns_survey.proofs.{FewLemmas.{few_come, frames_of_parts}, OutcomeLemmas.{OneReading, OneTelling, SomeOutcome, some_outcomes}}
 
 abbrev pub NotMany : Ending → Type 0
 NotMany ending = (at : ℕ) → ending ≢ Many at

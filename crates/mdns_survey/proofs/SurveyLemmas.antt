@@ -2,9 +2,9 @@
 use Rattle.std.proofs.Common.{rules, ◌≡◌, Bool, IsTrue, ℕ, zero, suc, ◌<◌, List, [], ◌∷◌, ◌++◌, map, length}
 use Rattle.std.proofs.Common.{sym, ap, ◌∙◌, subst, append_assoc, arith, length-append, Option, None, Some, ◌≤◌, ◌↔◌, inl, inr}
 use Rattle.std.proofs.Common.{IfSome, IsSomeAnd, MatchOption, unwrap_or, Contains, Ok, Err, Result, String, Global}
-use Rattle.std.specs.List.{All, HoldsAt}
 use Rattle.std.proofs.{Math.Nat.{lt_of_not-le}, Math.Seq.{get_or-append_seam}, lemmas.List.{map-append, length-map}}
 use Rattle.std.proofs.lemmas.List.Elements.{All-append}
+use Rattle.std.specs.List.{All, HoldsAt}
 use Rattle.mdns_message.specs.declared.hearing.Hearing.{Hearing}
 use Rattle.mdns_capture.specs.{declared.moment.Moment.{Moment}, Savefile.{PacketAt, header_fault}, Output.{Writing}}
 use Rattle.mdns_cache.specs.{Contents.{Contents, StandsFor}, Live.{IsNewest}}
@@ -15,9 +15,8 @@ use Rattle.mdns_survey.specs.declared.survey.{SurveyFault.{SurveyFault}, SurveyF
 use Rattle.mdns_survey.specs.{declared.reading.Reading.{Reading}, declared.summary.Summary.{Summary}, Outcomes.{AllRead, Outcome}}
 use Rattle.mdns_survey.specs.{Listen.{IsNoReadFault}, declared.listen.ListenFault.{ListenFault}, declared.request.AsOf.{AsOf}}
 use Rattle.mdns_survey.specs.declared.request.{AsOf.TheVariants.{Newest, At, Before}, ReportRequest.{ReportRequest}}
-use Rattle.mdns_survey.specs.{Head.{Heads}, Question.{HearsReaders, IsAnswer, IsTooEarly, Refuses, asked_report}}
-use Rattle.mdns_survey.specs.{Filter.{counted, filter_of}, Request.{IsEarly, at_or_newest, moment_of, plain_request}}
-use Rattle.mdns_survey.specs.Readings.{summaries_of}
+use Rattle.mdns_survey.specs.{Head.{Heads}, Question.{HearsReaders, IsAnswer, IsTooEarly, Refuses, asked_report}, Filter.{counted}}
+use Rattle.mdns_survey.specs.{Filter.{filter_of}, Request.{IsEarly, at_or_newest, moment_of, plain_request}, Readings.{summaries_of}}
 use Rattle.mdns_survey.specs.Surveys.{all_hearings, IsAsOf, ReportsRequest, SurveysBy, SurveysReport, SurveysRequest}
 use Rattle.mdns_survey.specs.Refusals.{RefusesBy, RefusesReaders, RefusesReader, BlamesReaders}
 use Rattle.mdns_survey.proofs.{ListenedLemmas.{known-head, known-read}, SelectedLemmas.{counted-at, is-earlier}}

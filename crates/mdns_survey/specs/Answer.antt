@@ -3,9 +3,8 @@ use Rattle.std.specs.Prelude.{◌≡◌, ℕ, Bool, true, false, MatchBool, if�
 use Rattle.std.specs.{List.{list_all}, Io.KnownBytes.{Appends}}
 use Rattle.mdns_capture.specs.{declared.stream.Source.{Ghosts}, Output.{Writing}}
 use Rattle.mdns_survey.specs.declared.{request.Request.{Request}, request.Request.TheVariants.{Check}, summary.Summary.{Summary}}
-use Rattle.mdns_survey.specs.{declared.survey.SurveyFault.{SurveyFault}, ProgramLines.{fault_line_text, is_whole}}
-use Rattle.mdns_survey.specs.{Question.{Asked, Refuses, asked_of}, Refusals.{BlamesReaders, BlamesWriter, Leaves}}
-use Rattle.mdns_survey.specs.Said.{Says, ending_lines}
+use Rattle.mdns_survey.specs.{declared.survey.SurveyFault.{SurveyFault}, ProgramLines.{fault_line_text, is_whole}, Question.{Asked}}
+use Rattle.mdns_survey.specs.{Question.{Refuses, asked_of}, Refusals.{BlamesReaders, BlamesWriter, Leaves}, Said.{Says, ending_lines}}
 
 -- 0 where every capture is whole, else 1
 abbrev pub status_of : List Summary → ℕ

@@ -1,14 +1,12 @@
 -- A chronicle of captures while it is filled, and while it is written.
-use Rattle.std.specs.Prelude.{◌≡◌, ◌⊎◌, ℕ, List, [], ◌++◌, Option}
-use Rattle.std.specs.{List.{flat_map}, Io.KnownBytes.{Appends}}
+use Rattle.std.specs.{Prelude.{◌≡◌, ◌⊎◌, ℕ, List, [], ◌++◌, Option}, List.{flat_map}, Io.KnownBytes.{Appends}}
 use Rattle.mdns_capture.specs.{Output.{AppendsPrefix, Writing}, Savefile.{PacketAt}}
 use Rattle.mdns_join.specs.declared.latest.Latest.{Latest}
 use Rattle.mdns_lives.specs.{declared.life.Life.{Life}, MessageChronicle.{Recorded, RecordsAll}}
 use Rattle.mdns_browse.specs.declared.{report.Form.{Form}, report.Form.TheVariants.{Pretty}, life_text.Layout.{Layout}}
 use Rattle.mdns_browse.specs.LifeText.{IsLayout}
-use Rattle.mdns_survey.specs.declared.filter.Filter.{Filter}
-use Rattle.mdns_survey.specs.declared.survey.{SurveyFault.{SurveyFault}, SurveyFault.TheVariants.{File, Early, Memory, Write}}
-use Rattle.mdns_survey.specs.{Outcomes.{Outcome}, Filter.{counted}}
+use Rattle.mdns_survey.specs.declared.{filter.Filter.{Filter}, survey.SurveyFault.{SurveyFault}}
+use Rattle.mdns_survey.specs.{declared.survey.SurveyFault.TheVariants.{File, Early, Memory, Write}, Outcomes.{Outcome}, Filter.{counted}}
 
 -- those hearings of all captures that count, and no others, are recorded
 abbrev pub Chronicled : Filter → Recorded → List (List PacketAt) → List (List Outcome) → Type 0

@@ -1,6 +1,5 @@
 -- Which hearings of captures count.
-use Rattle.std.specs.Prelude.{Bool, true, nat_lt, List, Some, None, map, option_map, unwrap_or}
-use Rattle.std.specs.List.{filter, flat_map}
+use Rattle.std.specs.{Prelude.{Bool, true, nat_lt, List, Some, None, map, option_map, unwrap_or}, List.{filter, flat_map}}
 use Rattle.mdns_capture.specs.declared.moment.Moment.{Moment}
 use Rattle.mdns_message.specs.declared.hearing.Hearing.{Hearing}
 use Rattle.mdns_survey.specs.declared.{filter.Filter.{Filter}, request.AsOf.{AsOf}, request.AsOf.TheVariants.{Before}}

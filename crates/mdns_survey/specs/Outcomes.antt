@@ -1,6 +1,5 @@
 -- The outcomes of captures: which hearings their packets carry, and how the packets are counted.
-use Rattle.std.specs.Prelude.{◌≡◌, ◌⊎◌, ℕ, Bool, true, false, List, [], ◌∷◌, length, count_by}
-use Rattle.std.specs.List.{flat_map}
+use Rattle.std.specs.{Prelude.{◌≡◌, ◌⊎◌, ℕ, Bool, true, false, List, [], ◌∷◌, length, count_by}, List.{flat_map}}
 use Rattle.mdns_capture.specs.{declared.moment.Moment.{Moment}, declared.savefile.Ending.{Ending}, Savefile.{PacketAt, CaptureReads}}
 use Rattle.mdns_capture.specs.Frame.{FrameCarries}
 use Rattle.mdns_message.specs.{declared.hearing.Hearing.{Hearing}, Message.{IsShort, IsQuery, IsIgnored, HasHeader, MessageReads}}

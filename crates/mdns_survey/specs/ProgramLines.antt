@@ -1,7 +1,6 @@
 -- The program's lines about files, faults and endings.
-use Rattle.std.specs.Prelude.{ℕ, Bool, true, false, List, [], ◌∷◌, ◌++◌, codes, decimal, slice_get, unwrap_or, Result}
-use Rattle.std.specs.Prelude.{Ok, Err, String, string_bytes}
-use Rattle.std.specs.Global.{Global}
+use Rattle.std.specs.Prelude.{ℕ, Bool, true, false, List, [], ◌∷◌, ◌++◌, codes, decimal, slice_get, unwrap_or, Result, Ok, Err}
+use Rattle.std.specs.{Prelude.{String, string_bytes}, Global.{Global}}
 use Rattle.mdns_capture.specs.declared.savefile.{Ending.{Ending}, Ending.TheVariants.{Whole}}
 use Rattle.mdns_capture.specs.declared.savefile.BeginFault.TheVariants.{Memory as BeginMemory, Read as BeginRead, ShortHeader, Magic}
 use Rattle.mdns_capture.specs.declared.savefile.BeginFault.TheVariants.{Version, Link}

@@ -1,6 +1,5 @@
 -- What the readings of several captures say together.
-use Rattle.std.specs.Prelude.{◌≡◌, ℕ, ◌+◌, List, map, sum_by}
-use Rattle.std.specs.List.{flat_map}
+use Rattle.std.specs.{Prelude.{◌≡◌, ℕ, ◌+◌, List, map, sum_by}, List.{flat_map}}
 use Rattle.mdns_capture.specs.{declared.moment.Moment.{Moment}, Savefile.{PacketAt}}
 use Rattle.mdns_survey.specs.declared.{outcome.SkipReason.{SkipReason}, reading.Reading.{Reading}, summary.Summary.{Summary}}
 use Rattle.mdns_survey.specs.{Listen.{packet_moments}, Reasons.{lost_frames}, Skips.{count_of}, Span.{span_of}}

@@ -1,6 +1,5 @@
 -- Why packets are skipped, and what is said of each reason.
-use Rattle.std.specs.Prelude.{ℕ, Bool, true, false, List, codes, count_by}
-use Rattle.std.specs.Option.{option_map_or}
+use Rattle.std.specs.{Prelude.{ℕ, Bool, true, false, List, codes, count_by}, Option.{option_map_or}}
 use Rattle.mdns_capture.specs.declared.cause.Cause.TheVariants as cause
 use Rattle.mdns_capture.specs.{Frame.{cause_of}, Savefile.{PacketAt}}
 use Rattle.mdns_survey.specs.declared.outcome.SkipReason.{SkipReason}

@@ -1,7 +1,6 @@
 -- Why a survey is refused, and what was written by then.
-use Rattle.std.specs.Prelude.{◌≡◌, ◌≢◌, ℕ, ◌<◌, Bool, true, false, IsTrue, List, ◌∷◌, ◌++◌, length, map}
-use Rattle.std.specs.Prelude.{Option, Some, None, IfSome, All, HoldsAt}
-use Rattle.std.specs.List.{AllPass}
+use Rattle.std.specs.Prelude.{◌≡◌, ◌≢◌, ℕ, ◌<◌, Bool, true, false, IsTrue, List, ◌∷◌, ◌++◌, length, map, Option}
+use Rattle.std.specs.{Prelude.{Some, None, IfSome, All, HoldsAt}, List.{AllPass}}
 use Rattle.mdns_capture.specs.{declared.moment.Moment.{Moment}, Savefile.{PacketAt, header_fault}, Stream.{OneMoreFailed}}
 use Rattle.mdns_capture.specs.Output.{AppendsPrefix, Writing}
 use Rattle.mdns_cache.specs.Live.{IsNewest}

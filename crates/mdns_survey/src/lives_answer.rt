@@ -10,9 +10,8 @@ ghost use Rattle.mdns_cache.specs.Live.{IsNewest, NoneLater};
 ghost use Rattle.mdns_lives.specs.{Chronicle.{Chronicles}, LentLives.{row_lent}, declared.life.Life.{Life}};
 ghost use Rattle.mdns_browse.specs.LifeText.{IsLayout, lives_head, lives_text};
 ghost use Rattle.mdns_survey.specs.{Chronicling.{Chronicled, FitsForm, IsTextOut, StopsRows}, Filter.{filter_of}, Head.{Heads}};
-ghost use Rattle.mdns_survey.specs.{LivesAnswer.{kept_rows}, ProgramLines.{IfFile}};
-ghost use Rattle.mdns_survey.specs.{Question.{HearsReaders, Refuses, WritesAnswer, asked_after, asked_lives}, Readings.{summaries_of}};
-ghost use Rattle.mdns_survey.specs.Refusals.{BlamesWriter, Leaves};
+ghost use Rattle.mdns_survey.specs.{LivesAnswer.{kept_rows}, ProgramLines.{IfFile}, Question.{HearsReaders, Refuses, WritesAnswer}};
+ghost use Rattle.mdns_survey.specs.{Question.{asked_after, asked_lives}, Readings.{summaries_of}, Refusals.{BlamesWriter, Leaves}};
 
 use crate::filter::Filtered;
 use crate::head::head_in;

@@ -2,9 +2,8 @@
 
 ghost use Rattle.std.specs.Prelude.{◌≡◌, ◌+◌, IfOk, List, sum_by};
 ghost use Rattle.mdns_capture.specs.Savefile.{PacketAt};
-ghost use Rattle.mdns_survey.specs.LivesAnswer.{captures_begin, captures_end};
-ghost use Rattle.mdns_survey.specs.Readings.{CountLosses, HaveSpans, all_moments, lost_in, refused_in, skipped_in, summaries_of};
-ghost use Rattle.mdns_survey.specs.{Reasons.{lost_frames}, Span.{span_of}};
+ghost use Rattle.mdns_survey.specs.{LivesAnswer.{captures_begin, captures_end}, Readings.{CountLosses, HaveSpans, all_moments, lost_in}};
+ghost use Rattle.mdns_survey.specs.{Readings.{refused_in, skipped_in, summaries_of}, Reasons.{lost_frames}, Span.{span_of}};
 
 use crate::outcome::SkipReason;
 use crate::reading::{Reading, Span};

@@ -1,7 +1,6 @@
 //! The exit status, which the endings of the captures decide.
 
-ghost use Rattle.std.specs.Prelude.{◌≡◌, ◌≤◌};
-ghost use Rattle.std.specs.List.{list_all};
+ghost use Rattle.std.specs.{Prelude.{◌≡◌, ◌≤◌}, List.{list_all}};
 ghost use Rattle.mdns_survey.specs.{ProgramLines.{is_whole}, Answer.{status_of}};
 
 use crate::summary::Summary;

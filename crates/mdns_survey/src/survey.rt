@@ -1,14 +1,12 @@
 //! The report over several captures.
 
-ghost use Rattle.std.specs.Prelude.{◌≡◌, ℕ, IfOk, IfErr, OnOk, MatchOption, List, [], length, map, Some};
-ghost use Rattle.std.specs.Io.KnownBytes.{Appends};
+ghost use Rattle.std.specs.{Prelude.{◌≡◌, ℕ, IfOk, IfErr, OnOk, MatchOption, List, [], length, map, Some}, Io.KnownBytes.{Appends}};
 ghost use Rattle.mdns_message.specs.declared.hearing.Hearing.{Hearing};
 ghost use Rattle.mdns_cache.specs.{Contents.{StandsFor}, Live.{IsNewest}};
 ghost use Rattle.mdns_browse.specs.Report.{IsReport};
 ghost use Rattle.mdns_capture.specs.Output.{writing};
-ghost use Rattle.mdns_survey.specs.{Question.{Refuses, asked_report}, Request.{at_or_newest}};
-ghost use Rattle.mdns_survey.specs.Surveys.{SurveysBy, SurveysRequest, Listened};
-ghost use Rattle.mdns_survey.specs.Refusals.{BlamesReaders, BlamesWriter, LeavesOut, RefusesBy, RefusesReaders};
+ghost use Rattle.mdns_survey.specs.{Question.{Refuses, asked_report}, Request.{at_or_newest}, Surveys.{SurveysBy, SurveysRequest}};
+ghost use Rattle.mdns_survey.specs.{Surveys.{Listened}, Refusals.{BlamesReaders, BlamesWriter, LeavesOut, RefusesBy, RefusesReaders}};
 
 use crate::filter::Filtered;
 use crate::head::headed;

@@ -1,7 +1,6 @@
 -- The span of hearings, and what is written of it.
-use Rattle.std.proofs.Common.{◌≡◌, ◌≢◌, ℕ, Bool, true, false, nat_lt, List, [], ◌∷◌, ◌++◌, map, Option, Some, None, IfSome, refl}
-use Rattle.std.proofs.Common.{sym, ap, ◌∙◌, append-nil, if◌then◌else◌}
-use Rattle.std.proofs.lemmas.List.Concat.{flat_map-append}
+use Rattle.std.proofs.Common.{◌≡◌, ◌≢◌, ℕ, Bool, true, false, nat_lt, List, [], ◌∷◌, ◌++◌, map, Option, Some, None}
+use Rattle.std.proofs.{Common.{IfSome, refl, sym, ap, ◌∙◌, append-nil, if◌then◌else◌}, lemmas.List.Concat.{flat_map-append}}
 use Rattle.mdns_capture.specs.{Output.{AppendsPrefix}, declared.moment.Moment.{Moment}}
 use Rattle.mdns_message.specs.{declared.hearing.Hearing.{Hearing}, Message.{hearing_of}, RecordAt.{HeardRecord}}
 use Rattle.mdns_survey.specs.declared.{reading.Span.{Span}, summary.Summary.{Summary}}

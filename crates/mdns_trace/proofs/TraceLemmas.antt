@@ -1,7 +1,6 @@
 -- One packet more of a capture is taken, and its lines are printed.
-use Rattle.std.proofs.Common.{◌≡◌, ℕ, List, [], ◌∷◌, ◌++◌, Option, Some, None, IfSome, IsTrue, refl, string_bytes}
-use Rattle.std.proofs.Common.{sym, ap, ◌∙◌, subst, append_assoc, append-nil}
-use Rattle.std.proofs.KnownBytes.{Appends-nil, Appends-trans}
+use Rattle.std.proofs.Common.{◌≡◌, ℕ, List, [], ◌∷◌, ◌++◌, Option, Some, None, IfSome, IsTrue, refl, string_bytes, sym}
+use Rattle.std.proofs.{Common.{ap, ◌∙◌, subst, append_assoc, append-nil}, KnownBytes.{Appends-nil, Appends-trans}}
 use Rattle.std.specs.Io.KnownBytes.{Appends}
 use Rattle.mdns_browse.specs.declared.about.Subject.{Subject}
 use Rattle.mdns_capture.specs.{Capture.{IsOver}, Savefile.{PacketAt}, Stream.{OneMoreFailed}, declared.stream.Sink.{Ghosts as SinkGhosts}}

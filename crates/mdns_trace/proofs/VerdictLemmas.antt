@@ -1,9 +1,8 @@
 -- What a file is, from the bytes that were read of it.
-use Rattle.std.proofs.Common.{◌≡◌, ◌≢◌, ℕ, zero, suc, ◌+◌, ◌-◌, ◌<◌, ◌≤◌, min, List, [], ◌∷◌, ◌++◌, length, take, drop, Option, Some, None}
-use Rattle.std.proofs.Common.{IfSome, refl, sym, ap, ◌∙◌, arith, append-nil, length-append, length-drop}
-use Rattle.std.proofs.Common.{take-append-drop, length-take-le}
+use Rattle.std.proofs.Common.{◌≡◌, ◌≢◌, ℕ, zero, suc, ◌+◌, ◌-◌, ◌<◌, ◌≤◌, min, List, [], ◌∷◌}
+use Rattle.std.proofs.Common.{◌++◌, length, take, drop, Option, Some, None, IfSome, refl, sym, ap, ◌∙◌, arith, append-nil}
+use Rattle.std.proofs.{Common.{length-append, length-drop, take-append-drop, length-take-le}, KnownBytes.{prepend_known-read, Keeps-refl}}
 use Rattle.std.specs.Io.KnownBytes.{Consumes, IsAtEnd, prepend_known}
-use Rattle.std.proofs.KnownBytes.{prepend_known-read, Keeps-refl}
 use lib.Seq.{take-append-add, take-append_seam}
 use Rattle.mdns_capture.specs.Limits.{file_header_size}
 use Rattle.mdns_trace.specs.Flaw.{head_of}

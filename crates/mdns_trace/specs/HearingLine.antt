@@ -1,6 +1,5 @@
 -- The line of a hearing: when and in which file it was heard, from which address, and what it says of which record.
-use Rattle.std.specs.Prelude.{ℕ, Bool, true, false, List, [], ◌∷◌, ◌++◌, codes}
-use Rattle.std.specs.Fmt.{decimal}
+use Rattle.std.specs.{Prelude.{ℕ, Bool, true, false, List, [], ◌∷◌, ◌++◌, codes}, Fmt.{decimal}}
 use Rattle.mdns_capture.specs.declared.source_address.{SourceAddress.{SourceAddress}, SourceAddress.TheVariants.{V4, V6}}
 use Rattle.mdns_capture.specs.Text.{moment_text}
 use Rattle.mdns_message.specs.declared.hearing.Hearing.{Hearing}

@@ -1,6 +1,5 @@
 -- From when to when the listener of a capture listened, and the line that says so.
-use Rattle.std.specs.Prelude.{◌≡◌, ℕ, List, [], ◌∷◌, ◌++◌, map, Option, Some, None, codes}
-use Rattle.std.specs.Fmt.{decimal}
+use Rattle.std.specs.{Prelude.{◌≡◌, ℕ, List, [], ◌∷◌, ◌++◌, map, Option, Some, None, codes}, Fmt.{decimal}}
 use Rattle.mdns_capture.specs.{declared.moment.Moment.{Moment}, Savefile.{PacketAt}, Text.{moment_text}}
 use Rattle.mdns_message.specs.declared.hearing.Hearing.{Hearing}
 use Rattle.mdns_survey.specs.{declared.reading.Span.{Span}, Outcomes.{Outcome, hearings_in}, Listen.{IsReadingOf}, Span.{span_of}}

@@ -1,7 +1,6 @@
 -- Entries in readable columns, for people: the moments to the millisecond, the addresses short, and
 -- the names and texts as they were sent.
-use Rattle.std.specs.Prelude.{ℕ, List, [], ◌∷◌, ◌++◌, ◌==◌, if◌then◌else◌, Option, Some, None, codes}
-use Rattle.std.specs.Fmt.{decimal}
+use Rattle.std.specs.{Prelude.{ℕ, List, [], ◌∷◌, ◌++◌, ◌==◌, if◌then◌else◌, Option, Some, None, codes}, Fmt.{decimal}}
 use Rattle.people_text.specs.{Address.{ipv6_short}, MomentText.{millis_text}}
 use Rattle.mdns_browse.specs.{Columns.{padded}, RecordShown.{shown_record}, RecordText.{ipv4_text}}
 use Rattle.mdns_capture.specs.declared.source_address.{SourceAddress.{SourceAddress}, SourceAddress.TheVariants.{V4, V6}}

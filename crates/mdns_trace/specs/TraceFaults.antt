@@ -1,6 +1,5 @@
 -- What was written of a capture, and why its lines weren't all written.
-use Rattle.std.specs.Prelude.{◌≡◌, ◌≢◌, ℕ, IsTrue, List, Option, None, IfSome}
-use Rattle.std.specs.Io.KnownBytes.{Appends}
+use Rattle.std.specs.{Prelude.{◌≡◌, ◌≢◌, ℕ, IsTrue, List, Option, None, IfSome}, Io.KnownBytes.{Appends}}
 use Rattle.mdns_capture.specs.{Capture.{IsOver}, Savefile.{header_fault}, Stream.{OneMoreFailed}}
 use Rattle.mdns_capture.specs.declared.stream.{Sink.{Ghosts as SinkGhosts}, Source.{Ghosts as SourceGhosts}}
 use Rattle.mdns_survey.specs.{declared.summary.Summary.{Summary}, Listen.{HasListenFault, IsNoReadFault}}

@@ -1,7 +1,6 @@
 -- The verdict on a file: what it is, and the lines of words that say so.
-use Rattle.std.specs.Prelude.{◌≡◌, ℕ, ◌==◌, ◌&&◌, Bool, IsTrue, not, if◌then◌else◌, List, [], ◌∷◌, ◌++◌, Option, Some, None}
-use Rattle.std.specs.Prelude.{IfSome, codes, decimal}
-use Rattle.std.specs.List.{flat_map}
+use Rattle.std.specs.Prelude.{◌≡◌, ℕ, ◌==◌, ◌&&◌, Bool, IsTrue, not, if◌then◌else◌, List, [], ◌∷◌, ◌++◌}
+use Rattle.std.specs.{Prelude.{Option, Some, None, IfSome, codes, decimal}, List.{flat_map}}
 use Rattle.mdns_capture.specs.declared.savefile.{BeginFault.{BeginFault}, BeginFault.TheVariants.{Memory as BeginMemory, Read as BeginRead}}
 use Rattle.mdns_capture.specs.{declared.savefile.Ending.{Ending}, declared.stream.Source.{Ghosts as SourceGhosts}, Capture.{IsOver}}
 use Rattle.mdns_capture.specs.{Savefile.{PacketAt, header_fault}, Text.{ending_text, moment_text}}

@@ -4,9 +4,8 @@ ghost use Rattle.std.specs.Prelude.{◌≡◌, ◌≤◌, ◌++◌, IfSome, None
 ghost use Rattle.std.specs.Bool.{OnFalse, OnTrue};
 ghost use Rattle.mdns_capture.specs.{Limits.{file_header_size}, Savefile.{format_of, header_fault, number_at}};
 ghost use Rattle.mdns_capture.specs.declared.savefile.Order.TheVariants.{Big};
-ghost use Rattle.mdns_trace.specs.Verdict.{IsNoCapture};
-ghost use Rattle.mdns_trace.specs.Flaw.{cure_text, flaw_in, flaw_of, flaw_short, is_ethernet, link_cure, link_name, link_text, named};
-ghost use Rattle.mdns_trace.specs.Flaw.{what_text};
+ghost use Rattle.mdns_trace.specs.{Verdict.{IsNoCapture}, Flaw.{cure_text, flaw_in, flaw_of, flaw_short, is_ethernet, link_cure}};
+ghost use Rattle.mdns_trace.specs.Flaw.{link_name, link_text, named, what_text};
 
 use byteorder::{BigEndian, ByteOrder, LittleEndian};
 use mdns_capture::savefile::FILE_HEADER;

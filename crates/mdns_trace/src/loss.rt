@@ -1,7 +1,6 @@
 //! What a capture lost, and what to do about it.
 
-ghost use Rattle.std.specs.Prelude.{◌≡◌, ◌++◌, OnOk, string_bytes};
-ghost use Rattle.std.specs.List.{flat_map};
+ghost use Rattle.std.specs.{Prelude.{◌≡◌, ◌++◌, OnOk, string_bytes}, List.{flat_map}};
 ghost use Rattle.mdns_trace.specs.Loss.{cure_of, loss_text, lost_to, words_of};
 
 use mdns_capture::Cause;

@@ -4,9 +4,8 @@ ghost use Rattle.std.specs.Prelude.{◌≡◌, ◌++◌, OnOk, codes, false, str
 ghost use Rattle.mdns_browse.specs.Json.{comma_unless, json_bool, json_member, json_string, parted};
 ghost use Rattle.mdns_capture.specs.Capture.{packet_lent};
 ghost use Rattle.mdns_message.specs.Borrowed.{hearing_lent};
-ghost use Rattle.mdns_trace.specs.{HearingLine.{address_text}, Entry.{entry_lent}};
-ghost use Rattle.mdns_trace.specs.TraceJson.{bounds_json, entry_json, hearing_json, packet_json, span_json, span_members, status_members};
-ghost use Rattle.mdns_trace.specs.TraceJson.{untold_members};
+ghost use Rattle.mdns_trace.specs.{HearingLine.{address_text}, Entry.{entry_lent}, TraceJson.{bounds_json, entry_json, hearing_json}};
+ghost use Rattle.mdns_trace.specs.TraceJson.{packet_json, span_json, span_members, status_members, untold_members};
 
 use crate::entry::{Entry, Untold};
 use crate::hearing_line::push_address;

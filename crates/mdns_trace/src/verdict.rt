@@ -1,7 +1,6 @@
 //! The verdict on a file: finding what it is, and the lines of words that say so.
 
-ghost use Rattle.std.specs.Prelude.{◌≡◌, ◌++◌, IfOk, IfSome, OnOk, Some, string_bytes};
-ghost use Rattle.std.specs.Io.KnownBytes.{prepend_known};
+ghost use Rattle.std.specs.{Prelude.{◌≡◌, ◌++◌, IfOk, IfSome, OnOk, Some, string_bytes}, Io.KnownBytes.{prepend_known}};
 ghost use Rattle.mdns_survey.specs.ProgramLines.{is_whole};
 ghost use Rattle.mdns_trace.specs.Flaw.{cure_text, head_of, what_text};
 ghost use Rattle.mdns_trace.specs.Verdict.{IsVerdict, IsVerdictOf, capture_front, capture_line, capture_text, early_cure};

@@ -2,9 +2,8 @@
 
 ghost use Rattle.std.specs.Prelude.{◌≡◌, ◌⊎◌, ◌≤◌, IfErr, IfOk, length, map, string_bytes};
 ghost use Rattle.mdns_capture.specs.Output.{writing};
-ghost use Rattle.mdns_trace.specs.EachFile.{NamesFile, StopsAmong, WritesEach};
-ghost use Rattle.mdns_trace.specs.Verdicts.{IsAnsweredFiles, IsRefusedFiles, StopsVerdict, WritesVerdict, are_sound};
-ghost use Rattle.mdns_trace.specs.Verdicts.{are_usable, is_sound, is_usable, status_of, survey_fault};
+ghost use Rattle.mdns_trace.specs.{EachFile.{NamesFile, StopsAmong, WritesEach}, Verdicts.{IsAnsweredFiles, IsRefusedFiles, StopsVerdict}};
+ghost use Rattle.mdns_trace.specs.Verdicts.{WritesVerdict, are_sound, are_usable, is_sound, is_usable, status_of, survey_fault};
 
 use crate::each_file::{FilesFault, Scribe, write_each};
 use crate::entry::Entry;

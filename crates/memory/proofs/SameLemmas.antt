@@ -1,10 +1,9 @@
 -- Lists that are the same where no byte differs, and lists compared part by part.
 use Rattle.std.proofs.Common.{◌≡◌, ℕ, ◌+◌, ◌-◌, ◌*◌, ◌%◌, ◌^◌, ◌≤◌, List, [], ◌∷◌, ◌++◌, Bool, true, false, cond, eqb}
 use Rattle.std.proofs.Common.{length, map, take, drop, refl, sym, ap, ◌∙◌, arith, w8}
-use Rattle.std.specs.Prelude.{◌↔◌, IsTrue, not, slice_range}
-use Rattle.std.specs.Simd.Lanes.{zip2, mask_l, top}
 use Rattle.std.proofs.lemmas.{Bool.{eqb-true, eq-eqb, false≢true}, List.{take-take, take_all}}
 use Rattle.std.proofs.lemmas.Simd.{length-chunk, length-zip2, mask_l-mod, tops_compared}
+use Rattle.std.specs.{Prelude.{◌↔◌, IsTrue, not, slice_range}, Simd.Lanes.{zip2, mask_l, top}}
 use lib.Seq.{take-add}
 
 -- two bytes differ

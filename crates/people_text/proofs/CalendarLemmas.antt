@@ -1,7 +1,6 @@
 -- The sums of the calendar in closed form, and the one date with so many days before it.
-use Rattle.std.proofs.Common.{◌≡◌, refl, ◌∙◌, ap, ℕ, zero, suc, ◌+◌, ◌-◌, ◌*◌, ◌/◌, ◌<◌, ◌≤◌, nat_le}
-use Rattle.std.proofs.Common.{Bool, true, false, if◌then◌else◌, arith, ◌⊎◌, inl, inr}
-use Rattle.std.proofs.lemmas.Bool.Decides.{nat_tests}
+use Rattle.std.proofs.Common.{◌≡◌, refl, ◌∙◌, ap, ℕ, zero, suc, ◌+◌, ◌-◌, ◌*◌, ◌/◌, ◌<◌, ◌≤◌}
+use Rattle.std.proofs.{Common.{nat_le, Bool, true, false, if◌then◌else◌, arith, ◌⊎◌, inl, inr}, lemmas.Bool.Decides.{nat_tests}}
 use Rattle.people_text.specs.Calendar.{IsDate, day_of, days_of_months, days_of_years, last_begun, is_leap, month_length, month_of, year_of}
 
 -- ---- years

@@ -1,7 +1,6 @@
 -- Every noncharacter is in a hidden range.
-use Rattle.std.proofs.Common.{◌≡◌, refl, ℕ, zero, suc, ◌+◌, ◌*◌, ◌/◌, ◌≤◌, Bool, true, false, inl, inr}
-use Rattle.std.proofs.Common.{◌&&◌, ◌||◌, nat_le, nat_lt, List, [], ◌∷◌, arith}
-use Rattle.std.proofs.lemmas.Bool.Decides.{nat_tests}
+use Rattle.std.proofs.Common.{◌≡◌, refl, ℕ, zero, suc, ◌+◌, ◌*◌, ◌/◌, ◌≤◌, Bool, true, false, inl, inr, ◌&&◌}
+use Rattle.std.proofs.{Common.{◌||◌, nat_le, nat_lt, List, [], ◌∷◌, arith}, lemmas.Bool.Decides.{nat_tests}}
 use Rattle.people_text.specs.Shown.{IsNoncharacter, hidden_ranges, is_hidden}
 use Rattle.people_text.proofs.ShownLemmas.{in_ranges}
 

@@ -6,10 +6,9 @@ use Rattle.std.proofs.lemmas.List.{append-nil, drop_at, get_or_append_left, leng
 use Rattle.std.proofs.lemmas.Str.{IsCharBoundary-start, IsUtf8-append, IsUtf8-encode, IsUtf8-from_is_utf8, IsUtf8-nil, chars-append}
 use Rattle.std.proofs.lemmas.Str.{chars_from_encodes, chars_past_char, drop_past_char, is_utf8-from_IsUtf8, len_utf8_bounds, length-encode}
 use Rattle.std.proofs.lemmas.Str.{utf8_valid_len_le}
-use Rattle.std.specs.{Char.{IsScalar, encode_utf8, len_utf8}, Int.{IsInRange}}
-use Rattle.std.specs.Str.{IsUtf8, StartsWithNoChar, all_scalars, chars, encode_utf8_all, is_utf8}
-use Rattle.std.specs.Str.Lossy.{error_len_after_two, utf8_error_len, utf8_invalid_len, utf8_valid_len, valid_len_up_to}
-use Rattle.std.specs.Prelude.{unwrap_or}
+use Rattle.std.specs.{Char.{IsScalar, encode_utf8, len_utf8}, Int.{IsInRange}, Str.{IsUtf8, StartsWithNoChar, all_scalars, chars}}
+use Rattle.std.specs.{Str.{encode_utf8_all, is_utf8}, Str.Lossy.{error_len_after_two, utf8_error_len, utf8_invalid_len, utf8_valid_len}}
+use Rattle.std.specs.{Str.Lossy.{valid_len_up_to}, Prelude.{unwrap_or}}
 use Rattle.people_text.specs.Shown.{bytes_shown, escaped_byte, scalar_text, text_after}
 
 -- ---- the longest front that is UTF-8

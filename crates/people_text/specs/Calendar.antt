@@ -1,7 +1,6 @@
 -- The Gregorian calendar, from the first day of the year 0 on.
-use Rattle.std.specs.Prelude.{◌≡◌, ℕ, zero, suc, ◌+◌, ◌-◌, ◌%◌, ◌==◌, ◌&&◌, ◌||◌, Bool, not, nat_le, if◌then◌else◌}
-use Rattle.std.specs.Prelude.{Option, None, Some}
-use Rattle.std.specs.Int.{IsInRange}
+use Rattle.std.specs.Prelude.{◌≡◌, ℕ, zero, suc, ◌+◌, ◌-◌, ◌%◌, ◌==◌, ◌&&◌, ◌||◌, Bool, not, nat_le}
+use Rattle.std.specs.{Prelude.{if◌then◌else◌, Option, None, Some}, Int.{IsInRange}}
 
 -- RFC 3339, appendix C
 abbrev pub is_leap : ℕ → Bool

@@ -1,7 +1,6 @@
 //! IPv6 addresses as text (RFC 5952, section 4).
 
-ghost use Rattle.std.specs.Prelude.{◌≡◌, ◌++◌, OnOk};
-ghost use Rattle.std.specs.String.{string_bytes};
+ghost use Rattle.std.specs.{Prelude.{◌≡◌, ◌++◌, OnOk}, String.{string_bytes}};
 ghost use Rattle.people_text.specs.Address.{ipv6_short};
 
 use memory::Want;

@@ -1,7 +1,6 @@
 //! Durations as text.
 
-ghost use Rattle.std.specs.Prelude.{◌≡◌, ◌++◌, OnOk};
-ghost use Rattle.std.specs.String.{string_bytes};
+ghost use Rattle.std.specs.{Prelude.{◌≡◌, ◌++◌, OnOk}, String.{string_bytes}};
 ghost use Rattle.people_text.specs.MomentText.{duration_text, two_units};
 
 use mdns_capture::moment::SECOND;

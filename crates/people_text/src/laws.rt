@@ -1,8 +1,7 @@
 //! Laws of texts, over their definitions alone. Each function does nothing: its contract is the law.
 
-ghost use Rattle.std.specs.Prelude.{◌≡◌, ◌≢◌, ◌≤◌, ℕ, Bool, true, List, [], ◌∷◌, ◌++◌};
-ghost use Rattle.std.specs.{Char.{encode_utf8, IsScalar}, List.{All}, Str.{encode_utf8_all, IsUtf8, StartsWithNoChar}};
-ghost use Rattle.std.specs.Net.Text.{longest_zero_run};
+ghost use Rattle.std.specs.{Prelude.{◌≡◌, ◌≢◌, ◌≤◌, ℕ, Bool, true, List, [], ◌∷◌, ◌++◌}, Char.{encode_utf8}};
+ghost use Rattle.std.specs.{Char.{IsScalar}, List.{All}, Str.{encode_utf8_all, IsUtf8, StartsWithNoChar}, Net.Text.{longest_zero_run}};
 ghost use Rattle.people_text.specs.{Address.{IsRun}, Calendar.{day_of, month_of, year_of, IsDate}};
 ghost use Rattle.people_text.specs.Shown.{bytes_shown, escaped_byte, is_hidden, name_shown, scalar_text, shown, AreBytes, IsNoncharacter};
 ghost use Rattle.people_text.specs.Shown.{IsPrinted, IsVisible, IsVisibleText};

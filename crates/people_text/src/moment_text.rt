@@ -1,7 +1,6 @@
 //! Moments as text: nanoseconds since 1970 in UTC, cut off and not rounded.
 
-ghost use Rattle.std.specs.Prelude.{◌≡◌, ◌<◌, ◌≤◌, ◌+◌, ◌∷◌, [], ◌++◌, OnOk};
-ghost use Rattle.std.specs.String.{string_bytes};
+ghost use Rattle.std.specs.{Prelude.{◌≡◌, ◌<◌, ◌≤◌, ◌+◌, ◌∷◌, [], ◌++◌, OnOk}, String.{string_bytes}};
 ghost use Rattle.dns_name.specs.Name.{three_digits};
 ghost use Rattle.people_text.specs.MomentText.{clock_text, date_text, date_written, days_to, hours_text, millis_text};
 ghost use Rattle.people_text.specs.MomentText.{month_day_text, seconds_text, two_digits, year_at};

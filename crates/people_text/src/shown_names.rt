@@ -1,7 +1,6 @@
 //! Names as people read them, in UTF-8.
 
-ghost use Rattle.std.specs.Prelude.{◌≡◌, true, ◌∷◌, [], ◌++◌, OnOk};
-ghost use Rattle.std.specs.{List.{flat_map}, String.{string_bytes}};
+ghost use Rattle.std.specs.{Prelude.{◌≡◌, true, ◌∷◌, [], ◌++◌, OnOk}, List.{flat_map}, String.{string_bytes}};
 ghost use Rattle.dns_name.specs.Name.{IsForm, labels_of};
 ghost use Rattle.people_text.specs.Shown.{bytes_shown, name_shown};
 

@@ -7,10 +7,9 @@ ghost use Rattle.mdns_cache.specs.Live.{SameHearings};
 ghost use Rattle.mdns_capture.specs.Output.{writing};
 ghost use Rattle.mdns_message.specs.declared.hearing.Hearing.{Hearing};
 ghost use Rattle.mdns_survey.specs.Answer.{Reports};
-ghost use Rattle.mdns_listeners.specs.{Clock.{is_one_clock}, Groups.{grouped}};
-ghost use Rattle.mdns_listeners.specs.{Heard.{AreHeardIn, HasWholeAddress, HeardRow, Told, times_of}, Listeners.{AreListeners}};
-ghost use Rattle.mdns_listeners.specs.{Names.{AreNames, ListsNames}, Numbers.{is_of, listener_rows}, Pairs.{pair_rows}};
-ghost use Rattle.mdns_listeners.specs.{Parts.{joined_rows}, Senders.{sender_rows}};
+ghost use Rattle.mdns_listeners.specs.{Clock.{is_one_clock}, Groups.{grouped}, Heard.{AreHeardIn, HasWholeAddress, HeardRow, Told}};
+ghost use Rattle.mdns_listeners.specs.{Heard.{times_of}, Listeners.{AreListeners}, Names.{AreNames, ListsNames}, Numbers.{is_of}};
+ghost use Rattle.mdns_listeners.specs.{Numbers.{listener_rows}, Pairs.{pair_rows}, Parts.{joined_rows}, Senders.{sender_rows}};
 
 use mdns_browse::Form;
 use mdns_capture::{Sink, Source, SourceAddress, Through};

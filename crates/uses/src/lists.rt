@@ -1,7 +1,6 @@
 //! Lists of bytes.
 
-ghost use Rattle.std.specs.Prelude.{◌≡◌, map, IfOk};
-ghost use Rattle.std.specs.Char.{to_ascii_lowercase};
+ghost use Rattle.std.specs.{Prelude.{◌≡◌, map, IfOk}, Char.{to_ascii_lowercase}};
 
 use memory::{ByteList, Want};
 use std::alloc::Global;

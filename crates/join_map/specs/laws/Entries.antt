@@ -1,11 +1,9 @@
 -- Laws of entries joined key by key. Two maps with the same value at each key are equal.
 use Rattle.std.specs.Prelude.{◌≡◌, Bool, true, false, cond, List, [], ◌∷◌, Option, Some, None, refl}
-use Rattle.std.specs.declared.cmp.{Ordering.{Ordering}, Ordering.TheVariants.{Less, Equal, Greater}}
-use Rattle.std.specs.{Ordering.{match_ordering, is_eq, ordering_reverse}, BTreeMap.{insert_entry}}
-use Rattle.std.specs.{Cmp.{IsTotalOrder, tied_itself, alike_right}, List.{AllByRecursion}, List.Sorted.{IsStrictlySortedBy}}
-use Rattle.std.specs.Map.{keys_of, set_value}
-use Rattle.std.proofs.Common.{sym, ap, ◌∙◌, subst, true≢false}
-use Rattle.std.proofs.lemmas.Bool.{cond_both}
+use Rattle.std.specs.{declared.cmp.Ordering.{Ordering}, declared.cmp.Ordering.TheVariants.{Less, Equal, Greater}, Ordering.{match_ordering}}
+use Rattle.std.specs.{Ordering.{is_eq, ordering_reverse}, BTreeMap.{insert_entry}, Cmp.{IsTotalOrder, tied_itself, alike_right}}
+use Rattle.std.specs.{List.{AllByRecursion}, List.Sorted.{IsStrictlySortedBy}, Map.{keys_of, set_value}}
+use Rattle.std.proofs.{Common.{sym, ap, ◌∙◌, subst, true≢false}, lemmas.Bool.{cond_both}}
 use Rattle.join_map.specs.{Join.{JoinLaws}, Entries.{value_at, AllValid, IsJoinMap, put_entry, joined, joined_at, one_entry}}
 
 -- ---- options

@@ -1,9 +1,7 @@
 -- What follows from the laws of a join, and that taking the greater of two values is one.
-use Rattle.std.specs.Prelude.{◌≡◌, false, refl}
-use Rattle.std.specs.declared.cmp.{Ordering.{Ordering}, Ordering.TheVariants.{Less, Equal, Greater}}
-use Rattle.std.specs.{Ordering.{match_ordering, ordering_reverse, is_gt}, Cmp.{IsTotalOrder}}
-use Rattle.std.proofs.lemmas.Cmp.{upto}
-use Rattle.std.proofs.Common.{sym, ap, ◌∙◌, true≢false}
+use Rattle.std.specs.{Prelude.{◌≡◌, false, refl}, declared.cmp.Ordering.{Ordering}, declared.cmp.Ordering.TheVariants.{Less, Equal}}
+use Rattle.std.specs.{declared.cmp.Ordering.TheVariants.{Greater}, Ordering.{match_ordering, ordering_reverse, is_gt}, Cmp.{IsTotalOrder}}
+use Rattle.std.proofs.{lemmas.Cmp.{upto}, Common.{sym, ap, ◌∙◌, true≢false}}
 use Rattle.join_map.specs.Join.{JoinLaws, IsAtMost, IsPartOfJoin, greater_of}
 
 module _ {A : Type 0} {Valid : A → Type 0} {join : A → A → A} (laws : JoinLaws Valid join) where

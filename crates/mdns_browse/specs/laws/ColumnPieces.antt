@@ -1,8 +1,6 @@
 -- Columns obey the laws of sheets.
-use Rattle.std.specs.Prelude.{◌++◌, string_bytes}
-use Rattle.std.specs.List.{flat_map}
-use Rattle.std.proofs.Common.{sym, ap, ◌∙◌, append_assoc, append-nil, refl}
-use Rattle.std.proofs.lemmas.Grind.{flat_map-append}
+use Rattle.std.specs.{Prelude.{◌++◌, string_bytes}, List.{flat_map}}
+use Rattle.std.proofs.{Common.{sym, ap, ◌∙◌, append_assoc, append-nil, refl}, lemmas.Grind.{flat_map-append}}
 use Rattle.mdns_browse.specs.{ColumnPieces.{Writes, piece_columns}, Sheet.{TakeLaws}}
 
 pub columns-laws : TakeLaws Writes

@@ -1,8 +1,6 @@
 -- Strings obey the laws of sheets and of sinks of words.
-use Rattle.std.specs.Prelude.{ℕ, List, ◌++◌, string_bytes}
-use Rattle.std.specs.List.{flat_map}
-use Rattle.std.proofs.Common.{sym, ap, ◌∙◌, append_assoc, append-nil}
-use Rattle.std.proofs.lemmas.Grind.{flat_map-append}
+use Rattle.std.specs.{Prelude.{ℕ, List, ◌++◌, string_bytes}, List.{flat_map}}
+use Rattle.std.proofs.{Common.{sym, ap, ◌∙◌, append_assoc, append-nil}, lemmas.Grind.{flat_map-append}}
 use Rattle.mdns_browse.specs.Sheet.{TakeLaws, writes}
 
 pub writes-laws : {A P : Type 0} (text_of : P → List ℕ) → TakeLaws (writes {A = A} text_of)

@@ -1,7 +1,6 @@
 -- The test of equal contents is symmetric and transitive.
-use Rattle.std.specs.Prelude.{ℕ, List}
-use Rattle.std.specs.Cmp.{IsPartialEquivalence, and_per, on_per, on_equiv, nat_eq_equiv, eq_by_cmp_equiv, partial_equiv_from_equiv}
-use Rattle.std.specs.Cmp.Lexicographic.{lists_per, options_equiv, nat_list_eq_equiv}
+use Rattle.std.specs.{Prelude.{ℕ, List}, Cmp.{IsPartialEquivalence, and_per, on_per, on_equiv, nat_eq_equiv, eq_by_cmp_equiv}}
+use Rattle.std.specs.{Cmp.{partial_equiv_from_equiv}, Cmp.Lexicographic.{lists_per, options_equiv, nat_list_eq_equiv}}
 use Rattle.mdns_capture.specs.declared.moment.Moment.{Moment}
 use Rattle.mdns_message.specs.{declared.key.Key.{Key}, RecordSet.{RecordSet}, laws.Resource.{key_cmp-total, set_key_cmp-total}}
 use Rattle.mdns_join.specs.{declared.latest.Latest.{Latest}, laws.Latest.{latest_cmp-total}}

@@ -1,13 +1,11 @@
 -- Laws of `kept` and `union`: only membership counts, and no dropped moment is ever needed again.
-use Rattle.std.specs.Prelude.{◌≡◌, ℕ, ◌+◌, ◌<◌, ◌≤◌, Bool, true, false, ◌||◌, ◌&&◌, ◌==◌, nat_lt, nat_le, cond, ◌⊎◌}
-use Rattle.std.specs.Prelude.{◌↔◌, List, [], ◌∷◌, ◌++◌}
-use Rattle.std.specs.List.{filter}
+use Rattle.std.specs.Prelude.{◌≡◌, ℕ, ◌+◌, ◌<◌, ◌≤◌, Bool, true, false, ◌||◌, ◌&&◌, ◌==◌, nat_lt, nat_le}
+use Rattle.std.specs.{Prelude.{cond, ◌⊎◌, ◌↔◌, List, [], ◌∷◌, ◌++◌}, List.{filter}}
 use Rattle.std.proofs.Common.{refl, sym, ap, ◌∙◌, subst, inl, inr, arith, true≢false, ltb-true, leb-true, leb-false}
 use Rattle.std.proofs.Common.{le-leb, eqb-true, eq-eqb}
 use Rattle.std.proofs.lemmas.{Bool.{or_cases, and_parts, and_from, cases_Bool, cases_lt, cond_both}, Bool.Decides.{nat_tests}}
 use Rattle.mdns_capture.specs.{declared.moment.Moment.{Moment}, Limits.{second}}
-use Rattle.mdns_join.specs.Nanos.{nanos_of}
-use Rattle.mdns_join.specs.Kept.{has, newest, IsKept, IsAscendingAbove, IsAscending, put, ascending, union, older_of}
+use Rattle.mdns_join.specs.{Nanos.{nanos_of}, Kept.{has, newest, IsKept, IsAscendingAbove, IsAscending, put, ascending, union, older_of}}
 use Rattle.mdns_join.specs.Kept.{is_kept, kept, IsKeptList, kept_union, IsStruckBy, IsStale}
 use Rattle.join_map.specs.Join.{JoinLaws}
 

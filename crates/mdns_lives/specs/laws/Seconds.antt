@@ -1,9 +1,7 @@
 -- Seconds are joined by laws.
-use Rattle.std.specs.Prelude.{◌≡◌}
-use Rattle.std.specs.{declared.cmp.Ordering.TheVariants.{Equal}, Ordering.{nat_cmp}}
+use Rattle.std.specs.{Prelude.{◌≡◌}, declared.cmp.Ordering.TheVariants.{Equal}, Ordering.{nat_cmp}}
 use Rattle.std.specs.Cmp.{IsTotalOrder, nat_cmp_total, on_total, then_total, back_total}
-use Rattle.std.proofs.Common.{sym}
-use Rattle.std.proofs.lemmas.Map.Lookups.{exact_unsigned}
+use Rattle.std.proofs.{Common.{sym}, lemmas.Map.Lookups.{exact_unsigned}}
 use Rattle.mdns_message.specs.laws.Resource.{both_tie}
 use Rattle.mdns_join.specs.laws.Latest.{moment-same}
 use Rattle.mdns_capture.specs.declared.moment.Moment.{Moment}

@@ -1,8 +1,7 @@
 use Rattle.std.proofs.{Common.{◌≡◌, ◌*◌, ◌<◌, Some, arith}, lemmas.Fmt.{IsAscii-from_digits}, lemmas.Str.{IsUtf8-from_ascii}}
 use Rattle.std.proofs.lemmas.Str.Parse.{digits_value_short, not_in_digits, parse_digits, parse_plain}
 use Rattle.command_line.specs.MomentReading.{fraction_of}
-use Rattle.command_line.proofs.FractionLemmas.{own, read, unread}
-use Rattle.command_line.proofs.moments.fraction_of.Goals.{then-digits-gt9-via-then-digits-gt9}
+use Rattle.command_line.proofs.{FractionLemmas.{own, read, unread}, moments.fraction_of.Goals.{then-digits-gt9-via-then-digits-gt9}}
 use Rattle.command_line.proofs.moments.fraction_of.Goals.{then-digits-gt9-via-else-digits-gt9+then-byte_at-eq43}
 use Rattle.command_line.proofs.moments.fraction_of.Goals as goal
 

@@ -1,5 +1,4 @@
-use Rattle.std.proofs.Common.{arith, ap}
-use Rattle.std.proofs.lemmas.Result.{err_from_is_err_and}
+use Rattle.std.proofs.{Common.{arith, ap}, lemmas.Result.{err_from_is_err_and}}
 use Rattle.dns_name.specs.Name.{bytes_text}
 use Rattle.dns_name.proofs.FrontLemmas.{Reaches-more, stops-at, drop_one}
 use Rattle.dns_name.proofs.name_text.push_escaped.Goals as goal

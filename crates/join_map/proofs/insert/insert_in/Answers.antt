@@ -1,5 +1,4 @@
-use Rattle.std.proofs.Common.{arith}
-use Rattle.std.proofs.lemmas.List.{get_or_read}
+use Rattle.std.proofs.{Common.{arith}, lemmas.List.{get_or_read}}
 use Rattle.join_map.proofs.{BlockLemmas.{entries_of-inserted, entries_of-same, filled-read, filled-set, some-inserted}, PutLemmas.{on_err}}
 use Rattle.join_map.proofs.insert.insert_in.Goals as goal
 

@@ -1,5 +1,4 @@
-use Rattle.std.proofs.Common.{arith}
-use Rattle.std.proofs.lemmas.List.{map_push}
+use Rattle.std.proofs.{Common.{arith}, lemmas.List.{map_push}}
 use Rattle.join_map.proofs.OrderLemmas.{order-more}
 use Rattle.join_map.proofs.order.all_places.Goals as goal
 

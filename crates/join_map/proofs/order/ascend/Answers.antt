@@ -1,5 +1,4 @@
-use Rattle.std.proofs.Common.{◌≡◌, Less, get_or, rules}
-use Rattle.std.proofs.lemmas.List.{get_or_default}
+use Rattle.std.proofs.{Common.{◌≡◌, Less, get_or, rules}, lemmas.List.{get_or_default}}
 use Rattle.join_map.proofs.OrderLemmas.{ascend-end, ascend-none, ascend-step}
 use Rattle.join_map.proofs.order.ascend.Goals as goal
 

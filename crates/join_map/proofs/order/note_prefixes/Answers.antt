@@ -1,5 +1,4 @@
-use Rattle.std.proofs.Common.{arith}
-use Rattle.std.proofs.lemmas.List.{length-set}
+use Rattle.std.proofs.{Common.{arith}, lemmas.List.{length-set}}
 use Rattle.join_map.proofs.OrderLemmas.{places_of-set}
 use Rattle.join_map.proofs.order.note_prefixes.Goals as goal
 

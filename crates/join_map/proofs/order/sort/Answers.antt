@@ -1,6 +1,5 @@
-use Rattle.std.proofs.Common.{subst}
+use Rattle.std.proofs.{Common.{subst}, lemmas.List.Sorted.{IsPermutation-map, IsPermutation-trans}}
 use Rattle.std.specs.List.Sorted.{IsPermutation}
-use Rattle.std.proofs.lemmas.List.Sorted.{IsPermutation-map, IsPermutation-trans}
 use Rattle.join_map.specs.Blocks.{places_of}
 use Rattle.join_map.proofs.order.sort.Goals as goal
 

@@ -1,6 +1,5 @@
-use Rattle.std.proofs.Common.{rules, subst, sym}
+use Rattle.std.proofs.{Common.{rules, subst, sym}, lemmas.List.Sorted.{IsPermutation-trans}}
 use Rattle.std.specs.List.Sorted.{IsPermutation}
-use Rattle.std.proofs.lemmas.List.Sorted.{IsPermutation-trans}
 use Rattle.join_map.proofs.order.sort_by_prefixes.Goals.{then-count_run-order, else-count_run-order}
 use Rattle.join_map.proofs.order.sort_by_prefixes.Goals as goal
 

@@ -1,5 +1,4 @@
-use Rattle.std.proofs.Common.{arith}
-use Rattle.std.proofs.lemmas.List.Sorted.{IsPermutation-map}
+use Rattle.std.proofs.{Common.{arith}, lemmas.List.Sorted.{IsPermutation-map}}
 use Rattle.join_map.proofs.order.sort_tied.Goals as goal
 
 pub returns : goal.returns

@@ -1,5 +1,4 @@
-use Rattle.std.proofs.Common.{arith, length-drop}
-use Rattle.std.proofs.lemmas.List.Sorted.{IsPermutation-trans}
+use Rattle.std.proofs.{Common.{arith, length-drop}, lemmas.List.Sorted.{IsPermutation-trans}}
 use Rattle.join_map.proofs.OrderLemmas.{part-length, part-sorted}
 use Rattle.join_map.proofs.order.sort_ties.Goals as goal
 

@@ -1,5 +1,4 @@
-use Rattle.std.proofs.Common.{length, rules, sym, subst}
-use Rattle.std.proofs.lemmas.Result.{IfOk-weaker}
+use Rattle.std.proofs.{Common.{length, rules, sym, subst}, lemmas.Result.{IfOk-weaker}}
 use Rattle.join_map.specs.Blocks.{places_of, IsOrder}
 use Rattle.join_map.proofs.OrderLemmas.{order-permutation}
 use Rattle.join_map.proofs.order.sorted_places.Goals as goal

@@ -1,6 +1,5 @@
-use Rattle.std.proofs.Common.{sym, ◌∙◌, ap}
+use Rattle.std.proofs.{Common.{sym, ◌∙◌, ap}, lemmas.Result.{IfOk-weaker}}
 use Rattle.std.specs.List.{list_any}
-use Rattle.std.proofs.lemmas.Result.{IfOk-weaker}
 use Rattle.mdns_message.specs.Parts.{content_lent}
 use Rattle.mdns_browse.specs.About.{is_in_content}
 use Rattle.mdns_browse.proofs.about_data.is_in_content.Goals as goal

@@ -1,5 +1,4 @@
-use Rattle.std.proofs.Common.{sym, ◌∙◌}
-use Rattle.std.proofs.lemmas.Result.{IfOk-weaker}
+use Rattle.std.proofs.{Common.{sym, ◌∙◌}, lemmas.Result.{IfOk-weaker}}
 use Rattle.mdns_message.specs.Parts.{service_lent}
 use Rattle.mdns_browse.proofs.AboutLemmas.{or-first, or-rest, service-parts}
 use Rattle.mdns_browse.proofs.about_data.is_in_service.Goals as goal

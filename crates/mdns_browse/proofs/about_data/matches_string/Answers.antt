@@ -1,5 +1,4 @@
-use Rattle.std.proofs.Common.{arith, sym, ◌∙◌}
-use Rattle.std.proofs.lemmas.{Bool.{false≢true}, Result.{IfOk-weaker}}
+use Rattle.std.proofs.{Common.{arith, sym, ◌∙◌}, lemmas.Bool.{false≢true}, lemmas.Result.{IfOk-weaker}}
 use Rattle.mdns_browse.proofs.AboutLemmas.{string-empty, string-word}
 use Rattle.mdns_browse.proofs.about_data.matches_string.Goals as goal
 

@@ -1,5 +1,4 @@
-use Rattle.std.proofs.Common.{arith}
-use Rattle.std.proofs.lemmas.Result.{IfOk-weaker}
+use Rattle.std.proofs.{Common.{arith}, lemmas.Result.{IfOk-weaker}}
 use Rattle.mdns_browse.proofs.AboutLemmas.{rest-name, rest-none, rest-wire}
 use Rattle.mdns_browse.proofs.about_names.matches_rest.Goals as goal
 

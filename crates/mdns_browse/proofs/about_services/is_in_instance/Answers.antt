@@ -1,5 +1,4 @@
-use Rattle.std.proofs.Common.{◌∙◌, map, arith}
-use Rattle.std.proofs.lemmas.Result.{IfOk-weaker}
+use Rattle.std.proofs.{Common.{◌∙◌, map, arith}, lemmas.Result.{IfOk-weaker}}
 use Rattle.mdns_cache.specs.LentRecords.{last_lent}
 use Rattle.mdns_browse.proofs.{AboutLemmas.{any_rest}, AboutServiceLemmas.{by-name, by-servers, by-type}}
 use Rattle.mdns_browse.proofs.about_services.is_in_instance.Goals as goal

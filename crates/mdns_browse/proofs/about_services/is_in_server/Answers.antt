@@ -1,5 +1,4 @@
-use Rattle.std.proofs.Common.{sym, ◌∙◌, ap, map}
-use Rattle.std.proofs.lemmas.Result.{IfOk-weaker}
+use Rattle.std.proofs.{Common.{sym, ◌∙◌, ap, map}, lemmas.Result.{IfOk-weaker}}
 use Rattle.std.specs.List.{list_any}
 use Rattle.mdns_cache.specs.LentRecords.{last_lent}
 use Rattle.mdns_browse.specs.{About.{is_name_about}, Services.{body_of}}

@@ -1,5 +1,4 @@
-use Rattle.std.proofs.Common.{arith}
-use Rattle.std.proofs.lemmas.Result.{on_ok_weaker}
+use Rattle.std.proofs.{Common.{arith}, lemmas.Result.{on_ok_weaker}}
 use Rattle.mdns_browse.proofs.ColumnLemmas.{padded_by_parts}
 use Rattle.mdns_browse.proofs.columns.push_padded_time_left.Goals as goal
 

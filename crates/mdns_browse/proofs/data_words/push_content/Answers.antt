@@ -1,5 +1,4 @@
-use Rattle.std.proofs.Common.{sym, subst, [], ◌∷◌}
-use Rattle.std.proofs.lemmas.Result.{on_ok_weaker}
+use Rattle.std.proofs.{Common.{sym, subst, [], ◌∷◌}, lemmas.Result.{on_ok_weaker}}
 use Rattle.std.specs.Fmt.{decimal}
 use Rattle.dns_name.specs.Name.{name_text}
 use Rattle.mdns_message.specs.Parts.{content_lent}

@@ -1,5 +1,4 @@
-use Rattle.std.proofs.Common.{arith}
-use Rattle.std.proofs.lemmas.{Fmt.{decimal_digit}, List.{drop-set}}
+use Rattle.std.proofs.{Common.{arith}, lemmas.Fmt.{decimal_digit}, lemmas.List.{drop-set}}
 use Rattle.mdns_browse.proofs.DigitLemmas.{length_one, length_two, decimal_two}
 use Rattle.mdns_browse.proofs.digits.write_first.Goals as goal
 

@@ -1,5 +1,4 @@
-use Rattle.std.proofs.Common.{arith}
-use Rattle.std.proofs.lemmas.Grind.{common_steps}
+use Rattle.std.proofs.{Common.{arith}, lemmas.Grind.{common_steps}}
 use Rattle.mdns_browse.proofs.format.prepend_placed_group.Goals as goal
 
 pub returns-then-group-gt0-clause-written : goal.returns-then-group-gt0-clause-written

@@ -1,5 +1,4 @@
-use Rattle.std.proofs.lemmas.{Grind.{common_steps}, List.{map-append}}
-use Rattle.std.proofs.Common.{arith, refl}
+use Rattle.std.proofs.{lemmas.Grind.{common_steps}, lemmas.List.{map-append}, Common.{arith, refl}}
 use Rattle.mdns_browse.specs.Services.{lasts_in}
 use Rattle.mdns_browse.proofs.{KeptLemmas.{given-append, givers, lasts-append}, ListLemmas.{left_all, left_more}}
 use Rattle.mdns_browse.proofs.given_rows.gather.Goals as goal

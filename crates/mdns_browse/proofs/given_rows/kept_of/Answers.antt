@@ -1,5 +1,4 @@
-use Rattle.std.proofs.lemmas.Grind.{common_steps}
-use Rattle.std.proofs.Common.{rules, ◌≡◌, ◌∙◌, ap, ◌==◌, true, length, map, arith}
+use Rattle.std.proofs.{lemmas.Grind.{common_steps}, Common.{rules, ◌≡◌, ◌∙◌, ap, ◌==◌, true, length, map, arith}}
 use Rattle.mdns_cache.specs.LentRecords.{last_lent}
 use Rattle.mdns_browse.specs.Given.{given_lent}
 use Rattle.mdns_browse.proofs.{InstanceLemmas.{kept-append, kept-none}, ListLemmas.{made_all, made_more}}

@@ -1,6 +1,5 @@
-use Rattle.std.proofs.Common.{sym, ◌∙◌, ap, subst, map, max, length, [], ◌++◌}
+use Rattle.std.proofs.{Common.{sym, ◌∙◌, ap, subst, map, max, length, [], ◌++◌}, lemmas.List.{length-map}}
 use Rattle.std.specs.{List.{filter, flat_map}, String.{string_bytes}}
-use Rattle.std.proofs.lemmas.List.{length-map}
 use Rattle.mdns_capture.specs.declared.moment.Moment.{Moment}
 use Rattle.mdns_cache.specs.LentRecords.{last_lent, live_record_lent}
 use Rattle.mdns_browse.specs.{About.{keeps_instance}, Given.{given_lent}, ColumnPieces.{piece_columns, rows_pieces}}

@@ -1,5 +1,4 @@
-use Rattle.std.proofs.Common.{map}
-use Rattle.std.proofs.lemmas.Result.{on_ok_weaker}
+use Rattle.std.proofs.{Common.{map}, lemmas.Result.{on_ok_weaker}}
 use Rattle.mdns_cache.specs.LentRecords.{last_lent}
 use Rattle.mdns_browse.specs.{Given.{given_lent}, ColumnPieces.{type_pieces}, Sheet.{instance_pieces}, laws.ColumnPieces.{columns-laws}}
 use Rattle.mdns_browse.proofs.InstanceLemmas.{row_named}

@@ -1,5 +1,4 @@
-use Rattle.std.proofs.Common.{arith}
-use Rattle.std.proofs.lemmas.Result.{IfOk-weaker}
+use Rattle.std.proofs.{Common.{arith}, lemmas.Result.{IfOk-weaker}}
 use Rattle.mdns_browse.specs.About.{keeps_instance}
 use Rattle.mdns_browse.proofs.AboutLemmas.{keeps-all, keeps-some}
 use Rattle.mdns_browse.proofs.keeps.keeps_heard_instance.Goals as goal

@@ -1,5 +1,4 @@
-use Rattle.std.proofs.Common.{arith, sym, ◌∙◌}
-use Rattle.std.proofs.lemmas.Result.{IfOk-weaker}
+use Rattle.std.proofs.{Common.{arith, sym, ◌∙◌}, lemmas.Result.{IfOk-weaker}}
 use Rattle.mdns_browse.specs.About.{keeps_type}
 use Rattle.mdns_browse.proofs.AboutLemmas.{keeps-all, keeps-some}
 use Rattle.mdns_browse.proofs.keeps.keeps_type.Goals as goal

@@ -1,5 +1,4 @@
-use Rattle.std.proofs.Common.{arith, ℕ, List, ◌++◌, ◌∷◌, [], codes, ◌≡◌}
-use Rattle.std.proofs.lemmas.List.{append_assoc, take_all}
+use Rattle.std.proofs.{Common.{arith, ℕ, List, ◌++◌, ◌∷◌, [], codes, ◌≡◌}, lemmas.List.{append_assoc, take_all}}
 use Rattle.mdns_message.specs.{Resource.{type_name, type_of}, declared.resource.Resource.{Resource}}
 use Rattle.mdns_lives.specs.declared.life.Life.{Life}
 use Rattle.people_text.specs.MomentText.{millis_text}

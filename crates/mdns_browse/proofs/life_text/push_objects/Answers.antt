@@ -1,5 +1,4 @@
-use Rattle.std.proofs.Common.{arith}
-use Rattle.std.proofs.lemmas.List.{take_all}
+use Rattle.std.proofs.{Common.{arith}, lemmas.List.{take_all}}
 use Rattle.mdns_browse.proofs.ObjectLemmas.{life_by_both}
 use Rattle.mdns_browse.proofs.life_text.push_objects.Goals as goal
 

@@ -1,6 +1,5 @@
-use Rattle.std.proofs.Common.{rules, length, take, drop, ◌-◌}
+use Rattle.std.proofs.{Common.{rules, length, take, drop, ◌-◌}, lemmas.List.Sorted.{IsPartitionPoint-from_clause}}
 use Rattle.std.specs.Ordering.{is_lt, is_le}
-use Rattle.std.proofs.lemmas.List.Sorted.{IsPartitionPoint-from_clause}
 use Rattle.mdns_message.specs.Resource.{type_number}
 use Rattle.mdns_cache.specs.{Live.{key_of_last}, LentRecords.{last_lent}, declared.cache.Last.{Last}}
 use Rattle.mdns_browse.specs.Services.{set_for}

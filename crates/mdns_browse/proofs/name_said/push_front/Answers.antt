@@ -1,5 +1,4 @@
-use Rattle.std.proofs.Common.{arith, string_bytes}
-use Rattle.std.proofs.lemmas.Result.{IfOk-equal, IfOk-weaker}
+use Rattle.std.proofs.{Common.{arith, string_bytes}, lemmas.Result.{IfOk-equal, IfOk-weaker}}
 use Rattle.dns_name.proofs.FormLemmas.{IsForm-after, IsForm-last, labels_of-after}
 use Rattle.mdns_browse.proofs.SaidLemmas.{front-written}
 use Rattle.mdns_browse.proofs.name_said.push_front.Goals as goal

@@ -1,5 +1,4 @@
-use Rattle.std.proofs.lemmas.Grind.{common_steps}
-use Rattle.std.proofs.Common.{arith, ◌++◌, ap, append-nil, sym, ◌∙◌, string_bytes}
+use Rattle.std.proofs.{lemmas.Grind.{common_steps}, Common.{arith, ◌++◌, ap, append-nil, sym, ◌∙◌, string_bytes}}
 use Rattle.dns_name.specs.Name.{labels_of}
 use Rattle.dns_name.proofs.FormLemmas.{IsForm-after, IsForm-last, labels_of-after}
 use Rattle.mdns_browse.proofs.SaidLemmas.{further_said, label-written}

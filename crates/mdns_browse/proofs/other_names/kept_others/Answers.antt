@@ -1,5 +1,4 @@
-use Rattle.std.proofs.lemmas.Grind.{common_steps}
-use Rattle.std.proofs.Common.{arith, rules, is_some}
+use Rattle.std.proofs.{lemmas.Grind.{common_steps}, Common.{arith, rules, is_some}}
 use Rattle.mdns_browse.proofs.{KeptLemmas.{others_about-append}, ListLemmas.{left_all, left_more, left_same}}
 use Rattle.mdns_browse.proofs.other_names.kept_others.Goals as goal
 

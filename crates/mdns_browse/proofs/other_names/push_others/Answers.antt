@@ -1,5 +1,4 @@
-use Rattle.std.proofs.Common.{rules, ◌≡◌, ◌==◌, false, length, ◌++◌, codes}
-use Rattle.std.proofs.lemmas.Result.{on_ok_weaker}
+use Rattle.std.proofs.{Common.{rules, ◌≡◌, ◌==◌, false, length, ◌++◌, codes}, lemmas.Result.{on_ok_weaker}}
 use Rattle.std.specs.String.{string_bytes}
 use Rattle.mdns_cache.specs.LentRecords.{live_record_lent}
 use Rattle.mdns_browse.proofs.InstanceColumnLemmas.{others-some}

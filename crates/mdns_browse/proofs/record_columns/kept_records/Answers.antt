@@ -1,5 +1,4 @@
-use Rattle.std.proofs.lemmas.Grind.{common_steps}
-use Rattle.std.proofs.Common.{arith, rules}
+use Rattle.std.proofs.{lemmas.Grind.{common_steps}, Common.{arith, rules}}
 use Rattle.mdns_browse.proofs.{KeptLemmas.{records_about-append}, ListLemmas.{left_all, left_more}}
 use Rattle.mdns_browse.proofs.record_columns.kept_records.Goals as goal
 

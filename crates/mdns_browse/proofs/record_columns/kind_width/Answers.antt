@@ -1,5 +1,4 @@
-use Rattle.std.proofs.lemmas.Grind.{common_steps}
-use Rattle.std.proofs.Common.{arith}
+use Rattle.std.proofs.{lemmas.Grind.{common_steps}, Common.{arith}}
 use Rattle.mdns_browse.proofs.ColumnLemmas.{lent_width-more, widest-none}
 use Rattle.mdns_browse.proofs.record_columns.kind_width.Goals as goal
 

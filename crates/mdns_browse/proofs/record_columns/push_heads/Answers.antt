@@ -1,5 +1,4 @@
-use Rattle.std.proofs.Common.{arith}
-use Rattle.std.proofs.lemmas.Grind.{common_steps}
+use Rattle.std.proofs.{Common.{arith}, lemmas.Grind.{common_steps}}
 use Rattle.mdns_browse.proofs.ColumnLemmas.{heads_by_parts}
 use Rattle.mdns_browse.proofs.record_columns.push_heads.Goals as goal
 

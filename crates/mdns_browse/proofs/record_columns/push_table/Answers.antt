@@ -1,5 +1,4 @@
-use Rattle.std.proofs.Common.{arith}
-use Rattle.std.proofs.lemmas.{List.{length-map}, Result.{on_ok_weaker}}
+use Rattle.std.proofs.{Common.{arith}, lemmas.List.{length-map}, lemmas.Result.{on_ok_weaker}}
 use Rattle.mdns_browse.proofs.ColumnLemmas.{table_by_parts}
 use Rattle.mdns_browse.proofs.record_columns.push_table.Goals as goal
 

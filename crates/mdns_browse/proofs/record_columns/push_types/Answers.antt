@@ -1,5 +1,4 @@
-use Rattle.std.proofs.Common.{rules, ◌≡◌, ◌==◌, false, length, ◌++◌, ◌∷◌, []}
-use Rattle.std.proofs.lemmas.Result.{on_ok_weaker}
+use Rattle.std.proofs.{Common.{rules, ◌≡◌, ◌==◌, false, length, ◌++◌, ◌∷◌, []}, lemmas.Result.{on_ok_weaker}}
 use Rattle.std.specs.String.{string_bytes}
 use Rattle.mdns_browse.proofs.ColumnLemmas.{report-some}
 use Rattle.mdns_browse.proofs.record_columns.push_types.Goals as goal

@@ -1,5 +1,4 @@
-use Rattle.std.proofs.lemmas.Grind.{common_steps}
-use Rattle.std.proofs.Common.{arith, rules}
+use Rattle.std.proofs.{lemmas.Grind.{common_steps}, Common.{arith, rules}}
 use Rattle.mdns_browse.proofs.{KeptLemmas.{types_about-append}, ListLemmas.{left_all, left_more, left_same}}
 use Rattle.mdns_browse.proofs.record_columns.type_names.Goals as goal
 

@@ -1,5 +1,4 @@
-use Rattle.std.proofs.Common.{arith, ap, append-nil, sym, ◌∙◌, ◌++◌, string_bytes}
-use Rattle.std.proofs.lemmas.Result.{IfOk-equal}
+use Rattle.std.proofs.{Common.{arith, ap, append-nil, sym, ◌∙◌, ◌++◌, string_bytes}, lemmas.Result.{IfOk-equal}}
 use Rattle.dns_name.proofs.FormLemmas.{IsForm-last, labels_of-after}
 use Rattle.people_text.specs.Shown.{bytes_shown}
 use Rattle.mdns_browse.specs.RecordShown.{shown_instance}

@@ -1,5 +1,4 @@
-use Rattle.std.proofs.Common.{arith, sym, subst}
-use Rattle.std.proofs.lemmas.Result.{on_ok_weaker}
+use Rattle.std.proofs.{Common.{arith, sym, subst}, lemmas.Result.{on_ok_weaker}}
 use Rattle.mdns_browse.specs.Sheet.{report_pieces}
 use Rattle.mdns_browse.proofs.RowLemmas.{ascending_lasts}
 use Rattle.mdns_browse.proofs.report_walk.walk.Goals as goal

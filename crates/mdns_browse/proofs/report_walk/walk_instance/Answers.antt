@@ -1,5 +1,4 @@
-use Rattle.std.proofs.Common.{◌++◌, [], ◌∷◌, map}
-use Rattle.std.proofs.lemmas.Result.{on_ok_weaker}
+use Rattle.std.proofs.{Common.{◌++◌, [], ◌∷◌, map}, lemmas.Result.{on_ok_weaker}}
 use Rattle.mdns_cache.specs.LentRecords.{last_lent}
 use Rattle.mdns_browse.specs.{Given.{given_lent}, Services.{servers_in, texts_in}}
 use Rattle.mdns_browse.specs.Sheet.{instance_begin, instance_text, instance_end, servers_pieces}

@@ -1,5 +1,4 @@
-use Rattle.std.proofs.Common.{sym, ◌∙◌, ap, subst, map}
-use Rattle.std.proofs.lemmas.Result.{on_ok_weaker}
+use Rattle.std.proofs.{Common.{sym, ◌∙◌, ap, subst, map}, lemmas.Result.{on_ok_weaker}}
 use Rattle.std.specs.List.{filter, flat_map}
 use Rattle.mdns_cache.specs.LentRecords.{last_lent}
 use Rattle.mdns_browse.specs.{About.{keeps_instance}, Given.{given_lent}}

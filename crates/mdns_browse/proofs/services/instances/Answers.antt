@@ -1,5 +1,4 @@
-use Rattle.std.proofs.Common.{◌∙◌, ap, sym, subst, map}
-use Rattle.std.proofs.lemmas.Result.{IfOk-weaker}
+use Rattle.std.proofs.{Common.{◌∙◌, ap, sym, subst, map}, lemmas.Result.{IfOk-weaker}}
 use Rattle.mdns_cache.specs.LentRecords.{last_lent}
 use Rattle.mdns_browse.specs.{Given.{given_lent}, Services.{AreAscending, lasts_in}}
 use Rattle.mdns_browse.proofs.{InstanceLemmas.{instances-shown, only, shown_in}, RowLemmas.{ascending_lasts}}

@@ -1,5 +1,4 @@
-use Rattle.std.proofs.Common.{arith}
-use Rattle.std.proofs.lemmas.{Bool.{false_from_ne_true}, Bool.Decides.{same_from_decides}}
+use Rattle.std.proofs.{Common.{arith}, lemmas.Bool.{false_from_ne_true}, lemmas.Bool.Decides.{same_from_decides}}
 use Rattle.mdns_browse.proofs.NameLemmas.{instance-decides, instance-from, instance-rest, test-begins}
 use Rattle.mdns_browse.proofs.services.is_instance_of.Goals as goal
 

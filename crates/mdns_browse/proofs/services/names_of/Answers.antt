@@ -1,5 +1,4 @@
-use Rattle.std.proofs.lemmas.Grind.{common_steps}
-use Rattle.std.proofs.Common.{arith, refl}
+use Rattle.std.proofs.{lemmas.Grind.{common_steps}, Common.{arith, refl}}
 use Rattle.mdns_browse.specs.Services.{lasts_in, types_in}
 use Rattle.mdns_browse.proofs.{KeptLemmas.{types-append}, ListLemmas.{left_all, left_more, left_same}}
 use Rattle.mdns_browse.proofs.services.names_of.Goals as goal

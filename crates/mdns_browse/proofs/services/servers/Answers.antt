@@ -1,5 +1,4 @@
-use Rattle.std.proofs.lemmas.Grind.{common_steps}
-use Rattle.std.proofs.Common.{option_map, ◌∙◌, ap, sym, ℕ, List, map, ◌++◌, [], ◌∷◌, arith}
+use Rattle.std.proofs.{lemmas.Grind.{common_steps}, Common.{option_map, ◌∙◌, ap, sym, ℕ, List, map, ◌++◌, [], ◌∷◌, arith}}
 use Rattle.std.specs.List.{cons_option}
 use Rattle.mdns_message.specs.Resource.{Body}
 use Rattle.mdns_cache.specs.LentRecords.{last_lent}

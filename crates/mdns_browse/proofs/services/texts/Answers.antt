@@ -1,5 +1,4 @@
-use Rattle.std.proofs.lemmas.Grind.{common_steps}
-use Rattle.std.proofs.Common.{◌∙◌, ap, sym, ◌++◌, [], ◌∷◌, arith}
+use Rattle.std.proofs.{lemmas.Grind.{common_steps}, Common.{◌∙◌, ap, sym, ◌++◌, [], ◌∷◌, arith}}
 use Rattle.std.specs.List.{cons_option}
 use Rattle.mdns_cache.specs.LentRecords.{last_lent}
 use Rattle.mdns_browse.proofs.{InstanceLemmas.{texts-append, texts_of}, ListLemmas.{made_all, made_more, made_same}}

@@ -1,6 +1,5 @@
-use Rattle.std.proofs.Common.{sym, ap, ◌∙◌}
+use Rattle.std.proofs.{Common.{sym, ap, ◌∙◌}, lemmas.Cmp.{tied_itself}}
 use Rattle.std.specs.Ordering.{is_eq}
-use Rattle.std.proofs.lemmas.Cmp.{tied_itself}
 use Rattle.join_map.specs.laws.Entries.{is_Equal}
 use Rattle.mdns_cache.proofs.equal.tells_apart.Goals as goal
 

@@ -1,5 +1,4 @@
-use Rattle.std.proofs.Common.{arith, append_assoc, append-nil}
-use Rattle.std.proofs.lemmas.List.{nil_from_length}
+use Rattle.std.proofs.{Common.{arith, append_assoc, append-nil}, lemmas.List.{nil_from_length}}
 use Rattle.mdns_cache.proofs.GatheringLemmas.{valid_pushed}
 use Rattle.mdns_cache.proofs.gathering.moments_of.Goals as goal
 

@@ -1,5 +1,4 @@
-use Rattle.std.proofs.Common.{arith}
-use Rattle.std.proofs.lemmas.Result.{IfOk-weaker}
+use Rattle.std.proofs.{Common.{arith}, lemmas.Result.{IfOk-weaker}}
 use Rattle.mdns_cache.proofs.plan.+replay.Goals as goal
 
 pub returns-in_ok-other-in-Both : goal.returns-in_ok-other-in-Both

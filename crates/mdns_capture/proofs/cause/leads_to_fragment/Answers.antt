@@ -1,5 +1,4 @@
-use Rattle.std.proofs.Common.{arith}
-use Rattle.std.proofs.lemmas.List.{take_rest}
+use Rattle.std.proofs.{Common.{arith}, lemmas.List.{take_rest}}
 use Rattle.mdns_capture.proofs.ExtensionLemmas.{cut_short, cut_within, last_header, one_header}
 use Rattle.mdns_capture.proofs.cause.leads_to_fragment.Goals as goal
 

@@ -1,5 +1,4 @@
-use Rattle.std.proofs.Common.{◌≤◌, arith, length, take}
-use Rattle.std.proofs.lemmas.List.{length-take, length-take-le}
+use Rattle.std.proofs.{Common.{◌≤◌, arith, length, take}, lemmas.List.{length-take, length-take-le}}
 use Rattle.mdns_capture.proofs.HeaderLemmas.{IfSome-stop_came, IsPacketOrEnd-came, TakesAtMost-both, TakesAtMost-more, packet_by-undamaged}
 use Rattle.mdns_capture.proofs.savefile.read_packet.Goals as goal
 

@@ -1,5 +1,4 @@
-use Rattle.std.proofs.Common.{List, refl, sym, ap, ◌∙◌, subst}
-use Rattle.std.proofs.lemmas.List.Filters.{dedup_is}
+use Rattle.std.proofs.{Common.{List, refl, sym, ap, ◌∙◌, subst}, lemmas.List.Filters.{dedup_is}}
 use Rattle.mdns_capture.specs.declared.moment.Moment.{Moment}
 use Rattle.mdns_join.specs.{Kept.{IsAscending, kept}, Nanos.{nanos_of}}
 use Rattle.mdns_join.proofs.LateLemmas.{sorted_ascend, sorted_kept}

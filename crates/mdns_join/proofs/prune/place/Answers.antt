@@ -1,5 +1,4 @@
-use Rattle.std.proofs.Common.{nat_lt, rules}
-use Rattle.std.proofs.lemmas.List.Sorted.{IsPartitionPoint-from_clause}
+use Rattle.std.proofs.{Common.{nat_lt, rules}, lemmas.List.Sorted.{IsPartitionPoint-from_clause}}
 use Rattle.mdns_capture.specs.declared.moment.Moment.{Moment}
 use Rattle.mdns_join.proofs.MomentLemmas.{place_of-point, ascending_point}
 use Rattle.mdns_join.proofs.prune.place.Goals as goal

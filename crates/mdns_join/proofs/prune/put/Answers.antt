@@ -1,5 +1,4 @@
-use Rattle.std.proofs.Common.{arith, ◌≡◌, ◌+◌, List, length, take, insert, sym, ap, ◌∙◌, subst}
-use Rattle.std.proofs.lemmas.List.{take_rest}
+use Rattle.std.proofs.{Common.{arith, ◌≡◌, ◌+◌, List, length, take, insert, sym, ap, ◌∙◌, subst}, lemmas.List.{take_rest}}
 use Rattle.mdns_capture.specs.declared.moment.Moment.{Moment}
 use Rattle.mdns_join.specs.{Kept.{IsAscending}, laws.Kept.{IsAscending-from_kept, IsAscending-union}}
 use Rattle.mdns_join.proofs.MomentLemmas.{put_at_place, kept_dropped}

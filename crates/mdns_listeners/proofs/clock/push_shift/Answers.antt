@@ -1,5 +1,4 @@
-use Rattle.std.proofs.Common.{◌≡◌, ◌++◌, ap, ◌∙◌, ℤ, SFits, w64, string_bytes}
-use Rattle.std.proofs.lemmas.Int.{to_z-of_z}
+use Rattle.std.proofs.{Common.{◌≡◌, ◌++◌, ap, ◌∙◌, ℤ, SFits, w64, string_bytes}, lemmas.Int.{to_z-of_z}}
 use Rattle.std.specs.Prelude.{neg_ℤ}
 use Rattle.mdns_listeners.specs.{Clock.{shift_words}, Seconds.{signed_text}}
 use Rattle.mdns_listeners.proofs.TextLemmas.{three_appended}

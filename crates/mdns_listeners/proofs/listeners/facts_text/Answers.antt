@@ -1,5 +1,4 @@
-use Rattle.std.proofs.Common.{◌∙◌, List, ap, map, subst}
-use Rattle.std.proofs.lemmas.Result.{IfOk-weaker}
+use Rattle.std.proofs.{Common.{◌∙◌, List, ap, map, subst}, lemmas.Result.{IfOk-weaker}}
 use Rattle.mdns_listeners.specs.{declared.senders.SenderRow.{SenderRow}, Facts.{listeners_text}, Listeners.{AreNamed}, Named.{sender_lent}}
 use Rattle.mdns_listeners.proofs.listeners.facts_text.Goals as goal
 

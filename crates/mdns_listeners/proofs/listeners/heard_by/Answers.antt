@@ -1,5 +1,4 @@
-use Rattle.std.proofs.Common.{◌∙◌, ap, length, string_bytes, sym}
-use Rattle.std.proofs.lemmas.List.{length-map}
+use Rattle.std.proofs.{Common.{◌∙◌, ap, length, string_bytes, sym}, lemmas.List.{length-map}}
 use Rattle.mdns_survey.specs.Surveys.{all_hearings}
 use Rattle.mdns_listeners.proofs.ListenersLemmas.{spans-as}
 use Rattle.mdns_listeners.proofs.listeners.heard_by.Goals as goal

@@ -1,5 +1,4 @@
-use Rattle.std.proofs.Common.{◌∙◌}
-use Rattle.std.proofs.lemmas.Result.{IfOk-weaker}
+use Rattle.std.proofs.{Common.{◌∙◌}, lemmas.Result.{IfOk-weaker}}
 use Rattle.mdns_survey.specs.Surveys.{all_hearings}
 use Rattle.mdns_listeners.proofs.ListenersLemmas.{says-as}
 use Rattle.mdns_listeners.proofs.listeners.text_of.Goals as goal

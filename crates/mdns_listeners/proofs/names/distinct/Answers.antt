@@ -1,6 +1,5 @@
-use Rattle.std.proofs.Common.{rules}
+use Rattle.std.proofs.{Common.{rules}, lemmas.Fn.{dedup_same}}
 use Rattle.std.specs.Ordering.{is_eq}
-use Rattle.std.proofs.lemmas.Fn.{dedup_same}
 use Rattle.mdns_listeners.specs.{declared.names.SenderAddressName.{SenderAddressName}, Names.{by_name}}
 use Rattle.mdns_listeners.proofs.HeldNameLemmas.{kept_ascend, kept_covers}
 use Rattle.mdns_listeners.proofs.names.distinct.Goals as goal

@@ -1,6 +1,5 @@
-use Rattle.std.proofs.Common.{rules}
+use Rattle.std.proofs.{Common.{rules}, lemmas.List.Sorted.{ranks_by, answers_always}}
 use Rattle.std.specs.Ordering.{is_lt}
-use Rattle.std.proofs.lemmas.List.Sorted.{ranks_by, answers_always}
 use Rattle.mdns_listeners.specs.{declared.names.SenderAddressName.{SenderAddressName}, Names.{by_spelling}}
 use Rattle.mdns_listeners.proofs.HeldNameLemmas.{by_spelling-total}
 use Rattle.mdns_listeners.proofs.names.sort.Goals as goal

@@ -1,5 +1,4 @@
-use Rattle.std.proofs.Common.{◌-◌, arith}
-use Rattle.std.proofs.lemmas.List.Sorted.{IsPermutation-put_mid, IsPermutation-trans, length_permutation}
+use Rattle.std.proofs.{Common.{◌-◌, arith}, lemmas.List.Sorted.{IsPermutation-put_mid, IsPermutation-trans, length_permutation}}
 use Rattle.mdns_listeners.proofs.order.+sort_by_words.Goals as goal
 
 pub loop-begin-preserved-then-end-begin-gt1 : goal.loop-begin-preserved-then-end-begin-gt1

@@ -1,6 +1,5 @@
-use Rattle.std.proofs.Common.{◌≡◌, rules}
+use Rattle.std.proofs.{Common.{◌≡◌, rules}, lemmas.List.Sorted.{answers_always, ranks_by}}
 use Rattle.std.specs.{Cmp.Lexicographic.{nat_list_cmp_total}, Ordering.{is_lt}}
-use Rattle.std.proofs.lemmas.List.Sorted.{answers_always, ranks_by}
 use Rattle.mdns_listeners.specs.Kept.{KeptMessage, is_below}
 use Rattle.mdns_listeners.proofs.order.sort_by_bytes.Goals as goal
 

@@ -1,5 +1,4 @@
-use Rattle.std.proofs.Common.{arith}
-use Rattle.std.proofs.lemmas.{Grind.{common_steps}, List.Elements.{filter_map-append}}
+use Rattle.std.proofs.{Common.{arith}, lemmas.Grind.{common_steps}, lemmas.List.Elements.{filter_map-append}}
 use Rattle.mdns_listeners.proofs.pairs.differences.Goals as goal
 
 pub loop-mark-preserved : goal.loop-mark-preserved

@@ -1,5 +1,4 @@
-use Rattle.std.proofs.Common.{◌∙◌, [], None, ap, length}
-use Rattle.std.proofs.lemmas.List.FromFn.{length-map-range_with_len}
+use Rattle.std.proofs.{Common.{◌∙◌, [], None, ap, length}, lemmas.List.FromFn.{length-map-range_with_len}}
 use Rattle.mdns_listeners.specs.{Marks.{marks_by}, Numbers.{FileSpans}, Pairs.{pair_rows}}
 use Rattle.mdns_listeners.proofs.PairLemmas.{listener_more}
 use Rattle.mdns_listeners.proofs.pairs.pair_rows.Goals as goal

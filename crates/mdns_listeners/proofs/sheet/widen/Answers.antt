@@ -1,5 +1,4 @@
-use Rattle.std.proofs.Common.{arith}
-use Rattle.std.proofs.lemmas.Grind.{common_steps}
+use Rattle.std.proofs.{Common.{arith}, lemmas.Grind.{common_steps}}
 use Rattle.mdns_listeners.proofs.TableLemmas.{widened-more}
 use Rattle.mdns_listeners.proofs.sheet.widen.Goals as goal
 

@@ -1,5 +1,4 @@
-use Rattle.std.proofs.Common.{arith}
-use Rattle.std.proofs.lemmas.{Grind.{common_steps}, List.Elements.{filter-append}}
+use Rattle.std.proofs.{Common.{arith}, lemmas.Grind.{common_steps}, lemmas.List.Elements.{filter-append}}
 use Rattle.mdns_listeners.proofs.together.keep_together.Goals as goal
 
 pub loop-row-preserved : goal.loop-row-preserved

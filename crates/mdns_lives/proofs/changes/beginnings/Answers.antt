@@ -1,5 +1,4 @@
-use Rattle.std.proofs.Common.{arith}
-use Rattle.std.proofs.lemmas.{Grind.{common_steps}, List.{take_more}}
+use Rattle.std.proofs.{Common.{arith}, lemmas.Grind.{common_steps}, lemmas.List.{take_more}}
 use Rattle.mdns_lives.proofs.changes.beginnings.Goals as goal
 
 pub loop-row-preserved : goal.loop-row-preserved

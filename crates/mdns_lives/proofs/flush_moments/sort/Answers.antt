@@ -1,5 +1,4 @@
-use Rattle.std.proofs.Common.{sym, ◌∙◌, refl}
-use Rattle.std.proofs.lemmas.List.Filters.{dedup_is}
+use Rattle.std.proofs.{Common.{sym, ◌∙◌, refl}, lemmas.List.Filters.{dedup_is}}
 use Rattle.mdns_join.specs.{Kept.{ascending}, laws.Kept.{has-ascending, same_ascending, IsAscending-ascending}, Nanos.{nanos_of}}
 use Rattle.mdns_join.proofs.LateLemmas.{sorted_ascend}
 use Rattle.mdns_lives.proofs.SortedLemmas.{unlike-has, same_nanos, nanos-equiv}

@@ -1,5 +1,4 @@
-use Rattle.std.proofs.Common.{sym, ◌∙◌, inl, inr, arith, rules}
-use Rattle.std.proofs.lemmas.List.{length-set}
+use Rattle.std.proofs.{Common.{sym, ◌∙◌, inl, inr, arith, rules}, lemmas.List.{length-set}}
 use Rattle.mdns_lives.proofs.ThinLemmas.{kept_behind, kept_in_place}
 use Rattle.mdns_lives.proofs.RoomLemmas.{kept_sparse_in_place, kept_sparse_behind, kept_sparse_first}
 use Rattle.mdns_lives.proofs.history.keep.Goals.{else-left-gt-SHORT-via-then-left-gt-SHORT+then-kept-ge2+else-second}

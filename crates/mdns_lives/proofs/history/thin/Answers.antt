@@ -1,5 +1,4 @@
-use Rattle.std.proofs.Common.{arith}
-use Rattle.std.proofs.lemmas.List.Sorted.{length_permutation}
+use Rattle.std.proofs.{Common.{arith}, lemmas.List.Sorted.{length_permutation}}
 use Rattle.mdns_lives.proofs.{RoomLemmas.{few}, SecondsLemmas.{seconds_of-ends, seconds_of-moved}, SortedLemmas.{AreInOrder-from_sorted}}
 use Rattle.mdns_lives.proofs.ThinLemmas.{AreEndsOf-moved, AreEndsOf-onward, all_kept}
 use Rattle.mdns_lives.proofs.history.thin.Goals as goal

@@ -1,6 +1,5 @@
-use Rattle.std.proofs.Common.{◌+◌, rules}
+use Rattle.std.proofs.{Common.{◌+◌, rules}, lemmas.List.Sorted.{IsPartitionPoint-from_clause}}
 use Rattle.std.specs.Prelude.{nat_le}
-use Rattle.std.proofs.lemmas.List.Sorted.{IsPartitionPoint-from_clause}
 use Rattle.mdns_capture.specs.{declared.moment.Moment.{Moment}, Limits.{second}}
 use Rattle.mdns_cache.specs.LentRecords.{AreEarlyUpTo}
 use Rattle.mdns_cache.proofs.FirstLaterLemmas.{early_first}

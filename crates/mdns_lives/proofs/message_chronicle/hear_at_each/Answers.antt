@@ -1,5 +1,4 @@
-use Rattle.std.proofs.Common.{arith}
-use Rattle.std.proofs.lemmas.Result.{on_ok_weaker}
+use Rattle.std.proofs.{Common.{arith}, lemmas.Result.{on_ok_weaker}}
 use Rattle.mdns_lives.proofs.{HearingLemmas.{chronicles-each}, MessageChronicleLemmas.{chronicles-no_moment}}
 use Rattle.mdns_lives.proofs.message_chronicle.hear_at_each.Goals as goal
 

@@ -1,5 +1,4 @@
-use Rattle.std.proofs.lemmas.{Grind.{common_steps}, List.{at_drop_all}}
-use Rattle.std.proofs.Common.{arith}
+use Rattle.std.proofs.{lemmas.Grind.{common_steps}, lemmas.List.{at_drop_all}, Common.{arith}}
 use Rattle.mdns_lives.proofs.HeardLemmas.{seconds_from-over}
 use Rattle.mdns_lives.proofs.seconds_heard.push_seconds.Goals as goal
 

@@ -1,5 +1,4 @@
-use Rattle.std.proofs.Common.{arith}
-use Rattle.std.proofs.lemmas.Result.{err_from_is_err_and}
+use Rattle.std.proofs.{Common.{arith}, lemmas.Result.{err_from_is_err_and}}
 use Rattle.mdns_message.proofs.RunLemmas.{Run-more, run_fails}
 use Rattle.mdns_message.proofs.message.questions.Goals as goal
 

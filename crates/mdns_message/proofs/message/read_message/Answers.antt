@@ -1,5 +1,4 @@
-use Rattle.std.proofs.Common.{arith}
-use Rattle.std.proofs.lemmas.Result.{IfErr-at_err, IfErr-weaker}
+use Rattle.std.proofs.{Common.{arith}, lemmas.Result.{IfErr-at_err, IfErr-weaker}}
 use Rattle.mdns_message.proofs.FaultKindLemmas.{first_fault, never_of_header}
 use Rattle.mdns_message.proofs.message.read_message.Goals as goal
 

@@ -1,5 +1,4 @@
-use Rattle.std.proofs.Common.{arith}
-use Rattle.std.proofs.lemmas.Result.{err_from_is_err_and}
+use Rattle.std.proofs.{Common.{arith}, lemmas.Result.{err_from_is_err_and}}
 use Rattle.mdns_message.proofs.SectionLemmas.{all_sections, front_sections, last_section_fails}
 use Rattle.mdns_message.proofs.message.sections.Goals as goal
 

@@ -1,5 +1,4 @@
-use Rattle.std.proofs.Common.{arith, ◌∙◌, ◌+◌, ap, option_map, sym, string_bytes}
-use Rattle.std.proofs.lemmas.Bool.{false≢true}
+use Rattle.std.proofs.{Common.{arith, ◌∙◌, ◌+◌, ap, option_map, sym, string_bytes}, lemmas.Bool.{false≢true}}
 use Rattle.mdns_survey.proofs.SaidLemmas.{no-names, no-summaries, so_far-all, so_far-ends, so_far-first, so_far-more}
 use Rattle.mdns_survey.proofs.error_lines.say_endings.Goals as goal
 

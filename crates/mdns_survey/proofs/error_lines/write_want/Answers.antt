@@ -1,5 +1,4 @@
-use Rattle.std.proofs.Common.{codes, subst}
-use Rattle.std.proofs.lemmas.Result.{on_err_weaker}
+use Rattle.std.proofs.{Common.{codes, subst}, lemmas.Result.{on_err_weaker}}
 use Rattle.std.specs.Io.KnownBytes.{Appends}
 use Rattle.mdns_capture.specs.Output.{AppendsPrefix}
 use Rattle.mdns_survey.proofs.SaidLemmas.{prefix-after, prefix-of-more}

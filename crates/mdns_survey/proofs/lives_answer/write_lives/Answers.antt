@@ -1,5 +1,4 @@
-use Rattle.std.proofs.Common.{◌∙◌, ◌++◌, List, string_bytes, subst, sym}
-use Rattle.std.proofs.lemmas.Result.{IfErr-weaker, on_ok_weaker}
+use Rattle.std.proofs.{Common.{◌∙◌, ◌++◌, List, string_bytes, subst, sym}, lemmas.Result.{IfErr-weaker, on_ok_weaker}}
 use Rattle.std.specs.{Io.KnownBytes.{Appends}, List.{flat_map}}
 use Rattle.mdns_capture.specs.Output.{writing}
 use Rattle.mdns_lives.specs.Chronicle.{rows_of}

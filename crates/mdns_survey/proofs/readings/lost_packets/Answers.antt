@@ -1,5 +1,4 @@
-use Rattle.std.proofs.Common.{arith, refl}
-use Rattle.std.proofs.lemmas.{List.{take_all}, List.Sums.{sum_by_more}}
+use Rattle.std.proofs.{Common.{arith, refl}, lemmas.List.{take_all}, lemmas.List.Sums.{sum_by_more}}
 use Rattle.mdns_survey.proofs.ListenedLemmas.{lost-counted}
 use Rattle.mdns_survey.proofs.readings.lost_packets.Goals as goal
 

@@ -1,5 +1,4 @@
-use Rattle.std.proofs.Common.{arith}
-use Rattle.std.proofs.lemmas.List.Sums.{sum_by_more}
+use Rattle.std.proofs.{Common.{arith}, lemmas.List.Sums.{sum_by_more}}
 use Rattle.mdns_survey.proofs.readings.skipped_packets.Goals as goal
 
 pub loop-reading-preserved : goal.loop-reading-preserved

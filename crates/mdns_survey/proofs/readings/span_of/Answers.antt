@@ -1,5 +1,4 @@
-use Rattle.std.proofs.lemmas.{Grind.{common_steps}, List.{take_all, take_more}}
-use Rattle.std.proofs.Common.{arith, refl}
+use Rattle.std.proofs.{lemmas.Grind.{common_steps}, lemmas.List.{take_all, take_more}, Common.{arith, refl}}
 use Rattle.mdns_survey.proofs.SpanLemmas.{all_spans, all_spans-are, all_spans-more}
 use Rattle.mdns_survey.proofs.readings.span_of.Goals as goal
 

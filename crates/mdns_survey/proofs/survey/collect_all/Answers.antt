@@ -1,5 +1,4 @@
-use Rattle.std.proofs.lemmas.Grind.{common_steps}
-use Rattle.std.proofs.Common.{◌≡◌, rules, arith, ap, ◌∙◌, ◌++◌, length}
+use Rattle.std.proofs.{lemmas.Grind.{common_steps}, Common.{◌≡◌, rules, arith, ap, ◌∙◌, ◌++◌, length}}
 use Rattle.mdns_survey.proofs.ListenedLemmas.{listened-nothing, listened-more}
 use Rattle.mdns_survey.proofs.SurveyLemmas.{blames-reader, counted-more, first-fails, left-more, sound-more}
 use Rattle.mdns_survey.proofs.survey.collect_all.Goals as goal

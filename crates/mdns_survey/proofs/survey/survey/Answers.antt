@@ -1,5 +1,4 @@
-use Rattle.std.proofs.Common.{rules}
-use Rattle.std.proofs.lemmas.Result.{IfErr-weaker, IfOk-weaker}
+use Rattle.std.proofs.{Common.{rules}, lemmas.Result.{IfErr-weaker, IfOk-weaker}}
 use Rattle.mdns_survey.proofs.SurveyLemmas.{refuses-plain, surveys-plain}
 use Rattle.mdns_survey.proofs.survey.survey.Goals as goal
 

@@ -1,5 +1,4 @@
-use Rattle.std.proofs.Common.{◌≢◌, [], ◌∙◌, Some, ap, sym}
-use Rattle.std.proofs.lemmas.Bool.{false≢true}
+use Rattle.std.proofs.{Common.{◌≢◌, [], ◌∙◌, Some, ap, sym}, lemmas.Bool.{false≢true}}
 use Rattle.mdns_survey.specs.{declared.reading.Span.{Span}, Outcomes.{ComesTo, heard}}
 use Rattle.mdns_trace.proofs.SpanLemmas.{hearings-at}
 use Rattle.mdns_trace.proofs.span_line.span_of_found.Goals as goal

@@ -1,5 +1,4 @@
-use Rattle.std.proofs.Common.{◌∙◌}
-use Rattle.std.proofs.lemmas.Bool.{false≢true}
+use Rattle.std.proofs.{Common.{◌∙◌}, lemmas.Bool.{false≢true}}
 use Rattle.mdns_trace.proofs.SpanLemmas.{line-broken, line-made}
 use Rattle.mdns_trace.proofs.span_line.write_span.Goals as goal
 

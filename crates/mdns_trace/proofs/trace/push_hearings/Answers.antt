@@ -1,5 +1,4 @@
-use Rattle.std.proofs.Common.{refl}
-use Rattle.std.proofs.lemmas.Result.{IfOk-weaker}
+use Rattle.std.proofs.{Common.{refl}, lemmas.Result.{IfOk-weaker}}
 use Rattle.mdns_trace.proofs.trace.push_hearings.Goals as goal
 
 pub returns-in-Heard : goal.returns-in-Heard

@@ -1,5 +1,4 @@
-use Rattle.std.proofs.Common.{◌∙◌, ◌+◌, ◌++◌, List, ap, drop, string_bytes, sym}
-use Rattle.std.proofs.lemmas.List.{drop_more}
+use Rattle.std.proofs.{Common.{◌∙◌, ◌+◌, ◌++◌, List, ap, drop, string_bytes, sym}, lemmas.List.{drop_more}}
 use Rattle.std.specs.List.{flat_map}
 use Rattle.mdns_browse.specs.Json.{parted}
 use Rattle.mdns_trace.specs.{declared.loss.Loss.{Loss}, VerdictJson.{loss_objects}}

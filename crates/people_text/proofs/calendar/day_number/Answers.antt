@@ -1,5 +1,4 @@
-use Rattle.std.proofs.Common.{rules, arith}
-use Rattle.std.proofs.lemmas.Grind.{common_steps}
+use Rattle.std.proofs.{Common.{rules, arith}, lemmas.Grind.{common_steps}}
 use Rattle.people_text.specs.Calendar.{day_number}
 use Rattle.people_text.proofs.calendar.day_number.Goals as goal
 

@@ -1,5 +1,4 @@
-use Rattle.std.proofs.Common.{refl}
-use Rattle.std.proofs.NetLemmas.Texts.{IsZeroRun-longest_zero_run, longest_zero_run_first}
+use Rattle.std.proofs.{Common.{refl}, NetLemmas.Texts.{IsZeroRun-longest_zero_run, longest_zero_run_first}}
 use Rattle.people_text.proofs.laws.zero_run.Goals as goal
 
 pub returns-clause-longest : goal.returns-clause-longest

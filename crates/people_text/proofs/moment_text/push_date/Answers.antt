@@ -1,5 +1,4 @@
-use Rattle.std.proofs.Common.{◌≡◌, ℕ, refl, string_bytes, arith}
-use Rattle.std.proofs.lemmas.Result.{IfOk-equal}
+use Rattle.std.proofs.{Common.{◌≡◌, ℕ, refl, string_bytes, arith}, lemmas.Result.{IfOk-equal}}
 use Rattle.people_text.specs.{Calendar.{IsDate}, MomentText.{date_text, date_written, days_to}}
 use Rattle.people_text.proofs.CalendarLemmas.{day_of-date, month_length-few, month_of-date, year_of-date}
 use Rattle.people_text.proofs.moment_text.push_date.Goals as goal

@@ -1,5 +1,4 @@
-use Rattle.std.proofs.Common.{◌≡◌, ℕ, ◌∷◌, ◌++◌, refl, string_bytes, arith}
-use Rattle.std.proofs.lemmas.Result.{IfOk-equal}
+use Rattle.std.proofs.{Common.{◌≡◌, ℕ, ◌∷◌, ◌++◌, refl, string_bytes, arith}, lemmas.Result.{IfOk-equal}}
 use Rattle.people_text.specs.{Calendar.{IsDate}, MomentText.{days_to, month_day_text, two_digits}}
 use Rattle.people_text.proofs.CalendarLemmas.{day_of-date, month_length-few, month_of-date}
 use Rattle.people_text.proofs.moment_text.push_month_day.Goals as goal

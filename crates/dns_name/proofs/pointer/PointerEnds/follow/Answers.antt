@@ -1,5 +1,4 @@
-use Rattle.std.proofs.Common.{vec_len, slice_index, refl, arith}
-use Rattle.std.proofs.lemmas.Grind.{get_or_default_zero}
+use Rattle.std.proofs.{Common.{vec_len, slice_index, refl, arith}, lemmas.Grind.{get_or_default_zero}}
 use Rattle.dns_name.specs.Pointer.PointersLead.{there}
 use Rattle.dns_name.proofs.PointerLemmas.{ends_here, lead_before}
 use Rattle.dns_name.proofs.pointer.PointerEnds.follow.Goals as goal

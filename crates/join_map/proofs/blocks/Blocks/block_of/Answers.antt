@@ -1,9 +1,8 @@
 use Rattle.std.proofs.Common.{ℕ, List, ◌≡◌, ◌<◌, ◌≤◌, ◌+◌, ◌-◌, ◌/◌, length, drop, take, refl, sym, ◌∙◌, subst, arith}
 use Rattle.std.proofs.lemmas.List.{drop_all}
 use Rattle.join_map.specs.Blocks.{AllAbove, AllBelow, ArePlaces, block_at, entries_of, rows}
-use Rattle.join_map.proofs.BlockLemmas.{filled_at}
-use Rattle.join_map.proofs.KeyLemmas.{above_from_block, below_upto_block, above_later, middle_below, Less-from, not_Less-from}
-use Rattle.join_map.proofs.PlaceLemmas.{entry_is, filled-rows, length-rows, row_is}
+use Rattle.join_map.proofs.{BlockLemmas.{filled_at}, KeyLemmas.{above_from_block, below_upto_block, above_later, middle_below, Less-from}}
+use Rattle.join_map.proofs.{KeyLemmas.{not_Less-from}, PlaceLemmas.{entry_is, filled-rows, length-rows, row_is}}
 use Rattle.join_map.proofs.blocks.Blocks.block_of.Goals as goal
 
 pub loop-low-init : goal.loop-low-init

@@ -1,5 +1,4 @@
-use Rattle.std.proofs.Common.{arith}
-use Rattle.std.proofs.lemmas.List.{get_or_read}
+use Rattle.std.proofs.{Common.{arith}, lemmas.List.{get_or_read}}
 use Rattle.join_map.proofs.PlaceLemmas.{count-rows, length-rows}
 use Rattle.join_map.proofs.blocks.Blocks.count.Goals as goal
 

@@ -1,5 +1,4 @@
-use Rattle.std.proofs.Common.{◌<◌, ◌∙◌, [], length, ap, sym, subst, arith, rules}
-use Rattle.std.proofs.lemmas.List.{get_or_default, get_or_read}
+use Rattle.std.proofs.{Common.{◌<◌, ◌∙◌, [], length, ap, sym, subst, arith, rules}, lemmas.List.{get_or_default, get_or_read}}
 use Rattle.join_map.specs.Blocks.{IsSpot}
 use Rattle.std.specs.Prelude.{slice_index_or}
 use Rattle.join_map.proofs.PlaceLemmas.{IsEntry-rows, place-within, spot-rows}

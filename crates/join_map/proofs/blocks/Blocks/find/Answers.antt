@@ -1,5 +1,4 @@
-use Rattle.std.proofs.lemmas.Grind.{common_steps}
-use Rattle.std.proofs.Common.{refl, arith}
+use Rattle.std.proofs.{lemmas.Grind.{common_steps}, Common.{refl, arith}}
 use Rattle.join_map.specs.Blocks.{block_at}
 use Rattle.join_map.proofs.{KeyLemmas.{sorted_block, IsAt-offset, IsFree-offset}, PlaceLemmas.{length-rows, row_is}}
 use Rattle.join_map.proofs.blocks.Blocks.find.Goals as goal

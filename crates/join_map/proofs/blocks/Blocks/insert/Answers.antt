@@ -1,5 +1,4 @@
-use Rattle.std.proofs.lemmas.Grind.{common_steps}
-use Rattle.std.proofs.Common.{arith, sym, ◌∙◌, subst}
+use Rattle.std.proofs.{lemmas.Grind.{common_steps}, Common.{arith, sym, ◌∙◌, subst}}
 use Rattle.join_map.specs.Blocks.{IsGap}
 use Rattle.join_map.proofs.PlaceLemmas.{ArePlaces-kept, ArePlaces-more, gap-rows, inserted-rows, kept-rows, untouched}
 use Rattle.join_map.proofs.blocks.Blocks.insert.Goals as goal

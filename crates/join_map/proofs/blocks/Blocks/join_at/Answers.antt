@@ -1,7 +1,5 @@
-use Rattle.std.proofs.Common.{◌<◌, ◌∙◌, [], length, ap, sym, subst, arith}
-use Rattle.std.specs.{List.Sorted.{IsStrictlySortedBy}, Map.{keys_of}}
-use Rattle.std.specs.Prelude.{slice_index_or}
-use Rattle.std.proofs.lemmas.List.{get_or_default, get_or_read}
+use Rattle.std.proofs.{Common.{◌<◌, ◌∙◌, [], length, ap, sym, subst, arith}, lemmas.List.{get_or_default, get_or_read}}
+use Rattle.std.specs.{List.Sorted.{IsStrictlySortedBy}, Map.{keys_of}, Prelude.{slice_index_or}}
 use Rattle.join_map.specs.Blocks.{IsSpot, entries_of}
 use Rattle.join_map.proofs.PlaceLemmas.{ArePlaces-set, IsRewritten-rows, place-within, spot-rows}
 use Rattle.join_map.proofs.blocks.Blocks.join_at.Goals as goal

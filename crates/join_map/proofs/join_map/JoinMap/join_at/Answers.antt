@@ -1,6 +1,5 @@
-use Rattle.std.proofs.Common.{arith}
+use Rattle.std.proofs.{Common.{arith}, lemmas.Result.{on_ok_weaker, on_err_weaker}}
 use Rattle.join_map.specs.Blocks.{entries_of}
-use Rattle.std.proofs.lemmas.Result.{on_ok_weaker, on_err_weaker}
 use Rattle.join_map.proofs.SpotLemmas.{inserted_map, joined_ok, joined_err, joined_map, put_ok_at, kept_part}
 use Rattle.join_map.proofs.join_map.JoinMap.join_at.Goals as goal
 

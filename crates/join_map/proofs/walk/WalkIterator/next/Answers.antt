@@ -1,5 +1,4 @@
-use Rattle.std.proofs.lemmas.Grind.{common_steps}
-use Rattle.std.proofs.Common.{arith}
+use Rattle.std.proofs.{lemmas.Grind.{common_steps}, Common.{arith}}
 use Rattle.join_map.proofs.{BlockLemmas.{none_from}, WalkLemmas.{none_left, open_first, open_next, open_still, place_left}}
 use Rattle.join_map.proofs.walk.WalkIterator.next.Goals.{then-is_empty+in_ok-block, else-is_empty}
 use Rattle.join_map.proofs.walk.WalkIterator.next.Goals as goal

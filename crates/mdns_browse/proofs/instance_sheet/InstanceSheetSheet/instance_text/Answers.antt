@@ -1,5 +1,4 @@
-use Rattle.std.proofs.Common.{arith}
-use Rattle.std.proofs.lemmas.Result.{on_ok_weaker}
+use Rattle.std.proofs.{Common.{arith}, lemmas.Result.{on_ok_weaker}}
 use Rattle.mdns_browse.proofs.InstanceColumnLemmas.{text_line-some}
 use Rattle.mdns_browse.proofs.instance_sheet.InstanceSheetSheet.instance_text.Goals as goal
 

@@ -1,5 +1,4 @@
-use Rattle.std.proofs.Common.{◌∙◌, ap, ◌++◌}
-use Rattle.std.proofs.lemmas.Result.{on_ok_weaker}
+use Rattle.std.proofs.{Common.{◌∙◌, ap, ◌++◌}, lemmas.Result.{on_ok_weaker}}
 use Rattle.std.specs.{Fmt.{decimal}, String.{string_bytes}}
 use Rattle.dns_name.specs.Name.{name_text}
 use Rattle.mdns_message.specs.Resource.{type_name, type_of}

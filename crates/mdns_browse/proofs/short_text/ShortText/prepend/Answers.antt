@@ -1,5 +1,4 @@
-use Rattle.std.proofs.Common.{◌≡◌, ◌-◌, ◌++◌, length, drop, arith}
-use Rattle.std.proofs.lemmas.{Grind.{common_steps}, Str.{IsUtf8-append}}
+use Rattle.std.proofs.{Common.{◌≡◌, ◌-◌, ◌++◌, length, drop, arith}, lemmas.Grind.{common_steps}, lemmas.Str.{IsUtf8-append}}
 use borrow.Rule.Slice.PartMut.{put_mid}
 use Rattle.mdns_browse.proofs.short_text.ShortText.prepend.Goals as goal
 

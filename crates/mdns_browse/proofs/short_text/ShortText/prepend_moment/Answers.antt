@@ -1,5 +1,4 @@
-use Rattle.std.proofs.Common.{◌/◌, length, ap, arith, append_assoc, length-append}
-use Rattle.std.proofs.lemmas.Fmt.{length-decimal-le}
+use Rattle.std.proofs.{Common.{◌/◌, length, ap, arith, append_assoc, length-append}, lemmas.Fmt.{length-decimal-le}}
 use Rattle.std.specs.Fmt.{decimal}
 use Rattle.mdns_capture.specs.{Limits.{second}, Text.{moment_text}}
 use Rattle.mdns_browse.proofs.short_text.ShortText.prepend_moment.Goals as goal

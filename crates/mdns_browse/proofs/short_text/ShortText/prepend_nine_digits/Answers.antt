@@ -1,5 +1,4 @@
-use Rattle.std.proofs.Common.{arith, append_assoc, length-append}
-use Rattle.std.proofs.lemmas.Fmt.{length-decimal-le}
+use Rattle.std.proofs.{Common.{arith, append_assoc, length-append}, lemmas.Fmt.{length-decimal-le}}
 use Rattle.std.specs.Fmt.{decimal}
 use Rattle.mdns_browse.proofs.DigitLemmas.{zeros_cut}
 use Rattle.mdns_browse.proofs.short_text.ShortText.prepend_nine_digits.Goals as goal

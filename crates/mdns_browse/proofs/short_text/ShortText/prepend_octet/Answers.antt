@@ -1,5 +1,4 @@
-use Rattle.std.proofs.Common.{arith, length-drop}
-use Rattle.std.proofs.lemmas.Str.{IsUtf8-append, IsUtf8-from_ascii}
+use Rattle.std.proofs.{Common.{arith, length-drop}, lemmas.Str.{IsUtf8-append, IsUtf8-from_ascii}}
 use Rattle.mdns_browse.specs.RecordText.{hex_octet}
 use Rattle.mdns_browse.proofs.DigitLemmas.{IsAscii-hex_octet}
 use Rattle.mdns_browse.proofs.short_text.ShortText.prepend_octet.Goals as goal

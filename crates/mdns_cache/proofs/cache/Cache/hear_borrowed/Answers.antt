@@ -1,5 +1,4 @@
-use Rattle.std.proofs.Common.{sym, ◌∙◌, subst}
-use Rattle.std.proofs.lemmas.Result.{on_ok_weaker, on_err_weaker}
+use Rattle.std.proofs.{Common.{sym, ◌∙◌, subst}, lemmas.Result.{on_ok_weaker, on_err_weaker}}
 use Rattle.mdns_message.specs.Borrowed.{hearing_lent}
 use Rattle.join_map.specs.Join.{IsPartOfJoin}
 use Rattle.mdns_cache.specs.Contents.{IsContents, join_of, contents_of}

@@ -1,5 +1,4 @@
-use Rattle.std.proofs.Common.{sym, subst}
-use Rattle.std.proofs.lemmas.Result.{IfOk-weaker}
+use Rattle.std.proofs.{Common.{sym, subst}, lemmas.Result.{IfOk-weaker}}
 use Rattle.mdns_cache.specs.Live.{AreLiveRows}
 use Rattle.mdns_cache.proofs.LiveRowLemmas.{AreLiveRows-from_records}
 use Rattle.mdns_cache.proofs.cache.Cache.live.Goals as goal

@@ -1,5 +1,4 @@
-use Rattle.std.proofs.Common.{arith}
-use Rattle.std.proofs.lemmas.Result.{IfOk-weaker}
+use Rattle.std.proofs.{Common.{arith}, lemmas.Result.{IfOk-weaker}}
 use Rattle.mdns_cache.proofs.cache.Cache.live_records.Goals as goal
 
 pub returns : goal.returns

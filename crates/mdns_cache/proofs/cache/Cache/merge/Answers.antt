@@ -1,5 +1,4 @@
-use Rattle.std.proofs.Common.{arith, ◌≡◌, subst}
-use Rattle.std.proofs.lemmas.Result.{on_ok_weaker, on_err_weaker}
+use Rattle.std.proofs.{Common.{arith, ◌≡◌, subst}, lemmas.Result.{on_ok_weaker, on_err_weaker}}
 use Rattle.mdns_cache.specs.Contents.{Contents, contents, IsContents}
 use Rattle.mdns_cache.proofs.{ContentsLemmas.{newer}, BetweenLemmas.{on_err_any}}
 use Rattle.mdns_cache.proofs.StepLemmas.{part_lasts, part_flushes, whole_join, merge_stands, made_again}

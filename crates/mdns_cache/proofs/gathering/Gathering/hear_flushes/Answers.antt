@@ -1,5 +1,4 @@
-use Rattle.std.proofs.Common.{arith, ap, subst, sym}
-use Rattle.std.proofs.lemmas.Result.{on_err_weaker}
+use Rattle.std.proofs.{Common.{arith, ap, subst, sym}, lemmas.Result.{on_err_weaker}}
 use Rattle.mdns_message.specs.{Borrowed.{hearing_lent}, Resource.{set_key_of, set_key_cmp}}
 use Rattle.join_map.specs.Entries.{gathered}
 use Rattle.mdns_join.specs.Kept.{kept_union}

@@ -1,5 +1,4 @@
-use Rattle.std.proofs.Common.{arith, OnErr, ap, subst, sym}
-use Rattle.std.proofs.lemmas.Result.{on_err_weaker}
+use Rattle.std.proofs.{Common.{arith, OnErr, ap, subst, sym}, lemmas.Result.{on_err_weaker}}
 use Rattle.mdns_message.specs.{Borrowed.{hearing_lent}, Resource.{key_of, key_cmp}}
 use Rattle.join_map.specs.{Join.{IsPartOfJoin}, Entries.{gathered, joined}}
 use Rattle.mdns_join.specs.Latest.{later, latest_of}

@@ -1,5 +1,4 @@
-use Rattle.std.proofs.Common.{◌∙◌, sym}
-use Rattle.std.proofs.lemmas.{List.{nil_from_length}, Result.{IfOk-weaker}}
+use Rattle.std.proofs.{Common.{◌∙◌, sym}, lemmas.List.{nil_from_length}, lemmas.Result.{IfOk-weaker}}
 use Rattle.mdns_cache.proofs.MemoryLemmas.{stands-whole}
 use Rattle.mdns_cache.proofs.message_gathering.MessageGathering.finish.Goals as goal
 

@@ -1,5 +1,4 @@
-use Rattle.std.proofs.Common.{arith}
-use Rattle.std.proofs.lemmas.Result.{on_ok_weaker}
+use Rattle.std.proofs.{Common.{arith}, lemmas.Result.{on_ok_weaker}}
 use Rattle.mdns_cache.proofs.MemoryLemmas.{stands-remembered, stands-heard}
 use Rattle.mdns_cache.proofs.message_gathering.MessageGathering.hear.Goals as goal
 

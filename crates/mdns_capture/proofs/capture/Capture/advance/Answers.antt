@@ -1,5 +1,4 @@
-use Rattle.std.proofs.Common.{arith}
-use Rattle.std.proofs.lemmas.List.{length-take, length-append}
+use Rattle.std.proofs.{Common.{arith}, lemmas.List.{length-take, length-append}}
 use Rattle.mdns_capture.proofs.CaptureLemmas.{Advances-answered, Moves-full_going, Moves-stop_going}
 use Rattle.mdns_capture.proofs.CaptureLemmas.{Moves-packet_going, Moves-fault_going, front_of}
 use Rattle.mdns_capture.proofs.capture.Capture.advance.Goals as goal

@@ -1,5 +1,4 @@
-use Rattle.std.proofs.Common.{arith, rules}
-use Rattle.std.proofs.lemmas.Result.{err_from_is_err_and}
+use Rattle.std.proofs.{Common.{arith, rules}, lemmas.Result.{err_from_is_err_and}}
 use Rattle.mdns_capture.proofs.CaptureLemmas.{Begins-begun}
 use Rattle.mdns_capture.proofs.capture.Capture.begin.Goals as goal
 

@@ -1,5 +1,4 @@
-use Rattle.std.proofs.lemmas.Grind.{common_steps}
-use Rattle.std.proofs.Common.{slice_range, arith, length-take, length-take-le}
+use Rattle.std.proofs.{lemmas.Grind.{common_steps}, Common.{slice_range, arith, length-take, length-take-le}}
 use Rattle.mdns_capture.proofs.ReadAheadLemmas.{slice_range-split}
 use Rattle.mdns_capture.proofs.read_ahead.ReadAhead.give.Goals as goal
 

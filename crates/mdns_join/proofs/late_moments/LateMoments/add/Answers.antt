@@ -1,5 +1,4 @@
-use Rattle.std.proofs.Common.{arith}
-use Rattle.std.proofs.lemmas.{List.{map-append}, Result.{on_ok_weaker, on_err_weaker}}
+use Rattle.std.proofs.{Common.{arith}, lemmas.List.{map-append}, lemmas.Result.{on_ok_weaker, on_err_weaker}}
 use Rattle.mdns_join.proofs.LateLemmas.{waits_more, none_waits_after, none_waits_more}
 use Rattle.mdns_join.proofs.late_moments.LateMoments.add.Goals as goal
 

@@ -1,5 +1,4 @@
-use Rattle.std.proofs.Common.{arith}
-use Rattle.std.proofs.lemmas.Result.{on_ok_weaker}
+use Rattle.std.proofs.{Common.{arith}, lemmas.Result.{on_ok_weaker}}
 use Rattle.mdns_join.specs.laws.Kept.{kept_union-laws}
 use Rattle.mdns_join.proofs.RefusedLemmas.{part_nothing, part_refused}
 use Rattle.mdns_join.proofs.late_moments.LateMomentsJoin.join_with.Goals as goal

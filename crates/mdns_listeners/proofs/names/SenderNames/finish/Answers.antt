@@ -1,5 +1,4 @@
-use Rattle.std.proofs.Common.{subst}
-use Rattle.std.proofs.lemmas.Result.{IfOk-weaker}
+use Rattle.std.proofs.{Common.{subst}, lemmas.Result.{IfOk-weaker}}
 use Rattle.mdns_listeners.specs.Names.{Covers}
 use Rattle.mdns_listeners.proofs.HeldNameLemmas.{HoldsNames-kept}
 use Rattle.mdns_listeners.proofs.names.SenderNames.finish.Goals as goal

@@ -1,5 +1,4 @@
-use Rattle.std.proofs.Common.{rules, sym, ◌∙◌}
-use Rattle.std.proofs.lemmas.Result.{on_ok_weaker}
+use Rattle.std.proofs.{Common.{rules, sym, ◌∙◌}, lemmas.Result.{on_ok_weaker}}
 use Rattle.mdns_message.specs.Borrowed.{hearing_lent}
 use Rattle.mdns_listeners.proofs.HeldNameLemmas.{adds-told, adds-untold}
 use Rattle.mdns_listeners.proofs.names.SenderNames.hear.Goals as goal

@@ -1,5 +1,4 @@
-use Rattle.std.proofs.Common.{[], ◌∷◌, ◌++◌, sym, subst}
-use Rattle.std.proofs.lemmas.Result.{on_ok_weaker}
+use Rattle.std.proofs.{Common.{[], ◌∷◌, ◌++◌, sym, subst}, lemmas.Result.{on_ok_weaker}}
 use Rattle.mdns_listeners.specs.Names.{Covers, named}
 use Rattle.mdns_listeners.proofs.HeldNameLemmas.{Covers-push, Covers-respelled}
 use Rattle.mdns_listeners.proofs.names.SenderNames.put.Goals as goal

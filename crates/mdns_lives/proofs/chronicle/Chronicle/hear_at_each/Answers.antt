@@ -1,6 +1,5 @@
-use Rattle.std.proofs.Common.{List, ap, ◌∙◌, arith, append-nil}
+use Rattle.std.proofs.{Common.{List, ap, ◌∙◌, arith, append-nil}, lemmas.Result.{on_ok_weaker}}
 use Rattle.mdns_capture.specs.declared.moment.Moment.{Moment}
-use Rattle.std.proofs.lemmas.Result.{on_ok_weaker}
 use Rattle.mdns_message.specs.Borrowed.{hearing_lent}
 use Rattle.mdns_lives.specs.{Chronicle.{join_accounts}, Each.{accounts_each}}
 use Rattle.mdns_lives.proofs.{EachLemmas.{chronicles-at_each}, HearingLemmas.{heard_at}}

@@ -1,5 +1,4 @@
-use Rattle.std.proofs.Common.{arith, sym, subst}
-use Rattle.std.proofs.lemmas.List.{map-append}
+use Rattle.std.proofs.{Common.{arith, sym, subst}, lemmas.List.{map-append}}
 use Rattle.mdns_join.specs.{Kept.{IsAscending}, laws.Kept.{IsAscending-ascending}, Nanos.{nanos_of}}
 use Rattle.mdns_join.proofs.RefusedLemmas.{part_refused}
 use Rattle.mdns_cache.proofs.BetweenLemmas.{on_err_any}

@@ -1,5 +1,4 @@
-use Rattle.std.proofs.Common.{arith}
-use Rattle.std.proofs.lemmas.List.{map-append}
+use Rattle.std.proofs.{Common.{arith}, lemmas.List.{map-append}}
 use Rattle.mdns_join.specs.laws.Kept.{has-ascending}
 use Rattle.mdns_lives.proofs.FlushLemmas.{ascending-both}
 use Rattle.mdns_lives.proofs.flushes.Flushes.add_all.Goals as goal

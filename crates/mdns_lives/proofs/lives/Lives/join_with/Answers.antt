@@ -1,5 +1,4 @@
-use Rattle.std.proofs.Common.{arith, refl}
-use Rattle.std.proofs.lemmas.Result.{on_err_weaker}
+use Rattle.std.proofs.{Common.{arith, refl}, lemmas.Result.{on_err_weaker}}
 use Rattle.join_map.specs.laws.Join.{join-again}
 use Rattle.mdns_cache.proofs.BetweenLemmas.{on_err_any}
 use Rattle.mdns_lives.proofs.{ChronicleLemmas.{chronicles-both}, PartLemmas.{accounts-laws, part_their_flushes, part_their_records}}

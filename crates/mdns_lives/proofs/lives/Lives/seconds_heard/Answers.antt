@@ -1,5 +1,4 @@
-use Rattle.std.proofs.Common.{◌≡◌, None, Some, ap, subst, sym, ◌∙◌}
-use Rattle.std.proofs.lemmas.Result.{IfOk-weaker}
+use Rattle.std.proofs.{Common.{◌≡◌, None, Some, ap, subst, sym, ◌∙◌}, lemmas.Result.{IfOk-weaker}}
 use Rattle.join_map.specs.Entries.{value_at}
 use Rattle.mdns_message.specs.{declared.key.Key.{Key}, Resource.{key_of, key_cmp}}
 use Rattle.mdns_lives.specs.Chronicle.{Accounts, Chronicles, accounts}

@@ -1,5 +1,4 @@
-use Rattle.std.proofs.Common.{arith}
-use Rattle.std.proofs.lemmas.Result.{on_ok_weaker}
+use Rattle.std.proofs.{Common.{arith}, lemmas.Result.{on_ok_weaker}}
 use Rattle.mdns_lives.proofs.MessageChronicleLemmas.{records-heard, records-remembered}
 use Rattle.mdns_lives.proofs.message_chronicle.MessageChronicle.hear.Goals as goal
 

@@ -1,5 +1,4 @@
-use Rattle.std.proofs.Common.{arith}
-use Rattle.std.proofs.lemmas.Result.{on_ok_weaker}
+use Rattle.std.proofs.{Common.{arith}, lemmas.Result.{on_ok_weaker}}
 use Rattle.mdns_message.proofs.FaultKindLemmas.{few_hearings}
 use Rattle.mdns_message.proofs.message.MessageReader.read.Goals as goal
 

@@ -1,5 +1,4 @@
-use Rattle.std.proofs.Common.{◌≡◌, true, false, rules}
-use Rattle.std.proofs.lemmas.Result.{on_ok_weaker}
+use Rattle.std.proofs.{Common.{◌≡◌, true, false, rules}, lemmas.Result.{on_ok_weaker}}
 use Rattle.mdns_survey.specs.Filter.{counts, selected}
 use Rattle.mdns_survey.proofs.SelectedLemmas.{selected-more, selected-same}
 use Rattle.mdns_survey.proofs.filter.FilteredHearer.hear_all.Goals as goal

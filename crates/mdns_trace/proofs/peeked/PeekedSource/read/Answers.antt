@@ -1,6 +1,5 @@
-use Rattle.std.proofs.Common.{◌∙◌, ap, length, sym, List, ℕ}
+use Rattle.std.proofs.{Common.{◌∙◌, ap, length, sym, List, ℕ}, lemmas.Bool.{false≢true}}
 use Rattle.std.specs.Bool.{◌==◌}
-use Rattle.std.proofs.lemmas.Bool.{false≢true}
 use Rattle.mdns_trace.proofs.VerdictLemmas.{head-read}
 use Rattle.mdns_trace.proofs.peeked.PeekedSource.read.Goals as goal
 

@@ -1,5 +1,4 @@
-use Rattle.std.proofs.Common.{◌∙◌, ℕ, Option, subst, string_bytes}
-use Rattle.std.proofs.lemmas.Bool.{false≢true}
+use Rattle.std.proofs.{Common.{◌∙◌, ℕ, Option, subst, string_bytes}, lemmas.Bool.{false≢true}}
 use Rattle.mdns_capture.specs.{Capture.{packet_lent}, Stream.{OneMoreFailed}}
 use Rattle.mdns_survey.specs.Listen.{outcome_of}
 use Rattle.mdns_trace.specs.{declared.inquiry.Wanted.{Wanted}, Trace.{AddsLines, AreLinesIn}}
