@@ -1,22 +1,21 @@
 -- Which record sets have changed, by each set alone.
-use Rattle.std.proofs.Common.{◌≡◌, ◌≢◌, Bool, true, false, ◌&&◌, ◌||◌, ◌==◌, not, nat_le, nat_lt, if◌then◌else◌, cond, IsTrue, ◌↔◌, ℕ, ◌<◌}
-use Rattle.std.proofs.Common.{List, [], ◌∷◌, ◌++◌, map, slice_get, Option, None, Some, unwrap_or}
-use Rattle.std.proofs.Common.{refl, sym, ap, ◌∙◌, subst, true≢false, append_assoc, append-nil, arith}
-use Rattle.std.proofs.lemmas.{Bool.{and_parts, or_left, or_right}, Bool.Decides.{nat_tests}, List.{map-append}}
-use Rattle.std.proofs.lemmas.List.Elements.{filter-append}
+use Rattle.std.proofs.Common.{◌≡◌, ◌≢◌, Bool, true, false, ◌&&◌, ◌||◌, ◌==◌, not, nat_le, nat_lt}
+use Rattle.std.proofs.Common.{if◌then◌else◌, cond, IsTrue, ◌↔◌, ℕ, ◌<◌, List, [], ◌∷◌, ◌++◌, map, slice_get}
+use Rattle.std.proofs.Common.{Option, None, Some, unwrap_or, refl, sym, ap, ◌∙◌, subst, true≢false, append_assoc, append-nil, arith}
+use Rattle.std.proofs.lemmas.{Bool.{and_parts, or_right}, Bool.Decides.{nat_tests}, List.{map-append}, List.Elements.{filter-append}}
 use Rattle.std.specs.{List.{AllByRecursion, filter, list_all, list_any}, List.Sorted.{IsStrictlySortedBy}, declared.cmp.Ordering.{Ordering}}
 use Rattle.std.specs.{declared.cmp.Ordering.TheVariants.{Less, Equal, Greater}, Ordering.{is_eq}, Cmp.{tied_itself}}
 use Rattle.mdns_message.specs.{RecordSet.{RecordSet}, Resource.{key_cmp, set_key_cmp, set_key_of}}
 use Rattle.mdns_message.specs.laws.Resource.{set_key_cmp-exact, set_key_cmp-total}
 use Rattle.join_map.specs.laws.Entries.{is_Equal}
-use Rattle.mdns_join.specs.{declared.latest.Latest.{Latest}, Kept.{ascending, has, put, IsAscending}}
-use Rattle.mdns_join.specs.laws.Kept.{has-append, has-ascending, IsAscending-ascending}
+use Rattle.mdns_join.specs.{declared.latest.Latest.{Latest}, Kept.{ascending, has, put}}
 use Rattle.mdns_cache.specs.LentRecords.{last_lent}
-use Rattle.mdns_lives.specs.declared.life.{Life.{Life}, Which.{Which}, Which.TheVariants.{All, Changes}}
-use Rattle.mdns_lives.specs.{declared.lives.RecordLives.{RecordLives}, Changes.{AreOf, AreOfOne, begins_in, begins_of, by_sets, changes_in}}
-use Rattle.mdns_lives.specs.Changes.{chosen, comes_back, goes_on, has_change, has_changed, is_between, is_of_set, is_pointer_record}
-use Rattle.mdns_lives.specs.{Changes.{kept_if, left_after, left_of, maybe_next, maybe_row, strays}, Lives.{AreApart}, LentLives.{row_lent}}
-use Rattle.mdns_lives.proofs.{ChangesLemmas.{BeganAt, changes-stray}, LiveLifeLemmas.{Row, row_record}}
+use Rattle.mdns_lives.specs.declared.{life.Life.{Life}, life.Which.{Which}, life.Which.TheVariants.{All, Changes}}
+use Rattle.mdns_lives.specs.declared.{lives.RecordLives.{RecordLives}, window.Window.{Window}}
+use Rattle.mdns_lives.specs.Changes.{AreOf, AreOfOne, begins_in, begins_of, by_sets, changes_in, chosen, comes_back, goes_on}
+use Rattle.mdns_lives.specs.Changes.{has_change, has_changed, is_between, is_of_set, is_pointer_record, kept_if, left_after, left_of}
+use Rattle.mdns_lives.specs.{Changes.{maybe_next, maybe_row, met_in}, Lives.{AreApart}, LentLives.{row_lent}, Window.{in_window}}
+use Rattle.mdns_lives.proofs.{LiveLifeLemmas.{Row, row_record}}
 use Rattle.mdns_cache.proofs.LiveWalkLemmas.{key_after}
 
 abbrev set_in : Row → RecordSet
@@ -61,12 +60,6 @@ none-of set (row ∷ rows) none = λ i. cond (out (is_in set row) refl i) (row �
     out false e = e
     out true e = absurd (none.0 (same-set set (set_in row) e))
 
-changed-right : (set : RecordSet) (xs ys : List Row) → NoneOf set xs → has_changed (xs ++ ys) set ≡ has_changed ys set
-changed-right set xs ys none = grind (arith, filter-append, none-of)
-
-changed-left : (set : RecordSet) (xs ys : List Row) → NoneOf set ys → has_changed (xs ++ ys) set ≡ has_changed xs set
-changed-left set xs ys none = grind (arith, filter-append, none-of, append-nil)
-
 -- ---- a set, and rows of others
 
 abbrev AllOf : RecordSet → List Row → Type 0
@@ -76,41 +69,9 @@ none-other : (set key : RecordSet) (rows : List Row) → set ≢ key → AllOf s
 none-other set key [] other own = tt
 none-other set key (row ∷ rows) other own = (λ same. other (sym (same ∙ own.0)), none-other set key rows other own.1)
 
--- a row with its lives if its set has changed
-abbrev changed_in : List Row → Row → Row
-changed_in all row = (row.0, if has_changed all (set_in row) then row.1 else [])
-
-changed-alike : (all some : List Row) (row : Row) → has_changed all (set_in row) ≡ has_changed some (set_in row)
-    → changed_in all row ≡ changed_in some row
-changed-alike all some row same = ap (λ b. (row.0, if b then row.1 else [])) same
-
 -- the records of the set are PTR records
 abbrev is_shared_set : RecordSet → Bool
 is_shared_set set = set.number == 12
-
--- of a set of PTR records no rows have a change
-as-changed : (all some : List Row) (set : RecordSet) → (is_shared_set set ≡ false → has_changed all set ≡ has_changed some set)
-    → has_changed all set ≡ has_changed some set
-as-changed all some set same = grind arith
-
-module _ (set : RecordSet) (xs more : List Row) (own : AllOf set xs) (none : is_shared_set set ≡ false → NoneOf set more) where
-  first-rows : (rows : List Row) → AllOf set rows → map (changed_in (xs ++ more)) rows ≡ map (changed_in xs) rows
-  first-rows [] all = refl
-  first-rows (row ∷ rows) all =
-      let here = as-changed (xs ++ more) xs (set_in row) (λ unshared. changed-left (set_in row) xs more
-      (subst (λ (key : RecordSet). NoneOf key more) (sym all.0) (none (ap is_shared_set (sym all.0) ∙ unshared)))) in
-      λ i. changed-alike (xs ++ more) xs row here i ∷ first-rows rows all.1 i
-
-  other-rows : (rows : List Row) → (is_shared_set set ≡ false → NoneOf set rows)
-      → map (changed_in (xs ++ more)) rows ≡ map (changed_in more) rows
-  other-rows [] others = refl
-  other-rows (row ∷ rows) others =
-      let here = as-changed (xs ++ more) more (set_in row) (λ unshared. changed-right (set_in row) xs more
-      (none-other set (set_in row) xs (λ same. (others (ap is_shared_set same ∙ unshared)).0 same) own)) in
-      λ i. changed-alike (xs ++ more) more row here i ∷ other-rows rows (λ unshared. (others unshared).1) i
-
-  changes-both : changes_in (xs ++ more) ≡ changes_in xs ++ changes_in more
-  changes-both = map-append (changed_in (xs ++ more)) xs more ∙ (λ i. first-rows xs own i ++ other-rows more none i)
 
 -- ---- one set after another
 
@@ -147,44 +108,10 @@ all-more set (x ∷ rows) row own same = (own.0, all-more set rows row own.1 sam
 on-same : (x row : Row) → goes_on (x ∷ []) row.0 ≡ true → set_in row ≡ set_in x
 on-same x row on = sym (same-set (set_in x) (set_in row) (and_parts (not (is_pointer_record x.0)) (is_in (set_in x) row) on).1)
 
-one-step : (x row : Row) (xs rows : List Row) (b : Bool) → goes_on (x ∷ xs) row.0 ≡ b → AllOf (set_in x) (x ∷ xs)
-    → (goes_on (x ∷ xs) row.0 ≡ true → by_sets (x ∷ xs ++ row ∷ []) rows ≡ changes_in ((x ∷ xs ++ row ∷ []) ++ rows))
-    → (goes_on (x ∷ xs) row.0 ≡ false → is_pointer_record x.0 ≡ false → NoneOf (set_in x) (row ∷ rows))
-    → by_sets (row ∷ []) rows ≡ changes_in (row ∷ rows)
-    → (if b then by_sets (x ∷ xs ++ row ∷ []) rows else changes_in (x ∷ xs) ++ by_sets (row ∷ []) rows) ≡ changes_in (x ∷ xs ++ row ∷ rows)
-one-step x row xs rows true e own on others next = on e ∙ ap changes_in (append_assoc (x ∷ xs) (row ∷ []) rows)
-one-step x row xs rows false e own on others next =
-    ap (λ (more : List Row). changes_in (x ∷ xs) ++ more) next ∙ sym (changes-both (set_in x) (x ∷ xs) (row ∷ rows) own (others e))
-
-sets-from : (x : Row) (xs rows : List Row) → AllOf (set_in x) (x ∷ xs) → IsStrictlySortedBy key_cmp (map row_record (x ∷ rows))
-    → by_sets (x ∷ xs) rows ≡ changes_in (x ∷ xs ++ rows)
-unfolding IsStrictlySortedBy
-sets-from x xs [] own sorted = sym (ap changes_in (append-nil (x ∷ xs)))
-sets-from x xs (row ∷ rows) own sorted =
-    one-step x row xs rows (goes_on (x ∷ xs) row.0) refl own
-    (λ on. sets-from x (xs ++ row ∷ []) rows
-    (all-more (set_in x) (x ∷ xs) row own (on-same x row on)) (sorted.0.1, sorted.1.1))
-    (λ ends unshared. others-left x row rows sorted.0 sorted.1.0
-    (sym (ap (λ b. not b && is_in (set_in x) row) unshared) ∙ ends)) (sets-from row [] rows (refl, tt) sorted.1)
-
-sets-all : (rows : List Row) → IsStrictlySortedBy key_cmp (map row_record rows) → by_sets [] rows ≡ changes_in rows
-sets-all [] sorted = refl
-sets-all (row ∷ rows) sorted = sets-from row [] rows (refl, tt) sorted
-
--- a walk over all rows, of which none were taken
-pub left-whole : (which : Which) (changed : Bool) (set : List RecordLives) (walk rows : List Row) → set ≡ [] → walk ≡ rows
-    → IsStrictlySortedBy key_cmp (map row_record walk) → left_of which changed (map row_lent set) [] (Some walk) ≡ chosen which rows
-left-whole All changed set walk rows none same sorted = same
-left-whole Changes changed set walk rows none same sorted = grind (arith, sets-all)
-
 -- ---- reading a set
 
 some-first : (row : Row) (rows : List Row) → row ∷ rows ≢ []
 some-first row rows none = cc
-
-pub sets-some : (x : Row) (xs rows : List Row) → by_sets (x ∷ xs) rows ≢ []
-sets-some x xs [] = some-first _ _
-sets-some x xs (row ∷ rows) = grind (arith, some-first, sets-some x (xs ++ row ∷ []) rows)
 
 is-set : (set key : RecordSet) (is : Bool) → (IsTrue is ↔ (set ≡ key)) → is ≡ is_eq (set_key_cmp set key)
 is-set set key true test = sym (of-itself set key (test.0 refl))
@@ -214,18 +141,9 @@ one-more [] row one on apart = absurd one
 one-more (x ∷ set) row one on apart = (one.0, of-more (set_in x) (x ∷ set) row one.1 (on-same x row on) apart)
 
 -- the rows of a set that were read, the first of which was before the others, and what is left of those
-pub record ReadSo (first rows set rest : List Row) : Type 0 where
-  pub left : by_sets first rows ≡ by_sets set rest
+pub record ReadSo (window : Window) (first rows set rest : List Row) : Type 0 where
+  pub left : by_sets window first rows ≡ by_sets window set rest
   pub one : AreOfOne set
-
-pub read-more : (first rows set old : List Row) (row : Row) (rest more : List Row) → ReadSo first rows set old → old ≡ row ∷ rest
-    → goes_on set row.0 ≡ true → AreApart row.1 → more ≡ set ++ row ∷ [] → ReadSo first rows more rest
-read-more first rows set old row rest more read next on apart pushed = record {
-  left = read.left ∙ ap (by_sets set) next
-      ∙ ap (λ b. if b then by_sets (set ++ row ∷ []) rest else changes_in set ++ by_sets (row ∷ []) rest) on
-      ∙ ap (λ (s : List Row). by_sets s rest) (sym pushed);
-  one = subst AreOfOne (sym pushed) (one-more set row read.one on apart);
-}
 
 -- ---- whether a set has changed
 
@@ -234,55 +152,11 @@ own-rows set [] own = refl
 own-rows set (row ∷ rows) own =
     λ i. cond (of-itself set (set_in row) (sym own.0) i) (row ∷ own-rows set rows own.2 i) (filter (is_in set) rows)
 
-kept-of : (all : List Row) (set : RecordSet) (rows : List Row) (changed : Bool) → AreOf set rows → has_changed all set ≡ changed
-    → map (changed_in all) rows ≡ map (kept_if changed) rows
-kept-of all set [] changed own is = refl
-kept-of all set (row ∷ rows) changed own is =
-    let here = ap (has_changed all) own.0 ∙ is in
-    λ i. (row.0, if here i then row.1 else []) ∷ kept-of all set rows changed own.2 is i
-
-began-all : (begun : List ℕ) (lives : List Life) → ((m : ℕ) → has (begins_of lives) m ≡ true → has begun m ≡ true) → BeganAt begun lives
-began-all begun [] into = tt
-began-all begun (life ∷ lives) into =
-    (into life.from.nanos (grind (arith, nat_tests)), began-all begun lives (λ m held. into m (or_right (life.from.nanos == m) _ held)))
-
--- the records whose first lives don't begin at the first moments are those with a change
-stray-rows : (set : RecordSet) (begun : List ℕ) (rows : List Row) → IsAscending begun → AreOf set rows
-    → ((m : ℕ) → has (begins_in rows) m ≡ true → has begun m ≡ true)
-    → list_any (comes_back begun) rows ≡ list_any (λ (row : Row). strays row.1 begun) rows
-stray-rows set begun [] sorted own into = refl
-stray-rows set begun (row ∷ rows) sorted own into =
-    let both = has-append (begins_of row.1) (begins_in rows) in
-    let here = changes-stray row.1 begun own.1 sorted (began-all begun row.1 (λ m held. into m (both m ∙ or_left _ _ held))) in
-    λ i. here i || stray-rows set begun rows sorted own.2 (λ m held. into m (both m ∙ or_right (has (begins_of row.1) m) _ held)) i
-
-changed-stray : (set : RecordSet) (rows : List Row) → AreOf set rows → has_changed rows set
-    ≡ (not (set.number == 12) && list_any (λ (row : Row). strays row.1 (ascending (begins_in rows))) rows)
-changed-stray set rows own =
-    let begun = begins_in rows in
-    ap (has_change set) (own-rows set rows own)
-    ∙ ap (λ b. not (set.number == 12) && b)
-    (any-alike (comes_back begun) (comes_back (ascending begun)) rows
-    (λ (row : Row). any-alike _ _ row.1 (λ (life : Life). sym (any-sorted (is_between row.1 life) begun)))
-    ∙ stray-rows set (ascending begun) rows (IsAscending-ascending begun) own (λ m held. has-ascending begun m ∙ held))
-
-pub kept-set : (set : List RecordLives) (begun : List ℕ) (changed : Bool) → AreOfOne (map row_lent set)
-    → begun ≡ ascending (begins_in (map row_lent set)) → changed ≡ list_any (λ (row : RecordLives). strays row.lives.items begun) set
-    → changes_in (map row_lent set) ≡ map (kept_if changed) (map row_lent set)
-kept-set [] begun changed one sorted is = absurd one
-kept-set (x ∷ set) begun changed one sorted is =
-    let rows = map row_lent (x ∷ set) in
-    kept-of rows (set_in (row_lent x)) rows changed one.1
-    (changed-stray (set_in (row_lent x)) rows one.1
-    ∙ (λ i. not (one.0 i) && list_any (λ (row : Row). strays row.1 (sym sorted i)) rows)
-    ∙ any-lent (x ∷ set) ∙ sym is)
-  where
-    any-lent : (some : List RecordLives) → list_any (λ (row : Row). strays row.1 begun) (map row_lent some)
-        ≡ list_any (λ (row : RecordLives). strays row.lives.items begun) some
-    any-lent [] = refl
-    any-lent (row ∷ some) = ap (λ b. strays row.lives.items begun || b) (any-lent some)
-
 -- ---- a record that is alone in its set
+
+and-false : (b : Bool) → (b && false) ≡ false
+and-false true = refl
+and-false false = refl
 
 -- the moment is that at which one of its lives began
 own-between : (from m : ℕ) (lives : List Life) → m < from → has (begins_of lives) m ≡ true
@@ -307,65 +181,176 @@ any-own lives life (m ∷ begun) into =
     let rest = any-own lives life begun (λ q held. into q (or_right (m == q) _ held)) in
     λ i. here i || rest i
 
-none-back : (lives some : List Life) → list_any (λ (life : Life). list_any (is_between lives life) (begins_of lives)) some ≡ false
-none-back lives [] = refl
-none-back lives (life ∷ some) =
-    let here = any-own lives life (begins_of lives) (λ m held. held) in
-    λ i. here i || none-back lives some i
-
--- its lives are no changes
-pub changes-alone : (row : Row) → changes_in (row ∷ []) ≡ kept_if false row ∷ []
-changes-alone row =
-    let set = set_in row in
-    let own : filter (is_in set) (row ∷ []) ≡ row ∷ [] = λ i. cond (of-itself set set refl i) (row ∷ []) [] in
-    let back = ap (λ (begun : List ℕ). list_any (λ (life : Life). list_any (is_between row.1 life) begun) row.1)
-    (append-nil (begins_of row.1)) ∙ none-back row.1 row.1 in
-    let none : has_changed (row ∷ []) set ≡ false =
-    ap (has_change set) own ∙ (λ i. not (set.number == 12) && (back i || false)) ∙ and-false (not (set.number == 12)) in
-    λ i. (row.0, if none i then row.1 else []) ∷ []
-  where
-    and-false : (b : Bool) → (b && false) ≡ false
-    and-false true = refl
-    and-false false = refl
-
--- ---- the next record of a walk, and the one after it
-
--- nothing is left of a set that was read
-pub left-from : (which : Which) (changed : Bool) (old new : List Row) (took : Option RecordLives) (next : Option Row)
-    (walk : Option (List Row)) (rows : List Row) (first : Row) (rest : List Row) → which ≡ Changes
-    → map (kept_if changed) old ≡ maybe_row took ++ map (kept_if changed) new → took ≡ None → new ≡ [] → walk ≡ Some rows
-    → by_sets (maybe_next next) rows ≡ by_sets (first ∷ []) rest → left_of which changed old (maybe_next next) walk ≡ by_sets (first ∷ []) rest
-left-from All changed old new took next walk rows first rest is split none empty walks begun = absurd (cc)
-left-from Changes changed old new took next walk rows first rest is split none empty walks begun =
-    (λ i. map (kept_if changed) old ++ left_after (maybe_next next) (walks i))
-    ∙ ap (λ (xs : List Row). xs ++ by_sets (maybe_next next) rows) (split ∙ (λ i. maybe_row (none i) ++ map (kept_if changed) (empty i)))
-    ∙ begun
-
--- the second record doesn't go on with the set of the first
-pub left-apart : (which : Which) (changed : Bool) (new : List Row) (first second taken : Row) (rest after : List Row) → which ≡ Changes
-    → new ≡ [] → rest ≡ second ∷ after → goes_on (first ∷ []) second.0 ≡ false → changes_in (first ∷ []) ≡ taken ∷ []
-    → by_sets (first ∷ []) rest ≡ taken ∷ left_of which changed new (second ∷ []) (Some after)
-left-apart All changed new first second taken rest after is empty more ends alone = absurd (cc)
-left-apart Changes changed new first second taken rest after is empty more ends alone =
-    ap (by_sets (first ∷ [])) more
-    ∙ ap (λ b. if b then by_sets (first ∷ second ∷ []) after else changes_in (first ∷ []) ++ by_sets (second ∷ []) after) ends
-    ∙ ap (λ (xs : List Row). xs ++ by_sets (second ∷ []) after) alone
-    ∙ ap (λ (xs : List Row). taken ∷ (map (kept_if changed) xs ++ by_sets (second ∷ []) after)) (sym empty)
-
 pub goes-on-first : (first second : Row) (l m : Latest) (is : Bool) → l ≡ first.0 → m ≡ second.0
     → (IsTrue is ↔ ((is_pointer_record l ≡ false) × (set_key_of l.resource ≡ set_key_of m.resource))) → goes_on (first ∷ []) second.0 ≡ is
 goes-on-first first second l m is e f test =
     (λ i. not (is_pointer_record (sym e i)) && is_of_set (set_key_of (sym e i).resource) (sym f i))
     ∙ sym (is-held (is_pointer_record l) (set_key_of l.resource) (set_key_of m.resource) is test)
 
-pub read-two : (first second : Row) (rows set : List Row) → goes_on (first ∷ []) second.0 ≡ true → AreApart first.1 → AreApart second.1
-    → set ≡ first ∷ second ∷ [] → ReadSo (first ∷ []) (second ∷ rows) set rows
-read-two first second rows set on one two is =
-    read-more (first ∷ []) (second ∷ rows) (first ∷ []) (second ∷ rows) second rows set record {
-      left = refl;
-      one = (unshared (is_pointer_record first.0) (and_parts (not (is_pointer_record first.0)) _ on).0, (refl, one, tt));
-    } refl on two is
-  where
-    unshared : (b : Bool) → not b ≡ true → b ≡ false
-    unshared false e = refl
-    unshared true e = sym e
+-- ---- the lives that are chosen
+
+module _ (window : Window) where
+  changed-right : (set : RecordSet) (xs ys : List Row) → NoneOf set xs → has_changed window (xs ++ ys) set ≡ has_changed window ys set
+  changed-right set xs ys none = grind (arith, filter-append, none-of)
+
+  changed-left : (set : RecordSet) (xs ys : List Row) → NoneOf set ys → has_changed window (xs ++ ys) set ≡ has_changed window xs set
+  changed-left set xs ys none = grind (arith, filter-append, none-of, append-nil)
+
+  -- a row with its lives if its set has changed
+  abbrev changed_in : List Row → Row → Row
+  changed_in all row = kept_if window (has_changed window all (set_in row)) row
+
+  changed-alike : (all some : List Row) (row : Row) → has_changed window all (set_in row) ≡ has_changed window some (set_in row)
+      → changed_in all row ≡ changed_in some row
+  changed-alike all some row same = ap (λ b. kept_if window b row) same
+
+  -- of a set of PTR records no rows have a change
+  as-changed : (all some : List Row) (set : RecordSet)
+      → (is_shared_set set ≡ false → has_changed window all set ≡ has_changed window some set)
+      → has_changed window all set ≡ has_changed window some set
+  as-changed all some set same = grind arith
+
+  module _ (set : RecordSet) (xs more : List Row) (own : AllOf set xs) (none : is_shared_set set ≡ false → NoneOf set more) where
+    first-rows : (rows : List Row) → AllOf set rows → map (changed_in (xs ++ more)) rows ≡ map (changed_in xs) rows
+    first-rows [] all = refl
+    first-rows (row ∷ rows) all =
+        let here = as-changed (xs ++ more) xs (set_in row) (λ unshared. changed-left (set_in row) xs more
+        (subst (λ (key : RecordSet). NoneOf key more) (sym all.0) (none (ap is_shared_set (sym all.0) ∙ unshared)))) in
+        λ i. changed-alike (xs ++ more) xs row here i ∷ first-rows rows all.1 i
+
+    other-rows : (rows : List Row) → (is_shared_set set ≡ false → NoneOf set rows)
+        → map (changed_in (xs ++ more)) rows ≡ map (changed_in more) rows
+    other-rows [] others = refl
+    other-rows (row ∷ rows) others =
+        let here = as-changed (xs ++ more) more (set_in row) (λ unshared. changed-right (set_in row) xs more
+        (none-other set (set_in row) xs (λ same. (others (ap is_shared_set same ∙ unshared)).0 same) own)) in
+        λ i. changed-alike (xs ++ more) more row here i ∷ other-rows rows (λ unshared. (others unshared).1) i
+
+    changes-both : changes_in window (xs ++ more) ≡ changes_in window xs ++ changes_in window more
+    changes-both = map-append (changed_in (xs ++ more)) xs more ∙ (λ i. first-rows xs own i ++ other-rows more none i)
+
+  one-step : (x row : Row) (xs rows : List Row) (b : Bool) → goes_on (x ∷ xs) row.0 ≡ b → AllOf (set_in x) (x ∷ xs)
+      → (goes_on (x ∷ xs) row.0 ≡ true → by_sets window (x ∷ xs ++ row ∷ []) rows ≡ changes_in window ((x ∷ xs ++ row ∷ []) ++ rows))
+      → (goes_on (x ∷ xs) row.0 ≡ false → is_pointer_record x.0 ≡ false → NoneOf (set_in x) (row ∷ rows))
+      → by_sets window (row ∷ []) rows ≡ changes_in window (row ∷ rows)
+      → (if b then by_sets window (x ∷ xs ++ row ∷ []) rows else changes_in window (x ∷ xs) ++ by_sets window (row ∷ []) rows)
+      ≡ changes_in window (x ∷ xs ++ row ∷ rows)
+  one-step x row xs rows true e own on others next = on e ∙ ap (changes_in window) (append_assoc (x ∷ xs) (row ∷ []) rows)
+  one-step x row xs rows false e own on others next =
+      ap (λ (more : List Row). changes_in window (x ∷ xs) ++ more) next ∙ sym (changes-both (set_in x) (x ∷ xs) (row ∷ rows) own (others e))
+
+  sets-from : (x : Row) (xs rows : List Row) → AllOf (set_in x) (x ∷ xs) → IsStrictlySortedBy key_cmp (map row_record (x ∷ rows))
+      → by_sets window (x ∷ xs) rows ≡ changes_in window (x ∷ xs ++ rows)
+  unfolding IsStrictlySortedBy
+  sets-from x xs [] own sorted = sym (ap (changes_in window) (append-nil (x ∷ xs)))
+  sets-from x xs (row ∷ rows) own sorted =
+      one-step x row xs rows (goes_on (x ∷ xs) row.0) refl own
+      (λ on. sets-from x (xs ++ row ∷ []) rows
+      (all-more (set_in x) (x ∷ xs) row own (on-same x row on)) (sorted.0.1, sorted.1.1))
+      (λ ends unshared. others-left x row rows sorted.0 sorted.1.0
+      (sym (ap (λ b. not b && is_in (set_in x) row) unshared) ∙ ends)) (sets-from row [] rows (refl, tt) sorted.1)
+
+  sets-all : (rows : List Row) → IsStrictlySortedBy key_cmp (map row_record rows) → by_sets window [] rows ≡ changes_in window rows
+  sets-all [] sorted = refl
+  sets-all (row ∷ rows) sorted = sets-from row [] rows (refl, tt) sorted
+
+  -- a walk over all rows, of which none were taken
+  pub left-whole : (which : Which) (changed : Bool) (set : List RecordLives) (walk rows : List Row) → set ≡ [] → walk ≡ rows
+      → IsStrictlySortedBy key_cmp (map row_record walk)
+      → left_of which window changed (map row_lent set) [] (Some walk) ≡ chosen which window rows
+  left-whole All changed set walk rows none same sorted = ap (met_in window) same
+  left-whole Changes changed set walk rows none same sorted = grind (arith, sets-all)
+
+  pub sets-some : (x : Row) (xs rows : List Row) → by_sets window (x ∷ xs) rows ≢ []
+  sets-some x xs [] = some-first _ _
+  sets-some x xs (row ∷ rows) = grind (arith, some-first, sets-some x (xs ++ row ∷ []) rows)
+
+  pub read-more : (first rows set old : List Row) (row : Row) (rest more : List Row) → ReadSo window first rows set old → old ≡ row ∷ rest
+      → goes_on set row.0 ≡ true → AreApart row.1 → more ≡ set ++ row ∷ [] → ReadSo window first rows more rest
+  read-more first rows set old row rest more read next on apart pushed = record {
+    left = read.left ∙ ap (by_sets window set) next
+        ∙ ap (λ b. if b then by_sets window (set ++ row ∷ []) rest else changes_in window set ++ by_sets window (row ∷ []) rest) on
+        ∙ ap (λ (s : List Row). by_sets window s rest) (sym pushed);
+    one = subst AreOfOne (sym pushed) (one-more set row read.one on apart);
+  }
+
+  kept-of : (all : List Row) (set : RecordSet) (rows : List Row) (changed : Bool) → AreOf set rows → has_changed window all set ≡ changed
+      → map (changed_in all) rows ≡ map (kept_if window changed) rows
+  kept-of all set [] changed own is = refl
+  kept-of all set (row ∷ rows) changed own is =
+      let here = ap (has_changed window all) own.0 ∙ is in
+      λ i. kept_if window (here i) row ∷ kept-of all set rows changed own.2 is i
+
+  -- the moments may be sorted
+  changed-sorted : (set : RecordSet) (rows : List Row) → AreOf set rows
+      → has_changed window rows set ≡ (not (set.number == 12) && list_any (comes_back window (ascending (begins_in rows))) rows)
+  changed-sorted set rows own =
+      let begun = begins_in rows in
+      ap (has_change window set) (own-rows set rows own)
+      ∙ ap (λ b. not (set.number == 12) && b) (any-alike (comes_back window begun) (comes_back window (ascending begun)) rows
+      (λ (row : Row). any-alike _ _ row.1
+      (λ (life : Life). ap (λ b. in_window window life.from && b) (sym (any-sorted (is_between row.1 life) begun)))))
+
+  pub kept-set : (set : List RecordLives) (begun : List ℕ) (changed : Bool) → AreOfOne (map row_lent set)
+      → begun ≡ ascending (begins_in (map row_lent set)) → changed ≡ list_any (comes_back window begun) (map row_lent set)
+      → changes_in window (map row_lent set) ≡ map (kept_if window changed) (map row_lent set)
+  kept-set [] begun changed one sorted is = absurd one
+  kept-set (x ∷ set) begun changed one sorted is =
+      let rows = map row_lent (x ∷ set) in
+      kept-of rows (set_in (row_lent x)) rows changed one.1 (changed-sorted (set_in (row_lent x)) rows one.1
+      ∙ (λ i. not (one.0 i) && list_any (comes_back window (sym sorted i)) rows) ∙ sym is)
+
+  none-back : (lives some : List Life)
+      → list_any (λ (life : Life). in_window window life.from && list_any (is_between lives life) (begins_of lives)) some ≡ false
+  none-back lives [] = refl
+  none-back lives (life ∷ some) =
+      let here = any-own lives life (begins_of lives) (λ m held. held) in
+      (λ i. (in_window window life.from && here i) || none-back lives some i)
+      ∙ ap (λ b. b || false) (and-false (in_window window life.from))
+
+  -- the lives of a record that is alone in its set are no changes
+  pub changes-alone : (row : Row) → changes_in window (row ∷ []) ≡ (row.0, []) ∷ []
+  changes-alone row =
+      let set = set_in row in
+      let own : filter (is_in set) (row ∷ []) ≡ row ∷ [] = λ i. cond (of-itself set set refl i) (row ∷ []) [] in
+      let back = ap (λ (begun : List ℕ). comes_back window begun row) (append-nil (begins_of row.1)) ∙ none-back row.1 row.1 in
+      let none : has_changed window (row ∷ []) set ≡ false =
+      ap (has_change window set) own ∙ (λ i. not (set.number == 12) && (back i || false)) ∙ and-false (not (set.number == 12)) in
+      λ i. kept_if window (none i) row ∷ []
+
+  -- nothing is left of a set that was read
+  pub left-from : (which : Which) (changed : Bool) (old new : List Row) (took : Option RecordLives) (next : Option Row)
+      (walk : Option (List Row)) (rows : List Row) (first : Row) (rest : List Row) → which ≡ Changes
+      → map (kept_if window changed) old ≡ maybe_row took ++ map (kept_if window changed) new → took ≡ None → new ≡ [] → walk ≡ Some rows
+      → by_sets window (maybe_next next) rows ≡ by_sets window (first ∷ []) rest
+      → left_of which window changed old (maybe_next next) walk ≡ by_sets window (first ∷ []) rest
+  left-from All changed old new took next walk rows first rest is split none empty walks begun = absurd (cc)
+  left-from Changes changed old new took next walk rows first rest is split none empty walks begun =
+      (λ i. map (kept_if window changed) old ++ left_after window (maybe_next next) (walks i))
+      ∙ ap (λ (xs : List Row). xs ++ by_sets window (maybe_next next) rows)
+      (split ∙ (λ i. maybe_row (none i) ++ map (kept_if window changed) (empty i)))
+      ∙ begun
+
+  -- the second record doesn't go on with the set of the first
+  pub left-apart : (which : Which) (changed : Bool) (new : List Row) (first second taken : Row) (rest after : List Row) → which ≡ Changes
+      → new ≡ [] → rest ≡ second ∷ after → goes_on (first ∷ []) second.0 ≡ false → changes_in window (first ∷ []) ≡ taken ∷ []
+      → by_sets window (first ∷ []) rest ≡ taken ∷ left_of which window changed new (second ∷ []) (Some after)
+  left-apart All changed new first second taken rest after is empty more ends alone = absurd (cc)
+  left-apart Changes changed new first second taken rest after is empty more ends alone =
+      ap (by_sets window (first ∷ [])) more
+      ∙ ap (λ b. if b then by_sets window (first ∷ second ∷ []) after
+      else changes_in window (first ∷ []) ++ by_sets window (second ∷ []) after) ends
+      ∙ ap (λ (xs : List Row). xs ++ by_sets window (second ∷ []) after) alone
+      ∙ ap (λ (xs : List Row). taken ∷ (map (kept_if window changed) xs ++ by_sets window (second ∷ []) after)) (sym empty)
+
+  pub read-two : (first second : Row) (rows set : List Row) → goes_on (first ∷ []) second.0 ≡ true → AreApart first.1 → AreApart second.1
+      → set ≡ first ∷ second ∷ [] → ReadSo window (first ∷ []) (second ∷ rows) set rows
+  read-two first second rows set on one two is =
+      read-more (first ∷ []) (second ∷ rows) (first ∷ []) (second ∷ rows) second rows set record {
+        left = refl;
+        one = (unshared (is_pointer_record first.0) (and_parts (not (is_pointer_record first.0)) _ on).0, (refl, one, tt));
+      } refl on two is
+    where
+      unshared : (b : Bool) → not b ≡ true → b ≡ false
+      unshared false e = refl
+      unshared true e = sym e

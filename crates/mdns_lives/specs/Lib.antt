@@ -11,4 +11,5 @@ pub mod LentLives
 pub mod Seconds
 pub mod Since
 pub mod LifeWalk
+pub mod Window
 pub mod laws

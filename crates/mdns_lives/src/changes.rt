@@ -1,17 +1,18 @@
 //! The lives of record sets that changed: in which a record came, or came back, after another had come.
 
-ghost use Rattle.std.specs.Prelude.{◌≡◌, ◌≢◌, ◌↔◌, ◌++◌, ◌∷◌, [], false, true, List, IfNone, IfOk, IfSome, IsTrue, OnOk, OnErr, map};
-ghost use Rattle.std.specs.{List.{list_any}, Map.Iter.{TakesFirst}};
+ghost use Rattle.std.specs.Prelude.{◌≡◌, ◌≢◌, ◌↔◌, ◌&&◌, ◌++◌, ◌∷◌, [], false, true, nat_lt, List, map};
+ghost use Rattle.std.specs.{Prelude.{IfNone, IfOk, IfSome, IsTrue, OnOk, OnErr}, List.{list_any}, Map.Iter.{TakesFirst}};
 ghost use Rattle.mdns_message.specs.{Resource.{set_key_of}, declared.hearing.Hearing.{Hearing}};
-ghost use Rattle.mdns_join.specs.Nanos.{nanos_of};
+ghost use Rattle.mdns_join.specs.{Kept.{IsAscending}, Nanos.{nanos_of}};
 ghost use Rattle.mdns_cache.specs.LentRecords.{last_lent};
-ghost use Rattle.mdns_lives.specs.Changes.{AreOfOne, begins_in, begins_of, by_sets, changes_in, chosen, goes_on, is_pointer_record};
-ghost use Rattle.mdns_lives.specs.{Changes.{kept_if, maybe_next, maybe_row, strays}, Chronicle.{AreAllLives, Chronicles, rows_of}};
-ghost use Rattle.mdns_lives.specs.LentLives.{row_lent};
+ghost use Rattle.mdns_lives.specs.Changes.{AreOfOne, after, begins_in, begins_of, by_sets, changes_in, chosen, comes_back, goes_on};
+ghost use Rattle.mdns_lives.specs.{Changes.{is_pointer_record, kept_if, maybe_next, maybe_row}, Lives.{AreApart}, Window.{in_window}};
+ghost use Rattle.mdns_lives.specs.{Chronicle.{AreAllLives, Chronicles, rows_of}, LentLives.{row_lent}};
 
 use crate::flush_moments::sort;
 use crate::life::{Life, Which};
 use crate::lives::{Lives, LivesWalk, RecordHeard, RecordLives};
+use crate::window::Window;
 use dns_name::fold::folded_eq;
 use mdns_cache::Last;
 use mdns_capture::Moment;
@@ -22,14 +23,16 @@ use std::collections::VecDeque;
 use std::marker::Model;
 
 impl Lives {
-    /// Returns the records that were heard, in key order, to be taken one by one, with all their lives, or with `Which::Changes`
-    /// only with those of record sets that changed.
-    pub fn chosen(&self, which: Which) -> ChosenWalk<'_>
-        ensures left { (heard : List Hearing) → Chronicles self.now heard → result ≡ chosen which (rows_of self.now) }
+    /// Returns the records that were heard, in key order, to be taken one by one, with those of their lives that meet the window.
+    /// With `Which::Changes` only those of record sets that changed in the window have lives. What lies outside the window still
+    /// decides what was live, and what changed.
+    pub fn chosen(&self, which: Which, window: Window) -> ChosenWalk<'_>
+        ensures left { (heard : List Hearing) → Chronicles self.now heard → result ≡ chosen which window (rows_of self.now) }
         ensures all { (heard : List Hearing) → Chronicles self.now heard → AreAllLives heard (rows_of self.now) }
     {
         ChosenWalk {
             which,
+            window,
             changed: false,
             set: VecDeque::new(self.alloc),
             next: None,
@@ -43,9 +46,10 @@ impl Lives {
 #[derive(Drop)]
 pub struct ChosenWalk<'a> {
     which: Which,
+    window: Window,
 
-    // Those records of the set that was read last which are left, and whether the set has changed. No set is read of a record
-    // that is alone in its set, nor of a PTR record, since its set never changes; nor where all lives are chosen.
+    // Those records of the set that was read last which are left, and whether the set changed in the window. No set is read of a
+    // record that is alone in its set, nor of a PTR record, since its set never changes; nor where all lives are chosen.
     set: VecDeque<RecordLives<'a>>,
     changed: bool,
 
@@ -66,7 +70,7 @@ impl<'a> Model for ChosenWalk<'a> {
 
     ghost Value = { List (Latest × List Life) };
 
-    ghost view = { λ a. left_of a.which a.changed (map row_lent a.set.items) (maybe_next a.next) a.rows };
+    ghost view = { λ a. left_of a.which a.window a.changed (map row_lent a.set.items) (maybe_next a.next) a.rows };
 }
 
 impl<'a> ChosenWalk<'a> {
@@ -82,64 +86,76 @@ impl<'a> ChosenWalk<'a> {
                 let Some(mut rows) = self.rows.take() else {
                     return Ok(None);
                 };
-                let row = rows.next()?;
+                let Some(row) = rows.next()? else {
+                    return Ok(None);
+                };
                 self.rows = Some(rows);
-                Ok(row)
+                Ok(Some(kept_if(self.window, true, row)))
             }
             Which::Changes => {
-                if let Some(row) = take_row(&mut self.set, self.changed) {
+                if let Some(row) = take_row(&mut self.set, self.window, self.changed) {
                     return Ok(Some(row));
                 }
                 let Some(mut rows) = self.rows.take() else {
                     return Ok(None);
                 };
-                let Some(first) = first_of(self.next.take(), &mut rows) else {
+                let Some(first) = first_of(self.window, self.next.take(), &mut rows) else {
                     return Ok(None);
                 };
                 let Some(second) = rows.next_record() else {
-                    return Ok(Some(alone(self.alloc, first)));
+                    return Ok(Some(alone(self.alloc, self.window, first)));
                 };
                 if !is_held_with(first.last(), second.last()) {
                     self.next = Some(second);
                     self.rows = Some(rows);
-                    return Ok(Some(alone(self.alloc, first)));
+                    return Ok(Some(alone(self.alloc, self.window, first)));
                 }
-                let (set, next) = read_set(self.alloc, first, second, &mut rows)?;
-                self.changed = has_changed(self.alloc, set.as_slice())?;
+                let (set, next) = read_set(self.alloc, self.window, first, second, &mut rows)?;
+                self.changed = has_changed(self.alloc, self.window, set.as_slice())?;
                 self.set = VecDeque::from_vec(set);
                 self.next = next;
                 self.rows = Some(rows);
-                Ok(take_row(&mut self.set, self.changed))
+                Ok(take_row(&mut self.set, self.window, self.changed))
             }
         }
     }
 }
 
-// Takes the first record of a set, with its lives, or with none.
-fn take_row<'a>(set: &mut VecDeque<RecordLives<'a>>, kept: bool) -> Option<RecordLives<'a>>
-    ensures first { map (kept_if kept) (map row_lent set.old.items)
-        ≡ maybe_row result ++ map (kept_if kept) (map row_lent set.new.items) }
+// Takes the first record of a set, with those of its lives that meet the window, or with none.
+fn take_row<'a>(
+    set: &mut VecDeque<RecordLives<'a>>,
+    window: Window,
+    kept: bool,
+) -> Option<RecordLives<'a>>
+    ensures first { map (kept_if window kept) (map row_lent set.old.items)
+        ≡ maybe_row result ++ map (kept_if window kept) (map row_lent set.new.items) }
     ensures none { IfNone result (set.new.items ≡ []) }
 {
     let row = set.pop_front()?;
-    Some(kept_if(kept, row))
+    Some(kept_if(window, kept, row))
 }
 
-// Returns a record with its lives, or with none.
-fn kept_if<'a>(kept: bool, row: RecordLives<'a>) -> RecordLives<'a>
-    ensures { row_lent result ≡ kept_if kept (row_lent row.entry) }
+// Returns a record with those of its lives that meet the window, or with none.
+fn kept_if<'a>(window: Window, kept: bool, row: RecordLives<'a>) -> RecordLives<'a>
+    ensures { row_lent result ≡ kept_if window kept (row_lent row.entry) }
 {
     let mut row = row;
-    if !kept {
+    if kept {
+        row.lives.retain(|life| window.meets(life));
+    } else {
         row.lives.clear();
     }
     row
 }
 
 // Takes the record that was read before, or the first one of a walk.
-fn first_of<'a>(next: Option<RecordHeard<'a>>, rows: &mut LivesWalk<'a>) -> Option<RecordHeard<'a>>
-    ensures some { IfSome result (λ first. by_sets (maybe_next next.entry) rows.old ≡ by_sets (first ∷ []) rows.new) }
-    ensures none { IfNone result (by_sets (maybe_next next.entry) rows.old ≡ []) }
+fn first_of<'a>(
+    window: Window,
+    next: Option<RecordHeard<'a>>,
+    rows: &mut LivesWalk<'a>,
+) -> Option<RecordHeard<'a>>
+    ensures some { IfSome result (λ first. by_sets window (maybe_next next.entry) rows.old ≡ by_sets window (first ∷ []) rows.new) }
+    ensures none { IfNone result (by_sets window (maybe_next next.entry) rows.old ≡ []) }
 {
     match next {
         Some(first) => Some(first),
@@ -148,8 +164,8 @@ fn first_of<'a>(next: Option<RecordHeard<'a>>, rows: &mut LivesWalk<'a>) -> Opti
 }
 
 // Returns a PTR record, or a record that is alone in its set: it has no record before it whose lives could be changes.
-fn alone<'a>(alloc: Global, row: RecordHeard<'a>) -> RecordLives<'a>
-    ensures { changes_in (row.entry ∷ []) ≡ row_lent result ∷ [] }
+fn alone<'a>(alloc: Global, window: Window, row: RecordHeard<'a>) -> RecordLives<'a>
+    ensures { changes_in window (row.entry ∷ []) ≡ row_lent result ∷ [] }
 {
     row.without_lives(alloc)
 }
@@ -157,13 +173,14 @@ fn alone<'a>(alloc: Global, row: RecordHeard<'a>) -> RecordLives<'a>
 // Takes the records of a set after its first two, finds the lives of them all, and takes the record after them.
 fn read_set<'a>(
     alloc: Global,
+    window: Window,
     first: RecordHeard<'a>,
     second: RecordHeard<'a>,
     rows: &mut LivesWalk<'a>,
 ) -> Result<(Vec<RecordLives<'a>>, Option<RecordHeard<'a>>), Want>
     requires { goes_on (first ∷ []) second.0 ≡ true }
-    ensures left { IfOk result (λ read. by_sets (first.entry ∷ []) (second.entry ∷ rows.old)
-        ≡ changes_in (map row_lent read.0.items) ++ by_sets (maybe_next read.1) rows.new) }
+    ensures left { IfOk result (λ read. by_sets window (first.entry ∷ []) (second.entry ∷ rows.old)
+        ≡ changes_in window (map row_lent read.0.items) ++ by_sets window (maybe_next read.1) rows.new) }
     ensures one { IfOk result (λ read. AreOfOne (map row_lent read.0.items)) }
 {
     let mut set = Vec::new(alloc);
@@ -205,15 +222,15 @@ fn is_held_with(first: &Last<'_>, last: &Last<'_>) -> bool
         && folded_eq(first.resource.owner.wire(), last.resource.owner.wire())
 }
 
-// Returns whether a record set has changed. In one that hasn't, the lives of each record begin at the first of all moments at
-// which a life of the set begins.
-fn has_changed(alloc: Global, set: &[RecordLives<'_>]) -> Result<bool, Want>
+// Returns whether a record set changed in the window.
+fn has_changed(alloc: Global, window: Window, set: &[RecordLives<'_>]) -> Result<bool, Want>
     requires { AreOfOne (map row_lent set.now) }
-    ensures ok { IfOk result (λ changed. changes_in (map row_lent set.now) ≡ map (kept_if changed) (map row_lent set.now)) }
+    ensures ok { IfOk result (λ changed. changes_in window (map row_lent set.now)
+        ≡ map (kept_if window changed) (map row_lent set.now)) }
 {
     let mut begun = beginnings(alloc, set)?;
     sort(&mut begun);
-    Ok(any_strays(set, begun.as_slice()))
+    Ok(any_comes_back(window, begun.as_slice(), set))
 }
 
 // Returns when the lives of these records began.
@@ -236,26 +253,63 @@ fn push_beginnings(begun: &mut Vec<Moment>, lives: &[Life]) -> Result<(), Want>
     Ok(())
 }
 
-// Returns whether the lives of one of these records begin at other moments than the first of those.
-fn any_strays(set: &[RecordLives<'_>], begun: &[Moment]) -> bool
-    ensures { result ≡ list_any (λ row. strays row.lives.items (nanos_of begun.now)) set.now }
+// Returns whether a life of one of these records is a change that began in the window, where their lives began at these moments.
+fn any_comes_back(window: Window, begun: &[Moment], set: &[RecordLives<'_>]) -> bool
+    requires sorted { IsAscending (nanos_of begun.now) }
+    requires one { AreOfOne (map row_lent set.now) }
+    ensures { result ≡ list_any (comes_back window (nanos_of begun.now)) (map row_lent set.now) }
 {
-    set.iter().any(|row| strays(row.lives.as_slice(), begun))
-}
-
-// Returns whether these lives begin at other moments than the first of those.
-fn strays(lives: &[Life], begun: &[Moment]) -> bool
-    ensures { result ≡ strays lives.now (nanos_of begun.now) }
-{
-    let mut rest = begun;
-    for life in lives {
-        let Some((first, later)) = rest.split_first() else {
-            return true;
-        };
-        if life.from.nanos() != first.nanos() {
+    for row in set {
+        if comes_back(window, begun, row) {
             return true;
         }
-        rest = later;
     }
     false
+}
+
+// Returns whether a life of the record is such a change. Of each life that is left, only those of the set count that began after
+// the record's life before it.
+fn comes_back(window: Window, begun: &[Moment], row: &RecordLives<'_>) -> bool
+    requires sorted { IsAscending (nanos_of begun.now) }
+    requires apart { AreApart row.now.lives.items }
+    ensures { result ≡ comes_back window (nanos_of begun.now) (row_lent row.now) }
+{
+    let mut rest = begun;
+    for life in row.lives.as_slice() {
+        if is_change(window, rest, life) {
+            return true;
+        }
+        rest = after(rest, life.from);
+    }
+    false
+}
+
+// Returns whether the life began in the window, and one of these moments is before it.
+fn is_change(window: Window, begun: &[Moment], life: &Life) -> bool
+    requires { IsAscending (nanos_of begun.now) }
+    ensures { result ≡ (in_window window life.now.from && list_any (λ m. nat_lt m life.now.from.nanos) (nanos_of begun.now)) }
+{
+    window.holds(life.from) && is_later(begun, life.from)
+}
+
+// Returns whether one of the moments is before this one.
+fn is_later(begun: &[Moment], from: Moment) -> bool
+    requires { IsAscending (nanos_of begun.now) }
+    ensures { result ≡ list_any (λ m. nat_lt m from.nanos) (nanos_of begun.now) }
+{
+    match begun.split_first() {
+        Some((first, _)) => *first < from,
+        None => false,
+    }
+}
+
+// Returns those of the moments that are later than this one, which is mostly the first of them.
+fn after(moments: &[Moment], from: Moment) -> &[Moment]
+    requires { IsAscending (nanos_of moments.now) }
+    ensures { nanos_of result.now ≡ after from.nanos (nanos_of moments.now) }
+{
+    match moments.split_first() {
+        Some((first, rest)) if *first == from => rest,
+        _ => &moments[moments.partition_point(|moment| *moment <= from)..],
+    }
 }

@@ -18,6 +18,7 @@ mod packed;
 mod repeats;
 pub mod seconds_heard;
 mod waiting;
+pub mod window;
 
 pub use changes::ChosenWalk;
 pub use chronicle::Chronicle;
@@ -26,3 +27,4 @@ pub use live_since::LiveSince;
 pub use lives::{Lives, LivesWalk, RecordLives};
 pub use message_chronicle::MessageChronicle;
 pub use seconds_heard::SecondHeard;
+pub use window::Window;

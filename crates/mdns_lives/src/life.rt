@@ -42,6 +42,6 @@ pub enum Which {
     /// All of them.
     All,
     /// All of those record sets in which a record came, or came back, after another had come. None of a PTR record, since those
-    /// of a set stand side by side (RFC 6763, section 4.1).
+    /// of a set stand side by side (RFC 6763, section 4.1). With a window, of the sets in which that happened in it.
     Changes,
 }

@@ -1,10 +1,10 @@
 //! The lives of all records, in key order, and those of several chronicles together.
 
-ghost use Rattle.std.specs.{Prelude.{◌≡◌, ◌++◌, [], false, List, IfOk, IfSome, MatchOption, OnErr, OnOk}, Map.Iter.{TakesFirst}};
+ghost use Rattle.std.specs.{Prelude.{◌≡◌, ◌++◌, [], List, IfOk, IfSome, MatchOption, OnErr, OnOk}, Map.Iter.{TakesFirst}};
 ghost use Rattle.join_map.specs.{Entries.{joined, joined_at}, Join.{IsPartOfJoin}};
 ghost use Rattle.mdns_message.specs.{Resource.{key_cmp, set_key_cmp}, declared.hearing.Hearing.{Hearing}};
 ghost use Rattle.mdns_cache.specs.{Contents.{later_moment}, Live.{IsNewest}, LentRecords.{last_lent}};
-ghost use Rattle.mdns_lives.specs.{Account.{join_account}, Changes.{kept_if}};
+ghost use Rattle.mdns_lives.specs.{Account.{join_account}};
 ghost use Rattle.mdns_lives.specs.{Chronicle.{AreAccounts, AreAllLives, Chronicles, accounts, join_accounts, rows_of}, Lives.{AreApart}};
 ghost use Rattle.mdns_lives.specs.{LentLives.{LosesFirst, row_lent}, Seconds.{listed_ends}, LifeWalk.{walked}};
 ghost use Rattle.mdns_join.specs.{Kept.{IsAscending, union}, Nanos.{nanos_of}};
@@ -242,7 +242,7 @@ impl<'a> RecordHeard<'a> {
 
     /// Leaves the lives out.
     pub(crate) fn without_lives(self, alloc: Global) -> RecordLives<'a>
-        ensures { row_lent result ≡ kept_if false self.entry }
+        ensures { row_lent result ≡ (self.entry.0, []) }
     {
         RecordLives {
             last: self.last,

@@ -51,6 +51,12 @@ seconds_text nanos = date_text nanos ++ 84 ∷ clock_text nanos ++ 90 ∷ []
 unfoldable pub millis_text : ℕ → List ℕ
 millis_text nanos = date_text nanos ++ 84 ∷ clock_text nanos ++ 46 ∷ three_digits (nanos / 1000000 % 1000) ++ 90 ∷ []
 
+-- `2026-11-22T07:28:19.196000042Z`: after the dot milliseconds, microseconds and nanoseconds
+unfoldable pub exact_text : ℕ → List ℕ
+exact_text nanos =
+    date_text nanos ++ 84 ∷ clock_text nanos ++ 46 ∷ three_digits (nanos / 1000000 % 1000) ++ three_digits (nanos / 1000 % 1000)
+    ++ three_digits (nanos % 1000) ++ 90 ∷ []
+
 -- so many of a unit, and so many of the next one, unless there are none of it: `3 d 4 h`, `2 min`
 unfoldable pub two_units : ℕ → List ℕ → ℕ → List ℕ → List ℕ
 two_units count unit below next = decimal count ++ 32 ∷ unit ++ (if below == 0 then [] else 32 ∷ decimal below ++ 32 ∷ next)

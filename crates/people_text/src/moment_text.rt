@@ -1,9 +1,9 @@
 //! Moments as text: nanoseconds since 1970 in UTC, cut off and not rounded.
 
-ghost use Rattle.std.specs.{Prelude.{◌≡◌, ◌<◌, ◌≤◌, ◌+◌, ◌∷◌, [], ◌++◌, OnOk}, String.{string_bytes}};
+ghost use Rattle.std.specs.{Prelude.{◌≡◌, ◌<◌, ◌≤◌, ◌+◌, ◌/◌, ◌%◌, ◌∷◌, [], ◌++◌, OnOk}, String.{string_bytes}};
 ghost use Rattle.dns_name.specs.Name.{three_digits};
-ghost use Rattle.people_text.specs.MomentText.{clock_text, date_text, date_written, days_to, hours_text, millis_text};
-ghost use Rattle.people_text.specs.MomentText.{month_day_text, seconds_text, two_digits, year_at};
+ghost use Rattle.people_text.specs.MomentText.{clock_text, date_text, date_written, days_to, exact_text, hours_text};
+ghost use Rattle.people_text.specs.MomentText.{millis_text, month_day_text, seconds_text, two_digits, year_at};
 
 use crate::calendar::{Date, date_of};
 use mdns_capture::moment::SECOND;
@@ -68,11 +68,30 @@ pub fn push_seconds(to: &mut String, nanos: u64) -> Result<(), Want>
 pub fn push_millis(to: &mut String, nanos: u64) -> Result<(), Want>
     ensures { OnOk result (string_bytes to.new ≡ string_bytes to.old ++ millis_text nanos) }
 {
-    push_to_second(to, nanos)?;
-    to.push('.')?;
-    push_three_digits(to, (nanos / 1_000_000 % 1000) as u32)?;
+    push_to_milli(to, nanos)?;
+    Ok(to.push_str("Z")?)
+}
+
+/// Appends the date and time to the nanosecond, as `2026-11-22T07:28:19.196000042Z`.
+#[tactic(auto, unfolding(crate::specs::MomentText::exact_text))]
+pub fn push_exact(to: &mut String, nanos: u64) -> Result<(), Want>
+    ensures { OnOk result (string_bytes to.new ≡ string_bytes to.old ++ exact_text nanos) }
+{
+    push_to_milli(to, nanos)?;
+    push_three_digits(to, (nanos / 1000 % 1000) as u32)?;
+    push_three_digits(to, (nanos % 1000) as u32)?;
     to.push('Z')?;
     Ok(())
+}
+
+// Appends the date and time to the millisecond, without a zone.
+fn push_to_milli(to: &mut String, nanos: u64) -> Result<(), Want>
+    ensures { OnOk result (string_bytes to.new ≡ string_bytes to.old
+        ++ (date_text nanos ++ 84 ∷ clock_text nanos ++ 46 ∷ three_digits (nanos / 1000000 % 1000))) }
+{
+    push_to_second(to, nanos)?;
+    to.push('.')?;
+    push_three_digits(to, (nanos / 1_000_000 % 1000) as u32)
 }
 
 // Appends the date and the clock with `T` between them.

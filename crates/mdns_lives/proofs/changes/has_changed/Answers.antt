@@ -1,11 +1,16 @@
-use Rattle.std.proofs.Common.{◌∙◌, ap}
-use Rattle.mdns_join.specs.{Kept.{ascending}, Nanos.{nanos_of}}
+use Rattle.std.proofs.Common.{◌∙◌, ap, subst, sym}
+use Rattle.mdns_join.specs.{Kept.{IsAscending, ascending}, Nanos.{nanos_of}, laws.Kept.{IsAscending-ascending}}
 use Rattle.mdns_lives.proofs.ChosenLemmas.{kept-set}
 use Rattle.mdns_lives.proofs.changes.has_changed.Goals as goal
+
+pub any_comes_back-requires-clause-sorted : goal.any_comes_back-requires-clause-sorted
+any_comes_back-requires-clause-sorted c =
+    subst IsAscending (sym (ap nanos_of c.as_slice.ensures.value ∙ c.sort.ensures))
+    (IsAscending-ascending (nanos_of c.in_ok-begun.begun.items))
 
 pub returns : goal.returns
 returns c = record {
   ok =
-      kept-set c.args.set.now (nanos_of c.as_slice.result.now) c.any_strays.result c.requires
-      (ap nanos_of c.as_slice.ensures.value ∙ c.sort.ensures ∙ ap ascending c.in_ok-begun.ensures) c.any_strays.ensures;
+      kept-set c.args.window c.args.set.now (nanos_of c.as_slice.result.now) c.any_comes_back.result c.requires
+      (ap nanos_of c.as_slice.ensures.value ∙ c.sort.ensures ∙ ap ascending c.in_ok-begun.ensures) c.any_comes_back.ensures;
 }

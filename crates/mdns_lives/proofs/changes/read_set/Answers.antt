@@ -12,7 +12,7 @@ loop-record-init c =
     let two = c.in_ok-with_lives-2.ensures in
     let pushed = c.in_ok-push-2.ensures.items ∙ ap (λ (set : List RecordLives). set ++ second ∷ [])
     (c.in_ok-push.ensures.items ∙ ap (λ (set : List RecordLives). set ++ first ∷ []) c.new-set.ensures.items) in
-    read-two c.args.first c.args.second c.args.rows.now (map row_lent c.push-2.new.self.items) c.requires
+    read-two c.args.window c.args.first c.args.second c.args.rows.now (map row_lent c.push-2.new.self.items) c.requires
     (subst (λ (row : Row). AreApart row.1) one.row one.apart) (subst (λ (row : Row). AreApart row.1) two.row two.apart)
     (ap (map row_lent) pushed ∙ (λ i. one.row i ∷ two.row i ∷ []))
 
@@ -25,6 +25,6 @@ loop-record-preserved c =
     (λ i. goes_on (map row_lent (sym c.as_slice.ensures.value i)) (sym c.last.ensures i)) ∙ sym c.goes_on.ensures in
     let pushed = ap (map row_lent) c.in_ok-push-3.ensures.items ∙ map-append row_lent set (c.in_ok-with_lives-3.field-0 ∷ [])
     ∙ (λ i. map row_lent set ++ more.row i ∷ []) in
-    read-more (c.args.first ∷ []) (c.args.second ∷ c.args.rows.now) (map row_lent set) c.loop-record.rows c.in-Some.record
+    read-more c.args.window (c.args.first ∷ []) (c.args.second ∷ c.args.rows.now) (map row_lent set) c.loop-record.rows c.in-Some.record
     c.next_record.new.self _ c.loop-record.invariant c.in-Some.ensures (goes_as ∙ on)
     (subst (λ (row : Row). AreApart row.1) more.row more.apart) pushed

@@ -12,14 +12,14 @@ returns-then-not-is_held_with-clause-ok c =
     let second = c.in-Some-next_record.second in
     let empty = ap (map row_lent) c.in_default-take_row.ensures.none in
     let walks = sym c.take-in-Changes.ensures.value ∙ c.in-Some-take.is in
-    let begun = ap (λ o. by_sets (maybe_next o) c.in-Some-take.rows) (sym c.take-in-Changes-2.ensures.value)
+    let begun = ap (λ o. by_sets walk.window (maybe_next o) c.in-Some-take.rows) (sym c.take-in-Changes-2.ensures.value)
     ∙ c.in-Some-first_of.ensures.some in
     let off : c.is_held_with.result ≡ false = search rules in
     sym c.self.view_is
-    ∙ left-from walk.which walk.changed (map row_lent walk.set.items) (map row_lent c.take_row.new.set.items) c.take_row.result
+    ∙ left-from walk.window walk.which walk.changed (map row_lent walk.set.items) (map row_lent c.take_row.new.set.items) c.take_row.result
     walk.next walk.rows c.in-Some-take.rows first c.first_of.new.rows c.in-Changes.is c.take_row.ensures.first
     c.in_default-take_row.is empty walks begun
-    ∙ left-apart walk.which walk.changed (map row_lent c.take_row.new.set.items) first second
+    ∙ left-apart walk.window walk.which walk.changed (map row_lent c.take_row.new.set.items) first second
     (row_lent c.alone-then-not-is_held_with.result) c.first_of.new.rows c.next_record.new.self c.in-Changes.is empty
     c.in-Some-next_record.ensures
     (goes-on-first first second (last_lent c.last.result.now) (last_lent c.last-in-Changes.result.now) c.is_held_with.result
@@ -38,11 +38,11 @@ returns-in_err-set-in-Changes-clause-some c =
     let first = c.in-Some-first_of.first in
     let empty = ap (map row_lent) c.in_default-take_row.ensures.none in
     let walks = sym c.take-in-Changes.ensures.value ∙ c.in-Some-take.is in
-    let begun = ap (λ o. by_sets (maybe_next o) c.in-Some-take.rows) (sym c.take-in-Changes-2.ensures.value)
+    let begun = ap (λ o. by_sets walk.window (maybe_next o) c.in-Some-take.rows) (sym c.take-in-Changes-2.ensures.value)
     ∙ c.in-Some-first_of.ensures.some in
     let is = sym c.self.view_is
-    ∙ left-from walk.which walk.changed (map row_lent walk.set.items) (map row_lent c.take_row.new.set.items) c.take_row.result
+    ∙ left-from walk.window walk.which walk.changed (map row_lent walk.set.items) (map row_lent c.take_row.new.set.items) c.take_row.result
     walk.next walk.rows c.in-Some-take.rows first c.first_of.new.rows c.in-Changes.is c.take_row.ensures.first
     c.in_default-take_row.is empty walks begun in
-    let some : c.args.self.now ≢ [] = λ none. sets-some first [] c.first_of.new.rows (sym is ∙ none) in
+    let some : c.args.self.now ≢ [] = λ none. sets-some walk.window first [] c.first_of.new.rows (sym is ∙ none) in
     on_err_any _ some
