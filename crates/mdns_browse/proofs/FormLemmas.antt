@@ -3,10 +3,11 @@ use Rattle.std.proofs.Common.{◌≡◌, ◌∙◌, ap, List, [], ◌++◌, stri
 use Rattle.std.specs.declared.string.String.{String}
 use Rattle.mdns_join.specs.declared.latest.Latest.{Latest}
 use Rattle.mdns_browse.specs.declared.{about.Subject.{Subject}, report_json.Objects.{Objects}, report.Ask.{Ask}}
-use Rattle.mdns_browse.specs.declared.report.{Ask.TheVariants.{Records, Types, Instances}, Form.TheVariants.{Json, Lines}}
-use Rattle.mdns_browse.specs.{Report.{instances_about, records_about, text_about, types_about}, Sheet.{live_record, report_pieces}}
+use Rattle.mdns_browse.specs.declared.report.{Ask.TheVariants.{Records, Types, Instances, Hosts}, Form.TheVariants.{Json, Lines}}
+use Rattle.mdns_browse.specs.{Report.{instances_about, records_about, text_about, types_about}, Sheet.{host, live_record, report_pieces}}
+use Rattle.mdns_browse.specs.Hosts.{hosts_about}
 use Rattle.mdns_browse.specs.{Sheet.{service_type, writes}, LinePieces.{piece_lines}, JsonPieces.{Grows, pieces_json, pieces_next}}
-use Rattle.mdns_browse.proofs.{LineLemmas.{flat_map-map, instances_text}, ObjectLemmas.{records_json, types_json, instances_json}}
+use Rattle.mdns_browse.proofs.{LineLemmas.{flat_map-map, instances_text}, ObjectLemmas.{records_json, types_json, instances_json, hosts_json}}
 
 -- the text of a sheet that was empty
 begun : {old text new whole : List ℕ} → old ≡ [] → new ≡ old ++ text → text ≡ whole → new ≡ whole
@@ -21,6 +22,7 @@ lines_written about Types now rows old new none written =
     begun none written (flat_map-map piece_lines service_type (types_about about rows))
 lines_written about Instances now rows old new none written =
     begun none written (instances_text (instances_about about rows))
+lines_written about Hosts now rows old new none written = begun none written (flat_map-map piece_lines host (hosts_about about rows))
 
 pub json_written : (about : List Subject) (ask : Ask) (now : ℕ) (rows : List (Latest × ℕ)) (old new : Objects)
     → string_bytes old.text ≡ [] → Grows pieces_json pieces_next old (report_pieces about ask rows) new
@@ -31,3 +33,4 @@ json_written about Types now rows old new none grown =
     begun none grown.written (types_json old.first (types_about about rows))
 json_written about Instances now rows old new none grown =
     begun none grown.written (instances_json old.first (instances_about about rows))
+json_written about Hosts now rows old new none grown = begun none grown.written (hosts_json old.first (hosts_about about rows))

@@ -1,8 +1,10 @@
 mod AboutLemmas
 mod AboutServiceLemmas
 mod ColumnLemmas
+mod CsvLemmas
 mod DigitLemmas
 mod FormLemmas
+mod HostLemmas
 mod InstanceColumnLemmas
 mod InstanceLemmas
 mod JsonLemmas

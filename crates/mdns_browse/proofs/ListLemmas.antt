@@ -1,5 +1,5 @@
 -- Lists that loops make of what they read, where what is made of a list is made of its parts.
-use Rattle.std.proofs.Common.{arith, ◌≡◌, sym, ◌∙◌, ap, subst, ℕ, ◌+◌, ◌<◌, ◌≤◌, List, [], ◌∷◌, ◌++◌, length, map, take, get_or}
+use Rattle.std.proofs.Common.{arith, ◌≡◌, refl, sym, ◌∙◌, ap, subst, ℕ, ◌+◌, ◌<◌, ◌≤◌, List, [], ◌∷◌, ◌++◌, length, map, take, get_or}
 use Rattle.std.proofs.lemmas.List.{append_assoc, append-nil, map-append, take_all, take_more}
 use Rattle.mdns_browse.specs.Sheet.{TakeLaws}
 
@@ -27,6 +27,14 @@ module _ {X Y : Type 0} (g : List X → List Y) (append : (xs ys : List X) → g
   pub made_all : {R : Type 0} (f : R → X) (rows : List R) (i : ℕ) {old : List Y} → length rows ≤ i
       → old ≡ g (map f (take i rows)) → old ≡ g (map f rows)
   made_all f rows i enough so_far = so_far ∙ ap (λ rs. g (map f rs)) (take_all i rows enough)
+
+  -- of the first elements, after what was there
+  pub added_more : {R : Type 0} (f : R → X) (rows : List R) (i : ℕ) (row : R) (front : List Y) {old new : List Y} → i < length rows
+      → row ≡ get_or rows i row → old ≡ front ++ g (map f (take i rows)) → new ≡ old ++ g (f row ∷ [])
+      → new ≡ front ++ g (map f (take (i + 1) rows))
+  added_more f rows i row front within at so_far more =
+      more ∙ ap (λ ys. ys ++ g (f row ∷ [])) so_far ∙ append_assoc front (g (map f (take i rows))) (g (f row ∷ []))
+      ∙ ap (λ ys. front ++ ys) (made_more f rows i row within at refl refl)
 
   -- of elements of which some are left
   pub left_more : (x : X) (left after : List X) (old new all : List Y) → left ≡ x ∷ after → new ≡ old ++ g (x ∷ [])

@@ -10,10 +10,10 @@ use Rattle.mdns_lives.specs.declared.life.Life.{Life}
 use Rattle.mdns_browse.specs.{declared.instance.Server.{Server}, declared.report_json.Objects.{Objects}, RecordShown.{shown_record}}
 use Rattle.mdns_browse.specs.{RecordText.{data_words, text_words}, Json.{escaped, parted, comma_unless, first_after, json_string}}
 use Rattle.mdns_browse.specs.Json.{json_words, json_member, json_object, record_json, type_json, server_json, instance_json}
-use Rattle.mdns_browse.specs.{Services.{InstanceRow}, Sheet.{Piece, live_record, service_type, server_address, instance_text}}
-use Rattle.mdns_browse.specs.{Sheet.{server_pieces, instance_pieces}, LifeText.{end_text, life_json, life_rest, resource_json}}
-use Rattle.mdns_browse.specs.JsonPieces.{piece_json, piece_next, pieces_json, pieces_next, strings_json, Grows}
-use Rattle.mdns_browse.specs.laws.JsonPieces.{strings-append, pieces-append, next-append}
+use Rattle.mdns_browse.specs.{Hosts.{HostRow, host_json}, Services.{InstanceRow}, Sheet.{Piece, host, live_record, service_type}}
+use Rattle.mdns_browse.specs.{Sheet.{server_address, instance_text, server_pieces, instance_pieces}, LifeText.{end_text, life_json}}
+use Rattle.mdns_browse.specs.{LifeText.{life_rest, resource_json}, JsonPieces.{piece_json, piece_next, pieces_json, pieces_next}}
+use Rattle.mdns_browse.specs.{JsonPieces.{strings_json, Grows}, laws.JsonPieces.{strings-append, pieces-append, next-append}}
 
 -- a sheet that has the text of one piece more
 pub grows_piece : (piece : Piece) (old new : Objects) → string_bytes new.text ≡ string_bytes old.text ++ piece_json old.first piece
@@ -178,6 +178,10 @@ records_json (row ∷ rows) first = ap (λ text. record_json row ++ text) (recor
 pub types_json : (first : Bool) (names : List (List ℕ)) → pieces_json first (map service_type names) ≡ flat_map type_json names
 types_json first [] = refl
 types_json first (name ∷ names) = ap (λ text. type_json name ++ text) (types_json first names)
+
+pub hosts_json : (first : Bool) (hosts : List HostRow) → pieces_json first (map host hosts) ≡ flat_map host_json hosts
+hosts_json first [] = refl
+hosts_json first (row ∷ hosts) = ap (λ text. host_json row ++ text) (hosts_json true hosts)
 
 pub instances_json : (first : Bool) (rows : List InstanceRow)
     → pieces_json first (flat_map instance_pieces rows) ≡ flat_map instance_json rows

@@ -2,8 +2,8 @@
 use Rattle.std.proofs.Common.{◌≡◌, refl, sym, ◌∙◌, ap, subst, ℕ, zero, suc, ◌+◌, ◌-◌, ◌<◌, ◌≤◌, ◌⊎◌, inl, inr, Bool, true}
 use Rattle.std.proofs.Common.{false, cond, List, [], ◌∷◌, length, map, take, drop, get_or, arith}
 use Rattle.std.proofs.lemmas.{List.{get_or-drop, length-drop, take_all}, Bool.{false≢true}, Cmp.{tied_itself}, Simd.{map-map}}
-use Rattle.std.specs.{List.{AllByRecursion, AllWithin, filter}, List.Sorted.{IsStrictlySortedBy, IsPartitionPoint, IsPartitionedBy}}
-use Rattle.std.specs.{Cmp.{IsTotalOrder}, Ordering.{is_eq, is_lt, is_le, ordering_then}, declared.cmp.Ordering.{Ordering}}
+use Rattle.std.specs.{List.{AllByRecursion, AllWithin, filter}, List.Sorted.{IsNonDecreasingBy, IsStrictlySortedBy, IsPartitionPoint, IsPartitionedBy}}
+use Rattle.std.specs.{Cmp.{IsTotalOrder}, Ordering.{is_eq, is_lt, is_le, ordering_index, ordering_then}, declared.cmp.Ordering.{Ordering}}
 use Rattle.std.specs.declared.cmp.Ordering.TheVariants.{Less, Equal, Greater}
 use Rattle.mdns_message.specs.{declared.key.Key.{Key}, RecordSet.{RecordSet}, Resource.{set_key_cmp, key_cmp}}
 use Rattle.mdns_message.specs.laws.Resource.{set_key_cmp-total}
@@ -114,25 +114,48 @@ module _ {X : Type 0} (key : X → Key) (set : RecordSet) where
       → IsPartitionedBy (λ x. is_le (against x)) ys
   parted_after xs ys first rest sorted = grind (arith, length-drop, get_or-drop, parted_upto)
 
-  -- the rows of the set are those between the two places that the searches find
+-- the rows that are equal are those between the two places that the searches find
+module _ {X : Type 0} (ord : X → Ordering) where
   pub filter-rest : (xs ys : List X) (first count : ℕ) → ys ≡ drop first xs → count ≤ length ys
-      → IsPartitionPoint (λ x. is_lt (against x) ≡ true) (λ x. is_lt (against x) ≡ false) xs first
-      → IsPartitionPoint (λ x. is_le (against x) ≡ true) (λ x. is_le (against x) ≡ false) ys count
-      → filter (λ x. is_eq (against x)) xs ≡ take count ys
+      → IsPartitionPoint (λ x. is_lt (ord x) ≡ true) (λ x. is_lt (ord x) ≡ false) xs first
+      → IsPartitionPoint (λ x. is_le (ord x) ≡ true) (λ x. is_le (ord x) ≡ false) ys count
+      → filter (λ x. is_eq (ord x)) xs ≡ take count ys
   filter-rest xs ys first count rest within below upto =
-      filter-from (λ x. is_eq (against x)) xs first (λ k d low high. lt-not_eq _ (below.0 k d low high))
-      ∙ ap (filter (λ x. is_eq (against x))) (sym rest)
-      ∙ filter-upto (λ x. is_eq (against x)) ys count within
+      filter-from (λ x. is_eq (ord x)) xs first (λ k d low high. lt-not_eq _ (below.0 k d low high))
+      ∙ ap (filter (λ x. is_eq (ord x))) (sym rest)
+      ∙ filter-upto (λ x. is_eq (ord x)) ys count within
       (λ k d low high. between-eq _ (not_below k d (omega arith)) (upto.0 k d low high))
       (λ k d low high. above-not_eq _ (upto.1 k d low high))
     where
-      not_below : (k : ℕ) (d : X) → k < length ys → is_lt (against (get_or ys k d)) ≡ false
+      not_below : (k : ℕ) (d : X) → k < length ys → is_lt (ord (get_or ys k d)) ≡ false
       not_below k d lt =
-          subst (λ zs. is_lt (against (get_or zs k d)) ≡ false) (sym rest)
-          (subst (λ x. is_lt (against x) ≡ false) (sym (get_or-drop first xs k d))
+          subst (λ zs. is_lt (ord (get_or zs k d)) ≡ false) (sym rest)
+          (subst (λ x. is_lt (ord x) ≡ false) (sym (get_or-drop first xs k d))
           (below.1 (first + k) d (omega arith) (omega (arith, lt, ap length rest, length-drop first xs))))
 
-filter-map : {X Y : Type 0} (f : X → Y) (test : Y → Bool) (xs : List X) → filter test (map f xs) ≡ map f (filter (λ x. test (f x)) xs)
+-- what comes before what isn't above isn't above
+lower-lt : (o p : Ordering) → ordering_index o ≤ ordering_index p → is_lt p ≡ true → is_lt o ≡ true
+lower-lt Less p le lt = refl
+lower-lt Equal Less le lt = absurd (omega (arith, le))
+lower-lt Greater Less le lt = absurd (omega (arith, le))
+lower-lt o Equal le lt = absurd (false≢true lt)
+lower-lt o Greater le lt = absurd (false≢true lt)
+
+lower-le : (o p : Ordering) → ordering_index o ≤ ordering_index p → is_le p ≡ true → is_le o ≡ true
+lower-le Less p le lt = refl
+lower-le Equal p le lt = refl
+lower-le Greater Less le lt = absurd (omega (arith, le))
+lower-le Greater Equal le lt = absurd (omega (arith, le))
+lower-le Greater Greater le lt = lt
+
+module _ {X : Type 0} (ord : X → Ordering) (xs : List X) (rises : IsNonDecreasingBy (λ x. ordering_index (ord x)) xs) where
+  pub rising-lt : IsPartitionedBy (λ x. is_lt (ord x)) xs
+  rising-lt i j d le lt below = lower-lt _ _ (rises i j d le lt) below
+
+  pub rising-le : IsPartitionedBy (λ x. is_le (ord x)) xs
+  rising-le i j d le lt below = lower-le _ _ (rises i j d le lt) below
+
+pub filter-map : {X Y : Type 0} (f : X → Y) (test : Y → Bool) (xs : List X) → filter test (map f xs) ≡ map f (filter (λ x. test (f x)) xs)
 filter-map f test [] = refl
 filter-map f test (x ∷ xs) = grind (arith, filter-map f test xs)
 

@@ -5,13 +5,14 @@ use Rattle.dns_name.specs.Name.{folded}
 use Rattle.mdns_message.specs.declared.body.RecordData.TheVariants as body
 use Rattle.mdns_browse.specs.declared.instance_sheet.InstanceSheet.{InstanceSheet}
 use Rattle.mdns_browse.specs.{Columns.{instance_row, spaces, text_row, type_row, words_line}, Services.{InstanceRow}}
-use Rattle.mdns_browse.specs.Sheet.{Piece, live_record, service_type, instance_begin, server_begin, server_address, server_end, servers_end}
+use Rattle.mdns_browse.specs.Sheet.{Piece, host, live_record, service_type, instance_begin, server_begin, server_address, server_end, servers_end}
 use Rattle.mdns_browse.specs.{Sheet.{instance_text, instance_end, instance_pieces}, RecordShown.{shown_words, spaced_wide}}
 
--- the text of a piece; columns of instances have no other records
+-- the text of a piece; columns of instances have no other records and no hosts
 abbrev pub piece_columns : ℕ → ℕ → Piece → List ℕ
 piece_columns width now (live_record row) = []
 piece_columns width now (service_type name) = 10 ∷ type_row name
+piece_columns width now (host row) = []
 piece_columns width now (instance_begin given name) = instance_row width now given name
 piece_columns width now (server_begin priority weight port target) =
     spaces width ++ codes "    " ++ spaced_wide (shown_words (body.Srv priority weight port target))

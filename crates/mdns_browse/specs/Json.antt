@@ -9,10 +9,14 @@ use Rattle.mdns_browse.specs.RecordText.{data_words, text_words}
 use Rattle.people_text.specs.Shown.{name_shown}
 use Rattle.mdns_capture.specs.Text.{moment_text}
 
+-- a text whose `"` and marks stand each after a mark
+abbrev pub marked : ℕ → List ℕ → List ℕ
+marked mark text = flat_map (λ b. if (b == 34) || (b == mark) then mark ∷ b ∷ [] else b ∷ []) text
+
 -- a text within a string, `"` and `\` after a `\`. No text here has a control character, so nothing else has to be escaped: words
 -- and moments have bytes 0x21 to 0x7E alone, and texts for people visible scalars (the law `shown_text` of `people_text`)
 unfoldable pub escaped : List ℕ → List ℕ
-escaped text = flat_map (λ b. if (b == 34) || (b == 92) then 92 ∷ b ∷ [] else b ∷ []) text
+escaped text = marked 92 text
 
 -- a text as a string (section 7)
 abbrev pub json_string : List ℕ → List ℕ

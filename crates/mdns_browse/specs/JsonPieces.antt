@@ -3,15 +3,16 @@ use Rattle.std.specs.Prelude.{◌≡◌, ◌==◌, ℕ, Bool, true, false, List,
 use Rattle.std.specs.Fmt.{decimal}
 use Rattle.dns_name.specs.Name.{name_text}
 use Rattle.people_text.specs.Shown.{name_shown}
-use Rattle.mdns_browse.specs.Sheet.{Piece, live_record, service_type, instance_begin, server_begin, server_address, server_end, servers_end}
-use Rattle.mdns_browse.specs.{Sheet.{instance_text, instance_end}, RecordShown.{shown_instance}, RecordText.{data_words, text_words}}
-use Rattle.mdns_browse.specs.Json.{json_string, json_bool, json_words, record_json, type_json, comma_unless, parted, first_after}
-use Rattle.mdns_browse.specs.declared.report_json.Objects.{Objects}
+use Rattle.mdns_browse.specs.{Hosts.{host_json}, Sheet.{Piece, host, live_record, service_type, instance_begin, server_begin}}
+use Rattle.mdns_browse.specs.{Sheet.{server_address, server_end, servers_end, instance_text, instance_end}, RecordShown.{shown_instance}}
+use Rattle.mdns_browse.specs.{RecordText.{data_words, text_words}, Json.{json_string, json_bool, json_words, record_json, type_json}}
+use Rattle.mdns_browse.specs.{Json.{comma_unless, parted, first_after}, declared.report_json.Objects.{Objects}}
 
 -- the text of a piece, which may be the first value of an array
 abbrev pub piece_json : Bool → Piece → List ℕ
 piece_json first (live_record row) = record_json row
 piece_json first (service_type name) = type_json name
+piece_json first (host row) = host_json row
 piece_json first (instance_begin given name) =
     codes "{\"instance\":" ++ json_string (name_text name) ++ codes ",\"shown\":" ++ json_string (shown_instance name)
     ++ codes ",\"type\":" ++ json_string (name_text given.last.resource.owner)
@@ -31,6 +32,7 @@ piece_json first instance_end = codes "]}\n"
 abbrev pub piece_next : Bool → Piece → Bool
 piece_next first (live_record row) = first_after true (data_words row.0.resource.body)
 piece_next first (service_type name) = first
+piece_next first (host row) = true
 piece_next first (instance_begin given name) = true
 piece_next first (server_begin priority weight port target) = true
 piece_next first (server_address address) = first_after first (data_words address)

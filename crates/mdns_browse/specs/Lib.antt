@@ -1,5 +1,7 @@
 pub mod About
+pub mod Csv
 pub mod Given
+pub mod Hosts
 pub mod Json
 pub mod LinePieces
 pub mod LifeText

@@ -1,14 +1,15 @@
 -- The lives of records as text.
-use Rattle.std.specs.Prelude.{◌≡◌, ℕ, nat_lt, ◌==◌, if◌then◌else◌, List, [], ◌∷◌, ◌++◌, length, map, codes}
+use Rattle.std.specs.Prelude.{◌≡◌, ℕ, nat_lt, ◌==◌, if◌then◌else◌, List, [], ◌∷◌, ◌++◌, length, map, codes, Option, option_map, unwrap_or}
 use Rattle.std.specs.{Fmt.{decimal}, List.{flat_map}}
-use Rattle.mdns_capture.specs.Text.{moment_text}
+use Rattle.mdns_capture.specs.{Text.{moment_text}, declared.moment.Moment.{Moment}}
 use Rattle.dns_name.specs.Name.{name_text}
 use Rattle.mdns_message.specs.{Resource.{type_name, type_of}, declared.resource.Resource.{Resource}}
 use Rattle.mdns_join.specs.declared.latest.Latest.{Latest}
 use Rattle.mdns_lives.specs.declared.life.{Life.{Life}, EndReason.{EndReason}, EndReason.TheVariants.{Expired, Goodbye, Flushed}}
-use Rattle.mdns_lives.specs.declared.life.{Which.{Which}, Which.TheVariants.{All, Changes}}
-use Rattle.mdns_browse.specs.declared.{report.Form.{Form}, report.Form.TheVariants.{Lines, Json, Pretty}, life_text.Layout.{Layout}}
+use Rattle.mdns_lives.specs.declared.{life.Which.{Which}, life.Which.TheVariants.{All, Changes}, window.Window.{Window}}
+use Rattle.mdns_browse.specs.declared.{report.Form.{Form}, report.Form.TheVariants.{Csv, Lines, Json, Pretty}, life_text.Layout.{Layout}}
 use Rattle.mdns_browse.specs.{Columns.{padded, widest}, RecordShown.{shown_record}, RecordText.{data_words, resource_text}}
+use Rattle.mdns_browse.specs.Csv.{Moment as MomentField, Number, Text, csv_line, resource_fields}
 use Rattle.mdns_browse.specs.Json.{json_string, json_member, json_object, json_words, resource_members, text_member}
 use Rattle.people_text.specs.MomentText.{millis_text}
 
@@ -67,6 +68,17 @@ life_rest end life =
     ++ codes ",\"until\":" ++ json_string (moment_text life.until)
     ++ codes ",\"end\":" ++ json_string (end_text end life) ++ codes "}\n"
 
+-- ---- comma-separated values
+
+abbrev pub lives_header : List ℕ
+lives_header = codes "owner,type,data,from,ttl,heard,until,end\r\n"
+
+-- a life as a line: that of a live record, with `from` before `ttl`, and `end` last
+unfoldable pub life_csv : ℕ → Resource → Life → List ℕ
+life_csv end resource life =
+    csv_line (resource_fields resource ++ MomentField life.from.nanos ∷ Number life.last.ttl ∷ MomentField life.last.moment.nanos
+    ∷ MomentField life.until ∷ Text (end_text end life) ∷ [])
+
 -- ---- columns
 
 -- the lives of rows
@@ -77,10 +89,15 @@ lives_in rows = flat_map (λ row. row.1) rows
 abbrev pub end_width : ℕ → List (Latest × List Life) → ℕ
 end_width end rows = widest (codes "END" ∷ map (end_shown end) (lives_in rows))
 
+-- when a life ends, of 26 bytes: in parentheses if it goes on after the end of the captures, since that is a forecast
+unfoldable pub until_shown : ℕ → Life → List ℕ
+until_shown end life =
+    if nat_lt end life.until then codes "(" ++ millis_text life.until ++ codes ")" else codes " " ++ millis_text life.until ++ codes " "
+
 -- a life in columns: from when until when, each of 24 bytes, how it ended, the type, and the record
 unfoldable pub life_row : ℕ → ℕ → Resource → Life → List ℕ
 life_row width end resource life =
-    millis_text life.from.nanos ++ codes "  " ++ millis_text life.until ++ codes "  " ++ padded width (end_shown end life)
+    millis_text life.from.nanos ++ codes " " ++ until_shown end life ++ codes " " ++ padded width (end_shown end life)
     ++ codes "  " ++ padded 4 (type_name (type_of resource.body)) ++ codes "  " ++ shown_record resource ++ 10 ∷ []
 
 -- what so many of them are called
@@ -90,35 +107,42 @@ called Changes count =
     if count == 1 then codes " life of record sets that changed, between "
     else codes " lives of record sets that changed, between "
 
+-- the moment that bounds the window, or else the captures
+unfoldable pub bound_shown : Option Moment → ℕ → ℕ
+bound_shown bound other = unwrap_or (option_map (λ (moment : Moment). moment.nanos) bound) other
+
 -- how many lives there are, which those are, and between which moments; an empty line, and the heads of the columns, unless
 -- there are none
-unfoldable pub lives_heading : Which → (count width begin end : ℕ) → List ℕ
-lives_heading which count width begin end =
-    decimal count ++ called which count ++ millis_text begin ++ codes " and "
-    ++ millis_text end ++ 10 ∷ (if count == 0 then [] else 10 ∷ (codes "FROM                      UNTIL                     "
+unfoldable pub lives_heading : Which → Window → (count width begin end : ℕ) → List ℕ
+lives_heading which window count width begin end =
+    decimal count ++ called which count ++ millis_text (bound_shown window.since begin) ++ codes " and "
+    ++ millis_text (bound_shown window.until end)
+    ++ 10 ∷ (if count == 0 then [] else 10 ∷ (codes "FROM                      UNTIL                     "
     ++ padded width (codes "END") ++ codes "  TYPE  RECORD\n"))
 
 -- ---- forms
 
--- what stands before the lives; in columns also the earliest moment, and the width of the column that says how they end
-abbrev pub lives_head : Which → Form → (count width begin end : ℕ) → List ℕ
-lives_head which Pretty count width begin end = lives_heading which count width begin end
-lives_head which _ count width begin end = []
+-- what stands before the lives; in columns also the bounds, and the width of the column that says how they end
+abbrev pub lives_head : Which → Window → Form → (count width begin end : ℕ) → List ℕ
+lives_head which window Pretty count width begin end = lives_heading which window count width begin end
+lives_head which window Csv count width begin end = lives_header
+lives_head which window _ count width begin end = []
 
 -- a life in that form
 abbrev pub life_text : Form → ℕ → ℕ → Resource → Life → List ℕ
 life_text Lines width = λ end resource life. resource_text resource ++ life_words end life
 life_text Json width = life_json
 life_text Pretty width = life_row width
+life_text Csv width = life_csv
 
 -- the lives of a record in that form, spelled as in its last hearing
 abbrev pub lives_text : Form → ℕ → ℕ → Latest × List Life → List ℕ
 lives_text form width end row = flat_map (life_text form width end row.0.resource) row.1
 
 -- all of it: `begin` is the earliest moment, and `end` the end of the captures
-abbrev pub lives_report : Which → Form → (begin end : ℕ) → List (Latest × List Life) → List ℕ
-lives_report which form begin end rows =
-    lives_head which form (length (lives_in rows)) (end_width end rows) begin end
+abbrev pub lives_report : Which → Window → Form → (begin end : ℕ) → List (Latest × List Life) → List ℕ
+lives_report which window form begin end rows =
+    lives_head which window form (length (lives_in rows)) (end_width end rows) begin end
     ++ flat_map (lives_text form (end_width end rows) end) rows
 
 -- how many lives the rows have, and how wide the column is that says how they end

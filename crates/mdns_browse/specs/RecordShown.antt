@@ -40,9 +40,13 @@ shown_content (content.Service service) =
 abbrev pub shown_words : Body → List (List ℕ)
 shown_words b = shown_content (content_of b)
 
+-- the words, each after a gap
+abbrev pub spaced_by : List ℕ → List (List ℕ) → List ℕ
+spaced_by gap words = flat_map (λ word. gap ++ word) words
+
 -- the words, each after two spaces: a word may have single ones
 abbrev pub spaced_wide : List (List ℕ) → List ℕ
-spaced_wide words = flat_map (λ word. 32 ∷ 32 ∷ word) words
+spaced_wide words = spaced_by (32 ∷ 32 ∷ []) words
 
 -- a record: its owner, and the words of its data
 unfoldable pub shown_record : Resource → List ℕ

@@ -4,8 +4,8 @@ use Rattle.std.specs.{declared.string.String.{String}, List.{flat_map}}
 use Rattle.mdns_message.specs.Resource.{Body}
 use Rattle.mdns_join.specs.declared.latest.Latest.{Latest}
 use Rattle.mdns_browse.specs.declared.{about.Subject.{Subject}, instance.Server.{Server}, report.Ask.{Ask}}
-use Rattle.mdns_browse.specs.declared.report.Ask.TheVariants.{Records, Types, Instances}
-use Rattle.mdns_browse.specs.{Report.{instances_about, records_about, types_about}, Services.{GivenRow, InstanceRow}}
+use Rattle.mdns_browse.specs.declared.report.Ask.TheVariants.{Records, Types, Instances, Hosts}
+use Rattle.mdns_browse.specs.{Hosts.{HostRow, hosts_about}, Report.{instances_about, records_about, types_about}, Services.{GivenRow, InstanceRow}}
 
 -- a piece of a report
 pub data Piece : Type 0 where
@@ -13,6 +13,7 @@ pub data Piece : Type 0 where
   live_record : Latest × ℕ → Piece
   -- the name of a service type
   service_type : List ℕ → Piece
+  host : HostRow → Piece
   -- the record that gives an instance and the instance's name, before its servers
   instance_begin : GivenRow → List ℕ → Piece
   -- the priority, weight, port and target of a server, before its addresses
@@ -63,3 +64,4 @@ abbrev pub report_pieces : List Subject → Ask → List (Latest × ℕ) → Lis
 report_pieces about Records rows = map live_record (records_about about rows)
 report_pieces about Types rows = map service_type (types_about about rows)
 report_pieces about Instances rows = flat_map instance_pieces (instances_about about rows)
+report_pieces about Hosts rows = map host (hosts_about about rows)

@@ -4,9 +4,11 @@ ghost use Rattle.std.specs.{Prelude.{◌≡◌, ◌++◌, ◌∷◌, [], codes, 
 ghost use Rattle.mdns_browse.specs.Columns.{spaces};
 
 use crate::columns::{push_padded_time_left, push_spaces};
+use crate::host::Host;
 use crate::record_columns::push_type_row;
 use crate::record_shown::{
-    push_shown_instance, push_shown_order, push_shown_strings, push_shown_target, push_shown_words,
+    GAP, push_shown_instance, push_shown_order, push_shown_strings, push_shown_target,
+    push_shown_words,
 };
 use crate::sheet::{InstancePointer, Sheet};
 use mdns_cache::LiveRecord;
@@ -74,6 +76,11 @@ impl Sheet for InstanceSheet {
         push_type_row(&mut self.text, name)
     }
 
+    // Hosts have columns of their own.
+    fn host(&mut self, _row: &Host<'_>) -> Result<(), Want> {
+        Ok(())
+    }
+
     #[tactic(auto, unfolding(crate::specs::Columns::instance_row))]
     fn instance_begin(&mut self, given: &InstancePointer<'_>, name: &Name) -> Result<(), Want> {
         self.text.push_str("  ")?;
@@ -91,12 +98,12 @@ impl Sheet for InstanceSheet {
         target: &Name,
     ) -> Result<(), Want> {
         push_indent(&mut self.text, self.width)?;
-        push_shown_target(&mut self.text, &target.borrowed(), port)?;
+        push_shown_target(&mut self.text, GAP, &target.borrowed(), port)?;
         push_shown_order(&mut self.text, priority, weight)
     }
 
     fn server_address(&mut self, address: &BorrowedBody<'_>) -> Result<(), Want> {
-        push_shown_words(&mut self.text, address)
+        push_shown_words(&mut self.text, GAP, address)
     }
 
     fn server_end(&mut self) -> Result<(), Want> {
@@ -113,7 +120,7 @@ impl Sheet for InstanceSheet {
 
     fn instance_text(&mut self, text: &Bytes) -> Result<(), Want> {
         self.words.clear();
-        push_shown_strings(&mut self.words, text.as_slice())?;
+        push_shown_strings(&mut self.words, GAP, text.as_slice())?;
         if self.words.is_empty() {
             return Ok(());
         }

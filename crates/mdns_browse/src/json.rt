@@ -1,18 +1,19 @@
 //! Strings and members of objects as JSON (RFC 8259, sections 4 and 7). After `Want` the contents of `to` are not
 //! specified.
 
-ghost use Rattle.std.specs.Prelude.{◌≡◌, ◌==◌, ◌||◌, ◌++◌, ◌∷◌, [], OnOk};
+ghost use Rattle.std.specs.Prelude.{◌≡◌, ◌<◌, ◌==◌, ◌||◌, ◌++◌, ◌∷◌, [], OnOk};
 ghost use Rattle.std.specs.{Fmt.{decimal}, Char.{encode_utf8}, String.{string_bytes}};
-ghost use Rattle.mdns_browse.specs.Json.{comma_unless, escaped, json_bool, json_member, json_string, text_member};
+ghost use Rattle.mdns_browse.specs.Json.{comma_unless, json_bool, json_member, json_string, marked, text_member};
 
 use mdns_message::Want;
 
 /// Appends a text as a string, `"` and `\` each after a `\` (RFC 8259, section 7).
+#[tactic(auto, unfolding(crate::specs::Json::escaped))]
 pub fn push_json_string(to: &mut String, text: &str) -> Result<(), Want>
     ensures { OnOk result (string_bytes to.new ≡ string_bytes to.old ++ json_string text.now) }
 {
     to.push('"')?;
-    push_escaped(to, text)?;
+    push_marked(to, '\\', text)?;
     to.push('"')?;
     Ok(())
 }
@@ -63,28 +64,31 @@ pub(crate) fn json_bool(value: bool) -> &'static str
     if value { "true" } else { "false" }
 }
 
-fn push_escaped(to: &mut String, text: &str) -> Result<(), Want>
-    ensures { OnOk result (string_bytes to.new ≡ string_bytes to.old ++ escaped text.now) }
+/// Appends a text, each `"` and each `mark` after a `mark`, which is ASCII.
+pub(crate) fn push_marked(to: &mut String, mark: char, text: &str) -> Result<(), Want>
+    requires { mark < 128 }
+    ensures { OnOk result (string_bytes to.new ≡ string_bytes to.old ++ marked mark text.now) }
 {
     for character in text.chars() {
-        push_character(to, character)?;
+        push_character(to, mark, character)?;
     }
     Ok(())
 }
 
-fn push_character(to: &mut String, character: char) -> Result<(), Want>
-    ensures { OnOk result (string_bytes to.new ≡ string_bytes to.old ++ escaped (encode_utf8 character)) }
+fn push_character(to: &mut String, mark: char, character: char) -> Result<(), Want>
+    requires { mark < 128 }
+    ensures { OnOk result (string_bytes to.new ≡ string_bytes to.old ++ marked mark (encode_utf8 character)) }
 {
-    if is_escaped(character) {
-        to.push('\\')?;
+    if is_marked(mark, character) {
+        to.push(mark)?;
     }
     to.push(character)?;
     Ok(())
 }
 
-// Returns whether a character is written after a `\` within a string.
-fn is_escaped(character: char) -> bool
-    ensures { result ≡ ((character == 34) || (character == 92)) }
+// Returns whether a character is written after a mark.
+fn is_marked(mark: char, character: char) -> bool
+    ensures { result ≡ ((character == 34) || (character == mark)) }
 {
-    character == '"' || character == '\\'
+    character == '"' || character == mark
 }

@@ -6,10 +6,13 @@ mod about_data;
 mod about_names;
 mod about_services;
 mod columns;
+pub mod csv;
 mod data_words;
 mod digits;
 pub mod format;
 pub mod given_rows;
+pub mod host;
+mod host_forms;
 pub mod instance;
 mod instance_columns;
 mod instance_sheet;
@@ -24,6 +27,7 @@ mod other_names;
 mod record_columns;
 mod record_shown;
 pub mod report;
+mod report_csv;
 mod report_json;
 mod report_lines;
 mod report_walk;
@@ -33,10 +37,12 @@ mod short_text;
 
 pub use about::Subject;
 pub use columns::push_padded;
+pub use host::{Host, HostService};
 pub use instance::{Addresses, InOrder, Instance, Server, Servers, Texts};
 pub use record_shown::{
     push_shown_address, push_shown_instance, push_shown_order, push_shown_record,
 };
 pub use report::{Ask, Form, ReportFault};
+pub use report_csv::ResourceTexts;
 pub use report_json::push_resource_members;
 pub use services::{instances, types};

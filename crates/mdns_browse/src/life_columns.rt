@@ -4,14 +4,14 @@ ghost use Rattle.std.specs.Prelude.{◌≡◌, ◌++◌, ◌∷◌, [], codes, l
 ghost use Rattle.std.specs.{List.{flat_map}, String.{string_bytes}};
 ghost use Rattle.mdns_message.specs.Resource.{type_name, type_of};
 ghost use Rattle.people_text.specs.MomentText.{millis_text};
-ghost use Rattle.mdns_browse.specs.{LifeText.{called, end_shown, life_row, lives_heading, open_text}, Columns.{padded, widest}};
-ghost use Rattle.mdns_browse.specs.RecordShown.{shown_record};
+ghost use Rattle.mdns_browse.specs.LifeText.{bound_shown, called, end_shown, life_row, lives_heading, open_text, until_shown};
+ghost use Rattle.mdns_browse.specs.{Columns.{padded, widest}, RecordShown.{shown_record}};
 
 use crate::columns::{push_padded, wider, word_for};
 use crate::life_text::{Layout, reason_word};
 use crate::record_shown::push_shown_record;
 use mdns_capture::Moment;
-use mdns_lives::{EndReason, Life, Which};
+use mdns_lives::{EndReason, Life, Which, Window};
 use mdns_message::{Resource, Want};
 use people_text::moment_text::push_millis;
 
@@ -32,24 +32,36 @@ pub(crate) fn end_width(end_of_captures: Moment, lives: &[Life]) -> usize
 pub(crate) fn push_heading(
     text: &mut String,
     which: Which,
+    window: Window,
     layout: Layout,
     begin: Moment,
     end_of_captures: Moment,
 ) -> Result<(), Want>
     ensures { OnOk result (string_bytes text.new
-        ≡ string_bytes text.old ++ lives_heading which layout.count layout.width begin.nanos end_of_captures.nanos) }
+        ≡ string_bytes text.old ++ lives_heading which window layout.count layout.width begin.nanos end_of_captures.nanos) }
 {
     let called = called(which, layout.count);
     write!(text, "{}{called}", layout.count)?;
-    push_millis(text, begin.nanos())?;
+    push_millis(text, bound_shown(window.since, begin))?;
     text.push_str(" and ")?;
-    push_millis(text, end_of_captures.nanos())?;
+    push_millis(text, bound_shown(window.until, end_of_captures))?;
     text.push('\n')?;
     if layout.count == 0 {
         return Ok(());
     }
     text.push('\n')?;
     push_heads(text, layout.width)
+}
+
+// Returns the moment that bounds the window, or else the captures.
+#[tactic(auto, unfolding(crate::specs::LifeText::bound_shown))]
+fn bound_shown(bound: Option<Moment>, other: Moment) -> u64
+    ensures { result ≡ bound_shown bound other.nanos }
+{
+    match bound {
+        Some(moment) => moment.nanos(),
+        None => other.nanos(),
+    }
 }
 
 // Returns what so many lives are called.
@@ -117,15 +129,32 @@ fn push_row(
     life: &Life,
 ) -> Result<(), Want>
     ensures { OnOk result (string_bytes text.new ≡ string_bytes text.old
-        ++ (millis_text life.now.from.nanos ++ codes "  " ++ millis_text life.now.until ++ codes "  "
+        ++ (millis_text life.now.from.nanos ++ codes " " ++ until_shown end_of_captures.nanos life.now ++ codes " "
         ++ padded width (end_shown end_of_captures.nanos life.now) ++ tail.now)) }
 {
     push_millis(text, life.from.nanos())?;
-    text.push_str("  ")?;
-    push_millis(text, life.until)?;
-    text.push_str("  ")?;
+    text.push_str(" ")?;
+    push_until(text, end_of_captures, life)?;
+    text.push_str(" ")?;
     push_padded(text, width, end_shown(end_of_captures, life))?;
     text.push_str(tail)?;
+    Ok(())
+}
+
+// Appends when a life ends, in parentheses if it goes on: that is a forecast.
+#[tactic(auto, unfolding(crate::specs::LifeText::until_shown))]
+fn push_until(text: &mut String, end_of_captures: Moment, life: &Life) -> Result<(), Want>
+    ensures { OnOk result (string_bytes text.new ≡ string_bytes text.old ++ until_shown end_of_captures.nanos life.now) }
+{
+    if end_of_captures.nanos() < life.until {
+        text.push_str("(")?;
+        push_millis(text, life.until)?;
+        text.push_str(")")?;
+        return Ok(());
+    }
+    text.push_str(" ")?;
+    push_millis(text, life.until)?;
+    text.push_str(" ")?;
     Ok(())
 }
 

@@ -10,10 +10,11 @@ use crate::columns::wider;
 use crate::format::push_resource;
 use crate::life_columns::{end_width, push_heading, push_rows};
 use crate::report::Form;
+use crate::report_csv::push_csv_lives;
 use crate::report_json::Objects;
 use crate::report_lines::push_life;
 use mdns_capture::Moment;
-use mdns_lives::{EndReason, Life, Which};
+use mdns_lives::{EndReason, Life, Which, Window};
 use mdns_message::{Resource, Want};
 
 /// How many lives there are, and how wide their columns are.
@@ -47,22 +48,25 @@ impl Layout {
     }
 }
 
-/// Appends what stands before the lives of all records: nothing in `Form::Lines` and `Form::Json`, and in `Form::Pretty`
-/// how many lives there are, which those are, the earliest moment and the end of the captures, and, unless there are none,
-/// an empty line and the heads of the columns. `layout` is that of all lives that follow.
+/// Appends what stands before the lives of all records: nothing in `Form::Lines` and `Form::Json`, in `Form::Csv` the names of the
+/// fields, and in `Form::Pretty` how many lives there are, which those are, the bounds of the window, or else the earliest moment
+/// and the end of the captures, and, unless there are none, an empty line and the heads of the columns. `layout` is that of all
+/// lives that follow.
 pub fn push_lives_head(
     text: &mut String,
     which: Which,
+    window: Window,
     form: Form,
     layout: Layout,
     begin: Moment,
     end_of_captures: Moment,
 ) -> Result<(), Want>
     ensures { OnOk result (string_bytes text.new
-        ≡ string_bytes text.old ++ lives_head which form layout.count layout.width begin.nanos end_of_captures.nanos) }
+        ≡ string_bytes text.old ++ lives_head which window form layout.count layout.width begin.nanos end_of_captures.nanos) }
 {
     match form {
-        Form::Pretty => push_heading(text, which, layout, begin, end_of_captures),
+        Form::Pretty => push_heading(text, which, window, layout, begin, end_of_captures),
+        Form::Csv => Ok(text.push_str("owner,type,data,from,ttl,heard,until,end\r\n")?),
         _ => Ok(()),
     }
 }
@@ -90,6 +94,7 @@ pub fn push_lives(
         Form::Lines => push_lines(text, end_of_captures, resource, lives),
         Form::Json => push_objects(text, end_of_captures, resource, lives),
         Form::Pretty => push_rows(text, width, end_of_captures, resource, lives),
+        Form::Csv => push_csv_lives(text, end_of_captures, resource, lives),
     }
 }
 

@@ -7,7 +7,7 @@ ghost use Rattle.mdns_browse.specs.{Columns.{other_row, others_pretty}, Report.{
 use crate::about::Subject;
 use crate::columns::push_padded_time_left;
 use crate::record_columns::push_kept_record;
-use crate::record_shown::push_shown_words;
+use crate::record_shown::{GAP, push_shown_words};
 use crate::services::other_of;
 use mdns_cache::{LiveRecord, LiveWalk};
 use mdns_capture::Moment;
@@ -72,7 +72,7 @@ fn push_row(to: &mut String, width: usize, now: Moment, row: &LiveRecord<'_>) ->
 {
     to.push_str("  ")?;
     push_padded_time_left(to, width, now, row)?;
-    push_shown_words(to, &row.last.resource.body.borrowed())?;
+    push_shown_words(to, GAP, &row.last.resource.body.borrowed())?;
     to.push('\n')?;
     Ok(())
 }

@@ -38,8 +38,8 @@ pub(crate) fn records_columns(
     Ok(text)
 }
 
-// Collects the live records that are about the subjects.
-fn kept_records<'a>(
+/// Collects the live records that are about the subjects.
+pub(crate) fn kept_records<'a>(
     alloc: Global,
     about: &[Subject],
     walk: LiveWalk<'a>,
@@ -178,8 +178,8 @@ pub(crate) fn types_columns(
     Ok(text)
 }
 
-// Collects the names of the service types that are about the subjects.
-fn type_names<'a>(
+/// Collects the names of the service types that are about the subjects.
+pub(crate) fn type_names<'a>(
     alloc: Global,
     about: &[Subject],
     walk: LiveWalk<'a>,

@@ -1,10 +1,10 @@
 //! Records and services as text for people. After `Want` the contents of `to` are not specified.
 
-ghost use Rattle.std.specs.{Prelude.{◌≡◌, ◌++◌, ◌∷◌, codes, OnOk}, Fmt.{decimal}, String.{string_bytes}};
+ghost use Rattle.std.specs.{Prelude.{◌≡◌, ◌++◌, ◌∷◌, OnOk}, Fmt.{decimal}, String.{string_bytes}};
 ghost use Rattle.mdns_message.specs.{Borrowed.{body_lent, resource_lent}, Parts.{content_lent}};
 ghost use Rattle.people_text.specs.Shown.{name_shown};
 ghost use Rattle.mdns_browse.specs.RecordShown.{shown_address, shown_content, shown_instance, shown_order, shown_record};
-ghost use Rattle.mdns_browse.specs.RecordShown.{shown_string, shown_strings, shown_words, spaced_wide};
+ghost use Rattle.mdns_browse.specs.RecordShown.{shown_string, shown_strings, shown_words, spaced_by, spaced_wide};
 
 use crate::format::push_ipv4;
 use dns_name::name::split_label;
@@ -14,6 +14,9 @@ use people_text::address::push_ipv6_short;
 use people_text::shown::push_shown;
 use people_text::shown_names::push_shown_name;
 
+/// What is before each word in readable columns: a word may have single spaces.
+pub(crate) const GAP: &str = "  ";
+
 /// Appends a record: its owner, and each word of its data after two spaces. These are an address, a name, the strings of a
 /// TXT record that aren't empty, or the target and port of a server, with its priority and weight unless both are 0.
 #[tactic(auto, unfolding(crate::specs::RecordShown::shown_record))]
@@ -21,7 +24,7 @@ pub fn push_shown_record(to: &mut String, resource: &BorrowedResource<'_>) -> Re
     ensures { OnOk result (string_bytes to.new ≡ string_bytes to.old ++ shown_record (resource_lent resource.now)) }
 {
     push_shown_name(to, &resource.owner)?;
-    push_shown_words(to, &resource.body)
+    push_shown_words(to, GAP, &resource.body)
 }
 
 /// Appends the name of an instance where it stands alone: its first label, the dots of which aren't escaped.
@@ -34,33 +37,38 @@ pub fn push_shown_instance(to: &mut String, name: &BorrowedName<'_>) -> Result<(
     }
 }
 
-// Appends the words of a record's data, each after two spaces.
-pub(crate) fn push_shown_words(to: &mut String, body: &BorrowedBody<'_>) -> Result<(), Want>
-    ensures { OnOk result (string_bytes to.new ≡ string_bytes to.old ++ spaced_wide (shown_words (body_lent body.now))) }
+// Appends the words of a record's data, each after a gap.
+pub(crate) fn push_shown_words(
+    to: &mut String,
+    gap: &str,
+    body: &BorrowedBody<'_>,
+) -> Result<(), Want>
+    ensures { OnOk result (string_bytes to.new ≡ string_bytes to.old ++ spaced_by gap.now (shown_words (body_lent body.now))) }
 {
-    push_shown_content(to, body.content())
+    push_shown_content(to, gap, body.content())
 }
 
-// Appends the words of what data says, each after two spaces.
+// Appends the words of what data says, each after a gap.
 fn push_shown_content(
     to: &mut String,
+    gap: &str,
     content: Content<&BorrowedName<'_>, &[u8]>,
 ) -> Result<(), Want>
-    ensures { OnOk result (string_bytes to.new ≡ string_bytes to.old ++ spaced_wide (shown_content (content_lent content.entry))) }
+    ensures { OnOk result (string_bytes to.new ≡ string_bytes to.old ++ spaced_by gap.now (shown_content (content_lent content.entry))) }
 {
     match content {
         Content::Address(address) => {
-            push_space(to)?;
+            to.push_str(gap)?;
             push_shown_address(to, address)
         }
         Content::Name(name) => {
-            push_space(to)?;
+            to.push_str(gap)?;
             push_shown_name(to, name)
         }
-        Content::Strings(bytes) => push_shown_strings(to, bytes),
+        Content::Strings(bytes) => push_shown_strings(to, gap, bytes),
         Content::Service(service) => {
-            push_shown_target(to, service.target, service.port)?;
-            push_shown_order(to, service.priority, service.weight)
+            push_shown_target(to, gap, service.target, service.port)?;
+            push_order(to, gap, service.priority, service.weight)
         }
     }
 }
@@ -75,16 +83,17 @@ pub fn push_shown_address(to: &mut String, address: Address) -> Result<(), Want>
     }
 }
 
-// Appends the target and port of a server after two spaces.
+// Appends the target and port of a server after a gap.
 pub(crate) fn push_shown_target(
     to: &mut String,
+    gap: &str,
     target: &BorrowedName<'_>,
     port: u16,
 ) -> Result<(), Want>
     ensures { OnOk result (string_bytes to.new
-        ≡ string_bytes to.old ++ 32 ∷ 32 ∷ (name_shown target.now ++ 58 ∷ decimal port)) }
+        ≡ string_bytes to.old ++ (gap.now ++ (name_shown target.now ++ 58 ∷ decimal port))) }
 {
-    push_space(to)?;
+    to.push_str(gap)?;
     push_shown_name(to, target)?;
     write!(to, ":{port}")?;
     Ok(())
@@ -94,39 +103,38 @@ pub(crate) fn push_shown_target(
 pub fn push_shown_order(to: &mut String, priority: u16, weight: u16) -> Result<(), Want>
     ensures { OnOk result (string_bytes to.new ≡ string_bytes to.old ++ spaced_wide (shown_order priority weight)) }
 {
+    push_order(to, GAP, priority, weight)
+}
+
+fn push_order(to: &mut String, gap: &str, priority: u16, weight: u16) -> Result<(), Want>
+    ensures { OnOk result (string_bytes to.new ≡ string_bytes to.old ++ spaced_by gap.now (shown_order priority weight)) }
+{
     if priority == 0 && weight == 0 {
         return Ok(());
     }
-    write!(to, "  priority {priority} weight {weight}")?;
+    write!(to, "{gap}priority {priority} weight {weight}")?;
     Ok(())
 }
 
-// Appends each string of TXT data that isn't empty, after two spaces.
-pub(crate) fn push_shown_strings(to: &mut String, bytes: &[u8]) -> Result<(), Want>
-    ensures { OnOk result (string_bytes to.new ≡ string_bytes to.old ++ spaced_wide (shown_strings bytes.now)) }
+// Appends each string of TXT data that isn't empty, after a gap.
+pub(crate) fn push_shown_strings(to: &mut String, gap: &str, bytes: &[u8]) -> Result<(), Want>
+    ensures { OnOk result (string_bytes to.new ≡ string_bytes to.old ++ spaced_by gap.now (shown_strings bytes.now)) }
 {
     let mut rest = bytes;
     while let Some((string, after)) = first_string(rest) {
-        push_shown_string(to, string)?;
+        push_shown_string(to, gap, string)?;
         rest = after;
     }
     Ok(())
 }
 
-// Appends one string of TXT data after two spaces; nothing where it is empty.
-fn push_shown_string(to: &mut String, string: &[u8]) -> Result<(), Want>
-    ensures { OnOk result (string_bytes to.new ≡ string_bytes to.old ++ spaced_wide (shown_string string.now)) }
+// Appends one string of TXT data after a gap; nothing where it is empty.
+fn push_shown_string(to: &mut String, gap: &str, string: &[u8]) -> Result<(), Want>
+    ensures { OnOk result (string_bytes to.new ≡ string_bytes to.old ++ spaced_by gap.now (shown_string string.now)) }
 {
     if string.is_empty() {
         return Ok(());
     }
-    push_space(to)?;
+    to.push_str(gap)?;
     push_shown(to, string)
-}
-
-fn push_space(to: &mut String) -> Result<(), Want>
-    ensures { OnOk result (string_bytes to.new ≡ string_bytes to.old ++ codes "  ") }
-{
-    to.push_str("  ")?;
-    Ok(())
 }

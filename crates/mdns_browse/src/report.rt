@@ -3,11 +3,13 @@
 ghost use Rattle.std.specs.{Prelude.{◌≡◌, ◌<◌, List, Err, IfOk, IfErr, IfSome, IfNone}, String.{string_bytes}};
 ghost use Rattle.mdns_message.specs.declared.hearing.Hearing.{Hearing};
 ghost use Rattle.mdns_cache.specs.{Live.{NoneLater}, Contents.{StandsFor}};
-ghost use Rattle.mdns_browse.specs.{Report.{IsReport, IsReportIn, IfEarly}, declared.report.Form.TheVariants.{Json, Lines, Pretty}};
+ghost use Rattle.mdns_browse.specs.{Report.{IsReport, IsReportIn, IfEarly}, declared.report.Form.TheVariants.{Csv, Json, Lines, Pretty}};
 
 use crate::about::Subject;
+use crate::host_forms::{hosts_columns, hosts_csv};
 use crate::instance_columns::instances_columns;
 use crate::record_columns::{records_columns, types_columns};
+use crate::report_csv::{instances_csv, records_csv, types_csv};
 use crate::report_json::Objects;
 use crate::report_walk::walk;
 use mdns_cache::Cache;
@@ -26,6 +28,8 @@ pub enum Ask {
     /// For each service instance its name, its servers with their addresses, and its texts (RFC 6763, sections 4
     /// and 5).
     Instances,
+    /// A line for each host (RFC 6763, section 4.1): its name and its addresses.
+    Hosts,
 }
 
 /// How a report is written.
@@ -34,17 +38,27 @@ pub enum Form {
     /// Lines of words, for people and for scripts.
     Lines,
     /// One JSON object a line (RFC 8259), for programs. A record has `owner`, `type`, `data` (the words of its data), `shown`,
-    /// `ttl`, `heard` and `until`, a type has `type` and `shown`, and an instance `instance`, `shown`, `type`, `goodbye`,
-    /// `servers` (each with `target`, `port`, `priority`, `weight` and `addresses`) and `texts` (the words of each). `shown`
-    /// is the name for people, of a record with its data: UTF-8 with no control character. `goodbye` is `true` where the last
+    /// `ttl`, `heard` and `until`, a type has `type` and `shown`, an instance `instance`, `shown`, `type`, `goodbye`,
+    /// `servers` (each with `target`, `port`, `priority`, `weight` and `addresses`) and `texts` (the words of each), and a host
+    /// `host`, `shown`, `addresses` and `instances` (the names of those on it). `shown` is the name for people, of a record with its data: UTF-8 with no control character. `goodbye` is `true` where the last
     /// hearing of the record that gives the instance was a goodbye (RFC 6762, section 10.1). `ttl`, `port`, `priority` and
     /// `weight` are numbers, moments strings of seconds.
     Json,
-    /// Readable columns, for people: how many there are, and a table of records or of lives, a list of types, or the
-    /// instances below their types, and after these the names under a type that aren't one label and the type. Names and
+    /// Readable columns, for people: how many there are, and a table of records or of lives, a list of types, the
+    /// instances below their types, and after these the names under a type that aren't one label and the type, or the hosts,
+    /// each with the instances on it and their ports. Names and
     /// strings are shown as they are meant to be read, and moments as dates in UTC. A record and an instance have in place
     /// of an end how much longer they live. It isn't meant to be read by programs.
     Pretty,
+    /// Comma-separated values (RFC 4180), for spreadsheets: a header line, and a line for each record, type or life, or for each
+    /// server of an instance, one without a server where it has none. A record has `owner`, `type`, `data`, `ttl`, `heard` and
+    /// `until`, a type has `type`, an instance `instance`, `type`, `host`, `port`, `addresses` and `texts`, and a life `owner`,
+    /// `type`, `data`, `from`, `ttl`, `heard`, `until` and `end`. Lines end in CR LF. `ttl`, in seconds, and `port` are numbers.
+    /// Moments are dates and times in UTC with nine digits after the second (RFC 3339). Anything else is a text in double
+    /// quotes, as people read it, with one space between the words of `data`, `addresses` and `texts`. Strangers on the link
+    /// choose names: a text that a spreadsheet would take for a formula, which begins with `=`, `+`, `-` or `@`, is written
+    /// after an apostrophe.
+    Csv,
 }
 
 /// Why there is no report.
@@ -163,6 +177,26 @@ fn columns_of(
         Ask::Records => records_columns(alloc, cache, about, now),
         Ask::Types => types_columns(alloc, cache, about, now),
         Ask::Instances => instances_columns(alloc, cache, about, now),
+        Ask::Hosts => hosts_columns(alloc, cache, about, now),
+    }
+}
+
+fn csv_of(
+    alloc: Global,
+    cache: &Cache,
+    ask: Ask,
+    about: &[Subject],
+    now: Moment,
+) -> Result<String, Want>
+    requires { NoneLater cache.now.newest now }
+    ensures { IfOk result (λ text. (heard : List Hearing) → StandsFor cache.now heard
+        → IsReportIn about.now Csv ask heard now.nanos (string_bytes text)) }
+{
+    match ask {
+        Ask::Records => records_csv(alloc, cache, about, now),
+        Ask::Types => types_csv(alloc, cache, about, now),
+        Ask::Instances => instances_csv(alloc, cache, about, now),
+        Ask::Hosts => hosts_csv(alloc, cache, about, now),
     }
 }
 
@@ -182,5 +216,6 @@ fn text_of(
         Form::Lines => lines_of(alloc, cache, ask, about, now),
         Form::Json => json_of(alloc, cache, ask, about, now),
         Form::Pretty => columns_of(alloc, cache, ask, about, now),
+        Form::Csv => csv_of(alloc, cache, ask, about, now),
     }
 }

@@ -10,6 +10,8 @@ ghost use Rattle.mdns_message.specs.Borrowed.{resource_lent};
 ghost use Rattle.people_text.specs.Shown.{name_shown};
 
 use crate::data_words::{Word, WordSink, push_text_words, push_words};
+use crate::host::Host;
+use crate::host_forms::push_host_json;
 use crate::json::{json_bool, push_json_name, push_json_string, push_text_member};
 use crate::life_text::end_word;
 use crate::record_shown::{push_shown_instance, push_shown_record};
@@ -28,7 +30,7 @@ pub(crate) struct Objects {
     // Room for a word or a text for people before its quotes and backslashes are escaped.
     scratch: String,
     // Whether the array that the text ends in is still empty.
-    first: bool,
+    pub(crate) first: bool,
 }
 
 impl Objects {
@@ -53,8 +55,8 @@ impl Objects {
         push_json_string(&mut self.text, self.scratch.as_str())
     }
 
-    // Appends the text of a name as a string.
-    fn quote_name(&mut self, name: &Name) -> Result<(), Want>
+    /// Appends the text of a name as a string.
+    pub(crate) fn quote_name(&mut self, name: &Name) -> Result<(), Want>
         ensures text { OnOk result (string_bytes self.new.text
             ≡ string_bytes self.old.text ++ json_string (name_text name.now)) }
         ensures first { self.new.first ≡ self.old.first }
@@ -148,8 +150,8 @@ impl Objects {
         self.shown()
     }
 
-    // Appends a name for people as a member.
-    fn shown_name(&mut self, name: &Name) -> Result<(), Want>
+    /// Appends a name for people as a member.
+    pub(crate) fn shown_name(&mut self, name: &Name) -> Result<(), Want>
         ensures text { OnOk result (string_bytes self.new.text
             ≡ string_bytes self.old.text ++ (codes ",\"shown\":" ++ json_string (name_shown name.now))) }
         ensures first { self.new.first ≡ self.old.first }
@@ -205,6 +207,10 @@ impl Sheet for Objects {
         self.quote_name(name)?;
         self.shown_name(name)?;
         Ok(self.text.push_str("}\n")?)
+    }
+
+    fn host(&mut self, row: &Host<'_>) -> Result<(), Want> {
+        push_host_json(self, row)
     }
 
     fn instance_begin(&mut self, given: &InstancePointer<'_>, name: &Name) -> Result<(), Want> {

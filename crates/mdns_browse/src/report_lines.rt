@@ -7,6 +7,8 @@ ghost use Rattle.mdns_browse.specs.LifeText.{life_words};
 
 use crate::data_words::{Word, WordSink, push_text_words, push_words};
 use crate::format::push_resource;
+use crate::host::Host;
+use crate::host_forms::push_host_line;
 use crate::life_text::end_word;
 use crate::sheet::{InstancePointer, Sheet};
 use crate::short_text::ShortText;
@@ -86,6 +88,10 @@ impl Sheet for String {
     fn service_type(&mut self, name: &Name) -> Result<(), Want> {
         name.push_text(self)?;
         Ok(self.push('\n')?)
+    }
+
+    fn host(&mut self, row: &Host<'_>) -> Result<(), Want> {
+        push_host_line(self, row)
     }
 
     fn instance_begin(&mut self, _given: &InstancePointer<'_>, name: &Name) -> Result<(), Want> {

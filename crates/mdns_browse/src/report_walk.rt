@@ -10,6 +10,7 @@ ghost use Rattle.mdns_browse.specs.Sheet.{server_address, server_pieces, servers
 
 use crate::about::{Subject, keeps_record, keeps_type};
 use crate::given_rows::given_in;
+use crate::host::walk_hosts;
 use crate::lookup::of_set;
 use crate::report::Ask;
 use crate::services::type_of;
@@ -38,6 +39,7 @@ pub(crate) fn walk<S: Sheet>(
         Ask::Records => walk_records(sheet, about, records, &mut scratch),
         Ask::Types => walk_types(sheet, about, records, &mut scratch),
         Ask::Instances => walk_instances(sheet, alloc, about, records),
+        Ask::Hosts => walk_hosts(sheet, alloc, about, records),
     }
 }
 

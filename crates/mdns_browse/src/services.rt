@@ -155,8 +155,8 @@ fn texts(alloc: Global, rows: &[Last<'_>], name: &Name) -> Result<Texts, Want>
     Ok(InOrder::from_vec(texts))
 }
 
-// Makes the instance of a name, with its servers and texts among the rows.
-fn instance(alloc: Global, rows: &[Last<'_>], name: &Name) -> Result<Instance, Want>
+/// Makes the instance of a name, with its servers and texts among the rows.
+pub(crate) fn instance(alloc: Global, rows: &[Last<'_>], name: &Name) -> Result<Instance, Want>
     ensures { IfOk result (λ instance. AreAscending (map last_lent rows.now)
         → instance ≡ instance_in (map last_lent rows.now) name.now) }
 {

@@ -4,8 +4,9 @@ ghost use Rattle.std.specs.Prelude.{List, [], ◌∷◌, OnOk};
 ghost use Rattle.mdns_message.specs.Borrowed.{body_lent};
 ghost use Rattle.mdns_cache.specs.LentRecords.{live_record_lent};
 ghost use Rattle.mdns_browse.specs.{Given.{given_lent}, Sheet.{Piece, TakeLaws, live_record, service_type, instance_begin, server_begin}};
-ghost use Rattle.mdns_browse.specs.Sheet.{server_address, server_end, servers_end, instance_text, instance_end};
+ghost use Rattle.mdns_browse.specs.{Hosts.{host_lent}, Sheet.{host, server_address, server_end, servers_end, instance_text, instance_end}};
 
+use crate::host::Host;
 pub use crate::report_walk::walk_given;
 use mdns_cache::LiveRecord;
 use mdns_capture::Moment;
@@ -32,6 +33,10 @@ pub trait Sheet {
     /// Takes the name of a service type.
     fn service_type(&mut self, name: &Name) -> Result<(), Want>
         ensures { OnOk result (takes self.old (service_type name.now ∷ []) self.new) };
+
+    /// Takes a host.
+    fn host(&mut self, row: &Host<'_>) -> Result<(), Want>
+        ensures { OnOk result (takes self.old (host (host_lent row.now) ∷ []) self.new) };
 
     /// Takes the record that gives an instance, and the instance's name; its servers and texts follow.
     fn instance_begin(&mut self, given: &InstancePointer<'_>, name: &Name) -> Result<(), Want>

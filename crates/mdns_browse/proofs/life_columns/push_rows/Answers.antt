@@ -2,13 +2,13 @@ use Rattle.std.proofs.{Common.{arith, ℕ, List, ◌++◌, ◌∷◌, [], codes,
 use Rattle.mdns_message.specs.{Resource.{type_name, type_of}, declared.resource.Resource.{Resource}}
 use Rattle.mdns_lives.specs.declared.life.Life.{Life}
 use Rattle.people_text.specs.MomentText.{millis_text}
-use Rattle.mdns_browse.specs.{LifeText.{end_shown, life_row}, Columns.{padded}, RecordShown.{shown_record}}
+use Rattle.mdns_browse.specs.{LifeText.{end_shown, life_row, until_shown}, Columns.{padded}, RecordShown.{shown_record}}
 use Rattle.mdns_browse.proofs.life_columns.push_rows.Goals as goal
 
 -- a row, by the columns of its record
 abbrev row_of : ℕ → ℕ → List ℕ → Life → List ℕ
 row_of width end tail life =
-    millis_text life.from.nanos ++ codes "  " ++ millis_text life.until ++ codes "  " ++ padded width (end_shown end life) ++ tail
+    millis_text life.from.nanos ++ codes " " ++ until_shown end life ++ codes " " ++ padded width (end_shown end life) ++ tail
 
 abbrev columns_of : Resource → List ℕ
 columns_of resource = codes "  " ++ padded 4 (type_name (type_of resource.body)) ++ codes "  " ++ shown_record resource ++ 10 ∷ []

@@ -19,7 +19,7 @@ returns c ascending =
     let sorted = ascending_seen last_lent rows ascending in
     let whole = after_whole rows first in
     set-found last_lent owner number rows (take count after)
-    (filter-rest key set rows after first count whole c.partition_point-count.ensures.bound
+    (filter-rest (against key set) rows after first count whole c.partition_point-count.ensures.bound
     (IsPartitionPoint-from_clause (λ r. is_lt (against key set r)) rows first c.partition_point-first.ensures.partitioned
     (parted_below key set rows sorted) (λ a r q k. search rules))
     (IsPartitionPoint-from_clause (λ r. is_le (against key set r)) after count c.partition_point-count.ensures.partitioned

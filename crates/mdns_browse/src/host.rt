@@ -1,0 +1,264 @@
+//! Hosts: the owners of live addresses, and the services on them.
+
+ghost use Rattle.std.specs.{Prelude.{◌≡◌, ◌&&◌, ◌++◌, ◌∷◌, [], List, ℕ, map, not, IfOk, OnOk}, List.{filter, filter_map, flat_map, list_any}};
+ghost use Rattle.std.specs.List.Sorted.{IsSorted, IsStable};
+ghost use Rattle.mdns_join.specs.declared.latest.Latest.{Latest};
+ghost use Rattle.mdns_cache.specs.LentRecords.{last_lent};
+ghost use Rattle.mdns_browse.specs.{About.{keeps_record}, Given.{given_lent}, Hosts.{AreByTarget, has_address, host_in, host_lent}};
+ghost use Rattle.mdns_browse.specs.Hosts.{hosts_about, hosts_in, is_on, keeps_host, served_lent, services_at, services_in, target_cmp};
+ghost use Rattle.mdns_browse.specs.{Services.{AreAscending, InstanceRow, instance_in, instance_row_in, lasts_in, same_text}, Sheet.{host}};
+ghost use Rattle.mdns_browse.specs.declared.about.Subject.{Subject};
+
+use crate::about::{Subject, keeps_heard_instance, keeps_record};
+use crate::given_rows::gather;
+use crate::lookup::of_set;
+use crate::sheet::{InstancePointer, Sheet};
+use dns_name::fold::{folded_cmp, folded_eq};
+use mdns_cache::{Last, LiveWalk};
+use mdns_message::{Name, RecordType, Want};
+use std::alloc::Global;
+
+/// A server of an instance, by a live SRV record.
+#[derive(Clone, Copy)]
+pub struct HostService<'a> {
+    /// The instance's name.
+    pub instance: &'a Name,
+    /// The host's name.
+    pub target: &'a Name,
+    /// The port of the service.
+    pub port: u16,
+    /// Whether the instance is about one of the subjects.
+    pub kept: bool,
+}
+
+/// The owner of live A or AAAA records.
+#[derive(Clone, Copy)]
+pub struct Host<'a> {
+    /// Its name, as the first of these records spells it.
+    pub name: &'a Name,
+    /// The last hearings of its A records, in key order.
+    pub ipv4: &'a [Last<'a>],
+    /// The last hearings of its AAAA records, in key order.
+    pub ipv6: &'a [Last<'a>],
+    /// The services on it, in the order of the instances.
+    pub services: &'a [HostService<'a>],
+}
+
+/// Live records, and the servers of their instances by target.
+#[derive(Drop)]
+pub(crate) struct HostSource<'a> {
+    pub(crate) rows: Vec<Last<'a>>,
+    pub(crate) services: Vec<HostService<'a>>,
+}
+
+/// Collects live records and the servers of their instances. The servers are sorted once, so that each host's are found by
+/// binary search.
+pub(crate) fn host_source<'a>(
+    alloc: Global,
+    about: &[Subject],
+    walk: LiveWalk<'a>,
+) -> Result<HostSource<'a>, Want>
+    ensures rows { IfOk result (λ source. map last_lent source.rows.items ≡ lasts_in walk.entry) }
+    ensures services { IfOk result (λ source. AreAscending (lasts_in walk.entry)
+        → AreByTarget (services_in about.now (lasts_in walk.entry)) source.services.items) }
+{
+    let gathered = gather(alloc, walk)?;
+    let rows = gathered.rows;
+    let mut services = services_of(alloc, about, rows.as_slice(), gathered.given.as_slice())?;
+    sort_by_target(&mut services)?;
+    Ok(HostSource { rows, services })
+}
+
+// Collects the servers of the instances that the records give.
+fn services_of<'a>(
+    alloc: Global,
+    about: &[Subject],
+    rows: &[Last<'a>],
+    given: &[InstancePointer<'a>],
+) -> Result<Vec<HostService<'a>>, Want>
+    ensures { IfOk result (λ services. AreAscending (map last_lent rows.now) → map served_lent services.items
+        ≡ flat_map (services_at about.now) (map (λ row. row.instance)
+        (filter_map (instance_row_in (map last_lent rows.now)) (map given_lent given.now)))) }
+{
+    let mut scratch = String::new(alloc);
+    let mut services = Vec::new(alloc);
+    for row in given {
+        // Each has the name of an instance: only PTR records give one.
+        let Some(name) = row.row.last.resource.body.pointer() else {
+            continue;
+        };
+        push_services(&mut services, about, rows, name, &mut scratch)?;
+    }
+    Ok(services)
+}
+
+// Appends the servers of an instance.
+fn push_services<'a>(
+    to: &mut Vec<HostService<'a>>,
+    about: &[Subject],
+    rows: &[Last<'a>],
+    name: &'a Name,
+    scratch: &mut String,
+) -> Result<(), Want>
+    ensures { OnOk result (AreAscending (map last_lent rows.now) → map served_lent to.new.items
+        ≡ map served_lent to.old.items ++ services_at about.now (instance_in (map last_lent rows.now) name.now)) }
+{
+    let kept = keeps_heard_instance(about, rows, name, scratch)?;
+    for row in of_set(rows, name, RecordType::Srv) {
+        // Every row is an SRV record: no other data has this type number.
+        let Some(service) = row.resource.body.service() else {
+            continue;
+        };
+        to.push(HostService {
+            instance: name,
+            target: service.target,
+            port: service.port,
+            kept,
+        })?;
+    }
+    Ok(())
+}
+
+fn sort_by_target(services: &mut Vec<HostService<'_>>) -> Result<(), Want>
+    ensures sorted { OnOk result (IsSorted target_cmp services.new.items) }
+    ensures stable { IsStable target_cmp services.old.items services.new.items }
+{
+    services.sort_by(|one, other| folded_cmp(one.target.wire(), other.target.wire()))?;
+    Ok(())
+}
+
+/// Returns the hosts about the subjects.
+pub(crate) fn kept_hosts<'a>(
+    alloc: Global,
+    about: &[Subject],
+    rows: &'a [Last<'a>],
+    services: &'a [HostService<'a>],
+) -> Result<Vec<Host<'a>>, Want>
+    ensures { IfOk result (λ hosts. AreAscending (map last_lent rows.now)
+        → AreByTarget (services_in about.now (map last_lent rows.now)) services.now
+        → map host_lent hosts.items ≡ hosts_in about.now (map last_lent rows.now)) }
+{
+    let mut scratch = String::new(alloc);
+    let mut hosts = Vec::new(alloc);
+    let mut before: &[u8] = b"";
+    for row in rows {
+        if !begins_host(before, row) {
+            continue;
+        }
+        let name = &row.resource.owner;
+        let host = host_at(rows, services, name);
+        push_kept_host(&mut hosts, about, host, &mut scratch)?;
+        before = name.wire();
+    }
+    Ok(hosts)
+}
+
+// Checks that a record has an address of another host than the one before.
+fn begins_host(before: &[u8], row: &Last<'_>) -> bool
+    ensures { result ≡ (has_address (last_lent row.now) && not (same_text before.now row.now.resource.now.owner)) }
+{
+    row.resource.body.address().is_some() && !is_same(before, &row.resource.owner)
+}
+
+/// Checks that a name is the one before, whatever the case of ASCII letters.
+pub(crate) fn is_same(before: &[u8], name: &Name) -> bool
+    ensures { result ≡ same_text before.now name.now }
+{
+    folded_eq(before, name.wire())
+}
+
+// Finds the addresses and the services of a host.
+fn host_at<'a>(rows: &'a [Last<'a>], services: &'a [HostService<'a>], name: &'a Name) -> Host<'a>
+    ensures { (about : List Subject) → AreAscending (map last_lent rows.now)
+        → AreByTarget (services_in about (map last_lent rows.now)) services.now
+        → host_lent result ≡ host_in about (map last_lent rows.now) name.now }
+{
+    Host {
+        name,
+        ipv4: of_set(rows, name, RecordType::A),
+        ipv6: of_set(rows, name, RecordType::Aaaa),
+        services: services_on(services, name),
+    }
+}
+
+// Finds the servers with a target among servers by target, by binary search.
+fn services_on<'a>(services: &'a [HostService<'a>], name: &Name) -> &'a [HostService<'a>]
+    ensures { IsSorted target_cmp services.now
+        → map served_lent result.now ≡ filter (is_on name.now) (map served_lent services.now) }
+{
+    let first = services.partition_point(|it| folded_cmp(it.target.wire(), name.wire()).is_lt());
+    let after = &services[first..];
+    let count = after.partition_point(|it| folded_cmp(it.target.wire(), name.wire()).is_le());
+    &after[..count]
+}
+
+fn push_kept_host<'a>(
+    to: &mut Vec<Host<'a>>,
+    about: &[Subject],
+    host: Host<'a>,
+    scratch: &mut String,
+) -> Result<(), Want>
+    ensures { OnOk result (map host_lent to.new.items
+        ≡ map host_lent to.old.items ++ filter (keeps_host about.now) (host_lent host.entry ∷ [])) }
+{
+    if keeps_host(about, &host, scratch)? {
+        to.push(host)?;
+    }
+    Ok(())
+}
+
+#[tactic(auto, unfolding(crate::specs::Hosts::keeps_host))]
+fn keeps_host(about: &[Subject], host: &Host<'_>, scratch: &mut String) -> Result<bool, Want>
+    ensures { IfOk result (λ keeps. keeps ≡ keeps_host about.now (host_lent host.now)) }
+{
+    if keeps_one(about, host.ipv4, scratch)? {
+        return Ok(true);
+    }
+    if keeps_one(about, host.ipv6, scratch)? {
+        return Ok(true);
+    }
+    Ok(any_kept(host.services))
+}
+
+fn any_kept(services: &[HostService<'_>]) -> bool
+    ensures { result ≡ list_any (λ (service : HostService). service.kept) services.now }
+{
+    services.iter().any(|service| service.kept)
+}
+
+// Checks that one of the records is about one of the subjects.
+fn keeps_one(about: &[Subject], rows: &[Last<'_>], scratch: &mut String) -> Result<bool, Want>
+    ensures { IfOk result (λ keeps. keeps
+        ≡ list_any (λ (row : Latest). keeps_record about.now row.resource) (map last_lent rows.now)) }
+{
+    for row in rows {
+        if keeps_record(about, &row.resource.borrowed(), scratch)? {
+            return Ok(true);
+        }
+    }
+    Ok(false)
+}
+
+/// Hands over each host that is about the subjects, in order.
+pub(crate) fn walk_hosts<S: Sheet>(
+    sheet: &mut S,
+    alloc: Global,
+    about: &[Subject],
+    records: LiveWalk<'_>,
+) -> Result<(), Want>
+    ensures { OnOk result (AreAscending (lasts_in records.entry)
+        → S.takes sheet.old (map host (hosts_about about.now records.entry)) sheet.new) }
+{
+    let source = host_source(alloc, about, records)?;
+    let hosts = kept_hosts(
+        alloc,
+        about,
+        source.rows.as_slice(),
+        source.services.as_slice(),
+    )?;
+    let listed = hosts.as_slice();
+    for host in listed {
+        sheet.host(host)?;
+    }
+    Ok(())
+}
