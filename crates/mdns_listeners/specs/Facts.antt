@@ -1,6 +1,6 @@
 -- All that is written of listeners, in a form.
 use Rattle.std.specs.{Prelude.{ℕ, List, ◌∷◌, ◌++◌, map, string_bytes}, List.{enumerate_from, flat_map}}
-use Rattle.mdns_browse.specs.{Columns.{unless_none}, declared.report.Form.{Form}, declared.report.Form.TheVariants.{Json, Lines, Pretty}}
+use Rattle.mdns_browse.specs.{Columns.{unless_none}, declared.report.Form.{Form}, declared.report.Form.TheVariants.{Csv, Json, Lines, Pretty}}
 use Rattle.mdns_message.specs.TextData.{string_text}
 use Rattle.mdns_listeners.specs.declared.{facts.Facts.{Facts as LentFacts}, fields.Kind.{Kind}, fields.Kind.TheVariants.{Listeners, Pairs}}
 use Rattle.mdns_listeners.specs.declared.{fields.Kind.TheVariants.{Senders}, numbers.ListenerRow.{ListenerRow}, pairs.PairRow.{PairRow}}
@@ -63,6 +63,8 @@ abbrev pub text_in : Form → List (List ℕ) → Facts → List ℕ
 text_in Lines listener_names facts = flat_map line_text (all_rows Lines listener_names facts)
 text_in Json listener_names facts = flat_map object_text (all_rows Json listener_names facts)
 text_in Pretty listener_names facts = tables_text listener_names facts
+-- as comma-separated values they are lines of words
+text_in Csv listener_names facts = flat_map line_text (all_rows Csv listener_names facts)
 
 -- All that is written of listeners: of their names, each byte outside 0x21 to 0x7E as `\DDD` and a `\` as `\\`.
 abbrev pub listeners_text : Form → Facts → List ℕ

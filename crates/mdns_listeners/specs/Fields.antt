@@ -1,6 +1,6 @@
 -- The fields of rows of listeners, of pairs of listeners and of senders, in the order in which each form writes them.
 use Rattle.std.specs.Prelude.{ℕ, ℤ, List, [], ◌∷◌, ◌++◌, Option, codes, option_map}
-use Rattle.mdns_browse.specs.declared.report.{Form.{Form}, Form.TheVariants.{Json, Lines, Pretty}}
+use Rattle.mdns_browse.specs.declared.report.{Form.{Form}, Form.TheVariants.{Csv, Json, Lines, Pretty}}
 use Rattle.mdns_capture.specs.declared.moment.Moment.{Moment}
 use Rattle.mdns_survey.specs.declared.reading.Span.{Span}
 use Rattle.mdns_listeners.specs.declared.fields.{Field.{Field as LentField}, Kind.{Kind}, Kind.TheVariants.{Listeners, Pairs, Senders}}
@@ -67,6 +67,7 @@ abbrev pub pair_row_in : Form → List ℕ → List ℕ → PairRow → List Fie
 pair_row_in Lines file other row = pair_fields file other row
 pair_row_in Json file other row = pair_fields file other row
 pair_row_in Pretty file other row = pair_cells file other row
+pair_row_in Csv file other row = pair_fields file other row
 
 -- of a sender: its address, what a listener heard of it, and the names that it goes by
 abbrev pub source_field : SenderRow → Field
@@ -89,6 +90,7 @@ names_cells (name ∷ names) = names_field (name ∷ names) ∷ []
 abbrev pub sender_row_in : Form → List ℕ → SenderRow → List (List ℕ) → List Field
 sender_row_in Lines file row names = source_field row ∷ heard_fields file row ++ names_field names ∷ []
 sender_row_in Json file row names = source_field row ∷ names_field names ∷ heard_fields file row
+sender_row_in Csv file row names = source_field row ∷ heard_fields file row ++ names_field names ∷ []
 sender_row_in Pretty file row names = source_field row ∷ heard_fields file row ++ names_cells names
 
 -- how many fields a sender has in a table

@@ -2,7 +2,7 @@
 use Rattle.std.specs.Prelude.{ℕ, Bool, max, List, [], ◌∷◌, ◌++◌, length, map, if◌then◌else◌, nat_lt, slice_index, slice_set}
 use Rattle.std.specs.List.{flat_map}
 use Rattle.mdns_browse.specs.{Json.{json_member, json_object}, declared.report.Form.{Form}}
-use Rattle.mdns_browse.specs.declared.report.Form.TheVariants.{Json, Lines, Pretty}
+use Rattle.mdns_browse.specs.declared.report.Form.TheVariants.{Csv, Json, Lines, Pretty}
 use Rattle.mdns_listeners.specs.{Fields.{Field}, Table.{cells_from}, Values.{cell_text, json_text, word_text}}
 
 -- ---- rows
@@ -25,11 +25,12 @@ cells_of fields = map (λ (field : Field). cell_text field.value) fields
 unfoldable pub columns_text : List ℕ → List Field → List ℕ
 columns_text widths fields = cells_from (slice_index widths) 0 (cells_of fields) ++ 10 ∷ []
 
--- a row in a form
+-- a row in a form; as comma-separated values it is a line of words
 abbrev pub row_text : Form → List ℕ → List Field → List ℕ
 row_text Lines widths fields = line_text fields
 row_text Json widths fields = object_text fields
 row_text Pretty widths fields = columns_text widths fields
+row_text Csv widths fields = line_text fields
 
 -- ---- widths that grow row by row
 

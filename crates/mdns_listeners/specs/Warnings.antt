@@ -1,6 +1,6 @@
 -- Lines that warn that two listeners' clocks don't agree, or that nothing shows whether they do.
 use Rattle.std.specs.Prelude.{ℕ, ◌==◌, ◌||◌, Bool, false, not, if◌then◌else◌, List, ◌∷◌, [], ◌++◌, Option, Some, None, codes}
-use Rattle.std.specs.List.{filter, flat_map}
+use Rattle.std.specs.List.{flat_map}
 use Rattle.mdns_message.specs.TextData.{string_text}
 use Rattle.mdns_listeners.specs.Clock.{is_one_clock, is_steady, nothing_words, steady_words, unknown_words, unsteady_words}
 use Rattle.mdns_listeners.specs.{Named.{listener_name_at}, declared.pairs.PairRow.{PairRow}, declared.pairs.Quartiles.{Quartiles}}

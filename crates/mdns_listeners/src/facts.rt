@@ -67,7 +67,7 @@ fn push_facts(sheet: &mut Sheet, names: &[String], facts: &Facts<'_>) -> Result<
         ≡ sheet.old.text ++ text_in sheet.old.form (map string_bytes names.now) (facts_lent facts.now)) }
 {
     match sheet.form() {
-        Form::Lines => take_all(sheet, names, facts),
+        Form::Lines | Form::Csv => take_all(sheet, names, facts),
         Form::Json => take_all(sheet, names, facts),
         Form::Pretty => push_tables(sheet, names, facts),
     }
@@ -196,7 +196,7 @@ fn take_pair(sheet: &mut Sheet, names: &[String], row: &PairRow) -> Result<(), W
     let file = listener_name_at(names, row.one);
     let other = listener_name_at(names, row.other);
     match sheet.form() {
-        Form::Lines => sheet.take(&pair_fields(file, other, row)),
+        Form::Lines | Form::Csv => sheet.take(&pair_fields(file, other, row)),
         Form::Json => sheet.take(&pair_fields(file, other, row)),
         Form::Pretty => sheet.take(&pair_cells(file, other, row)),
     }
@@ -222,7 +222,7 @@ fn take_sender(sheet: &mut Sheet, names: &[String], sender: &NamedSender<'_>) ->
 {
     let file = listener_name_at(names, sender.row.listener);
     match sheet.form() {
-        Form::Lines => sheet.take(&sender_fields(file, &sender.row, sender.names)),
+        Form::Lines | Form::Csv => sheet.take(&sender_fields(file, &sender.row, sender.names)),
         Form::Json => sheet.take(&sender_members(file, &sender.row, sender.names)),
         Form::Pretty => {
             let fields = sender_fields(file, &sender.row, sender.names);

@@ -99,7 +99,7 @@ impl Sheet {
             return widen(&mut self.widths, &mut self.scratch, fields);
         }
         match self.form {
-            Form::Lines => push_line(&mut self.text, fields),
+            Form::Lines | Form::Csv => push_line(&mut self.text, fields),
             Form::Json => push_object(&mut self.text, &mut self.scratch, fields),
             Form::Pretty => {
                 let widths = self.widths.as_slice();

@@ -6,7 +6,8 @@ use Rattle.mdns_capture.specs.declared.moment.Moment.{Moment}
 use Rattle.mdns_message.specs.declared.hearing.Hearing.{Hearing}
 use Rattle.mdns_join.specs.declared.latest.Latest.{Latest}
 use Rattle.mdns_cache.specs.Live.{SameHearings}
-use Rattle.mdns_lives.specs.{declared.life.Life.{Life}, Chronicle.{AreAllLives}, declared.life.Which.{Which}, Changes.{chosen}}
+use Rattle.mdns_lives.specs.declared.{life.Life.{Life}, life.Which.{Which}, window.Window.{Window}}
+use Rattle.mdns_lives.specs.{Changes.{chosen}, Chronicle.{AreAllLives}}
 use Rattle.mdns_browse.specs.{declared.about.Subject.{Subject}, declared.report.Form.{Form}, LifeText.{lives_report}}
 use Rattle.mdns_cache.proofs.StandsPartLemmas.{Contains-cases, Contains-head, Contains-later}
 use Rattle.mdns_survey.specs.declared.request.{AsOf.{AsOf}, AsOf.TheVariants.{Newest, At, Before}}
@@ -104,49 +105,51 @@ pub same_itself : (heard : List Hearing) → SameHearings heard heard
 same_itself heard = record { into = λ hearing among. among; back = λ hearing among. among }
 
 -- the lives by some hearings are those by the same hearings, between the same moments
-shared_lives : SharedLives → (which : Which) (form : Form) (about : List Subject) (heard others : List Hearing) (begin begin_too end end_too : ℕ)
-    (text : List ℕ) → SameHearings heard others → begin ≡ begin_too → end ≡ end_too
-    → WritesLives which form about heard begin end text → WritesLives which form about others begin_too end_too text
-shared_lives shared which form about heard others begin begin_too end end_too text same begins ends writes = record {
+shared_lives : SharedLives → (which : Which) (window : Window) (form : Form) (about : List Subject) (heard others : List Hearing)
+    (begin begin_too end end_too : ℕ) (text : List ℕ) → SameHearings heard others → begin ≡ begin_too → end ≡ end_too
+    → WritesLives which window form about heard begin end text → WritesLives which window form about others begin_too end_too text
+shared_lives shared which window form about heard others begin begin_too end end_too text same begins ends writes = record {
   latest = λ hearing among. subst (λ n. hearing.moment.nanos ≤ n) ends (writes.latest hearing (same.back hearing among));
   rows = writes.rows;
   lives = shared heard others writes.rows same writes.lives;
-  lines = writes.lines ∙ ap (λ n. lives_report which form n end (kept_rows about (chosen which writes.rows))) begins
-      ∙ ap (λ n. lives_report which form begin_too n (kept_rows about (chosen which writes.rows))) ends;
+  lines = writes.lines ∙ ap (λ n. lives_report which window form n end (kept_rows about (chosen which window writes.rows))) begins
+      ∙ ap (λ n. lives_report which window form begin_too n (kept_rows about (chosen which window writes.rows))) ends;
 }
 
 -- and there is one text of them
-one_text : OneLives → (which : Which) (form : Form) (about : List Subject) (heard : List Hearing) (begin end : ℕ) (text other : List ℕ)
-    → WritesLives which form about heard begin end text → WritesLives which form about heard begin end other → text ≡ other
-one_text one which form about heard begin end text other first second = grind (arith, same_itself heard)
+one_text : OneLives → (which : Which) (window : Window) (form : Form) (about : List Subject) (heard : List Hearing)
+    (begin end : ℕ) (text other : List ℕ) → WritesLives which window form about heard begin end text
+    → WritesLives which window form about heard begin end other → text ≡ other
+one_text one which window form about heard begin end text other first second = grind (arith, same_itself heard)
 
 -- lives are written by the hearings that count, and the moments of all packets
-pub lives-by-facts : SharedLives → OneLives → (which : Which) (form : Form) (about : List Subject) (as_of : AsOf)
-    → IsByFacts (λ captures. SurveysLives which form about captures as_of)
-lives-by-facts shared one which form about as_of = record {
-  Writes = λ heard moments. WritesLives which form about (selected (filter_of as_of) heard) (captures_begin as_of moments) (captures_end as_of moments);
+pub lives-by-facts : SharedLives → OneLives → (which : Which) (window : Window) (form : Form) (about : List Subject) (as_of : AsOf)
+    → IsByFacts (λ captures. SurveysLives which window form about captures as_of)
+lives-by-facts shared one which window form about as_of = record {
+  Writes = λ heard moments.
+      WritesLives which window form about (selected (filter_of as_of) heard) (captures_begin as_of moments) (captures_end as_of moments);
   to = λ captures summaries text survey. record {
     packets = survey.packets;
     outcomes = survey.outcomes;
     read = survey.read;
-    writes = subst (λ (hs : List Hearing). WritesLives which form about hs (captures_begin as_of (all_moments survey.packets))
+    writes = subst (λ (hs : List Hearing). WritesLives which window form about hs (captures_begin as_of (all_moments survey.packets))
         (captures_end as_of (all_moments survey.packets)) text) (counted-all (filter_of as_of) survey.outcomes) survey.writes;
   };
   from = λ captures summaries text by. record {
     packets = by.packets;
     outcomes = by.outcomes;
     read = by.read;
-    writes = subst (λ (hs : List Hearing). WritesLives which form about hs (captures_begin as_of (all_moments by.packets))
+    writes = subst (λ (hs : List Hearing). WritesLives which window form about hs (captures_begin as_of (all_moments by.packets))
         (captures_end as_of (all_moments by.packets)) text) (sym (counted-all (filter_of as_of) by.outcomes)) by.writes;
   };
   shared = λ heard others moments more text same writes.
-      shared_lives shared which form about (selected (filter_of as_of) heard) (selected (filter_of as_of) others) (captures_begin as_of moments)
-      (captures_begin as_of more) (captures_end as_of moments) (captures_end as_of more) text
+      shared_lives shared which window form about (selected (filter_of as_of) heard) (selected (filter_of as_of) others)
+      (captures_begin as_of moments) (captures_begin as_of more) (captures_end as_of moments) (captures_end as_of more) text
       (same_selected (filter_of as_of) heard others
       record { into = λ hearing among. same.into (inl hearing) among; back = λ hearing among. same.back (inl hearing) among })
       (same_begin moments more (λ m among. same.into (inr m) among) (λ m among. same.back (inr m) among) as_of)
       (same_end moments more (λ m among. same.into (inr m) among) (λ m among. same.back (inr m) among) as_of) writes;
   one = λ heard moments text other first second.
-      one_text one which form about (selected (filter_of as_of) heard) (captures_begin as_of moments) (captures_end as_of moments) text other first
-      second;
+      one_text one which window form about (selected (filter_of as_of) heard) (captures_begin as_of moments) (captures_end as_of moments)
+      text other first second;
 }

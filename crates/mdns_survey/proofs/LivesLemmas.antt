@@ -7,9 +7,10 @@ use Rattle.mdns_capture.specs.{declared.moment.Moment.{Moment}, Output.{AppendsP
 use Rattle.mdns_message.specs.declared.hearing.Hearing.{Hearing}
 use Rattle.mdns_cache.specs.Live.{IsNewest}
 use Rattle.mdns_cache.proofs.RepeatLemmas.{moment_in}
-use Rattle.mdns_lives.specs.{Chronicle.{AreAllLives}, declared.life.Life.{Life}, declared.life.Which.{Which}, Changes.{chosen}}
+use Rattle.mdns_lives.specs.declared.{life.Life.{Life}, life.Which.{Which}, window.Window.{Window}}
+use Rattle.mdns_lives.specs.{Changes.{chosen}, Chronicle.{AreAllLives}}
 use Rattle.mdns_join.specs.declared.latest.Latest.{Latest}
-use Rattle.mdns_browse.specs.declared.{life_text.Layout.{Layout}, report.Form.{Form}, report.Form.TheVariants.{Lines, Json, Pretty}}
+use Rattle.mdns_browse.specs.declared.{life_text.Layout.{Layout}, report.Form.{Form}, report.Form.TheVariants.{Csv, Lines, Json, Pretty}}
 use Rattle.mdns_browse.specs.LifeText.{end_width, lives_head, lives_in, lives_report, lives_text}
 use Rattle.mdns_survey.specs.declared.{request.LivesRequest.{LivesRequest}, reading.Reading.{Reading}, summary.Summary.{Summary}}
 use Rattle.mdns_survey.specs.declared.{request.AsOf.{AsOf}, request.AsOf.TheVariants.{Newest, At, Before}, survey.SurveyFault.{SurveyFault}}
@@ -114,16 +115,17 @@ module _ {Heard : List (List PacketAt) → List (List Outcome) → Type 0} (left
 -- THE LAYOUT OF ROWS
 
 -- what stands before the lives of rows
-abbrev rows_head : Which → Form → (begin end : ℕ) → List (Latest × List Life) → List ℕ
-rows_head which form begin end rows = lives_head which form (length (lives_in rows)) (end_width end rows) begin end
+abbrev rows_head : Which → Window → Form → (begin end : ℕ) → List (Latest × List Life) → List ℕ
+rows_head which window form begin end rows = lives_head which window form (length (lives_in rows)) (end_width end rows) begin end
 
 module _ (end : ℕ) (rows : List (Latest × List Life)) (layout : Layout) where
   -- what stands before the rows needs a layout that fits the form
-  pub head-fits : (which : Which) (form : Form) (begin : ℕ) → FitsForm form end rows layout
-      → lives_head which form layout.count layout.width begin end ≡ rows_head which form begin end rows
-  head-fits which Lines begin fits = refl
-  head-fits which Json begin fits = refl
-  head-fits which Pretty begin fits = grind arith
+  pub head-fits : (which : Which) (window : Window) (form : Form) (begin : ℕ) → FitsForm form end rows layout
+      → lives_head which window form layout.count layout.width begin end ≡ rows_head which window form begin end rows
+  head-fits which window Lines begin fits = refl
+  head-fits which window Json begin fits = refl
+  head-fits which window Pretty begin fits = grind arith
+  head-fits which window Csv begin fits = refl
 
   -- and so do their lines
   pub lines-fit : (form : Form) (some : List (Latest × List Life)) → FitsForm form end rows layout
@@ -131,6 +133,7 @@ module _ (end : ℕ) (rows : List (Latest × List Life)) (layout : Layout) where
   lines-fit Lines some fits = refl
   lines-fit Json some fits = refl
   lines-fit Pretty some fits = ap (λ n. flat_map (lives_text Pretty n end) some) fits.width
+  lines-fit Csv some fits = refl
 
 -- A TEXT BEFORE ALL ELSE
 
@@ -183,32 +186,32 @@ module _ {Heard : List (List PacketAt) → List (List Outcome) → Type 0} (requ
     (latest : (hearing : Hearing) → Contains (counted (filter_of request.as_of) hears.outcomes) hearing
     → hearing.moment.nanos ≤ end.nanos)
     (rows shown : List Row) (lives : AreAllLives (counted (filter_of request.as_of) hears.outcomes) rows)
-    (are : shown ≡ chosen request.which rows) (layout : Layout)
+    (are : shown ≡ chosen request.which request.window rows) (layout : Layout)
     (fits : FitsForm request.form end.nanos (kept_rows request.about shown) layout) (preface head text : List ℕ)
     (heads : Heads request.form readings head)
-    (is : text ≡ (preface ++ head) ++ lives_head request.which request.form layout.count layout.width begin.nanos end.nanos)
+    (is : text ≡ (preface ++ head) ++ lives_head request.which request.window request.form layout.count layout.width begin.nanos end.nanos)
     (out : Writing) where
   abbrev kept : List Row
-  kept = kept_rows request.about (chosen request.which rows)
+  kept = kept_rows request.about (chosen request.which request.window rows)
 
   abbrev after : Writing
   after = past preface out
 
   abbrev report : List ℕ
-  report = lives_report request.which request.form begin.nanos end.nanos kept
+  report = lives_report request.which request.window request.form begin.nanos end.nanos kept
 
   all_kept : kept_rows request.about shown ≡ kept
   all_kept = ap (kept_rows request.about) are
 
   -- the text that stands before rows, and the text of some of them
   text-fits : (some : List Row) → text ++ flat_map (lives_text request.form layout.width end.nanos) some
-      ≡ preface ++ (head ++ (rows_head request.which request.form begin.nanos end.nanos (kept_rows request.about shown)
+      ≡ preface ++ (head ++ (rows_head request.which request.window request.form begin.nanos end.nanos (kept_rows request.about shown)
       ++ flat_map (lives_text request.form (end_width end.nanos (kept_rows request.about shown)) end.nanos) some))
   text-fits some = grind (arith, head-fits, append_assoc, lines-fit)
 
   -- the rows are the lives of all records of the captures
   surveys-lives : (captures : List (List ℕ)) → lefts ≡ map (λ x. Some x) captures
-      → SurveysLives request.which request.form request.about captures request.as_of (summaries_of readings) report
+      → SurveysLives request.which request.window request.form request.about captures request.as_of (summaries_of readings) report
   surveys-lives captures known = record {
     packets = hears.packets;
     outcomes = hears.outcomes;
@@ -217,9 +220,9 @@ module _ {Heard : List (List PacketAt) → List (List Outcome) → Type 0} (requ
       latest = λ hearing among. subst (λ n. hearing.moment.nanos ≤ n) ends (latest hearing among);
       rows = rows;
       lives = lives;
-      lines = ap (λ n. lives_report request.which request.form n end.nanos kept) begins
-          ∙ ap (λ n. lives_report request.which request.form (captures_begin request.as_of (all_moments hears.packets)) n kept)
-          ends;
+      lines = ap (λ n. lives_report request.which request.window request.form n end.nanos kept) begins
+          ∙ ap (λ n.
+          lives_report request.which request.window request.form (captures_begin request.as_of (all_moments hears.packets)) n kept) ends;
     };
   }
 
@@ -252,10 +255,11 @@ module _ {Heard : List (List PacketAt) → List (List Outcome) → Type 0} (requ
     lives = report;
     surveys = surveys-lives captures known;
     written = subst
-        (λ n. WritesFirstRows head request.which request.form (captures_begin request.as_of (all_moments hears.packets)) n kept after)
+        (λ n. WritesFirstRows head request.which request.window request.form
+        (captures_begin request.as_of (all_moments hears.packets)) n kept after)
         ends
-        (subst (λ n. WritesFirstRows head request.which request.form n end.nanos kept after) begins
-        (subst (λ (xs : List Row). WritesFirstRows head request.which request.form begin.nanos end.nanos xs after) all_kept (
+        (subst (λ n. WritesFirstRows head request.which request.window request.form n end.nanos kept after) begins
+        (subst (λ (xs : List Row). WritesFirstRows head request.which request.window request.form begin.nanos end.nanos xs after) all_kept (
           stops.0,
           (
             stops.1.0,
@@ -271,7 +275,7 @@ module _ {Heard : List (List PacketAt) → List (List Outcome) → Type 0} (requ
       with-head captures known,
       subst
           (λ (xs : List Row). AppendsPrefix out.old out.new
-          (preface ++ (head ++ lives_report request.which request.form begin.nanos end.nanos xs)))
+          (preface ++ (head ++ lives_report request.which request.window request.form begin.nanos end.nanos xs)))
           all_kept (subst (AppendsPrefix out.old out.new) (text-fits (kept_rows request.about shown)) stops),
     ),
   )

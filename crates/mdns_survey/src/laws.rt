@@ -5,7 +5,7 @@ ghost use Rattle.std.specs.Prelude.{◌≡◌, ◌≢◌, ◌<◌, ◌++◌, ◌
 ghost use Rattle.mdns_capture.specs.{Limits.{file_header_size}, declared.moment.Moment.{Moment}, declared.savefile.Ending.{Ending}};
 ghost use Rattle.mdns_capture.specs.{declared.savefile.Ending.TheVariants.{Many}, Savefile.{CaptureReads, PacketAt, header_fault}};
 ghost use Rattle.mdns_capture.specs.Cut.{part_before, part_from, offset_after};
-ghost use Rattle.mdns_lives.specs.declared.life.Which.{Which};
+ghost use Rattle.mdns_lives.specs.declared.{life.Which.{Which}, window.Window.{Window}};
 ghost use Rattle.mdns_browse.specs.{Report.{IsReport, IsReportIn}, declared.about.Subject.{Subject}, declared.report.Ask.{Ask}};
 ghost use Rattle.mdns_browse.specs.declared.report.Form.{Form};
 ghost use Rattle.mdns_survey.specs.declared.request.{AsOf.{AsOf}, AsOf.TheVariants.{At, Before}, ReportRequest.{ReportRequest}};
@@ -93,9 +93,9 @@ pub fn same_text()
 
 /// Captures have at most one text of lives, and one list of summaries.
 pub fn one_lives()
-    ensures { (which : Which) (form : Form) (about : List Subject) (captures : List (List ℕ)) (as_of : AsOf)
-        (summaries more : List Summary) (text other : List ℕ) → SurveysLives which form about captures as_of summaries text
-        → SurveysLives which form about captures as_of more other → (summaries ≡ more) × (text ≡ other) }
+    ensures { (which : Which) (window : Window) (form : Form) (about : List Subject) (captures : List (List ℕ)) (as_of : AsOf)
+        (summaries more : List Summary) (text other : List ℕ) → SurveysLives which window form about captures as_of summaries text
+        → SurveysLives which window form about captures as_of more other → (summaries ≡ more) × (text ≡ other) }
 {
     one_telling();
     one_reading();
@@ -104,13 +104,13 @@ pub fn one_lives()
 
 /// The same captures, in whatever order and however often, have the same text of lives, as `same_text` says of a report.
 pub fn same_lives()
-    ensures shared { (which : Which) (form : Form) (about : List Subject) (captures others : List (List ℕ)) (as_of : AsOf)
+    ensures shared { (which : Which) (window : Window) (form : Form) (about : List Subject) (captures others : List (List ℕ)) (as_of : AsOf)
         (summaries : List Summary) (text : List ℕ) → SameCaptures captures others
-        → SurveysLives which form about captures as_of summaries text
-        → (more : List Summary) × SurveysLives which form about others as_of more text }
-    ensures same { (which : Which) (form : Form) (about : List Subject) (captures others : List (List ℕ)) (as_of : AsOf)
+        → SurveysLives which window form about captures as_of summaries text
+        → (more : List Summary) × SurveysLives which window form about others as_of more text }
+    ensures same { (which : Which) (window : Window) (form : Form) (about : List Subject) (captures others : List (List ℕ)) (as_of : AsOf)
         (summaries more : List Summary) (text other : List ℕ) → SameCaptures captures others
-        → SurveysLives which form about captures as_of summaries text → SurveysLives which form about others as_of more other
+        → SurveysLives which window form about captures as_of summaries text → SurveysLives which window form about others as_of more other
         → text ≡ other }
 {
     one_telling();
@@ -153,23 +153,23 @@ pub fn split_text()
 
 /// A capture can be cut in two as `split_text` says, and the text of lives stays the same.
 pub fn split_lives()
-    ensures parts { (which : Which) (form : Form) (about : List Subject) (before after : List (List ℕ)) (bytes : List ℕ)
+    ensures parts { (which : Which) (window : Window) (form : Form) (about : List Subject) (before after : List (List ℕ)) (bytes : List ℕ)
         (front back : List PacketAt) (ending : Ending) (as_of : AsOf) (summaries : List Summary) (text : List ℕ)
         → ((place : ℕ) → slice_index bytes place < 256)
         → CaptureReads bytes (front ++ back) ending → ((at : ℕ) → ending ≢ Many at)
-        → SurveysLives which form about (with_capture before bytes after) as_of summaries text
-        → (more : List Summary) × SurveysLives which form about (with_both_parts before front bytes after) as_of more text }
-    ensures whole { (which : Which) (form : Form) (about : List Subject) (before after : List (List ℕ)) (bytes : List ℕ)
+        → SurveysLives which window form about (with_capture before bytes after) as_of summaries text
+        → (more : List Summary) × SurveysLives which window form about (with_both_parts before front bytes after) as_of more text }
+    ensures whole { (which : Which) (window : Window) (form : Form) (about : List Subject) (before after : List (List ℕ)) (bytes : List ℕ)
         (front back : List PacketAt) (ending : Ending) (as_of : AsOf) (summaries : List Summary) (text : List ℕ)
         → CaptureReads bytes (front ++ back) ending → ((at : ℕ) → ending ≢ Many at)
-        → SurveysLives which form about (with_both_parts before front bytes after) as_of summaries text
-        → (more : List Summary) × SurveysLives which form about (with_capture before bytes after) as_of more text }
-    ensures same { (which : Which) (form : Form) (about : List Subject) (before after : List (List ℕ)) (bytes : List ℕ)
+        → SurveysLives which window form about (with_both_parts before front bytes after) as_of summaries text
+        → (more : List Summary) × SurveysLives which window form about (with_capture before bytes after) as_of more text }
+    ensures same { (which : Which) (window : Window) (form : Form) (about : List Subject) (before after : List (List ℕ)) (bytes : List ℕ)
         (front back : List PacketAt) (ending : Ending) (as_of : AsOf) (summaries more : List Summary)
         (text other : List ℕ)
         → CaptureReads bytes (front ++ back) ending → ((at : ℕ) → ending ≢ Many at)
-        → SurveysLives which form about (with_capture before bytes after) as_of summaries text
-        → SurveysLives which form about (with_both_parts before front bytes after) as_of more other → text ≡ other }
+        → SurveysLives which window form about (with_capture before bytes after) as_of summaries text
+        → SurveysLives which window form about (with_both_parts before front bytes after) as_of more other → text ≡ other }
 {
     cut_at_a_packet_header();
     one_packet_outcome();

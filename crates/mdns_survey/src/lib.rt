@@ -26,7 +26,7 @@ pub use answers::{NamedProgram, answer, answer_request, answer_with};
 pub use listen::{Heard, ListenFault};
 pub use program_lines::{check_line, ending_line, fault_line, open_line};
 pub use question::{Answer, Question, TextAnswer, survey_with};
-pub use request::{AsOf, LivesRequest, ReportRequest, Request, Subjects, What, Which};
+pub use request::{AsOf, LivesRequest, ReportRequest, Request, Subjects, What, Which, Window};
 pub use skips::Skips;
 pub use summary::{Summary, Tally};
 pub use survey::{SurveyFault, survey_request};

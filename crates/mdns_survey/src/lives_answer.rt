@@ -54,8 +54,9 @@ impl Question for LivesRequest {
 }
 
 /// Records are in key order, and the lives of each in order of time. In `Form::Pretty` the head of a report in this form
-/// comes first, and a heading, with the earliest packet's moment, or the end of the captures where that is earlier. A line
-/// says `live` of a life that goes on after the end.
+/// comes first, and a heading, with the bounds of the window. Without `since` that is the earliest packet's moment, or the end of
+/// the captures where that is earlier, and without `until` their end. A line says `live` of a life that goes on after the end
+/// of the captures, whatever the window is.
 ///
 /// The lines are written in pieces of 64 KiB or more, each of which ends with the last line of a record. In
 /// `Form::Pretty` all lives are found twice, first for the widths of the columns.
@@ -122,7 +123,7 @@ pub fn write_lives<W: Sink>(
         return Err(SurveyFault::Early { newest });
     }
     let about = request.about.as_slice();
-    let columns = lives.chosen(request.which);
+    let columns = lives.chosen(request.which, request.window);
     let layout = match layout_of(alloc, columns, request.form, about, end_of_captures) {
         Ok(layout) => layout,
         Err(Want) => return Err(SurveyFault::Memory),
@@ -131,7 +132,7 @@ pub fn write_lives<W: Sink>(
         Ok(text) => text,
         Err(Want) => return Err(SurveyFault::Memory),
     };
-    let rows = lives.chosen(request.which);
+    let rows = lives.chosen(request.which, request.window);
     let lines = RowLines {
         form: request.form,
         about,
@@ -178,7 +179,7 @@ fn text_before(
 ) -> Result<String, Want>
     ensures { IfOk result (λ text. (head : List ℕ) × Heads request.now.form readings.now head
         × (string_bytes text ≡ (string_bytes preface ++ head)
-        ++ lives_head request.now.which request.now.form layout.count layout.width begin.nanos end_of_captures.nanos)) }
+        ++ lives_head request.now.which request.now.window request.now.form layout.count layout.width begin.nanos end_of_captures.nanos)) }
 {
     let mut text = preface;
     let head = head_in(*text.allocator(), request.form, readings)?;
@@ -186,6 +187,7 @@ fn text_before(
     push_lives_head(
         &mut text,
         request.which,
+        request.window,
         request.form,
         layout,
         begin,

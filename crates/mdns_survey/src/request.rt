@@ -7,7 +7,7 @@ use crate::filter::Filter;
 use mdns_browse::about::Subject;
 use mdns_browse::report::{Ask, Form};
 use mdns_capture::Moment;
-pub use mdns_lives::Which;
+pub use mdns_lives::{Which, Window};
 use std::alloc::Global;
 use std::marker::Model;
 
@@ -46,9 +46,9 @@ pub struct ReportRequest {
     pub about: Subjects,
 }
 
-/// The lives that are asked for, of all captures together: one line for each life of each record about the subjects, and with
-/// `Which::Changes` only of record sets that changed, by the lives of all records. A life is a span of time in which the record
-/// was live, by the hearings that count and were heard until then.
+/// The lives that are asked for, of all captures together: one line for each life that meets the window, of each record about the
+/// subjects, and with `Which::Changes` only of record sets that changed in the window, by the lives of all records. A life is a
+/// span of time in which the record was live, by the hearings that count and were heard until then, in the window or not.
 ///
 /// The captures end at the moment of `as_of`, or with `AsOf::Newest` at the latest packet's moment, also of a packet
 /// without hearings, or at 0 where there are no packets.
@@ -57,6 +57,7 @@ pub struct LivesRequest {
     pub which: Which,
     pub form: Form,
     pub as_of: AsOf,
+    pub window: Window,
     pub about: Subjects,
 }
 

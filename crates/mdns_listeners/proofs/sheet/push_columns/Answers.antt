@@ -1,4 +1,4 @@
-use Rattle.std.proofs.Common.{◌≡◌, ◌∙◌, ℕ, List, [], ◌∷◌, ◌++◌, ap, append_assoc, arith, get_or, map}
+use Rattle.std.proofs.Common.{◌∙◌, ℕ, List, [], ◌∷◌, ◌++◌, ap, append_assoc, arith, get_or, map}
 use Rattle.mdns_listeners.specs.{Fields.{field_lent}, Sheet.{cells_of, columns_text}, Table.{cells_from}}
 use Rattle.mdns_listeners.proofs.TableLemmas.{columns_end, columns_more}
 use Rattle.mdns_listeners.proofs.sheet.push_columns.Goals as goal

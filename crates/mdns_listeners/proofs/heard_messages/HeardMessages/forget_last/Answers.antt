@@ -1,5 +1,5 @@
-use Rattle.std.proofs.Common.{◌∙◌, ◌-◌, ap, length, sym, take}
-use Rattle.mdns_listeners.specs.{Heard.{Told}, Kept.{HeardSoFar, kept_messages}}
+use Rattle.std.proofs.Common.{◌∙◌, ◌-◌, ap, length, take}
+use Rattle.mdns_listeners.specs.{Kept.{HeardSoFar, kept_messages}}
 use Rattle.mdns_listeners.proofs.KeptLemmas.{kept-less, told-less}
 use Rattle.mdns_listeners.proofs.heard_messages.HeardMessages.forget_last.Goals as goal
 
