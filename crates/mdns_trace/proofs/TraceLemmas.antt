@@ -9,7 +9,8 @@ use Rattle.mdns_survey.specs.declared.{listen.ListenFault.TheVariants.{Begin, Re
 use Rattle.mdns_survey.specs.declared.reading.{ReadingFault.TheVariants.{Listen as OfListen, Consumer as OfConsumer}, Reading.{Reading}}
 use Rattle.mdns_survey.specs.Outcomes.{Outcome, AllCome}
 use Rattle.mdns_survey.specs.Reading.{CaptureBegins, HasReadFault, IsNoCaptureRead, LeavesConsumer, ReadsCapture}
-use Rattle.mdns_trace.specs.declared.{inquiry.Trace.{Trace}, trace.Lines.{Lines}, trace.TraceFault.{TraceFault}, window.Window.{Window}}
+use Rattle.mdns_lives.specs.declared.window.Window.{Window}
+use Rattle.mdns_trace.specs.declared.{inquiry.Trace.{Trace}, trace.Lines.{Lines}, trace.TraceFault.{TraceFault}}
 use Rattle.mdns_trace.specs.{declared.trace.TraceFault.TheVariants.{Listen, Write}, TraceFaults.{Stops, WritesLines}}
 use Rattle.mdns_trace.specs.Trace.{AddsLines, AreAllLines, AreLinesIn, LeavesLines, LinesBroke, LinesTook, PrintsPart, TracesCapture}
 use Rattle.mdns_trace.specs.Trace.{TracesFront, trace_fault}

@@ -1,5 +1,5 @@
 -- Of each file that is kept there are a name and a reader.
-use Rattle.std.proofs.Common.{◌≡◌, ℕ, Bool, true, false, List, [], ◌∷◌, ◌++◌, Option, arith, ap, length, length-append}
+use Rattle.std.proofs.Common.{◌≡◌, ℕ, Bool, true, false, List, [], ◌∷◌, Option, arith, ap, length, length-append}
 use Rattle.std.proofs.{Common.{map, string_bytes, subst, sym}, lemmas.List.{length-map}}
 use Rattle.mdns_capture.specs.declared.stream.Source.{Ghosts as SourceGhosts}
 use Rattle.mdns_trace.specs.{declared.usable.Usable.{Usable}, EachFile.{WritesEach, more, none}, Usable.{SortsFile}}

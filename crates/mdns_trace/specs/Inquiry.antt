@@ -5,7 +5,7 @@ use Rattle.mdns_capture.specs.declared.stream.{Sink.{Ghosts as SinkGhosts}, Sour
 use Rattle.mdns_message.specs.TextData.{string_text}
 use Rattle.mdns_survey.specs.declared.summary.Summary.{Summary}
 use Rattle.mdns_trace.specs.declared.{inquiry.Trace.{Trace}, inquiry.Trace.TheVariants.{Spans}, trace.TraceFault.{TraceFault}}
-use Rattle.mdns_trace.specs.declared.window.Window.{Window}
+use Rattle.mdns_lives.specs.declared.window.Window.{Window}
 use Rattle.mdns_trace.specs.{TraceFaults.{Stops, WritesLines}, SpanWritten.{LeavesSpan, SpansCapture}, Trace.{LeavesLines, TracesCapture}}
 
 -- the text is what is written of a capture of these bytes, in a file of that name

@@ -11,6 +11,7 @@ pub mod MomentMember
 pub mod TraceJson
 pub mod PacketLine
 pub mod TraceColumns
+pub mod TraceCsv
 pub mod TraceLines
 pub mod SpanLine
 pub mod SpanWritten
@@ -19,4 +20,3 @@ pub mod Usable
 pub mod Verdict
 pub mod VerdictJson
 pub mod Verdicts
-pub mod Window

@@ -12,8 +12,8 @@ use Rattle.mdns_survey.specs.Why.{IsRefusedFor, IsSkippedFor}
 use Rattle.mdns_survey.specs.declared.reading.ReadingFault.TheVariants as reading
 use Rattle.mdns_trace.specs.declared.{entry.Untold.{Untold}, inquiry.Trace.{Trace}, inquiry.Trace.TheVariants.{Hearings, Packets, Spans}}
 use Rattle.mdns_trace.specs.declared.trace.{Lines.{Lines}, TraceFault.{TraceFault}, TraceFault.TheVariants.{Listen, Write}}
-use Rattle.mdns_trace.specs.{declared.window.Window.{Window}, Entry.{hearing_entry, packet_entry}, EntryText.{entry_text}}
-use Rattle.mdns_trace.specs.Window.{in_window}
+use Rattle.mdns_lives.specs.{declared.window.Window.{Window}, Window.{in_window}}
+use Rattle.mdns_trace.specs.{Entry.{hearing_entry, packet_entry}, EntryText.{entry_text}}
 use Rattle.mdns_trace.specs.declared.entry.Untold.TheVariants as untold
 
 -- WHAT A CAPTURE'S LINES ARE

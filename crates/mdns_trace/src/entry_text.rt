@@ -7,6 +7,7 @@ ghost use Rattle.mdns_trace.specs.{Entry.{entry_lent}, EntryText.{entry_text}};
 use crate::entry::Entry;
 use crate::trace::word_of;
 use crate::trace_columns::push_entry_columns;
+use crate::trace_csv::push_entry_csv;
 use crate::trace_json::push_entry_json;
 use crate::trace_lines::push_entry_lines;
 use mdns_browse::report::Form;
@@ -28,6 +29,7 @@ pub(crate) fn push_entry(
         Form::Lines => push_entry_lines(to, file, entry),
         Form::Pretty => push_entry_columns(alloc, to, file, entry),
         Form::Json => push_entry_json(alloc, to, file, entry),
+        Form::Csv => push_entry_csv(alloc, to, file, entry),
     }
 }
 

@@ -1,8 +1,8 @@
 //! What is written of captures and other files.
 
-use crate::window::Window;
 use mdns_browse::about::Subject;
 use mdns_browse::report::Form;
+use mdns_lives::Window;
 use std::alloc::Global;
 
 /// What is written of captures, in a form.

@@ -7,14 +7,15 @@ ghost use Rattle.mdns_trace.specs.TraceAnswer.{IsTraceRefused, IsTraced, survey_
 use crate::each_file::{FilesFault, write_traces};
 use crate::inquiry::Tracer;
 use crate::trace::TraceFault;
-use mdns_capture::{Sink, Source};
+use crate::trace_csv::header_of;
+use mdns_capture::{Broken, Sink, Source, write_whole};
 use mdns_survey::error_lines::{refuse, say_endings};
 use mdns_survey::status::{REFUSED, status_of};
 use mdns_survey::survey::SurveyFault;
 use std::alloc::Global;
 
-/// Writes the lines of the captures `names`, read by `readers`, to `out` as `write_traces` does, and error lines
-/// to `err`. Returns the exit status: `WHOLE`, `DAMAGED` or `REFUSED` of `mdns_survey::status`.
+/// Writes the lines of the captures `names`, read by `readers`, to `out` as `write_traces` does, for hearings as comma-separated
+/// values after a header, and error lines to `err`. Returns the exit status: `WHOLE`, `DAMAGED` or `REFUSED` of `mdns_survey::status`.
 ///
 /// After a failed write to `err` nothing more is written there; the status stays the same.
 pub fn answer_traces<R: Source + Drop, O: Sink, E: Sink>(
@@ -34,6 +35,10 @@ pub fn answer_traces<R: Source + Drop, O: Sink, E: Sink>(
     ensures refused { result ≡ REFUSED → IsTraceRefused R.Source O.Sink tracer.entry.trace tracer.entry.about.now
         tracer.entry.window (map string_bytes names.now) readers.items out.old out.new (writing E.Sink err.old err.new) }
 {
+    match write_whole(out, header_of(tracer.trace).as_bytes()) {
+        Ok(()) => {}
+        Err(Broken) => return refuse(alloc, "mdnswhy", names, &SurveyFault::Write, err),
+    }
     match write_traces(alloc, tracer, names, readers, out) {
         Ok(summaries) => {
             say_endings(alloc, "mdnswhy", names, summaries.as_slice(), err);

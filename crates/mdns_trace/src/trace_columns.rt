@@ -88,11 +88,18 @@ fn push_padded_source(alloc: Global, to: &mut String, source: &SourceAddress) ->
     ensures { OnOk result (string_bytes to.new ≡ string_bytes to.old ++ padded 15 (source_shown source.now)) }
 {
     let mut address = String::new(alloc);
-    match source {
-        SourceAddress::V4(octets) => push_ipv4(&mut address, octets)?,
-        SourceAddress::V6(octets) => push_ipv6_short(&mut address, octets)?,
-    }
+    push_source(&mut address, source)?;
     push_padded(to, 15, address.as_str())
+}
+
+/// Appends an address as people read it.
+pub(crate) fn push_source(to: &mut String, source: &SourceAddress) -> Result<(), Want>
+    ensures { OnOk result (string_bytes to.new ≡ string_bytes to.old ++ source_shown source.now) }
+{
+    match source {
+        SourceAddress::V4(octets) => push_ipv4(to, octets),
+        SourceAddress::V6(octets) => push_ipv6_short(to, octets),
+    }
 }
 
 fn push_file_and_record(
