@@ -1,13 +1,13 @@
 -- Pages on which names aren't written are equal where they agree but for names.
 use Rattle.std.proofs.Common.{◌≡◌, refl, sym, ◌∙◌, ap, ℕ, ◌+◌, ◌==◌, nat_le, Bool, true, false, if◌then◌else◌, Option, None, Some}
 use Rattle.std.proofs.Common.{List, [], ◌∷◌, ◌++◌, ◌-◌, codes, length, map, arith}
-use Rattle.std.specs.Prelude.{◌&&◌, nat_lt, not, option_map, slice_get, string_bytes, unwrap_or}
+use Rattle.std.specs.Prelude.{nat_lt, not, option_map, slice_get, string_bytes, unwrap_or}
 use Rattle.std.specs.List.{filter_map, find, flat_map, join_by}
 use Rattle.mdns_message.specs.{Resource.{Body}, TextData.{strings_of}, Parts.{address_of, content_of}, declared.parts.Address.{Address}}
 use Rattle.mdns_message.specs.declared.body.RecordData.TheVariants as body
 use Rattle.mdns_capture.specs.declared.savefile.Ending.{Ending}
 use Rattle.mdns_survey.specs.declared.reading.Span.{Span}
-use Rattle.mdns_lives.specs.declared.life.{Life.{Life}, EndReason.TheVariants.{Expired, Goodbye, Flushed}}
+use Rattle.mdns_lives.specs.declared.life.Life.{Life}
 use Rattle.mdns_browse.specs.declared.{about.Subject.{Subject}, instance.Server.{Server}}
 use Rattle.mdns_browse.specs.{Services.{GivenRow, InstanceRow, instance_row_in}, RecordShown.{shown_address, shown_string, shown_strings}}
 use Rattle.mdns_listeners.specs.declared.pairs.PairRow.{PairRow}
@@ -17,11 +17,10 @@ use Rattle.mdns_page.specs.{declared.axis.Axis.{Axis}, declared.captures.Capture
 use Rattle.mdns_page.specs.Bare.{bare_capture, bare_end, bare_file, bare_group, bare_groups, bare_instances, bare_live, bare_row}
 use Rattle.mdns_page.specs.{Bare.{bare_server, bare_text, is_some_filled, unsaid}, Captures.{Comparison, Facts, alone_text, capture_text}}
 use Rattle.mdns_page.specs.{Captures.{captures_text, clock_text, compared_text, each_from, is_shared_by}, Axis.{drawn_if, short_text}}
-use Rattle.mdns_page.specs.{Group.{grouped, item}, OtherRows.{is_large}, Lanes.{base_line, base_text, bases_text, lane_top}}
-use Rattle.mdns_page.specs.{Lead.{Ended, about_line, ending_warning, is_ended, live_line, pair_warning}, Picture.{goes_on, is_for}}
-use Rattle.mdns_page.specs.LiveSection.{address_html, live_group, live_row, live_text, server_html, text_html, type_of}
-use Rattle.mdns_page.specs.Document.{Shown, head, page}
-use Rattle.mdns_page.specs.Timeline.{Row, content_name, count_last, group_text, is_open, lives_in, owner_of, row_text, timeline}
+use Rattle.mdns_page.specs.{Group.{grouped, item}, OtherRows.{is_large}, Lanes.{base_line, base_text, bases_text, lane_top}, Lead.{Ended}}
+use Rattle.mdns_page.specs.{Lead.{about_line, ending_warning, pair_warning}, Picture.{goes_on}, LiveSection.{address_html, live_group}}
+use Rattle.mdns_page.specs.{LiveSection.{live_row, live_text, server_html, text_html, type_of}, Document.{Shown, head, page}}
+use Rattle.mdns_page.specs.Timeline.{Row, content_name, count_last, group_text, is_last, is_open, lives_in, owner_of, row_text, timeline}
 use Rattle.mdns_page.specs.declared.kept_records.{TimelinePart.{TimelinePart}, TimelinePart.TheVariants.{Addresses, Instances, Names}}
 use Rattle.mdns_page.specs.{Ticks.{symbols_text}, declared.look.Look.{Look}}
 use Rattle.mdns_page.proofs.{GroupLemmas.{grouped-all}, LiveWordLemmas.{some-items}}
@@ -103,21 +102,7 @@ head-same axis lanes captures files same = rw (bases-same axis lanes captures fi
 count_last-same : (is : Life → Bool) (rows others : List Row) → map bare_row rows ≡ map bare_row others
     → count_last is rows ≡ count_last is others
 count_last-same is =
-    count-same bare_row (λ row. unwrap_or (option_map is (slice_get row.lives (length row.lives - 1))) false)
-    (λ row other bare. ap (λ (b : BareRow). unwrap_or (option_map is (slice_get b.1 (length b.1 - 1))) false) bare)
-
-live_line-same : (axis : Axis) (rows others : List Row) → map bare_row rows ≡ map bare_row others
-    → live_line axis rows ≡ live_line axis others
-unfolding live_line
-live_line-same axis rows others same =
-    let count = λ (is : Life → Bool). count_last-same is rows others same in
-    rw (
-      count (goes_on axis),
-      count (λ life. goes_on axis life && is_for Goodbye life.reason),
-      count (is_ended axis Goodbye),
-      count (is_ended axis Flushed),
-      count (is_ended axis Expired),
-    ) refl
+    count-same bare_row (λ row. is_last is row.lives) (λ row other bare. ap (λ (b : BareRow). is_last is b.1) bare)
 
 about-same : (about others : List Subject) → length about ≡ length others → about_line unsaid about ≡ about_line unsaid others
 about-same [] [] same = refl
@@ -271,7 +256,7 @@ live_row-same : (axis : Axis) (row other : InstanceRow) → bare_live row ≡ ba
 unfolding live_row
 live_row-same axis row other same =
     let since : row.given.since ≡ other.given.since = ap (λ (bare : BareLive). bare.0) same in
-    let left = left-same axis.end.nanos row.given other.given (ap (λ (bare : BareLive). bare.1) same) in
+    let left = left-same axis.now.nanos row.given other.given (ap (λ (bare : BareLive). bare.1) same) in
     let bare_servers : map bare_server row.instance.servers ≡ map bare_server other.instance.servers =
     ap (λ (bare : BareLive). bare.2) same in
     let count = length-same bare_server row.instance.servers other.instance.servers bare_servers in
@@ -312,12 +297,12 @@ live-same axis opened lasts others given more same =
 -- ---- the whole
 
 pub page-same : (a b : Shown) (opened : Bool) (lasts others : List Latest) (live now : List GivenRow) → a.axis ≡ b.axis → a.lost ≡ b.lost
-    → a.skipped ≡ b.skipped → a.comparison ≡ b.comparison → a.live ≡ live_text unsaid a.axis opened lasts live → b.live ≡ live_text unsaid b.axis opened others now
+    → a.skipped ≡ b.skipped → a.known ≡ b.known → a.comparison ≡ b.comparison → a.live ≡ live_text unsaid a.axis opened lasts live → b.live ≡ live_text unsaid b.axis opened others now
     → length a.about ≡ length b.about → map bare_capture a.captures ≡ map bare_capture b.captures
     → map bare_file a.files ≡ map bare_file b.files
     → bare_groups a.rows ≡ bare_groups b.rows → map bare_row a.addresses ≡ map bare_row b.addresses
     → map bare_row a.names ≡ map bare_row b.names → bare_instances lasts live ≡ bare_instances others now → page unsaid a ≡ page unsaid b
-page-same a b opened lasts others live now same_axis same_lost same_skipped same_comparison
+page-same a b opened lasts others live now same_axis same_lost same_skipped same_known same_comparison
     written written_too same_about same_captures same_files same_rows same_addresses
     same_names same_live =
     let lanes = if is_large (length a.rows) then 0 else (if nat_lt 4 (length a.captures) then 1 else length a.captures) in
@@ -333,7 +318,7 @@ page-same a b opened lasts others live now same_axis same_lost same_skipped same
       same_skipped,
       same_comparison,
       head-same b.axis lanes a.captures b.captures same_captures,
-      live_line-same b.axis a.rows b.rows rows,
+      same_known,
       about-same a.about b.about same_about,
       flat_map-same bare_file (ending_warning unsaid) warning-same a.files b.files same_files,
       warnings,

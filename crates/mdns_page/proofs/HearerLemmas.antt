@@ -16,8 +16,7 @@ use Rattle.mdns_lives.specs.declared.{life.Life.{Life}, seconds_heard.SecondHear
 use Rattle.mdns_lives.specs.{Chronicle.{Accounts, AreAllLives, Chronicles, last_held}, Heard.{AreSecondsHeard}}
 use Rattle.mdns_browse.specs.Services.{AreEach}
 use Rattle.mdns_page.specs.TimelineRows.{AreShownBy, HearsCapture, HearsRecord, IsBegun, IsCounted, few_of, heard_too, unheard}
-use Rattle.mdns_page.specs.{KeptRecords.{is_of}, Timeline.{Row, counted_lent}, declared.kept_records.TimelinePart.{TimelinePart}}
-use Rattle.mdns_page.specs.declared.timeline_rows.CountedRow.{CountedRow}
+use Rattle.mdns_page.specs.{Timeline.{Row, counted_lent}, declared.timeline_rows.CountedRow.{CountedRow}}
 use Rattle.mdns_page.proofs.{CountedLemmas.{each-last, each-more, record_in, shown-more}, KeptLemmas.{sorted-filter}}
 use Rattle.mdns_page.proofs.LiveLemmas.{each-count}
 
@@ -130,14 +129,14 @@ adjacent (x ∷ y ∷ keys) sorted (suc k) d low high =
     (adjacent (y ∷ keys) sorted.1 k d (omega arith) (omega arith))
 
 -- rows of records that are in order
-pub rows-sorted : (part : TimelinePart) (rows : List Row) (records : List (Latest × List Life))
-    → map record_in rows ≡ filter (λ row. is_of part row.0) records
+pub rows-sorted : (keep : Latest × List Life → Bool) (rows : List Row) (records : List (Latest × List Life))
+    → map record_in rows ≡ filter keep records
     → IsStrictlySortedBy key_cmp (map (λ (row : Latest × List Life). key_of_last row.0) records)
     → IsStrictlySortedBy key_cmp (map row_key rows)
-rows-sorted part rows records are sorted =
+rows-sorted keep rows records are sorted =
     let key = λ (row : Latest × List Life). key_of_last row.0 in
     subst (IsStrictlySortedBy key_cmp) (ap (map key) (sym are) ∙ map-map key record_in rows)
-    (sorted-filter key_cmp key (λ row. is_of part row.0) records sorted)
+    (sorted-filter key_cmp key keep records sorted)
 
 -- keys in order are searched as `binary_search` asks
 pub searchable : (keys : List Key) (key : Key) → IsStrictlySortedBy key_cmp keys

@@ -6,7 +6,7 @@ use Rattle.std.specs.{Ordering.{nat_cmp}, declared.cmp.Ordering.TheVariants.{Les
 use Rattle.mdns_capture.specs.Limits.{second}
 use Rattle.mdns_cache.proofs.StandsPartLemmas.{Contains-head, Contains-later}
 use Rattle.mdns_lives.specs.declared.{life.RecordHearing.{RecordHearing}, seconds_heard.SecondHeard.{SecondHeard}}
-use Rattle.mdns_lives.specs.{Heard.{number_of}, Seconds.{second_of}}
+use Rattle.mdns_lives.specs.{Heard.{number_of}, Seconds.{second_of}, Window.{in_window}}
 use Rattle.mdns_page.specs.{Axis.{place}, Lanes.{goodbye_of, is_goodbye, point, second_mark}, Picture.{AreInOrder, differing, is_same}}
 use Rattle.mdns_page.specs.declared.{axis.Axis.{Axis}, picture.Mark.{Mark}, picture.Stroke.{Stroke}}
 use Rattle.mdns_page.specs.declared.picture.Stroke.TheVariants.{Bar, Server, Pin, Head, Tick, GoodbyeTick}
@@ -23,16 +23,19 @@ abbrev IsInIf : Axis → ℕ → Option Mark → Type 0
 IsInIf axis n None = Unit {0}
 IsInIf axis n (Some mark) = IsIn axis n mark
 
-point-in : (axis : Axis) (n : ℕ) (heard : RecordHearing) → second_of heard ≡ n → IsIn axis n (point axis heard)
-point-in axis n heard within = record { moment = heard.moment.nanos; within = within; begins = refl; ends = refl }
-
-first-if : (axis : Axis) (n : ℕ) (mark : Mark) (b : Bool) → IsIn axis n mark → IsInIf axis n (if b then None else Some mark)
+first-if : (axis : Axis) (n : ℕ) (mark : Option Mark) (b : Bool) → IsInIf axis n mark → IsInIf axis n (if b then None else mark)
 first-if axis n mark true is = tt
 first-if axis n mark false is = is
 
-last-if : (axis : Axis) (n : ℕ) (mark : Mark) (b : Bool) → IsIn axis n mark → IsInIf axis n (if b then Some mark else None)
+last-if : (axis : Axis) (n : ℕ) (mark : Option Mark) (b : Bool) → IsInIf axis n mark → IsInIf axis n (if b then mark else None)
 last-if axis n mark true is = is
 last-if axis n mark false is = tt
+
+point-in : (axis : Axis) (n : ℕ) (heard : RecordHearing) → second_of heard ≡ n → IsInIf axis n (point axis heard)
+point-in axis n heard within =
+    let at = place axis heard.moment.nanos in
+    last-if axis n (Some (record { begin = at; end = at })) (in_window axis.window heard.moment)
+    (record { moment = heard.moment.nanos; within = within; begins = refl; ends = refl })
 
 goodbye-in : (n : ℕ) (last first : RecordHearing) (b : Bool) → second_of last ≡ n → second_of first ≡ n
     → second_of (if b then last else first) ≡ n

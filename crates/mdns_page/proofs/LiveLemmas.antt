@@ -5,12 +5,11 @@ use Rattle.std.proofs.lemmas.{Bool.Decides.{nat_tests}, List.{append-nil, append
 use Rattle.std.specs.{List.{filter_map, flat_map, join_by}, String.{string_bytes}}
 use Rattle.mdns_message.specs.Resource.{Body}
 use Rattle.mdns_join.specs.declared.latest.Latest.{Latest}
-use Rattle.people_text.specs.MomentText.{millis_text}
 use Rattle.mdns_browse.specs.{RecordShown.{shown_instance}, Services.{AreEach, GivenRow, InstanceRow, instance_row_in}}
 use Rattle.mdns_browse.specs.Sheet.{Piece, server_address, server_end, servers_end, instance_text, instance_end, server_pieces}
 use Rattle.mdns_browse.specs.{Sheet.{servers_pieces, instance_pieces}, declared.instance.Server.{Server}}
 use Rattle.mdns_page.specs.{declared.axis.Axis.{Axis}, declared.live_sheet.LiveSheet.{LiveSheet}, Group.{grouped}, Html.{isolated}}
-use Rattle.mdns_page.specs.LiveSection.{live_text, address_html, given_words, live_group, live_row, server_html, server_line, text_html}
+use Rattle.mdns_page.specs.LiveSection.{end_text, live_text, address_html, given_words, live_group, live_row, server_html, server_line, text_html}
 use Rattle.mdns_page.specs.{LiveSection.{type_of}, LiveSheet.{Adds, Grows, pieces_html, pieces_next, type_begin}}
 use Rattle.mdns_page.specs.laws.LiveSheet.{pieces-append}
 
@@ -148,7 +147,7 @@ group_by_parts opened owner rows old begun walked new begin walk axis end = reco
 -- what the section begins with
 abbrev live_begin : Axis → List ℕ
 live_begin axis =
-    codes "<h2 id=\"live\">What was live at <time>" ++ millis_text axis.end.nanos ++ codes "</time></h2>\n<div class=\"g l\">\n"
+    codes "<h2 id=\"live\">What was live" ++ end_text axis ++ codes "</h2>\n<div class=\"g l\">\n"
 
 -- the section by the parts that are written of it
 pub live_by_parts : (axis : Axis) (opened : Bool) (lasts : List Latest) (given : List GivenRow) (old begun new : List ℕ)

@@ -2,9 +2,9 @@
 use Rattle.std.proofs.Common.{◌≡◌, refl, ℕ, ◌+◌, ◌-◌, ◌*◌, ◌/◌, ◌<◌, ◌≤◌, min, Bool, true, false}
 use Rattle.std.proofs.{Common.{if◌then◌else◌, Option, None, Some, List, [], ◌∷◌, arith, div-mul-le_self}, lemmas.Nat.{le-div}}
 use Rattle.std.specs.List.{cons_option, filter_map}
-use Rattle.mdns_lives.specs.{Lives.{AreApart, AreApartAfter}, declared.life.Life.{Life}}
-use Rattle.mdns_page.specs.{Axis.{place, place_end}, Picture.{AreInOrder, bar_mark, differing, goes_on, is_for, is_same, mark_of}}
-use Rattle.mdns_page.specs.declared.{axis.Axis.{Axis}, picture.Mark.{Mark}, picture.Stroke.{Stroke}}
+use Rattle.mdns_lives.specs.{Lives.{AreApart, AreApartAfter}, Window.{meets}, declared.life.Life.{Life}}
+use Rattle.mdns_page.specs.{Axis.{place, place_end}, Picture.{AreInOrder, bar_mark, differing, drawn_mark, is_for, is_same, mark_of}}
+use Rattle.mdns_page.specs.{Picture.{outlasts}, declared.axis.Axis.{Axis}, declared.picture.Mark.{Mark}, declared.picture.Stroke.{Stroke}}
 use Rattle.mdns_page.specs.declared.picture.Stroke.TheVariants.{Bar, Server, Pin, Head, Tick, GoodbyeTick}
 
 abbrev mark : ℕ → ℕ → Mark
@@ -94,20 +94,31 @@ bar-next axis low stroke before life apart some begins ends own =
       record { begins = own passed; ends = end-most axis from life.until (omega (arith, some)) },
     )
 
+drawn-next : (axis : Axis) (low : ℕ) (stroke : Stroke) (before : Mark) (life : Life) → low ≤ life.from.nanos → life.from.nanos < life.until
+    → IsBy axis low stroke before → IsNextIf axis life.until stroke before (drawn_mark axis stroke life)
+drawn-next axis low Bar before life apart some is = bar-next axis low Bar before life apart some is.begins is.ends (λ passed. passed)
+drawn-next axis low Server before life apart some is = bar-next axis low Server before life apart some is.begins is.ends (λ passed. passed)
+drawn-next axis low (Pin reason) before life apart some is =
+    let begins = is.begins in
+    pin-next axis low life.from.nanos life.until (Pin reason) before (outlasts axis life) (is_for reason life.reason) apart
+    (omega (arith, some)) (omega (arith, begins)) is.ends refl
+drawn-next axis low (Head reason) before life apart some is =
+    let begins = is.begins in
+    pin-next axis low life.from.nanos life.until (Head reason) before (outlasts axis life) (is_for reason life.reason) apart
+    (omega (arith, some)) (omega (arith, begins)) is.ends refl
+drawn-next axis low (Tick top) before life apart some is = tt
+drawn-next axis low (GoodbyeTick top) before life apart some is = tt
+
+if-next : (axis : Axis) (by : ℕ) (stroke : Stroke) (before : Mark) (next : Option Mark) (drawn : Bool) → IsNextIf axis by stroke before next
+    → IsNextIf axis by stroke before (if drawn then next else None)
+if-next axis by stroke before next true is = is
+if-next axis by stroke before next false is = tt
+
 mark-next : (axis : Axis) (low : ℕ) (stroke : Stroke) (before : Mark) (life : Life) → low ≤ life.from.nanos → life.from.nanos < life.until
     → IsBy axis low stroke before → IsNextIf axis life.until stroke before (mark_of axis stroke life)
-mark-next axis low Bar before life apart some is = bar-next axis low Bar before life apart some is.begins is.ends (λ passed. passed)
-mark-next axis low Server before life apart some is = bar-next axis low Server before life apart some is.begins is.ends (λ passed. passed)
-mark-next axis low (Pin reason) before life apart some is =
-    let begins = is.begins in
-    pin-next axis low life.from.nanos life.until (Pin reason) before (goes_on axis life) (is_for reason life.reason) apart
-    (omega (arith, some)) (omega (arith, begins)) is.ends refl
-mark-next axis low (Head reason) before life apart some is =
-    let begins = is.begins in
-    pin-next axis low life.from.nanos life.until (Head reason) before (goes_on axis life) (is_for reason life.reason) apart
-    (omega (arith, some)) (omega (arith, begins)) is.ends refl
-mark-next axis low (Tick top) before life apart some is = tt
-mark-next axis low (GoodbyeTick top) before life apart some is = tt
+mark-next axis low stroke before life apart some is =
+    if-next axis life.until stroke before (drawn_mark axis stroke life) (meets axis.window life)
+    (drawn-next axis low stroke before life apart some is)
 
 -- ---- all marks
 

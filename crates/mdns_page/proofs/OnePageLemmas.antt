@@ -9,21 +9,21 @@ use Rattle.mdns_join.specs.{declared.latest.Latest.{Latest}, laws.Latest.{moment
 use Rattle.mdns_message.specs.declared.hearing.Hearing.{Hearing}
 use Rattle.mdns_cache.specs.Live.{key_of_last}
 use Rattle.mdns_lives.specs.declared.{life.RecordHearing.{RecordHearing}, life.Life.{Life}, seconds_heard.SecondHeard.{SecondHeard}}
-use Rattle.mdns_lives.specs.{Heard.{AreSecondsHeard, AreSecondsOf, number_of}, Seconds.{AreEnds, Ends, ends}}
+use Rattle.mdns_lives.specs.{declared.window.Window.{Window}, Heard.{AreSecondsHeard, AreSecondsOf, number_of}, Seconds.{AreEnds, Ends, ends}}
 use Rattle.mdns_lives.proofs.SecondsLemmas.{between-itself, same_ends_in}
 use Rattle.mdns_browse.specs.{declared.about.Subject.{Subject}, Services.{AreEach, body_of}}
 use Rattle.mdns_survey.specs.declared.{reading.Reading.{Reading}, request.AsOf.{AsOf}, summary.Summary.{Summary}}
-use Rattle.mdns_survey.specs.{Outcomes.{Outcome}, LivesAnswer.{captures_begin, captures_end, latest_nanos}}
+use Rattle.mdns_survey.specs.{Outcomes.{Outcome}, LivesAnswer.{captures_end, earliest_nanos, latest_nanos}}
 use Rattle.mdns_survey.specs.{Readings.{all_moments, summaries_of}, Filter.{counted, counted_each, filter_of}, Surveys.{AllLeft}}
 use Rattle.mdns_cache.proofs.StandsPartLemmas.{Contains-cases, Contains-head, Contains-later}
 use Rattle.mdns_survey.proofs.{ListenedLemmas.{known-read}, LivesLawLemmas.{OneLives, same_itself}, LossLemmas.{NeverBoth, SkipsByCause}}
 use Rattle.mdns_survey.proofs.{OneSurveyLemmas.{one-read}, OutcomeLemmas.{OnePayload, OneReading, OneTelling}}
 use Rattle.mdns_listeners.specs.Groups.{Grouped}
-use Rattle.mdns_page.specs.{Axis.{dates_of}, ByListener.{hearings_by}, Captures.{Comparison}, Collected.{Compares}}
+use Rattle.mdns_page.specs.{Axis.{bound_or, dates_of}, ByListener.{hearings_by}, Captures.{Comparison}, Collected.{Compares}}
 use Rattle.mdns_page.specs.declared.{axis.Axis.{Axis}, kept_records.TimelinePart.{TimelinePart}}
 use Rattle.mdns_page.specs.{declared.kept_records.TimelinePart.TheVariants.{Addresses, Instances, Names}, TimelineRows.{IsCounted}}
 use Rattle.mdns_page.specs.{OtherRows.{is_large}, Html.{isolated}, Document.{page}, Servers.{servers_of}, KeptRecords.{AreRows, kept_of}}
-use Rattle.mdns_page.specs.{Page.{SurveysPage, WritesPage, live_at_end}, Timeline.{Row, is_open}}
+use Rattle.mdns_page.specs.{Lead.{known_of}, Page.{SurveysPage, WritesPage, live_at_end}, Timeline.{Row, is_open}}
 use Rattle.mdns_page.proofs.{ComparedLemmas.{OneListOfRows, one-comparison}, CountedLemmas.{record_in, shown_seconds}}
 use Rattle.mdns_page.proofs.OneCaptureLemmas.{IsAlike, are-alike, endings-alike, facts-alike, lost-alike, section-alike, one-each}
 
@@ -130,9 +130,9 @@ module _ (each : List (List Hearing)) (rows : List (Latest × List Life)) where
       (All-tail (IsServed rows) x xs served) (All-tail (IsServed rows) y ys other) in
       λ i. row i ∷ rest i
 
-one-rows : (part : TimelinePart) (large : Bool) (each : List (List Hearing)) (kept : List (Latest × List Life)) (xs ys : List Row)
-    → AreRows part large each kept xs → AreRows part large each kept ys → xs ≡ ys
-one-rows part large each kept xs ys are too =
+one-rows : (part : TimelinePart) (window : Window) (large : Bool) (each : List (List Hearing)) (kept : List (Latest × List Life)) (xs ys : List Row)
+    → AreRows part window large each kept xs → AreRows part window large each kept ys → xs ≡ ys
+one-rows part window large each kept xs ys are too =
     one-drawn each kept xs ys (are.are ∙ sym too.are) are.counted too.counted are.served too.served
 
 -- ---- the page by the hearings
@@ -146,10 +146,10 @@ module _ (one_lives : OneLives) where
   one-written about names groups readings more comparison each heard axis text other alike first second =
       let rows : second.rows ≡ first.rows = one_lives heard heard second.rows first.rows (same_itself heard) second.lives first.lives in
       let own = λ (part : TimelinePart) (large was : Bool) (xs ys : List Row) (same : was ≡ large)
-      (are : AreRows part large each (kept_of about first.rows) xs) (too : AreRows part was each (kept_of about second.rows) ys).
-      one-rows part large each (kept_of about first.rows) xs ys are
-      (subst (λ (l : Bool). AreRows part l each (kept_of about first.rows) ys) same
-      (subst (λ (rs : List (Latest × List Life)). AreRows part was each (kept_of about rs) ys) rows too)) in
+      (are : AreRows part axis.window large each (kept_of about first.rows) xs) (too : AreRows part axis.window was each (kept_of about second.rows) ys).
+      one-rows part axis.window large each (kept_of about first.rows) xs ys are
+      (subst (λ (l : Bool). AreRows part axis.window l each (kept_of about first.rows) ys) same
+      (subst (λ (rs : List (Latest × List Life)). AreRows part axis.window was each (kept_of about rs) ys) rows too)) in
       let instances : first.instances ≡ second.instances =
       own Instances false false first.instances second.instances refl first.are_instances second.are_instances in
       let large : is_large (length second.instances) ≡ is_large (length first.instances) =
@@ -168,6 +168,7 @@ module _ (one_lives : OneLives) where
         rows = instances i;
         addresses = addresses i;
         names = others i;
+        known = map known_of (kept_of about (sym rows i));
         live = live_at_end about axis (is_open (length (instances i) + length (addresses i) + length (others i))) (sym rows i);
         skipped = section-alike readings more alike i;
       })
@@ -177,10 +178,10 @@ module _ (one_lives : OneLives) where
 
 module _ (one : OneReading) (telling : OneTelling) (payload : OnePayload) (never : NeverBoth) (by_cause : SkipsByCause)
     (one_rows : OneListOfRows) (one_lives : OneLives) where
-  pub one_page : (names : List (List ℕ)) (groups : Grouped) (about : List Subject) (as_of : AsOf) (captures : List (List ℕ))
-      (summaries more : List Summary) (text other : List ℕ) → SurveysPage names groups about as_of captures summaries text
-      → SurveysPage names groups about as_of captures more other → (summaries ≡ more) × (text ≡ other)
-  one_page names groups about as_of captures summaries more text other first second =
+  pub one_page : (names : List (List ℕ)) (groups : Grouped) (about : List Subject) (window : Window) (as_of : AsOf) (captures : List (List ℕ))
+      (summaries more : List Summary) (text other : List ℕ) → SurveysPage names groups about window as_of captures summaries text
+      → SurveysPage names groups about window as_of captures more other → (summaries ≡ more) × (text ≡ other)
+  one_page names groups about window as_of captures summaries more text other first second =
       let lefts = map (λ x. Some x) captures in
       let read = known-read lefts captures first.packets first.outcomes first.readings refl first.read in
       let too = known-read lefts captures second.packets second.outcomes second.readings refl second.read in
@@ -191,15 +192,21 @@ module _ (one : OneReading) (telling : OneTelling) (payload : OnePayload) (never
       let same : summaries_of first.readings ≡ summaries_of second.readings = one_way.2 in
       let alike = are-alike payload never by_cause lefts first.packets first.outcomes second.outcomes first.readings second.readings first.read
       (subst (λ (ps : List (List PacketAt)). AllLeft lefts ps second.outcomes second.readings) packets second.read) same in
+      let asked = second.is_axis.asked ∙ sym first.is_axis.asked in
+      let moments = ap all_moments packets in
+      let now = moment-same second.axis.now first.axis.now
+      (second.is_axis.now ∙ ap (captures_end as_of) moments ∙ sym first.is_axis.now) in
       let start = moment-same second.axis.start first.axis.start
-      (second.is_axis.begins ∙ ap (λ (ps : List (List PacketAt)). captures_begin as_of (all_moments ps)) packets ∙ sym first.is_axis.begins) in
+      (second.is_axis.begins
+      ∙ (λ i. bound_or (earliest_nanos (bound_or (now i).nanos window.until) (moments i)) window.since)
+      ∙ sym first.is_axis.begins) in
       let end = moment-same second.axis.end first.axis.end
-      (second.is_axis.ends ∙ ap (λ (ps : List (List PacketAt)). captures_end as_of (all_moments ps)) packets ∙ sym first.is_axis.ends) in
-      let lasts : dates_of second.axis.start.nanos (max second.axis.end.nanos (latest_nanos (all_moments second.packets)))
-      ≡ dates_of first.axis.start.nanos (max first.axis.end.nanos (latest_nanos (all_moments first.packets))) =
-      λ i. dates_of (start i).nanos (max (end i).nanos (latest_nanos (all_moments (packets i)))) in
-      let dates = second.is_axis.dates ∙ lasts ∙ sym first.is_axis.dates in
-      let axis : second.axis ≡ first.axis = λ i. record { start = start i; end = end i; dates = dates i } in
+      (second.is_axis.ends ∙ (λ i. max (start i).nanos (bound_or (now i).nanos window.until)) ∙ sym first.is_axis.ends) in
+      let dates = second.is_axis.dates
+      ∙ (λ i. dates_of (earliest_nanos (start i).nanos (moments i)) (max (end i).nanos (max (now i).nanos (latest_nanos (moments i)))))
+      ∙ sym first.is_axis.dates in
+      let axis : second.axis ≡ first.axis =
+      λ i. record { start = start i; end = end i; now = now i; window = asked i; dates = dates i } in
       let each = λ (os : List (List Outcome)). hearings_by groups (counted_each (filter_of as_of) os) in
       let comparison : second.comparison ≡ first.comparison =
       one-comparison payload one_rows groups first.packets first.outcomes second.comparison first.comparison

@@ -6,7 +6,7 @@ use Rattle.mdns_capture.specs.Savefile.{PacketAt}
 use Rattle.mdns_message.specs.{declared.hearing.Hearing.{Hearing}, Resource.{key_cmp}}
 use Rattle.mdns_join.specs.declared.latest.Latest.{Latest}
 use Rattle.mdns_cache.specs.Live.{AreLiveRecords, key_of_last}
-use Rattle.mdns_lives.specs.{Chronicle.{Chronicles}, Since.{AreLiveSince, all_since_rows, live_row}, declared.life.Life.{Life}}
+use Rattle.mdns_lives.specs.{Chronicle.{Chronicles}, Since.{AreLiveSince, all_since_rows, live_row}, declared.life.Life.{Life}, declared.window.Window.{Window}}
 use Rattle.mdns_browse.specs.{declared.about.Subject.{Subject}, Services.{AreAscending, AreEach, GivenRow}}
 use Rattle.mdns_survey.specs.{declared.reading.Reading.{Reading}, declared.request.AsOf.{AsOf}, Outcomes.{Outcome}}
 use Rattle.mdns_survey.specs.{Filter.{counted, counted_each, filter_of}, Question.{HearsReaders, IsAnswer}}
@@ -30,37 +30,37 @@ mapped-all f P (x ∷ xs) each y among = elim (Contains-cases (f x) (map f xs) y
 -- ---- what was live
 
 module _ (heard : List Hearing) (axis : Axis) (rows : List (Latest × List Life))
-    (are : AreLiveSince heard axis.end.nanos (all_since_rows axis.end.nanos rows)) where
+    (are : AreLiveSince heard axis.now.nanos (all_since_rows axis.now.nanos rows)) where
   -- the last hearings of live records are in key order
   pub live-ascending : AreAscending (map (λ (row : GivenRow). row.last) (live_given axis rows))
   live-ascending =
-      let since = all_since_rows axis.end.nanos rows in
+      let since = all_since_rows axis.now.nanos rows in
       subst (IsStrictlySortedBy key_cmp)
       (map-map (λ (row : Latest × ℕ). key_of_last row.0) live_row since ∙ sym (map-map key_of_last (λ row. (given_of_since row).last) since)
       ∙ ap (map key_of_last) (sym (map-map (λ (row : GivenRow). row.last) given_of_since since))) are.records.ascending
 
-  pub live-since : AreLiveGiven heard axis.end.nanos (live_given axis rows)
+  pub live-since : AreLiveGiven heard axis.now.nanos (live_given axis rows)
   live-since =
-      let since = all_since_rows axis.end.nanos rows in
+      let since = all_since_rows axis.now.nanos rows in
       record {
-        records = subst (AreLiveRecords heard axis.end.nanos) (sym (map-map record_given given_of_since since)) are.records;
-        since = mapped-all given_of_since (λ given. IsSinceKnown heard axis.end.nanos given.last given.since) since
+        records = subst (AreLiveRecords heard axis.now.nanos) (sym (map-map record_given given_of_since since)) are.records;
+        since = mapped-all given_of_since (λ given. IsSinceKnown heard axis.now.nanos given.last given.since) since
             (λ row among. (row.1, refl, are.since row among));
       }
 
 -- ---- the page on captures
 
 module _ {Heard : List (List PacketAt) → List (List Outcome) → Type 0} (names : List (List ℕ)) (groups : Grouped)
-    (about : List Subject) (as_of : AsOf) (lefts : List (Option (List ℕ))) (readings : List Reading) (lives : ListenerLives)
+    (about : List Subject) (window : Window) (as_of : AsOf) (lefts : List (Option (List ℕ))) (readings : List Reading) (lives : ListenerLives)
     (comparison : Comparison) (axis : Axis) (text : List ℕ) (hears : HearsReaders Heard lefts readings)
     (holds : HoldsLives groups (counted_each (filter_of as_of) hears.outcomes) lives)
-    (compares : Compares groups hears.packets hears.outcomes comparison) (is_axis : IsAxis as_of (all_moments hears.packets) axis)
+    (compares : Compares groups hears.packets hears.outcomes comparison) (is_axis : IsAxis as_of window (all_moments hears.packets) axis)
     (none_later : (heard : List Hearing) → Chronicles (all_of lives) heard
-    → (hearing : Hearing) → Contains heard hearing → hearing.moment.nanos ≤ axis.end.nanos)
+    → (hearing : Hearing) → Contains heard hearing → hearing.moment.nanos ≤ axis.now.nanos)
     (written : (each : List (List Hearing)) (heard : List Hearing) → AreEach Chronicles lives.captures.items each
-    → Chronicles (all_of lives) heard → ((hearing : Hearing) → Contains heard hearing → hearing.moment.nanos ≤ axis.end.nanos)
+    → Chronicles (all_of lives) heard → ((hearing : Hearing) → Contains heard hearing → hearing.moment.nanos ≤ axis.now.nanos)
     → WritesPage about names groups readings comparison each heard axis text) where
-  pub surveys-page : IsAnswer (asked_page names groups about as_of) lefts (summaries_of readings) text
+  pub surveys-page : IsAnswer (asked_page names groups about window as_of) lefts (summaries_of readings) text
   surveys-page captures known =
       let heard = counted (filter_of as_of) hears.outcomes in
       let all = subst (Chronicles (all_of lives)) (sym (counted-in (filter_of as_of) hears.outcomes)) holds.all in

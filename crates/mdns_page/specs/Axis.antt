@@ -1,9 +1,10 @@
 -- The axis of the pictures: moments become places, and are written with as much of their dates as the page needs.
-use Rattle.std.specs.Prelude.{◌≡◌, ℕ, ◌+◌, ◌-◌, ◌/◌, ◌==◌, nat_le, min, max, Bool, if◌then◌else◌}
-use Rattle.std.specs.Prelude.{Option, None, Some, List, [], ◌∷◌, ◌++◌}
+use Rattle.std.specs.Prelude.{◌≡◌, ℕ, ◌+◌, ◌-◌, ◌/◌, ◌==◌, ◌&&◌, nat_le, min, max, Bool, if◌then◌else◌}
+use Rattle.std.specs.Prelude.{Option, None, Some, option_map, unwrap_or, List, [], ◌∷◌, ◌++◌}
 use Rattle.mdns_capture.specs.declared.moment.Moment.{Moment}
+use Rattle.mdns_lives.specs.declared.window.Window.{Window}
 use Rattle.mdns_survey.specs.declared.{reading.Span.{Span}, request.AsOf.{AsOf}}
-use Rattle.mdns_survey.specs.LivesAnswer.{captures_begin, captures_end, latest_nanos}
+use Rattle.mdns_survey.specs.LivesAnswer.{captures_end, earliest_nanos, latest_nanos}
 use Rattle.people_text.specs.MomentText.{clock_text, date_text, month_day_text, seconds_of, year_at}
 use Rattle.mdns_page.specs.declared.axis.{Axis.{Axis}, Dates.{Dates}, Dates.TheVariants.{Omitted, WithoutYear, Whole}}
 
@@ -19,10 +20,10 @@ place_end axis from until = max (place axis until) (place axis from + 3)
 abbrev pub is_same_date : ℕ → ℕ → Bool
 is_same_date a b = seconds_of a / 86400 == seconds_of b / 86400
 
--- what is drawn for the time that a capture recorded; nothing where it has no packets, or only packets after the end of the axis
+-- what is drawn for the time that a capture recorded; nothing where it has no packets, or none from the start of the axis to its end
 abbrev pub drawn_if : Axis → (Span → List ℕ) → Option Span → List ℕ
 drawn_if axis draw None = []
-drawn_if axis draw (Some span) = if nat_le span.first.nanos axis.end.nanos then draw span else []
+drawn_if axis draw (Some span) = if nat_le span.first.nanos axis.end.nanos && nat_le axis.start.nanos span.last.nanos then draw span else []
 
 -- ---- moments in words
 
@@ -30,12 +31,20 @@ drawn_if axis draw (Some span) = if nat_le span.first.nanos axis.end.nanos then 
 abbrev pub dates_of : (first last : ℕ) → Dates
 dates_of first last = if is_same_date first last then Omitted else (if year_at first == year_at last then WithoutYear else Whole)
 
--- The axis of captures with packets at these moments. The first moment of the page is its start, and the last is its end or
--- the latest packet, where captures recorded past the moment that is asked for: a page tells when each recorded.
-pub record IsAxis (as_of : AsOf) (moments : List Moment) (axis : Axis) : Type 0 where
-  pub begins : axis.start.nanos ≡ captures_begin as_of moments
-  pub ends : axis.end.nanos ≡ captures_end as_of moments
-  pub dates : axis.dates ≡ dates_of axis.start.nanos (max axis.end.nanos (latest_nanos moments))
+-- the moment of a bound of a window, or this one where there is no such bound
+abbrev pub bound_or : ℕ → Option Moment → ℕ
+bound_or nanos bound = unwrap_or (option_map (λ (moment : Moment). moment.nanos) bound) nanos
+
+-- The axis of captures with packets at these moments is the window; without its begin from the earliest packet, or the end of the axis
+-- where that is earlier, and without its end to that of the captures, or the start of the axis where that is later. The moments that a
+-- page writes go from the first of these to the last, or to the latest packet, where captures recorded past the moment that is asked for.
+pub record IsAxis (as_of : AsOf) (window : Window) (moments : List Moment) (axis : Axis) : Type 0 where
+  pub asked : axis.window ≡ window
+  pub now : axis.now.nanos ≡ captures_end as_of moments
+  pub begins : axis.start.nanos ≡ bound_or (earliest_nanos (bound_or axis.now.nanos window.until) moments) window.since
+  pub ends : axis.end.nanos ≡ max axis.start.nanos (bound_or axis.now.nanos window.until)
+  pub dates : axis.dates ≡ dates_of (earliest_nanos axis.start.nanos moments)
+      (max axis.end.nanos (max axis.now.nanos (latest_nanos moments)))
 
 -- a date, with its year where the page needs it: `11-22`, `2026-11-22`
 abbrev pub day_text : Dates → ℕ → List ℕ

@@ -1,19 +1,24 @@
 -- The whole page.
-use Rattle.std.specs.{Prelude.{ℕ, nat_lt, if◌then◌else◌, List, [], ◌++◌, codes, length, map}, Fmt.{decimal}, List.{flat_map}}
+use Rattle.std.specs.{Prelude.{ℕ, ◌==◌, nat_lt, Bool, if◌then◌else◌, List, [], ◌++◌, codes, length, map}, Fmt.{decimal}, List.{flat_map}}
 use Rattle.people_text.specs.MomentText.{date_text}
+use Rattle.mdns_lives.specs.declared.life.Life.{Life}
 use Rattle.mdns_browse.specs.declared.about.Subject.{Subject}
 use Rattle.mdns_page.specs.{Axis.{is_same_date}, Captures.{Comparison, Facts, captures_text, comparison_lent, facts_lent}}
-use Rattle.mdns_page.specs.Lead.{Ended, about_line, ended_lent, ending_warning, live_line, lost_warning, pair_warning}
+use Rattle.mdns_page.specs.Lead.{Ended, about_line, ended_lent, ending_warning, known_lent, live_line, lost_warning, pair_warning, window_line}
 use Rattle.mdns_page.specs.{OtherRows.{is_large}, Lanes.{height}, Ticks.{symbols_text}, Timeline.{Row, counted_lent, timeline}}
 use Rattle.mdns_page.specs.declared.{axis.Axis.{Axis}, document.PageParts.{PageParts}, style.TheConstants.{STYLE}}
 
 -- ---- the head
 
 -- the title, with the day or the two days of the axis: `2026-11-22`, `2026-11-22 to 2026-11-24`
-unfoldable pub title : Axis → List ℕ
-title axis =
+unfoldable pub dated_title : Axis → List ℕ
+dated_title axis =
     codes "Multicast DNS, " ++ date_text axis.start.nanos
     ++ (if is_same_date axis.start.nanos axis.end.nanos then [] else codes " to " ++ date_text axis.end.nanos)
+
+-- the same; without a day where there is no moment
+abbrev pub title : Axis → List ℕ
+title axis = if axis.end.nanos == 0 then codes "Multicast DNS" else dated_title axis
 
 -- the head of a document in UTF-8 that runs no script and loads nothing, with the height of the pictures of rows; then what the
 -- pictures share, and the heading
@@ -28,8 +33,8 @@ head axis lanes captures =
 -- ---- the whole
 
 -- what a page shows: captures, their files, how they compare, how many of their packets lost what they said, the rows of all instances
--- heard that are about the subjects, those of addresses and of names that aren't one label and the type, what was live at the end, and
--- the packets that told nothing
+-- heard that are about the subjects, those of addresses and of names that aren't one label and the type, all records that are kept,
+-- what was live at the end, and the packets that told nothing
 pub record Shown : Type 0 where
   pub axis : Axis
   pub about : List Subject
@@ -40,6 +45,7 @@ pub record Shown : Type 0 where
   pub rows : List Row
   pub addresses : List Row
   pub names : List Row
+  pub known : List (Bool × List Life)
   pub live : List ℕ
   pub skipped : List ℕ
 
@@ -54,6 +60,7 @@ parts_lent parts = record {
   rows = map counted_lent parts.rows.now;
   addresses = map counted_lent parts.addresses.now;
   names = map counted_lent parts.names.now;
+  known = map known_lent parts.kept.now;
   live = parts.live.now;
   skipped = parts.skipped.now;
 }
@@ -61,7 +68,7 @@ parts_lent parts = record {
 -- how many instances were live at the end of the captures, and what the captures lack
 abbrev pub lead : (List ℕ → List ℕ) → Shown → List ℕ
 lead say shown =
-    live_line shown.axis shown.rows ++ about_line say shown.about ++ flat_map (ending_warning say) shown.files
+    live_line shown.axis shown.known ++ window_line shown.axis.window ++ about_line say shown.about ++ flat_map (ending_warning say) shown.files
     ++ flat_map (pair_warning say shown.captures) shown.comparison.pairs ++ lost_warning shown.lost
 
 -- the page, with links to its sections; pictures have a lane for each capture, or one for all where there are many, and none on a

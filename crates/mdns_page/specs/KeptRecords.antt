@@ -1,8 +1,8 @@
 -- The records of a page.
-use Rattle.std.specs.{Prelude.{◌≡◌, Bool, ◌||◌, if◌then◌else◌, is_some, List, [], ◌∷◌, map}, List.{All, filter}}
+use Rattle.std.specs.{Prelude.{◌≡◌, Bool, ◌&&◌, ◌||◌, if◌then◌else◌, is_some, List, [], ◌∷◌, map}, List.{All, filter, list_any}}
 use Rattle.mdns_message.specs.{Parts.{address_of, service_of}, declared.hearing.Hearing.{Hearing}}
 use Rattle.mdns_join.specs.declared.latest.Latest.{Latest}
-use Rattle.mdns_lives.specs.declared.life.Life.{Life}
+use Rattle.mdns_lives.specs.{Window.{meets}, declared.life.Life.{Life}, declared.window.Window.{Window}}
 use Rattle.mdns_browse.specs.{declared.about.Subject.{Subject}, About.{keeps_heard, keeps_record}}
 use Rattle.mdns_browse.specs.Services.{body_of, instance_given, name_if, other_given}
 use Rattle.mdns_page.specs.declared.kept_records.{TimelinePart.{TimelinePart}, TimelinePart.TheVariants.{Addresses, Instances, Names}}
@@ -35,10 +35,14 @@ is_of Instances last = is_some (instance_given last)
 is_of Addresses last = is_some (address_of (body_of last))
 is_of Names last = is_some (other_given last)
 
+-- and was live at a moment of the window
+abbrev pub is_shown : TimelinePart → Window → Latest × List Life → Bool
+is_shown part window row = is_of part row.0 && list_any (meets window) row.1
+
 -- The rows are those of this part of the timeline, each with the lives of its name's servers, and with how often each capture heard
 -- its record, by the hearings of each; a large page has only those of instances.
-pub record AreRows (part : TimelinePart) (large : Bool) (each : List (List Hearing)) (kept : List (Latest × List Life)) (rows : List Row)
+pub record AreRows (part : TimelinePart) (window : Window) (large : Bool) (each : List (List Hearing)) (kept : List (Latest × List Life)) (rows : List Row)
     : Type 0 where
-  pub are : map (λ (row : Row). (row.last, row.lives)) rows ≡ filter (λ row. is_of part row.0) (if large then [] else kept)
+  pub are : map (λ (row : Row). (row.last, row.lives)) rows ≡ filter (is_shown part window) (if large then [] else kept)
   pub counted : All (IsCounted each) rows
   pub served : All (λ (row : Row). row.servers ≡ servers_of kept (body_of row.last)) rows

@@ -1,7 +1,7 @@
 -- The lanes below the bars of a row: in which seconds each capture heard its record.
 use Rattle.std.specs.Prelude.{ℕ, ◌+◌, ◌*◌, ◌==◌, ◌||◌, nat_lt, Bool, if◌then◌else◌, Option, None, Some, List, [], ◌∷◌, ◌++◌, codes}
 use Rattle.std.specs.Fmt.{decimal}
-use Rattle.mdns_lives.specs.declared.{life.RecordHearing.{RecordHearing}, seconds_heard.SecondHeard.{SecondHeard}}
+use Rattle.mdns_lives.specs.{Window.{in_window}, declared.{life.RecordHearing.{RecordHearing}, seconds_heard.SecondHeard.{SecondHeard}}}
 use Rattle.mdns_survey.specs.declared.reading.Span.{Span}
 use Rattle.mdns_page.specs.{Axis.{drawn_if, place, place_end}, Captures.{Facts, each_from}, Picture.{path}, declared.axis.Axis.{Axis}}
 use Rattle.mdns_page.specs.declared.picture.{Mark.{Mark}, Stroke.{Stroke}, Stroke.TheVariants.{Tick, GoodbyeTick}}
@@ -24,14 +24,15 @@ is_goodbye second = (second.last.ttl == 0) || (second.first.ttl == 0)
 abbrev pub goodbye_of : SecondHeard → RecordHearing
 goodbye_of second = if second.last.ttl == 0 then second.last else second.first
 
--- the place of a hearing
-abbrev pub point : Axis → RecordHearing → Mark
-point axis heard = record { begin = place axis heard.moment.nanos; end = place axis heard.moment.nanos }
+-- the place of a hearing, if it was in the window
+abbrev pub point : Axis → RecordHearing → Option Mark
+point axis heard =
+    let at = place axis heard.moment.nanos in if in_window axis.window heard.moment then Some (record { begin = at; end = at }) else None
 
 -- where the second has a stroke of this kind, if it has one: a tick at its first hearing, or a thick one at its goodbye
 abbrev pub second_mark : Axis → Stroke → SecondHeard → Option Mark
-second_mark axis (Tick top) second = if is_goodbye second then None else Some (point axis second.first)
-second_mark axis (GoodbyeTick top) second = if is_goodbye second then Some (point axis (goodbye_of second)) else None
+second_mark axis (Tick top) second = if is_goodbye second then None else point axis second.first
+second_mark axis (GoodbyeTick top) second = if is_goodbye second then point axis (goodbye_of second) else None
 second_mark axis _ second = None
 
 -- the ticks of a capture in its lane

@@ -1,13 +1,16 @@
 -- What a page begins with.
-use Rattle.std.specs.Prelude.{ℕ, ◌+◌, ◌==◌, ◌&&◌, Bool, true, false, if◌then◌else◌, List, [], ◌++◌, ◌∷◌, codes, string_bytes}
-use Rattle.std.specs.List.{join_by}
-use Rattle.mdns_capture.specs.{Text.{ending_text}, declared.savefile.Ending.{Ending}}
+use Rattle.std.specs.Prelude.{ℕ, ◌+◌, ◌==◌, ◌&&◌, Bool, true, false, if◌then◌else◌, Option, None, Some, is_none, List, [], ◌++◌, ◌∷◌, codes}
+use Rattle.std.specs.{Prelude.{length, string_bytes}, List.{count_by, join_by}}
+use Rattle.mdns_capture.specs.{Text.{ending_text}, declared.moment.Moment.{Moment}, declared.savefile.Ending.{Ending}}
+use Rattle.mdns_join.specs.declared.latest.Latest.{Latest}
 use Rattle.mdns_lives.specs.declared.life.{Life.{Life}, EndReason.{EndReason}, EndReason.TheVariants.{Expired, Goodbye, Flushed}}
+use Rattle.mdns_lives.specs.{LentLives.{row_lent}, declared.lives.RecordLives.{RecordLives}, declared.window.Window.{Window}}
 use Rattle.mdns_browse.specs.declared.about.Subject.{Subject}
 use Rattle.mdns_survey.specs.ProgramLines.{is_whole}
 use Rattle.mdns_listeners.specs.{declared.pairs.PairRow.{PairRow}, Warnings.{warning_words, warns}}
 use Rattle.people_text.specs.{MomentText.{millis_text}, Shown.{shown}}
-use Rattle.mdns_page.specs.{Captures.{Facts, name_at}, Counts.{commas, count_text}, Picture.{goes_on, is_for}, Timeline.{Row, count_last}}
+use Rattle.mdns_page.specs.{Captures.{Facts, name_at}, Counts.{commas, count_text}, KeptRecords.{is_of}, Picture.{goes_on, is_for}}
+use Rattle.mdns_page.specs.{Timeline.{is_last}, declared.kept_records.TimelinePart.TheVariants.{Instances}}
 use Rattle.mdns_page.specs.declared.{axis.Axis.{Axis}, lead.FileEnding.{FileEnding}}
 
 -- ---- how many instances ended
@@ -15,6 +18,17 @@ use Rattle.mdns_page.specs.declared.{axis.Axis.{Axis}, lead.FileEnding.{FileEndi
 -- the life ended for this reason before the end of the captures
 abbrev pub is_ended : Axis → EndReason → Life → Bool
 is_ended axis reason life = if goes_on axis life then false else is_for reason life.reason
+
+-- a record that the page keeps: whether it gives an instance, and its lives, drawn or not
+abbrev pub known_of : Latest × List Life → Bool × List Life
+known_of row = (is_of Instances row.0, row.1)
+
+abbrev pub known_lent : RecordLives → Bool × List Life
+known_lent row = known_of (row_lent row)
+
+-- how many of them give an instance, and have a last life that is such
+abbrev pub count_known : (Life → Bool) → List (Bool × List Life) → ℕ
+count_known is known = count_by (λ row. is_last is row.1 && row.0) known
 
 -- ---- the first line
 
@@ -36,16 +50,37 @@ unfoldable pub said_text : ℕ → List ℕ
 said_text count = if count == 0 then [] else codes " (" ++ commas count ++ codes " said goodbye)"
 
 -- how many instances were live at the end of the captures, how many of them have said goodbye, and how many had ended before
-unfoldable pub live_line : Axis → List Row → List ℕ
-live_line axis rows =
+unfoldable pub counts_line : Axis → List (Bool × List Life) → List ℕ
+counts_line axis known =
     codes "<p class=\"lead\">"
-    ++ count_text (count_last (goes_on axis) rows) (codes "service instance was") (codes "service instances were")
-    ++ codes " live at <time>" ++ millis_text axis.end.nanos ++ codes "</time>"
-    ++ said_text (count_last (λ life. goes_on axis life && is_for Goodbye life.reason) rows) ++ codes "."
-    ++ others_text (count_last (is_ended axis Goodbye) rows) (count_last (is_ended axis Flushed) rows)
-    (count_last (is_ended axis Expired) rows) ++ codes "</p>\n"
+    ++ count_text (count_known (goes_on axis) known) (codes "service instance was") (codes "service instances were")
+    ++ codes " live at <time>" ++ millis_text axis.now.nanos ++ codes "</time>"
+    ++ said_text (count_known (λ life. goes_on axis life && is_for Goodbye life.reason) known) ++ codes "."
+    ++ others_text (count_known (is_ended axis Goodbye) known) (count_known (is_ended axis Flushed) known)
+    (count_known (is_ended axis Expired) known) ++ codes "</p>\n"
 
--- ---- what the page is about
+-- the same; that nothing was heard, where there is no moment and no record
+abbrev pub live_line : Axis → List (Bool × List Life) → List ℕ
+live_line axis known =
+    if (axis.now.nanos == 0) && (length known == 0)
+    then codes "<p class=\"lead\">Nothing was heard: mdnswhy files FILE... says why.</p>\n" else counts_line axis known
+
+-- ---- what the page shows
+
+-- a bound of the window; nothing where there is none
+unfoldable pub bound_text : (word : List ℕ) → Option Moment → List ℕ
+bound_text word None = []
+bound_text word (Some moment) = word ++ codes "<time>" ++ millis_text moment.nanos ++ codes "</time>"
+
+-- that only lives in the window are drawn
+unfoldable pub bounds_line : Window → List ℕ
+bounds_line window =
+    codes "<p class=\"note\">Only lives" ++ bound_text (codes " since ") window.since ++ bound_text (codes " until ") window.until
+    ++ codes " are drawn; counts and words are of all that was heard.</p>\n"
+
+-- the same; nothing where the window has no bounds
+abbrev pub window_line : Window → List ℕ
+window_line window = if is_none window.since && is_none window.until then [] else bounds_line window
 
 -- that only what is about some subjects is shown, each as it was given; nothing where there are none, since all is shown then
 abbrev pub about_line : (List ℕ → List ℕ) → List Subject → List ℕ

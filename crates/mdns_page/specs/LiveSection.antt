@@ -14,7 +14,7 @@ use Rattle.mdns_page.specs.{declared.axis.Axis.{Axis}, Axis.{short_text}, Group.
 abbrev pub given_words : Axis → GivenRow → List ℕ
 given_words axis given =
     codes "<small>" ++ unwrap_or (option_map (λ from. codes "since " ++ short_text axis.dates from ++ codes ", ") given.since) []
-    ++ (if given.last.ttl == 0 then codes "said goodbye" else duration_text (given.end - axis.end.nanos) ++ codes " left")
+    ++ (if given.last.ttl == 0 then codes "said goodbye" else duration_text (given.end - axis.now.nanos) ++ codes " left")
     ++ codes "</small>"
 
 -- an address of a server
@@ -58,8 +58,12 @@ live_group say axis opened lasts given =
 
 -- ---- the section
 
--- what was live at the end of the axis, in key order; `say` is how text of the network is written
+-- the end of the captures, if that is a moment
+abbrev pub end_text : Axis → List ℕ
+end_text axis = if axis.now.nanos == 0 then [] else codes " at <time>" ++ millis_text axis.now.nanos ++ codes "</time>"
+
+-- what was live at the end of the captures, in key order; `say` is how text of the network is written
 abbrev pub live_text : (List ℕ → List ℕ) → Axis → Bool → List Latest → List GivenRow → List ℕ
 live_text say axis opened lasts given =
-    codes "<h2 id=\"live\">What was live at <time>" ++ millis_text axis.end.nanos ++ codes "</time></h2>\n<div class=\"g l\">\n"
+    codes "<h2 id=\"live\">What was live" ++ end_text axis ++ codes "</h2>\n<div class=\"g l\">\n"
     ++ flat_map (live_group say axis opened lasts) (grouped type_of given) ++ codes "</div>\n"

@@ -5,7 +5,7 @@ use Rattle.mdns_capture.specs.Savefile.{PacketAt}
 use Rattle.mdns_message.specs.declared.hearing.Hearing.{Hearing}
 use Rattle.mdns_join.specs.declared.latest.Latest.{Latest}
 use Rattle.mdns_cache.specs.Live.{AreLiveRecords, key_of_last}
-use Rattle.mdns_lives.specs.{declared.life.Life.{Life}, Chronicle.{AreAllLives}, Since.{IsLiveSince, all_since_rows}}
+use Rattle.mdns_lives.specs.{declared.life.Life.{Life}, declared.window.Window.{Window}, Chronicle.{AreAllLives}, Since.{IsLiveSince, all_since_rows}}
 use Rattle.mdns_browse.specs.{declared.about.Subject.{Subject}, Services.{GivenRow}}
 use Rattle.mdns_survey.specs.declared.{reading.Reading.{Reading}, request.AsOf.{AsOf}, summary.Summary.{Summary}}
 use Rattle.mdns_survey.specs.{Outcomes.{Outcome}, Filter.{counted, counted_each, filter_of}, Readings.{all_moments, lost_in, summaries_of}}
@@ -14,7 +14,7 @@ use Rattle.mdns_listeners.specs.Groups.{Grouped}
 use Rattle.mdns_page.specs.declared.{axis.Axis.{Axis}, kept_records.TimelinePart.TheVariants.{Addresses, Instances, Names}}
 use Rattle.mdns_page.specs.{Axis.{IsAxis}, ByListener.{facts_by, hearings_by}, Captures.{Comparison}, Collected.{Compares}}
 use Rattle.mdns_page.specs.{KeptRecords.{AreRows, is_drawn, kept_of, looked_up}, LiveSection.{live_text}, SkippedSection.{skipped_text}}
-use Rattle.mdns_page.specs.{Document.{page}, Html.{isolated}, Lead.{Ended}, OtherRows.{is_large}, Timeline.{Row, is_open}}
+use Rattle.mdns_page.specs.{Document.{page}, Html.{isolated}, Lead.{Ended, known_of}, OtherRows.{is_large}, Timeline.{Row, is_open}}
 
 -- ---- what was live at the end
 
@@ -37,7 +37,7 @@ pub record AreLiveGiven (heard : List Hearing) (now : ℕ) (rows : List GivenRow
 
 -- the records that are live at the end, each with its end and since when it has been live
 abbrev pub live_given : Axis → List (Latest × List Life) → List GivenRow
-live_given axis rows = map given_of_since (all_since_rows axis.end.nanos rows)
+live_given axis rows = map given_of_since (all_since_rows axis.now.nanos rows)
 
 -- what was live at the end: the instances of these that are about the subjects by all last hearings, with their servers and texts
 -- among all records that are live then
@@ -53,19 +53,19 @@ endings_of (name ∷ names) (reading ∷ readings) = record { name = name; endin
 endings_of _ _ = []
 
 -- The text is the page on files with these names, listeners and readings, which compare so, by the hearings of each listener, none of
--- which is later than the end of the axis: but for the seconds in which each heard a record, all that it shows is a function of the lives
+-- which is later than their end: but for the seconds in which each heard a record, all that it shows is a function of the lives
 -- of all records.
 pub record WritesPage (about : List Subject) (names : List (List ℕ)) (groups : Grouped) (readings : List Reading)
     (comparison : Comparison) (each : List (List Hearing)) (heard : List Hearing) (axis : Axis) (text : List ℕ) : Type 0 where
-  pub latest : (hearing : Hearing) → Contains heard hearing → hearing.moment.nanos ≤ axis.end.nanos
+  pub latest : (hearing : Hearing) → Contains heard hearing → hearing.moment.nanos ≤ axis.now.nanos
   pub rows : List (Latest × List Life)
   pub lives : AreAllLives heard rows
   pub instances : List Row
-  pub are_instances : AreRows Instances false each (kept_of about rows) instances
+  pub are_instances : AreRows Instances axis.window false each (kept_of about rows) instances
   pub addresses : List Row
-  pub are_addresses : AreRows Addresses (is_large (length instances)) each (kept_of about rows) addresses
+  pub are_addresses : AreRows Addresses axis.window (is_large (length instances)) each (kept_of about rows) addresses
   pub others : List Row
-  pub are_others : AreRows Names (is_large (length instances)) each (kept_of about rows) others
+  pub are_others : AreRows Names axis.window (is_large (length instances)) each (kept_of about rows) others
   pub written : text ≡ page isolated (record {
     axis = axis;
     about = about;
@@ -76,12 +76,13 @@ pub record WritesPage (about : List Subject) (names : List (List ℕ)) (groups :
     rows = instances;
     addresses = addresses;
     names = others;
+    known = map known_of (kept_of about rows);
     live = live_at_end about axis (is_open (length instances + length addresses + length others)) rows;
     skipped = skipped_text readings;
   })
 
--- The text is the page on all files, from their earliest packet to their end, by those hearings that count.
-pub record SurveysPage (names : List (List ℕ)) (groups : Grouped) (about : List Subject) (as_of : AsOf) (captures : List (List ℕ))
+-- The text is the page on all files, of the lives in the window, by those hearings that count.
+pub record SurveysPage (names : List (List ℕ)) (groups : Grouped) (about : List Subject) (window : Window) (as_of : AsOf) (captures : List (List ℕ))
     (summaries : List Summary) (text : List ℕ) : Type 0 where
   pub packets : List (List PacketAt)
   pub outcomes : List (List Outcome)
@@ -89,12 +90,12 @@ pub record SurveysPage (names : List (List ℕ)) (groups : Grouped) (about : Lis
   pub read : AllLeft (map Some captures) packets outcomes readings
   pub summed : summaries ≡ summaries_of readings
   pub axis : Axis
-  pub is_axis : IsAxis as_of (all_moments packets) axis
+  pub is_axis : IsAxis as_of window (all_moments packets) axis
   pub comparison : Comparison
   pub compares : Compares groups packets outcomes comparison
   pub writes : WritesPage about names groups readings comparison (hearings_by groups (counted_each (filter_of as_of) outcomes))
       (counted (filter_of as_of) outcomes) axis text
 
 -- a page on files with these names and listeners
-abbrev pub asked_page : List (List ℕ) → Grouped → List Subject → AsOf → Asked
-asked_page names groups about as_of = asked_at_once (SurveysPage names groups about as_of) as_of
+abbrev pub asked_page : List (List ℕ) → Grouped → List Subject → Window → AsOf → Asked
+asked_page names groups about window as_of = asked_at_once (SurveysPage names groups about window as_of) as_of

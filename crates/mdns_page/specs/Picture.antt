@@ -1,7 +1,8 @@
 -- The strokes of pictures.
-use Rattle.std.specs.Prelude.{◌≡◌, ◌≤◌, ℕ, ◌==◌, ◌&&◌, nat_lt, Bool, true, false, if◌then◌else◌, Option, None}
+use Rattle.std.specs.Prelude.{◌≡◌, ◌≤◌, ℕ, ◌==◌, ◌&&◌, nat_lt, min, Bool, true, false, if◌then◌else◌, Option, None}
 use Rattle.std.specs.{Prelude.{Some, List, [], ◌∷◌, ◌++◌, codes}, Fmt.{decimal}, List.{filter_map, flat_map}}
 use Rattle.mdns_lives.specs.declared.life.{Life.{Life}, EndReason.{EndReason}, EndReason.TheVariants.{Expired, Goodbye, Flushed}}
+use Rattle.mdns_lives.specs.Window.{meets}
 use Rattle.mdns_page.specs.{Axis.{place, place_end}, BarTitles.{life_title}, declared.axis.Axis.{Axis}, declared.picture.Mark.{Mark}}
 use Rattle.mdns_page.specs.declared.picture.{Stroke.{Stroke}, Stroke.TheVariants.{Bar, Server, Pin, Head, Tick, GoodbyeTick}}
 
@@ -9,7 +10,7 @@ use Rattle.mdns_page.specs.declared.picture.{Stroke.{Stroke}, Stroke.TheVariants
 
 -- the life goes on after the end of the captures
 abbrev pub goes_on : Axis → Life → Bool
-goes_on axis life = nat_lt axis.end.nanos life.until
+goes_on axis life = nat_lt axis.now.nanos life.until
 
 abbrev pub is_for : EndReason → EndReason → Bool
 is_for Expired Expired = true
@@ -17,23 +18,31 @@ is_for Goodbye Goodbye = true
 is_for Flushed Flushed = true
 is_for _ _ = false
 
+-- the life goes on after the end of the axis, or of the captures
+abbrev pub outlasts : Axis → Life → Bool
+outlasts axis life = nat_lt (min axis.end.nanos axis.now.nanos) life.until
+
 -- where the life ended, if it did so for this reason
 abbrev pub end_mark : Axis → EndReason → Life → Option Mark
 end_mark axis reason life =
     let end = place_end axis life.from.nanos life.until in
-    if goes_on axis life then None else (if is_for reason life.reason then Some (record { begin = end; end = end }) else None)
+    if outlasts axis life then None else (if is_for reason life.reason then Some (record { begin = end; end = end }) else None)
 
 -- from where to where the life's bar is
 abbrev pub bar_mark : Axis → Life → Mark
 bar_mark axis life = record { begin = place axis life.from.nanos; end = place_end axis life.from.nanos life.until }
 
--- where the life has a stroke of this kind, if it has one; ticks are those of hearings
+-- where a life that is drawn has a stroke of this kind, if it has one; ticks are those of hearings
+abbrev pub drawn_mark : Axis → Stroke → Life → Option Mark
+drawn_mark axis Bar life = Some (bar_mark axis life)
+drawn_mark axis Server life = Some (bar_mark axis life)
+drawn_mark axis (Pin reason) life = end_mark axis reason life
+drawn_mark axis (Head reason) life = end_mark axis reason life
+drawn_mark axis _ life = None
+
+-- the same of any life: only those that meet the window are drawn
 abbrev pub mark_of : Axis → Stroke → Life → Option Mark
-mark_of axis Bar life = Some (bar_mark axis life)
-mark_of axis Server life = Some (bar_mark axis life)
-mark_of axis (Pin reason) life = end_mark axis reason life
-mark_of axis (Head reason) life = end_mark axis reason life
-mark_of axis _ life = None
+mark_of axis stroke life = if meets axis.window life then drawn_mark axis stroke life else None
 
 abbrev pub is_same : Mark → Mark → Bool
 is_same a b = (a.begin == b.begin) && (a.end == b.end)
@@ -112,10 +121,14 @@ title_word Server = codes "server "
 title_word _ = []
 
 -- the bar of a life as a path of its own, with a title
-unfoldable pub titled_bar : Axis → Stroke → Life → List ℕ
-titled_bar axis stroke life =
+unfoldable pub drawn_bar : Axis → Stroke → Life → List ℕ
+drawn_bar axis stroke life =
     path_begin stroke ++ mark_text stroke (bar_mark axis life) ++ codes "\"><title>" ++ title_word stroke
     ++ life_title (goes_on axis life) life ++ codes "</title></path>"
+
+-- the same of any life; nothing of one that isn't drawn
+abbrev pub titled_bar : Axis → Stroke → Life → List ℕ
+titled_bar axis stroke life = if meets axis.window life then drawn_bar axis stroke life else []
 
 -- the bars of lives: each with a title, or all as one path
 unfoldable pub bars : Axis → Bool → Stroke → List Life → List ℕ

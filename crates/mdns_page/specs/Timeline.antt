@@ -52,9 +52,13 @@ owner_of row = row.last.resource.owner
 
 -- ---- rows
 
--- how many rows are of records whose last life is such; where that goes on after the end of the captures, the record is live then
+-- the last of some lives is such; where it goes on after the end of the captures, the record is live then
+abbrev pub is_last : (Life → Bool) → List Life → Bool
+is_last is lives = unwrap_or (option_map is (slice_get lives (length lives - 1))) false
+
+-- how many rows are of records whose last life is such
 abbrev pub count_last : (Life → Bool) → List Row → ℕ
-count_last is rows = count_by (λ row. unwrap_or (option_map is (slice_get row.lives (length row.lives - 1))) false) rows
+count_last is rows = count_by (λ row. is_last is row.lives) rows
 
 -- what data names: an instance or another whole name, or a host by its address; nothing for other data, whose record has no row
 abbrev pub content_name : (List ℕ → List ℕ) → TimelinePart → (owner : List ℕ) → Content (List ℕ) (List ℕ) → List ℕ

@@ -1,13 +1,14 @@
 //! The axis of the pictures: moments become places, and are written with as much of their dates as the page needs.
 
-ghost use Rattle.std.specs.Prelude.{◌≡◌, ◌<◌, ◌+◌, ◌-◌, ◌/◌, ◌++◌, max, nat_le, List, OnOk};
+ghost use Rattle.std.specs.Prelude.{◌≡◌, ◌<◌, ◌+◌, ◌-◌, ◌/◌, ◌++◌, ◌&&◌, max, nat_le, List, Option, OnOk};
 ghost use Rattle.std.specs.String.{string_bytes};
 ghost use Rattle.mdns_capture.specs.Savefile.{PacketAt};
 ghost use Rattle.mdns_survey.specs.Readings.{HaveSpans, all_moments};
-ghost use Rattle.mdns_page.specs.Axis.{IsAxis, dates_of, day_text, is_same_date, place, place_end, short_text};
+ghost use Rattle.mdns_page.specs.Axis.{IsAxis, bound_or, dates_of, day_text, is_same_date, place, place_end, short_text};
 
 use mdns_capture::Moment;
 use mdns_capture::moment::SECOND;
+use mdns_lives::Window;
 use mdns_message::Want;
 use mdns_survey::reading::{Reading, Span};
 use mdns_survey::readings::{captures_begin, captures_end};
@@ -39,28 +40,48 @@ pub(crate) enum Dates {
 pub(crate) struct Axis {
     pub(crate) start: Moment,
     pub(crate) end: Moment,
+    /// The end of the captures: what is live is live then.
+    pub(crate) now: Moment,
+    /// The moments whose lives and hearings are drawn.
+    pub(crate) window: Window,
     pub(crate) dates: Dates,
 }
 
-/// Returns the axis of captures with these readings. They may have recorded past the end, which the page tells, too.
-pub(crate) fn axis_of(as_of: AsOf, readings: &[Reading]) -> Axis
-    ensures { (packets : List (List PacketAt)) → HaveSpans packets readings.now → IsAxis as_of (all_moments packets) result }
+/// Returns the axis of captures with these readings: the window, and without its bounds the time of the captures. They may have
+/// recorded before it and past its end, which the page tells, too.
+pub(crate) fn axis_of(as_of: AsOf, window: Window, readings: &[Reading]) -> Axis
+    ensures { (packets : List (List PacketAt)) → HaveSpans packets readings.now → IsAxis as_of window (all_moments packets) result }
 {
-    let start = captures_begin(as_of, readings);
-    let end = captures_end(as_of, readings);
+    let now = captures_end(as_of, readings);
     let latest = captures_end(AsOf::Newest, readings);
+    let until = bound_or(now, window.until);
+    let start = bound_or(captures_begin(AsOf::At(until), readings), window.since);
+    let end = later(start, until);
+    let first = captures_begin(AsOf::At(start), readings);
+    let last = later(end, later(now, latest));
     Axis {
         start,
         end,
-        dates: dates_between(start, end, latest),
+        now,
+        window,
+        dates: dates_of(first.nanos(), last.nanos()),
     }
 }
 
-// Returns how much of their dates the moments of a page need, which go from its start to its end or to the latest packet.
-fn dates_between(start: Moment, end: Moment, latest: Moment) -> Dates
-    ensures { result ≡ dates_of start.nanos (max end.nanos latest.nanos) }
+// Returns a bound of a window, or this moment where there is no such bound.
+fn bound_or(moment: Moment, bound: Option<Moment>) -> Moment
+    ensures { result.nanos ≡ bound_or moment.nanos bound }
 {
-    dates_of(start.nanos(), end.nanos().max(latest.nanos()))
+    match bound {
+        Some(bound) => bound,
+        None => moment,
+    }
+}
+
+fn later(one: Moment, other: Moment) -> Moment
+    ensures { result.nanos ≡ max one.nanos other.nanos }
+{
+    if one < other { other } else { one }
 }
 
 impl Axis {
@@ -92,11 +113,11 @@ impl Axis {
         self.place(until).max(self.place(from) + LEAST)
     }
 
-    /// Checks that a capture began to record by the end. One of a moment that is asked for may have begun later.
-    pub(crate) fn has_begun(self, span: Span) -> bool
-        ensures { result ≡ nat_le span.first.nanos self.end.nanos }
+    /// Checks that a capture recorded between the start and the end. One of a moment that is asked for may have begun later.
+    pub(crate) fn meets(self, span: Span) -> bool
+        ensures { result ≡ (nat_le span.first.nanos self.end.nanos && nat_le self.start.nanos span.last.nanos) }
     {
-        span.first.nanos() <= self.end.nanos()
+        span.first.nanos() <= self.end.nanos() && self.start.nanos() <= span.last.nanos()
     }
 }
 

@@ -205,14 +205,14 @@ fn push_picture(to: &mut String, axis: Axis, span: Option<Span>) -> Result<(), W
     Ok(())
 }
 
-// Appends the stroke of that picture; nothing where there are no packets, or only packets after the end of the axis.
+// Appends the stroke of that picture; nothing where there are no packets, or none from the start of the axis to its end.
 fn push_recorded_path(to: &mut String, axis: Axis, span: Option<Span>) -> Result<(), Want>
     ensures { OnOk result (string_bytes to.new ≡ string_bytes to.old ++ drawn_if axis (recorded_bar axis) span) }
 {
     let Some(span) = span else {
         return Ok(());
     };
-    if axis.has_begun(span) {
+    if axis.meets(span) {
         return push_recorded_bar(to, axis, span);
     }
     Ok(())

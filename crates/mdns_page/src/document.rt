@@ -2,7 +2,7 @@
 
 ghost use Rattle.std.specs.{Prelude.{◌≡◌, ◌++◌, [], codes, if◌then◌else◌, map, OnOk}, String.{string_bytes}};
 ghost use Rattle.people_text.specs.MomentText.{date_text};
-ghost use Rattle.mdns_page.specs.{Axis.{is_same_date}, Captures.{facts_lent}, Html.{isolated}, Document.{head, page, parts_lent, title}};
+ghost use Rattle.mdns_page.specs.{Axis.{is_same_date}, Captures.{facts_lent}, Html.{isolated}, Document.{dated_title, head, page, parts_lent, title}};
 
 use crate::axis::{Axis, is_same_date};
 use crate::captures::{CaptureFacts, Comparison, push_captures};
@@ -14,6 +14,7 @@ use crate::ticks::push_symbols;
 use crate::timeline::push_timeline;
 use crate::timeline_rows::CountedRow;
 use mdns_browse::Subject;
+use mdns_lives::RecordLives;
 use mdns_message::Want;
 use people_text::moment_text::push_date;
 
@@ -36,6 +37,8 @@ pub(crate) struct PageParts<'a> {
     pub(crate) addresses: &'a [CountedRow<'a>],
     /// The rows of names that aren't one label and their type.
     pub(crate) names: &'a [CountedRow<'a>],
+    /// All records that the page keeps, in key order.
+    pub(crate) kept: &'a [RecordLives<'a>],
     /// The section on what was live at the end, which is appended as it is.
     pub(crate) live: &'a str,
     /// The section on the packets that were skipped or refused, likewise.
@@ -90,9 +93,19 @@ fn push_head(
     Ok(())
 }
 
-#[tactic(auto, unfolding(crate::specs::Document::title))]
 fn push_title(to: &mut String, axis: Axis) -> Result<(), Want>
     ensures { OnOk result (string_bytes to.new ≡ string_bytes to.old ++ title axis) }
+{
+    if axis.end.nanos() == 0 {
+        to.push_str("Multicast DNS")?;
+        return Ok(());
+    }
+    push_dated_title(to, axis)
+}
+
+#[tactic(auto, unfolding(crate::specs::Document::dated_title))]
+fn push_dated_title(to: &mut String, axis: Axis) -> Result<(), Want>
+    ensures { OnOk result (string_bytes to.new ≡ string_bytes to.old ++ dated_title axis) }
 {
     to.push_str("Multicast DNS, ")?;
     push_date(to, axis.start.nanos())?;

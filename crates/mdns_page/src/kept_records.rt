@@ -1,19 +1,19 @@
 //! The records of a page.
 
 ghost use Rattle.std.specs.Prelude.{◌≡◌, ◌++◌, ◌||◌, ◌∷◌, [], if◌then◌else◌, is_some, IfOk, OnOk, map};
-ghost use Rattle.std.specs.{List.{filter}, List.Sorted.{IsStrictlySortedBy}};
+ghost use Rattle.std.specs.{List.{filter, list_any}, List.Sorted.{IsStrictlySortedBy}};
 ghost use Rattle.mdns_message.specs.{Parts.{address_of}, Resource.{key_cmp}};
 ghost use Rattle.mdns_cache.specs.{Live.{key_of_last}, LentRecords.{last_lent}};
-ghost use Rattle.mdns_lives.specs.LentLives.{row_lent};
+ghost use Rattle.mdns_lives.specs.{LentLives.{row_lent}, Window.{meets}};
 ghost use Rattle.mdns_browse.specs.Services.{body_of, other_given};
-ghost use Rattle.mdns_page.specs.KeptRecords.{is_drawn, is_kept, is_of};
+ghost use Rattle.mdns_page.specs.KeptRecords.{is_drawn, is_kept, is_of, is_shown};
 
 use crate::other_rows::has_address;
 use crate::servers::is_server;
 use mdns_browse::about::{Subject, keeps_heard_instance, keeps_record};
 use mdns_browse::services::{instance_of, other_of};
 use mdns_cache::Last;
-use mdns_lives::{LivesWalk, RecordLives};
+use mdns_lives::{Life, LivesWalk, RecordLives, Window};
 use mdns_message::Want;
 use std::alloc::Global;
 
@@ -116,6 +116,19 @@ pub(crate) fn is_of(part: TimelinePart, last: &Last<'_>) -> bool
         TimelinePart::Addresses => has_address(&last.resource.body),
         TimelinePart::Names => other_of(last).is_some(),
     }
+}
+
+/// Checks that a record has its row there, and was live at a moment of the window.
+pub(crate) fn is_shown(part: TimelinePart, window: Window, record: &RecordLives<'_>) -> bool
+    ensures { result ≡ is_shown part window (row_lent «record».now) }
+{
+    is_of(part, &record.last) && meets_any(window, record.lives.as_slice())
+}
+
+fn meets_any(window: Window, lives: &[Life]) -> bool
+    ensures { result ≡ list_any (meets window) lives.now }
+{
+    lives.iter().any(|life| window.meets(life))
 }
 
 /// Returns the rows; none of a large page.

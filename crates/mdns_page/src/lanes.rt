@@ -157,33 +157,36 @@ fn second_mark(axis: Axis, stroke: Stroke, second: &SecondHeard) -> Option<Mark>
 
 // Returns where a second has a tick: at its first hearing, unless it has a goodbye.
 fn tick_mark(axis: Axis, second: &SecondHeard) -> Option<Mark>
-    ensures { result ≡ (if is_goodbye second.now then None else Some (point axis second.now.first)) }
+    ensures { result ≡ (if is_goodbye second.now then None else point axis second.now.first) }
 {
     if is_goodbye(second) {
         return None;
     }
-    Some(point(axis, second.first))
+    point(axis, second.first)
 }
 
 // Returns where a second has a thick tick: at its goodbye.
 fn goodbye_mark(axis: Axis, second: &SecondHeard) -> Option<Mark>
-    ensures { result ≡ (if is_goodbye second.now then Some (point axis (goodbye_of second.now)) else None) }
+    ensures { result ≡ (if is_goodbye second.now then point axis (goodbye_of second.now) else None) }
 {
     if is_goodbye(second) {
-        return Some(point(axis, goodbye_of(second)));
+        return point(axis, goodbye_of(second));
     }
     None
 }
 
-// Returns the place of a hearing.
-fn point(axis: Axis, heard: RecordHearing) -> Mark
+// Returns the place of a hearing, if it was in the window.
+fn point(axis: Axis, heard: RecordHearing) -> Option<Mark>
     ensures { result ≡ point axis heard }
 {
+    if !axis.window.holds(heard.moment) {
+        return None;
+    }
     let place = axis.place(heard.moment.nanos());
-    Mark {
+    Some(Mark {
         begin: place,
         end: place,
-    }
+    })
 }
 
 /// Appends the lines on which the ticks stand: below each capture's lane one for the time that it recorded.
@@ -221,7 +224,7 @@ fn push_each_base(
     Ok(())
 }
 
-// Appends the line below a lane; nothing where there are no packets, or only packets after the end of the axis.
+// Appends the line below a lane; nothing where there are no packets, or none on the axis.
 fn push_base(
     to: &mut String,
     axis: Axis,
@@ -234,7 +237,7 @@ fn push_base(
     let Some(span) = span else {
         return Ok(());
     };
-    if axis.has_begun(span) {
+    if axis.meets(span) {
         return push_base_line(to, axis, lane_top(lanes, index), span);
     }
     Ok(())

@@ -9,7 +9,7 @@ ghost use Rattle.mdns_capture.specs.Limits.{second};
 ghost use Rattle.mdns_message.specs.declared.hearing.Hearing.{Hearing};
 ghost use Rattle.mdns_join.specs.declared.latest.Latest.{Latest};
 ghost use Rattle.mdns_lives.specs.{Chronicle.{AreAllLives}, Heard.{number_of}, Lives.{AreApart}, Seconds.{second_of}};
-ghost use Rattle.mdns_lives.specs.declared.{life.Life.{Life}, seconds_heard.SecondHeard.{SecondHeard}};
+ghost use Rattle.mdns_lives.specs.declared.{life.Life.{Life}, seconds_heard.SecondHeard.{SecondHeard}, window.Window.{Window}};
 ghost use Rattle.mdns_browse.specs.{declared.about.Subject.{Subject}, Services.{GivenRow}};
 ghost use Rattle.mdns_survey.specs.declared.{request.AsOf.{AsOf}, summary.Summary.{Summary}};
 ghost use Rattle.mdns_listeners.specs.Groups.{Grouped};
@@ -26,9 +26,10 @@ use mdns_survey::laws::one_telling;
 
 /// Files with these names and listeners have at most one page about some subjects, and one list of summaries.
 pub fn one_page()
-    ensures { (names : List (List ℕ)) (groups : Grouped) (about : List Subject) (as_of : AsOf) (captures : List (List ℕ))
+    ensures { (names : List (List ℕ)) (groups : Grouped) (about : List Subject) (window : Window) (as_of : AsOf) (captures : List (List ℕ))
         (summaries more : List Summary) (text other : List ℕ)
-        → SurveysPage names groups about as_of captures summaries text → SurveysPage names groups about as_of captures more other
+        → SurveysPage names groups about window as_of captures summaries text
+        → SurveysPage names groups about window as_of captures more other
         → (summaries ≡ more) × (text ≡ other) }
 {
     one_reading();
@@ -44,8 +45,8 @@ pub fn one_page()
 /// hearing, with its end and with the beginning of the life in which that moment is.
 pub fn live_at_the_end()
     ensures { (heard : List Hearing) (axis : Axis) (rows : List (Latest × List Life))
-        → ((hearing : Hearing) → Contains heard hearing → hearing.moment.nanos ≤ axis.end.nanos) → AreAllLives heard rows
-        → AreLiveGiven heard axis.end.nanos (live_given axis rows) }
+        → ((hearing : Hearing) → Contains heard hearing → hearing.moment.nanos ≤ axis.now.nanos) → AreAllLives heard rows
+        → AreLiveGiven heard axis.now.nanos (live_given axis rows) }
 {
     live_lives_are_since();
 }
@@ -94,7 +95,7 @@ pub fn counts()
 /// nothing, two pages are equal that have equally many subjects, and captures, files, rows and live instances that agree in all else.
 pub fn names()
     ensures { (a b : Shown) (opened : Bool) (lasts others : List Latest) (live now : List GivenRow) → a.axis ≡ b.axis → a.lost ≡ b.lost
-        → a.skipped ≡ b.skipped → a.comparison ≡ b.comparison → a.live ≡ live_text unsaid a.axis opened lasts live
+        → a.skipped ≡ b.skipped → a.known ≡ b.known → a.comparison ≡ b.comparison → a.live ≡ live_text unsaid a.axis opened lasts live
         → b.live ≡ live_text unsaid b.axis opened others now → length a.about ≡ length b.about
         → map bare_capture a.captures ≡ map bare_capture b.captures → map bare_file a.files ≡ map bare_file b.files
         → bare_groups a.rows ≡ bare_groups b.rows

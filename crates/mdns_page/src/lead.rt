@@ -1,27 +1,27 @@
 //! What a page begins with: how many instances were live at the end of the captures, which instances it shows, and what the
 //! captures lack.
 
-ghost use Rattle.std.specs.Prelude.{◌≡◌, ◌-◌, ◌&&◌, ◌∷◌, ◌++◌, codes, false, length, map, option_map, slice_get};
-ghost use Rattle.std.specs.{Prelude.{unwrap_or, OnOk}, List.{flat_map}, String.{string_bytes}};
+ghost use Rattle.std.specs.{Prelude.{◌≡◌, ◌&&◌, ◌∷◌, ◌++◌, codes, map, OnOk}, List.{flat_map}, String.{string_bytes}};
 ghost use Rattle.mdns_capture.specs.Text.{ending_text};
 ghost use Rattle.mdns_lives.specs.declared.life.EndReason.TheVariants.{Goodbye};
 ghost use Rattle.people_text.specs.Shown.{shown};
 ghost use Rattle.mdns_page.specs.{Captures.{facts_lent}, Document.{lead, parts_lent}, Html.{isolated}, Picture.{goes_on, is_for}};
-ghost use Rattle.mdns_page.specs.Lead.{about_line, ended_lent, ended_text, ending_warning, is_ended, live_line, lost_warning, others_text};
-ghost use Rattle.mdns_page.specs.{Lead.{pair_warning, said_text}, Timeline.{count_last, counted_lent}};
+ghost use Rattle.mdns_page.specs.Lead.{about_line, bound_text, bounds_line, count_known, counts_line, ended_lent, ended_text, ending_warning, is_ended, known_lent};
+ghost use Rattle.mdns_page.specs.Lead.{live_line, lost_warning, others_text, pair_warning, said_text, window_line};
+ghost use Rattle.mdns_page.specs.Timeline.{is_last};
 
 use crate::axis::Axis;
 use crate::captures::{CaptureFacts, name_at, push_shown_word};
 use crate::counts::{push_commas, push_count};
 use crate::document::PageParts;
+use crate::kept_records::{TimelinePart, is_of};
 use crate::picture::{goes_on, is_for};
-use crate::row_text::live_rows;
-use crate::timeline_rows::CountedRow;
+use crate::row_text::is_live;
 use mdns_browse::Subject;
-use mdns_capture::Ending;
+use mdns_capture::{Ending, Moment};
 use mdns_listeners::PairRow;
 use mdns_listeners::warnings::{push_warning_words, warns};
-use mdns_lives::{EndReason, Life};
+use mdns_lives::{EndReason, Life, RecordLives, Window};
 use mdns_message::Want;
 use mdns_survey::status::is_whole;
 use people_text::moment_text::push_millis;
@@ -35,27 +35,38 @@ pub struct FileEnding<'a> {
 }
 
 /// Appends what a page begins with: how many instances were live at the end of the captures, how many of them have
-/// said goodbye, and how many had ended before; the subjects, if there are any; a warning for each file that isn't
+/// said goodbye, and how many had ended before; the window and the subjects, if there are any; a warning for each file that isn't
 /// whole, one for each two captures whose clocks don't agree, and one of the lost packets, if any lost what they said.
 pub(crate) fn push_lead(to: &mut String, parts: &PageParts<'_>) -> Result<(), Want>
     ensures { OnOk result (string_bytes to.new ≡ string_bytes to.old ++ lead isolated (parts_lent parts.now)) }
 {
-    push_live_line(to, parts.axis, parts.rows)?;
+    push_live_line(to, parts.axis, parts.kept)?;
+    push_window_line(to, parts.axis.window)?;
     push_about_line(to, parts.about)?;
     push_ending_warnings(to, parts.files)?;
     push_pair_warnings(to, parts.captures, parts.comparison.pairs)?;
     push_lost_warning(to, parts.lost)
 }
 
-#[tactic(auto, unfolding(crate::specs::Lead::live_line))]
-fn push_live_line(to: &mut String, axis: Axis, rows: &[CountedRow<'_>]) -> Result<(), Want>
-    ensures { OnOk result (string_bytes to.new ≡ string_bytes to.old ++ live_line axis (map counted_lent rows.now)) }
+fn push_live_line(to: &mut String, axis: Axis, kept: &[RecordLives<'_>]) -> Result<(), Want>
+    ensures { OnOk result (string_bytes to.new ≡ string_bytes to.old ++ live_line axis (map known_lent kept.now)) }
 {
-    let live = live_rows(axis, rows);
-    let said = said_count(axis, rows);
-    let goodbyes = ended_count(axis, EndReason::Goodbye, rows);
-    let flushed = ended_count(axis, EndReason::Flushed, rows);
-    let expired = ended_count(axis, EndReason::Expired, rows);
+    if axis.now.nanos() == 0 && kept.is_empty() {
+        to.push_str("<p class=\"lead\">Nothing was heard: mdnswhy files FILE... says why.</p>\n")?;
+        return Ok(());
+    }
+    push_counts_line(to, axis, kept)
+}
+
+#[tactic(auto, unfolding(crate::specs::Lead::counts_line))]
+fn push_counts_line(to: &mut String, axis: Axis, kept: &[RecordLives<'_>]) -> Result<(), Want>
+    ensures { OnOk result (string_bytes to.new ≡ string_bytes to.old ++ counts_line axis (map known_lent kept.now)) }
+{
+    let live = live_count(axis, kept);
+    let said = said_count(axis, kept);
+    let goodbyes = ended_count(axis, EndReason::Goodbye, kept);
+    let flushed = ended_count(axis, EndReason::Flushed, kept);
+    let expired = ended_count(axis, EndReason::Expired, kept);
     to.push_str("<p class=\"lead\">")?;
     push_count(
         to,
@@ -64,7 +75,7 @@ fn push_live_line(to: &mut String, axis: Axis, rows: &[CountedRow<'_>]) -> Resul
         "service instances were",
     )?;
     to.push_str(" live at <time>")?;
-    push_millis(to, axis.end.nanos())?;
+    push_millis(to, axis.now.nanos())?;
     to.push_str("</time>")?;
     push_said(to, said)?;
     to.push_str(".")?;
@@ -87,20 +98,37 @@ fn push_said(to: &mut String, count: usize) -> Result<(), Want>
     Ok(())
 }
 
-// Returns how many records are live at the end of the captures, but have said goodbye.
-fn said_count(axis: Axis, rows: &[CountedRow<'_>]) -> usize
-    ensures { result ≡ count_last (λ life. goes_on axis life && is_for Goodbye life.reason) (map counted_lent rows.now) }
+// Returns how many instances are live at the end of the captures.
+fn live_count(axis: Axis, kept: &[RecordLives<'_>]) -> usize
+    ensures { result ≡ count_known (goes_on axis) (map known_lent kept.now) }
 {
     let mut count = 0;
-    for row in rows {
-        count += usize::from(has_said(axis, row.record.lives.as_slice()));
+    for record in kept {
+        count += usize::from(is_live(axis, record.lives.as_slice()) && is_instance(record));
+    }
+    count
+}
+
+fn is_instance(record: &RecordLives<'_>) -> bool
+    ensures { result ≡ (known_lent «record».now).0 }
+{
+    is_of(TimelinePart::Instances, &record.last)
+}
+
+// Returns how many instances are live at the end of the captures, but have said goodbye.
+fn said_count(axis: Axis, kept: &[RecordLives<'_>]) -> usize
+    ensures { result ≡ count_known (λ life. goes_on axis life && is_for Goodbye life.reason) (map known_lent kept.now) }
+{
+    let mut count = 0;
+    for record in kept {
+        count += usize::from(has_said(axis, record.lives.as_slice()) && is_instance(record));
     }
     count
 }
 
 // Checks that the last of some lives goes on, after a goodbye.
 fn has_said(axis: Axis, lives: &[Life]) -> bool
-    ensures { result ≡ unwrap_or (option_map (λ life. goes_on axis life && is_for Goodbye life.reason) (slice_get lives.now (length lives.now - 1))) false }
+    ensures { result ≡ is_last (λ life. goes_on axis life && is_for Goodbye life.reason) lives.now }
 {
     match lives.last() {
         Some(life) => goes_on(axis, life) && is_for(EndReason::Goodbye, life.reason),
@@ -108,20 +136,22 @@ fn has_said(axis: Axis, lives: &[Life]) -> bool
     }
 }
 
-// Returns how many records' last lives ended for a reason.
-fn ended_count(axis: Axis, reason: EndReason, rows: &[CountedRow<'_>]) -> usize
-    ensures { result ≡ count_last (is_ended axis reason) (map counted_lent rows.now) }
+// Returns how many instances' last lives ended for a reason.
+fn ended_count(axis: Axis, reason: EndReason, kept: &[RecordLives<'_>]) -> usize
+    ensures { result ≡ count_known (is_ended axis reason) (map known_lent kept.now) }
 {
     let mut count = 0;
-    for row in rows {
-        count += usize::from(has_ended(axis, reason, row.record.lives.as_slice()));
+    for record in kept {
+        count += usize::from(
+            has_ended(axis, reason, record.lives.as_slice()) && is_instance(record),
+        );
     }
     count
 }
 
 // Checks that the last of some lives ended for a reason.
 fn has_ended(axis: Axis, reason: EndReason, lives: &[Life]) -> bool
-    ensures { result ≡ unwrap_or (option_map (is_ended axis reason) (slice_get lives.now (length lives.now - 1))) false }
+    ensures { result ≡ is_last (is_ended axis reason) lives.now }
 {
     match lives.last() {
         Some(life) => is_ended(axis, reason, life),
@@ -172,6 +202,41 @@ fn push_ended(to: &mut String, first: bool, count: usize, how: &str) -> Result<(
     push_commas(to, count as u128)?;
     to.push(' ')?;
     to.push_str(how)?;
+    Ok(())
+}
+
+// Appends that only lives in the window are drawn; nothing if it has no bounds.
+fn push_window_line(to: &mut String, window: Window) -> Result<(), Want>
+    ensures { OnOk result (string_bytes to.new ≡ string_bytes to.old ++ window_line window) }
+{
+    if window.since.is_none() && window.until.is_none() {
+        return Ok(());
+    }
+    push_bounds_line(to, window)
+}
+
+fn push_bounds_line(to: &mut String, window: Window) -> Result<(), Want>
+    ensures { OnOk result (string_bytes to.new ≡ string_bytes to.old ++ bounds_line window) }
+{
+    to.push_str("<p class=\"note\">Only lives")?;
+    push_bound(to, " since ", window.since)?;
+    push_bound(to, " until ", window.until)?;
+    to.push_str(" are drawn; counts and words are of all that was heard.</p>\n")?;
+    Ok(())
+}
+
+// Appends a bound of the window; nothing if there is none.
+#[tactic(auto, unfolding(crate::specs::Lead::bound_text))]
+fn push_bound(to: &mut String, word: &str, bound: Option<Moment>) -> Result<(), Want>
+    ensures { OnOk result (string_bytes to.new ≡ string_bytes to.old ++ bound_text word.now bound) }
+{
+    let Some(moment) = bound else {
+        return Ok(());
+    };
+    to.push_str(word)?;
+    to.push_str("<time>")?;
+    push_millis(to, moment.nanos())?;
+    to.push_str("</time>")?;
     Ok(())
 }
 

@@ -3,7 +3,7 @@
 ghost use Rattle.std.specs.{Prelude.{◌≡◌, ◌++◌, codes, map, OnOk}, List.{filter_map, flat_map}, String.{string_bytes}};
 ghost use Rattle.mdns_cache.specs.LentRecords.{last_lent};
 ghost use Rattle.mdns_browse.specs.{Given.{given_lent}, Services.{AreAscending, instance_row_in}};
-ghost use Rattle.mdns_page.specs.{Group.{grouped}, Html.{isolated}, LiveSection.{live_group, live_row, live_text, type_of}};
+ghost use Rattle.mdns_page.specs.{Group.{grouped}, Html.{isolated}, LiveSection.{end_text, live_group, live_row, live_text, type_of}};
 ghost use Rattle.mdns_page.specs.LiveSheet.{Adds, type_begin};
 
 use crate::axis::Axis;
@@ -37,14 +37,27 @@ pub(crate) fn push_live(
     ensures { OnOk result (AreAscending (map last_lent rows.now) → string_bytes to.new
         ≡ string_bytes to.old ++ live_text isolated axis opened (map last_lent rows.now) (map given_lent given.now)) }
 {
-    to.push_str("<h2 id=\"live\">What was live at <time>")?;
-    push_millis(to, axis.end.nanos())?;
-    to.push_str("</time></h2>\n<div class=\"g l\">\n")?;
+    to.push_str("<h2 id=\"live\">What was live")?;
+    push_end(to, axis)?;
+    to.push_str("</h2>\n<div class=\"g l\">\n")?;
     let empty = String::new(*to.allocator());
     let mut sheet = LiveSheet::new(mem::replace(to, empty), axis);
     push_groups(&mut sheet, opened, rows, given)?;
     *to = sheet.text;
     to.push_str("</div>\n")?;
+    Ok(())
+}
+
+// Appends the end of the captures, if that is a moment.
+fn push_end(to: &mut String, axis: Axis) -> Result<(), Want>
+    ensures { OnOk result (string_bytes to.new ≡ string_bytes to.old ++ end_text axis) }
+{
+    if axis.now.nanos() == 0 {
+        return Ok(());
+    }
+    to.push_str(" at <time>")?;
+    push_millis(to, axis.now.nanos())?;
+    to.push_str("</time>")?;
     Ok(())
 }
 

@@ -29,7 +29,7 @@ pub(crate) fn push_given(
 {
     to.push_str("<small>")?;
     push_since(to, axis.dates, given.since)?;
-    push_time_left(to, axis.end, given)?;
+    push_time_left(to, axis.now, given)?;
     push_word(to, "</small>")
 }
 

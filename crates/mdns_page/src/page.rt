@@ -27,7 +27,7 @@ use mdns_browse::report::ReportFault;
 use mdns_browse::sheet::InstancePointer;
 use mdns_cache::{Last, LiveRecord};
 use mdns_listeners::Groups;
-use mdns_lives::{LiveSince, Lives};
+use mdns_lives::{LiveSince, Lives, Window};
 use mdns_message::Want;
 use mdns_survey::lives_answer::newest_after;
 use mdns_survey::question::{Question, TextAnswer};
@@ -40,8 +40,9 @@ use std::alloc::Global;
 /// subjects: what each capture is, when each instance, each address, and each name that isn't one label and its type was live, how often
 /// each capture heard it, and what was live at the end. All files of a listener are one capture.
 ///
-/// The captures end as for lives: at the moment of `as_of`, or with `AsOf::Newest` at the latest packet's moment. The
-/// page begins at the earliest packet's moment, or at the end where that is earlier.
+/// The captures end as for lives: at the moment of `as_of`, or with `AsOf::Newest` at the latest packet's moment. Pictures
+/// show the window, and without its bounds go from the earliest packet's moment, or the end where that is earlier, to the end:
+/// what has no life in the window has no row there. All that was heard counts for what was live, and for words.
 #[derive(Drop)]
 pub struct PageRequest<'a> {
     /// The name of each file.
@@ -49,6 +50,8 @@ pub struct PageRequest<'a> {
     /// The listener of each file.
     pub groups: &'a Groups,
     pub as_of: AsOf,
+    /// The moments whose lives are drawn.
+    pub window: Window,
     pub about: Subjects,
 }
 
@@ -60,7 +63,7 @@ impl<'a> Question for PageRequest<'a> {
 
     type Collector = PageCollector;
 
-    ghost asked = { λ page. asked_page (map string_bytes page.names.now) page.groups.now page.about page.as_of };
+    ghost asked = { λ page. asked_page (map string_bytes page.names.now) page.groups.now page.about page.window page.as_of };
 
     // A name and a listener for each file.
     ghost Fits = { λ page count. (length page.names.now ≡ count) × (length page.groups.now.of ≡ count) };
@@ -85,8 +88,8 @@ impl<'a> TextAnswer for PageRequest<'a> {
             messages,
             ..
         } = collector;
-        let axis = axis_of(self.as_of, readings);
-        if let Some(newest) = newest_after(lives.all(), axis.end) {
+        let axis = axis_of(self.as_of, self.window, readings);
+        if let Some(newest) = newest_after(lives.all(), axis.now) {
             return Err(ReportFault::Early { newest });
         }
         let rows = match compared(alloc, self.groups, messages, readings) {
@@ -100,7 +103,7 @@ impl<'a> TextAnswer for PageRequest<'a> {
     }
 }
 
-// Writes the page by hearings none of which is later than the end of the axis.
+// Writes the page by hearings none of which is later than the end of the captures.
 fn page_of(
     alloc: Global,
     page: &PageRequest<'_>,
@@ -109,10 +112,10 @@ fn page_of(
     readings: &[Reading],
     axis: Axis,
 ) -> Result<String, Want>
-    requires { NoneLater (all_of lives.now).newest axis.end }
+    requires { NoneLater (all_of lives.now).newest axis.now }
     ensures { IfOk result (λ text. (each : List (List Hearing)) (heard : List Hearing)
         → AreEach Chronicles lives.now.captures.items each → Chronicles (all_of lives.now) heard
-        → ((hearing : Hearing) → Contains heard hearing → hearing.moment.nanos ≤ axis.end.nanos)
+        → ((hearing : Hearing) → Contains heard hearing → hearing.moment.nanos ≤ axis.now.nanos)
         → WritesPage page.now.about (map string_bytes page.now.names.now) page.now.groups.now readings.now (rows_lent comparison.now)
         each heard axis (string_bytes text)) }
 {
@@ -122,10 +125,25 @@ fn page_of(
     let kept = kept_rows(alloc, all.walk(), heard.as_slice(), about)?;
     let records = kept.as_slice();
     let chronicles = lives.captures.as_slice();
-    let rows = counted_rows(alloc, TimelinePart::Instances, records, records, chronicles)?;
+    let window = axis.window;
+    let rows = counted_rows(
+        alloc,
+        TimelinePart::Instances,
+        window,
+        records,
+        records,
+        chronicles,
+    )?;
     let few = unless_large(is_large(rows.len()), records);
-    let addresses = counted_rows(alloc, TimelinePart::Addresses, few, records, chronicles)?;
-    let others = counted_rows(alloc, TimelinePart::Names, few, records, chronicles)?;
+    let addresses = counted_rows(
+        alloc,
+        TimelinePart::Addresses,
+        window,
+        few,
+        records,
+        chronicles,
+    )?;
+    let others = counted_rows(alloc, TimelinePart::Names, window, few, records, chronicles)?;
     let opened = is_open(rows.len(), addresses.len(), others.len());
     let live = live_of(alloc, all, heard.as_slice(), axis, opened, about)?;
     let mut skipped = String::new(alloc);
@@ -143,6 +161,7 @@ fn page_of(
         rows: rows.as_slice(),
         addresses: addresses.as_slice(),
         names: others.as_slice(),
+        kept: records,
         live: live.as_str(),
         skipped: skipped.as_str(),
     };
@@ -183,12 +202,12 @@ fn live_of(
     opened: bool,
     about: &[Subject],
 ) -> Result<String, Want>
-    requires { NoneLater lives.now.newest axis.end }
+    requires { NoneLater lives.now.newest axis.now }
     ensures { IfOk result (λ text. (hearings : List Hearing) → Chronicles lives.now hearings
         → AreAscending (map last_lent heard.now) → map last_lent heard.now ≡ looked_up about.now (rows_of lives.now)
         → string_bytes text ≡ live_at_end about.now axis opened (rows_of lives.now)) }
 {
-    let live = lives.live_at(axis.end)?;
+    let live = lives.live_at(axis.now)?;
     let mut rows = Vec::new(alloc);
     let mut given = Vec::new(alloc);
     let mut scratch = String::new(alloc);

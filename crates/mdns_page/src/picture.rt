@@ -3,8 +3,8 @@
 ghost use Rattle.std.specs.{Prelude.{◌≡◌, ◌++◌, codes, List, IfOk, OnOk, map}, List.{cons_option, flat_map}};
 ghost use Rattle.std.specs.String.{string_bytes};
 ghost use Rattle.mdns_page.specs.declared.picture.{Mark.{Mark}, Stroke.TheVariants.{Server}};
-ghost use Rattle.mdns_page.specs.Picture.{bar_mark, bars, class_of, end_mark, goes_on, is_for, is_same, mark_of, mark_text, path};
-ghost use Rattle.mdns_page.specs.{Picture.{path_begin, path_last, path_rest, title_word, titled_bar}, Timeline.{lives_lent}};
+ghost use Rattle.mdns_page.specs.Picture.{bar_mark, bars, class_of, drawn_bar, end_mark, goes_on, is_for, is_same, mark_of};
+ghost use Rattle.mdns_page.specs.{Picture.{mark_text, outlasts, path, path_begin, path_last, path_rest, title_word, titled_bar}, Timeline.{lives_lent}};
 
 use crate::axis::Axis;
 use crate::bar_titles::push_life_title;
@@ -80,6 +80,15 @@ fn push_titled_bars(to: &mut String, axis: Axis, stroke: Stroke, lives: &[Life])
 fn push_titled_bar(to: &mut String, axis: Axis, stroke: Stroke, life: &Life) -> Result<(), Want>
     ensures { OnOk result (string_bytes to.new ≡ string_bytes to.old ++ titled_bar axis stroke life.now) }
 {
+    if axis.window.meets(life) {
+        return push_drawn_bar(to, axis, stroke, life);
+    }
+    Ok(())
+}
+
+fn push_drawn_bar(to: &mut String, axis: Axis, stroke: Stroke, life: &Life) -> Result<(), Want>
+    ensures { OnOk result (string_bytes to.new ≡ string_bytes to.old ++ drawn_bar axis stroke life.now) }
+{
     push_path_begin(to, stroke)?;
     push_mark(to, stroke, bar_mark(axis, life))?;
     to.push_str("\"><title>")?;
@@ -151,10 +160,13 @@ pub(crate) fn push_path_last(to: &mut String, last: Option<Mark>) -> Result<(), 
     }
 }
 
-// Returns where a life has a stroke of this kind, if it has one.
+// Returns where a life has a stroke of this kind, if it has one; only lives that meet the window are drawn.
 fn mark_of(axis: Axis, stroke: Stroke, life: &Life) -> Option<Mark>
     ensures { result ≡ mark_of axis stroke life.now }
 {
+    if !axis.window.meets(life) {
+        return None;
+    }
     match stroke {
         Stroke::Bar => Some(bar_mark(axis, life)),
         Stroke::Server => Some(bar_mark(axis, life)),
@@ -179,18 +191,25 @@ fn bar_mark(axis: Axis, life: &Life) -> Mark
 fn end_mark(axis: Axis, reason: EndReason, life: &Life) -> Option<Mark>
     ensures { result ≡ end_mark axis reason life.now }
 {
-    if goes_on(axis, life) || !is_for(reason, life.reason) {
+    if outlasts(axis, life) || !is_for(reason, life.reason) {
         return None;
     }
     let end = axis.place_end(life.from.nanos(), life.until);
     Some(Mark { begin: end, end })
 }
 
+// Checks that a life goes on after the end of the axis, or of the captures.
+fn outlasts(axis: Axis, life: &Life) -> bool
+    ensures { result ≡ outlasts axis life.now }
+{
+    axis.end.nanos().min(axis.now.nanos()) < life.until
+}
+
 /// Checks that a life goes on after the end of the captures.
 pub(crate) fn goes_on(axis: Axis, life: &Life) -> bool
     ensures { result ≡ goes_on axis life.now }
 {
-    axis.end.nanos() < life.until
+    axis.now.nanos() < life.until
 }
 
 /// Checks that a reason is this one.

@@ -1,11 +1,10 @@
 //! The rows of the timeline: which of them are live, and their texts.
 
-ghost use Rattle.std.specs.Prelude.{◌≡◌, ◌-◌, ◌++◌, false, length, map, option_map, slice_get, unwrap_or, OnOk};
-ghost use Rattle.std.specs.{List.{flat_map}, String.{string_bytes}};
+ghost use Rattle.std.specs.{Prelude.{◌≡◌, ◌++◌, map, OnOk}, List.{flat_map}, String.{string_bytes}};
 ghost use Rattle.mdns_message.specs.Parts.{content_lent, content_of};
 ghost use Rattle.mdns_browse.specs.RecordShown.{shown_instance};
 ghost use Rattle.mdns_page.specs.{Html.{isolated}, HeardWords.{heard_text}, Picture.{goes_on}};
-ghost use Rattle.mdns_page.specs.Timeline.{content_name, count_last, counted_lent, owner_of, row_text, seconds_lent};
+ghost use Rattle.mdns_page.specs.Timeline.{content_name, count_last, counted_lent, is_last, owner_of, row_text, seconds_lent};
 
 use crate::axis::Axis;
 use crate::heard_words::push_heard;
@@ -44,7 +43,7 @@ pub(crate) fn live_rows(axis: Axis, rows: &[CountedRow<'_>]) -> usize
 
 /// Checks that the last of some lives goes on after the end of the captures.
 pub(crate) fn is_live(axis: Axis, lives: &[Life]) -> bool
-    ensures { result ≡ unwrap_or (option_map (goes_on axis) (slice_get lives.now (length lives.now - 1))) false }
+    ensures { result ≡ is_last (goes_on axis) lives.now }
 {
     match lives.last() {
         Some(life) => goes_on(axis, life),

@@ -6,14 +6,14 @@ ghost use Rattle.mdns_cache.specs.Live.{key_of_last};
 ghost use Rattle.mdns_browse.specs.Services.{AreEach, body_of};
 ghost use Rattle.mdns_join.specs.declared.latest.Latest.{Latest};
 ghost use Rattle.mdns_lives.specs.{declared.life.Life.{Life}, Chronicle.{Chronicles}, LentLives.{row_lent}};
-ghost use Rattle.mdns_page.specs.{TimelineRows.{AreShownBy, IsBegun, IsCounted, few_of}, KeptRecords.{is_of}, Servers.{servers_of}};
+ghost use Rattle.mdns_page.specs.{TimelineRows.{AreShownBy, IsBegun, IsCounted, few_of}, KeptRecords.{is_shown}, Servers.{servers_of}};
 ghost use Rattle.mdns_page.specs.Timeline.{Row, counted_lent, seconds_lent};
 
 use crate::captures::FEW_CAPTURES;
 use crate::hearers::add_hearers;
-use crate::kept_records::{TimelinePart, is_of};
+use crate::kept_records::{TimelinePart, is_shown};
 use crate::servers::servers_of;
-use mdns_lives::{Lives, RecordLives, SecondHeard};
+use mdns_lives::{Lives, RecordLives, SecondHeard, Window};
 use mdns_message::{Resource, Want};
 use std::alloc::Global;
 
@@ -30,23 +30,25 @@ pub(crate) struct CountedRow<'a> {
     pub(crate) heard: Vec<Vec<SecondHeard>>,
 }
 
-/// Makes the rows of a part of the timeline, of some records, each with its servers, by the hearings of each capture.
+/// Makes the rows of a part of the timeline, of those records that were live in the window, each with its servers, by the hearings
+/// of each capture.
 pub(crate) fn counted_rows<'a>(
     alloc: Global,
     part: TimelinePart,
+    window: Window,
     records: &'a [RecordLives<'a>],
     servers: &'a [RecordLives<'a>],
     chronicles: &[Lives],
 ) -> Result<Vec<CountedRow<'a>>, Want>
     ensures records { IfOk result (λ rows.
         map (λ (row : Row). (row.last, row.lives)) (map counted_lent rows.items)
-        ≡ filter (λ row. is_of part row.0) (map row_lent records.now)) }
+        ≡ filter (is_shown part window) (map row_lent records.now)) }
     ensures heard { IfOk result (λ rows. IsStrictlySortedBy key_cmp (map (λ (row : Latest × List Life). key_of_last row.0) (map row_lent records.now))
         → (each : List (List Hearing)) → AreEach Chronicles chronicles.now each → All (IsCounted each) (map counted_lent rows.items)) }
     ensures servers { IfOk result (λ rows. IsStrictlySortedBy key_cmp (map (λ (row : Latest × List Life). key_of_last row.0) (map row_lent servers.now))
         → All (λ (row : Row). row.servers ≡ servers_of (map row_lent servers.now) (body_of row.last)) (map counted_lent rows.items)) }
 {
-    let mut rows = begun_rows(alloc, part, records, servers, chronicles)?;
+    let mut rows = begun_rows(alloc, part, window, records, servers, chronicles)?;
     add_hearers(alloc, &mut rows, chronicles)?;
     Ok(rows)
 }
@@ -55,13 +57,14 @@ pub(crate) fn counted_rows<'a>(
 fn begun_rows<'a>(
     alloc: Global,
     part: TimelinePart,
+    window: Window,
     records: &'a [RecordLives<'a>],
     servers: &'a [RecordLives<'a>],
     chronicles: &[Lives],
 ) -> Result<Vec<CountedRow<'a>>, Want>
     ensures records { IfOk result (λ rows.
         map (λ (row : Row). (row.last, row.lives)) (map counted_lent rows.items)
-        ≡ filter (λ row. is_of part row.0) (map row_lent records.now)) }
+        ≡ filter (is_shown part window) (map row_lent records.now)) }
     ensures heard { IfOk result (λ rows. (each : List (List Hearing)) → AreEach Chronicles chronicles.now each
         → All (IsBegun each) (map counted_lent rows.items)) }
     ensures servers { IfOk result (λ rows. IsStrictlySortedBy key_cmp (map (λ (row : Latest × List Life). key_of_last row.0) (map row_lent servers.now))
@@ -69,7 +72,7 @@ fn begun_rows<'a>(
 {
     let mut rows = Vec::new(alloc);
     for record in records {
-        if !is_of(part, &record.last) {
+        if !is_shown(part, window, record) {
             continue;
         }
         rows.push(begun_row(alloc, record, servers, chronicles)?)?;

@@ -1,11 +1,22 @@
-use Rattle.std.proofs.Common.{◌∙◌, ap, max}
-use Rattle.mdns_page.specs.Axis.{dates_of}
+use Rattle.std.proofs.Common.{◌∙◌, ap, max, refl}
+use Rattle.mdns_survey.specs.{LivesAnswer.{earliest_nanos}, Readings.{all_moments}}
+use Rattle.mdns_page.specs.Axis.{bound_or, dates_of}
 use Rattle.mdns_page.proofs.axis.axis_of.Goals as goal
 
 pub returns : goal.returns
-returns c = λ packets have. record {
-  begins = c.captures_begin-start.ensures packets have;
-  ends = c.captures_end-end.ensures packets have;
-  dates = c.dates_between.ensures
-      ∙ ap (λ n. dates_of c.captures_begin-start.result.nanos (max c.captures_end-end.result.nanos n)) (c.captures_end-latest.ensures packets have);
-}
+returns c = λ packets have.
+    let moments = all_moments packets in
+    let until = c.bound_or-until.ensures in
+    let first = c.nanos.ensures ∙ c.captures_begin-first.ensures packets have in
+    let last = c.nanos-2.ensures ∙ c.later-last.ensures
+    ∙ ap (max c.later-end.result.nanos)
+    (c.later.ensures ∙ ap (max c.captures_end-now.result.nanos) (c.captures_end-latest.ensures packets have)) in
+    record {
+      asked = refl;
+      now = c.captures_end-now.ensures packets have;
+      begins = c.bound_or-start.ensures
+          ∙ ap (λ n. bound_or n c.args.window.since)
+          (c.captures_begin.ensures packets have ∙ ap (λ n. earliest_nanos n moments) until);
+      ends = c.later-end.ensures ∙ ap (max c.bound_or-start.result.nanos) until;
+      dates = c.dates_of.ensures ∙ (λ i. dates_of (first i) (last i));
+    }

@@ -32,7 +32,7 @@ pub returns : goal.returns
 returns c = λ heard stands sorted looked.
     let axis = c.args.axis in
     let live = c.in_ok-live.live.items in
-    let since : map live_since_lent live ≡ all_since_rows axis.end.nanos (rows_of c.args.lives.now) = c.in_ok-live.ensures.rows in
+    let since : map live_since_lent live ≡ all_since_rows axis.now.nanos (rows_of c.args.lives.now) = c.in_ok-live.ensures.rows in
     let given : map (λ (row : LiveSince). given_of_since (live_since_lent row)) live ≡ live_given axis (rows_of c.args.lives.now) =
     sym (map-map given_of_since live_since_lent live) ∙ ap (map given_of_since) since in
     let lasts : map last_lent c.as_slice.result.now ≡ map (λ (row : GivenRow). row.last) (live_given axis (rows_of c.args.lives.now)) =
@@ -51,7 +51,7 @@ returns c = λ heard stands sorted looked.
     (live_given axis (rows_of c.args.lives.now))) looked in
     let ascending = subst AreAscending (sym lasts)
     (live-ascending heard axis (rows_of c.args.lives.now)
-    (subst (λ rows. AreLiveSince heard axis.end.nanos rows) since (c.in_ok-live.ensures.live heard stands))) in
+    (subst (λ rows. AreLiveSince heard axis.now.nanos rows) since (c.in_ok-live.ensures.live heard stands))) in
     c.in_ok-push_live.ensures ascending
     ∙ ap (λ (t : List ℕ). t ++ live_text isolated axis c.args.opened (map last_lent c.as_slice.result.now)
     (map given_lent c.as_slice-2.result.now)) c.new-text.ensures.bytes

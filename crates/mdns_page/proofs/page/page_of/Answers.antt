@@ -1,13 +1,13 @@
 use Rattle.std.proofs.Common.{◌≡◌, ◌∙◌, ◌+◌, ◌++◌, [], Bool, if◌then◌else◌, List, ℕ, ap, length, map, string_bytes, subst, sym}
-use Rattle.std.proofs.lemmas.List.{length-map}
+use Rattle.std.proofs.lemmas.{List.{length-map}, Simd.{map-map}}
 use Rattle.std.specs.{List.{filter}, List.Sorted.{IsStrictlySortedBy}}
 use Rattle.mdns_message.specs.Resource.{key_cmp}
 use Rattle.mdns_cache.specs.{Live.{key_of_last}, LentRecords.{last_lent}}
 use Rattle.mdns_join.specs.declared.latest.Latest.{Latest}
 use Rattle.mdns_lives.specs.{Chronicle.{Accounts, Chronicles}, LentLives.{row_lent}, declared.life.Life.{Life}}
 use Rattle.mdns_browse.specs.{declared.about.Subject.{Subject}, Services.{AreEach}}
-use Rattle.mdns_page.specs.{Captures.{comparison_lent, facts_lent}, Collected.{rows_lent}, Html.{isolated}, Lead.{ended_lent}}
-use Rattle.mdns_page.specs.{OtherRows.{is_large}, KeptRecords.{AreRows, is_kept, is_of, kept_of, looked_up}, SkippedSection.{skipped_text}}
+use Rattle.mdns_page.specs.{Captures.{comparison_lent, facts_lent}, Collected.{rows_lent}, Html.{isolated}, Lead.{ended_lent, known_lent, known_of}}
+use Rattle.mdns_page.specs.{OtherRows.{is_large}, KeptRecords.{AreRows, is_kept, is_shown, kept_of, looked_up}, SkippedSection.{skipped_text}}
 use Rattle.mdns_page.specs.{Document.{Shown, page}, Page.{WritesPage, live_at_end}, Timeline.{Row, counted_lent, is_open}}
 use Rattle.mdns_page.specs.declared.kept_records.{TimelinePart.{TimelinePart}, TimelinePart.TheVariants.{Addresses, Instances, Names}}
 use Rattle.mdns_page.proofs.KeptLemmas.{few-sorted, looked_up-sorted, some-sorted}
@@ -47,9 +47,9 @@ returns c = λ each heard chronicled held latest.
     let Ascending = λ (rs : List (Latest × List Life)).
     IsStrictlySortedBy key_cmp (map (λ (row : Latest × List Life). key_of_last row.0) rs) in
     let few_in_order = subst Ascending (sym few) (few-sorted (is_large (length rows)) records in_order) in
-    let are = λ (part : TimelinePart) (large : Bool) (made : List Row) (own : AreRows part large each records made).
-    subst (λ (rs : List (Latest × List Life)). AreRows part large each rs made) kept own in
-    let filtered = λ (part : TimelinePart). ap (filter (λ (row : Latest × List Life). is_of part row.0)) few in
+    let are = λ (part : TimelinePart) (large : Bool) (made : List Row) (own : AreRows part axis.window large each records made).
+    subst (λ (rs : List (Latest × List Life)). AreRows part axis.window large each rs made) kept own in
+    let filtered = λ (part : TimelinePart). ap (filter (is_shown part axis.window)) few in
     let count_rows : c.len-2.result ≡ length rows =
     c.len-2.ensures ∙ c.in_ok-rows.rows.ok.0 ∙ sym (length-map c.in_ok-rows.rows.items counted_lent) in
     let count_addresses : c.len-3.result ≡ length addresses =
@@ -72,6 +72,7 @@ returns c = λ each heard chronicled held latest.
       rows = map counted_lent c.as_slice-5.result.now;
       addresses = map counted_lent c.as_slice-6.result.now;
       names = map counted_lent c.as_slice-7.result.now;
+      known = map known_lent c.as_slice-records.result.now;
       live = c.as_str.result.now;
       skipped = c.as_str-2.result.now;
     } in
@@ -109,6 +110,7 @@ returns c = λ each heard chronicled held latest.
             rows = ap (map counted_lent) c.as_slice-5.ensures.value i;
             addresses = ap (map counted_lent) c.as_slice-6.ensures.value i;
             names = ap (map counted_lent) c.as_slice-7.ensures.value i;
+            known = (sym (map-map known_of row_lent c.as_slice-records.result.now) ∙ ap (map known_of) kept) i;
             live = (c.as_str.ensures.value ∙ live) i;
             skipped = (c.as_str-2.ensures.value ∙ c.in_ok-push_skipped.ensures
                 ∙ ap (λ (none : List ℕ). none ++ skipped_text c.args.readings.now) c.new-skipped.ensures.bytes) i;

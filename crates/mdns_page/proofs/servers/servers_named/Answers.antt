@@ -27,4 +27,4 @@ returns c ascending =
     IsPartitionPoint-from_clause (λ row. is_le (against key set row)) after count c.partition_point-count.ensures.partitioned
     (parted_after key set rows after first whole sorted) (λ a r q k. search rules) in
     passing-lent row_lent rows (take count after) (λ (row : Latest × List Life). is_eq (set_key_cmp (key_of_last row.0).set set))
-    (filter-rest key set rows after first count whole c.partition_point-count.ensures.bound below upto)
+    (filter-rest (against key set) rows after first count whole c.partition_point-count.ensures.bound below upto)

@@ -1,20 +1,19 @@
-use Rattle.std.proofs.Common.{◌≡◌, ◌∙◌, ◌++◌, ◌∷◌, [], List, ap, cond, map, sym}
+use Rattle.std.proofs.Common.{◌≡◌, ◌∙◌, ◌++◌, ◌∷◌, [], ap, cond, map, sym}
 use Rattle.std.proofs.lemmas.List.{append-nil, map-append}
-use Rattle.mdns_join.specs.declared.latest.Latest.{Latest}
-use Rattle.mdns_lives.specs.{LentLives.{row_lent}, declared.life.Life.{Life}}
+use Rattle.mdns_lives.specs.{LentLives.{row_lent}}
 use Rattle.mdns_browse.specs.Services.{body_of}
-use Rattle.mdns_page.specs.{TimelineRows.{IsBegun}, KeptRecords.{is_of}, Servers.{servers_of}, Timeline.{Row, counted_lent}}
+use Rattle.mdns_page.specs.{TimelineRows.{IsBegun}, KeptRecords.{is_shown}, Servers.{servers_of}, Timeline.{Row, counted_lent}}
 use Rattle.mdns_page.proofs.{CountedLemmas.{record_in, row-more}, KeptLemmas.{kept-more}}
 use Rattle.mdns_page.proofs.timeline_rows.begun_rows.Goals as goal
 
 -- a record of another part
-pub loop-record-preserved-then-not-is_of : goal.loop-record-preserved-then-not-is_of
-loop-record-preserved-then-not-is_of c =
-    let keep = λ (row : Latest × List Life). is_of c.args.part row.0 in
+pub loop-record-preserved-then-not-is_shown : goal.loop-record-preserved-then-not-is_shown
+loop-record-preserved-then-not-is_shown c =
+    let keep = is_shown c.args.part c.args.window in
     let so_far = c.loop-record.invariant in (
       sym (append-nil _)
           ∙ ap (λ kept. map record_in (map counted_lent c.loop-record.rows.items) ++ cond kept (row_lent c.record-item.result ∷ []) [])
-          (sym c.if-not-is_of.true ∙ c.is_of.ensures)
+          (sym c.if-not-is_shown.true ∙ c.is_shown.ensures)
           ∙ sym (kept-more keep row_lent c.args.records.now c.loop-record.record-index c.record-item.result _ c.loop-record-test.true
           c.record-item.is so_far.0),
       so_far.1,
@@ -23,7 +22,7 @@ loop-record-preserved-then-not-is_of c =
 
 pub loop-record-preserved : goal.loop-record-preserved
 loop-record-preserved c =
-    let keep = λ (row : Latest × List Life). is_of c.args.part row.0 in
+    let keep = is_shown c.args.part c.args.window in
     let rows = c.loop-record.rows.items in
     let so_far = c.loop-record.invariant in
     let row = c.in_ok-begun_row.field-0 in
@@ -33,7 +32,7 @@ loop-record-preserved c =
           ∙ map-append record_in (map counted_lent rows) (counted_lent row ∷ [])
           ∙ ap (λ one. map record_in (map counted_lent rows) ++ one ∷ []) made.record
           ∙ ap (λ kept. map record_in (map counted_lent rows) ++ cond kept (row_lent c.record-item.result ∷ []) [])
-          (sym c.if-not-is_of.false ∙ c.is_of.ensures)
+          (sym c.if-not-is_shown.false ∙ c.is_shown.ensures)
           ∙ sym (kept-more keep row_lent c.args.records.now c.loop-record.record-index c.record-item.result _ c.loop-record-test.true
           c.record-item.is so_far.0),
       λ each are. row-more (IsBegun each) rows row _ pushed (so_far.1 each are) (made.heard each are),

@@ -5,14 +5,14 @@ use Rattle.mdns_cache.specs.Live.{key_of_last}
 use Rattle.mdns_join.specs.declared.latest.Latest.{Latest}
 use Rattle.mdns_lives.specs.{declared.life.Life.{Life}, Chronicle.{Chronicles}, LentLives.{row_lent}}
 use Rattle.mdns_browse.specs.Services.{AreEach, body_of}
-use Rattle.mdns_page.specs.{TimelineRows.{IsBegun}, KeptRecords.{is_of}, Servers.{servers_of}, Timeline.{Row, counted_lent}}
+use Rattle.mdns_page.specs.{TimelineRows.{IsBegun}, KeptRecords.{is_shown}, Servers.{servers_of}, Timeline.{Row, counted_lent}}
 use Rattle.mdns_page.proofs.timeline_rows.begun_rows.Given as goal
 
 -- the rows of the records so far
 abbrev pub invariant-loop-record : goal.invariant-loop-record
 invariant-loop-record l =
     (map (λ (row : Row). (row.last, row.lives)) (map counted_lent l.rows.items)
-    ≡ filter (λ row. is_of l.part row.0) (map row_lent (take l.record-index l.records)))
+    ≡ filter (is_shown l.part l.window) (map row_lent (take l.record-index l.records)))
     × ((each : List (List Hearing)) → AreEach Chronicles l.chronicles each → All (IsBegun each) (map counted_lent l.rows.items))
     × (IsStrictlySortedBy key_cmp (map (λ (row : Latest × List Life). key_of_last row.0) (map row_lent l.servers))
     → All (λ (row : Row). row.servers ≡ servers_of (map row_lent l.servers) (body_of row.last)) (map counted_lent l.rows.items))

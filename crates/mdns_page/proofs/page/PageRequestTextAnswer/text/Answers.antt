@@ -13,16 +13,16 @@ returns-in-Some-clause-early c = λ lefts hears.
     let is_axis = c.axis_of-axis.ensures hears.packets (have-spans lefts hears.packets hears.outcomes c.args.readings.now hears.read) in
     let heard = counted (filter_of c.args.self.as_of) hears.outcomes in
     let all = subst (Chronicles (all_of c.args.collector.lives)) (sym (counted-in (filter_of c.args.self.as_of) hears.outcomes)) hears.heard.0.all in
-    early-ended lefts c.args.readings.now hears c.args.self.as_of c.axis_of-axis.result.end c.in-Some.newest is_axis.ends
+    early-ended lefts c.args.readings.now hears c.args.self.as_of c.axis_of-axis.result.now c.in-Some.newest is_axis.now
     c.in-Some.ensures.some.0
     (c.in-Some.ensures.some.1 heard (subst (λ (accounts : Accounts). Chronicles accounts heard) (sym c.all.ensures) all))
 
 pub returns-in-Ok-page_of-clause-right : goal.returns-in-Ok-page_of-clause-right
 returns-in-Ok-page_of-clause-right c = λ lefts hears.
     let spans = have-spans lefts hears.packets hears.outcomes c.args.readings.now hears.read in
-    surveys-page (map string_bytes c.args.self.names.now) c.args.self.groups.now c.args.self.about c.args.self.as_of lefts
+    surveys-page (map string_bytes c.args.self.names.now) c.args.self.groups.now c.args.self.about c.args.self.window c.args.self.as_of lefts
     c.args.readings.now c.args.collector.lives (rows_lent c.in-Ok.rows) c.axis_of-axis.result (string_bytes c.in-Ok-page_of.text) hears
     hears.heard.0 (c.in-Ok.ensures hears.packets hears.outcomes hears.heard.1 spans) (c.axis_of-axis.ensures hears.packets spans)
     (subst (λ (all : Accounts). (heard : List Hearing) → Chronicles all heard → (hearing : Hearing) → Contains heard hearing
-    → hearing.moment.nanos ≤ c.axis_of-axis.result.end.nanos) c.all.ensures c.in_default.ensures.none)
+    → hearing.moment.nanos ≤ c.axis_of-axis.result.now.nanos) c.all.ensures c.in_default.ensures.none)
     c.in-Ok-page_of.ensures
