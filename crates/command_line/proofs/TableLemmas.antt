@@ -1,15 +1,18 @@
 -- Lemmas on tables of subcommands, on the flags that ask for forms, and on the refusals of these.
-use Rattle.std.proofs.Common.{◌≡◌, ◌∙◌, ◌⊎◌, ◌++◌, ◌∷◌, ap, ap₂, subst, sym, inl, inr, map, codes, ℕ, List, [], Option, Some, None, Err}
-use Rattle.std.proofs.Common.{drop, get_or, length, string_bytes, take, take-append-drop, unwrap_or}
+use Rattle.std.proofs.Common.{◌≡◌, ◌∙◌, ◌⊎◌, ◌++◌, ◌∷◌, ap, ap₂, subst, subst₂, sym, inl, inr, map, codes, ℕ, List, [], Option}
+use Rattle.std.proofs.Common.{Some, None, Err, drop, get_or, length, string_bytes, take, take-append-drop, unwrap_or}
 use Rattle.std.specs.Prelude.{IsSomeAnd}
-use Rattle.clap.specs.Words.{Row, Text, all_of, one_of}
+use Rattle.clap.specs.Words.{App, Row, Text, all_of, fault_of, one_of, subcommand_of}
 use Rattle.mdns_browse.specs.declared.report.Form.{Form}
 use Rattle.mdns_listeners.specs.Groups.{unfit_prefix}
 use Rattle.command_line.specs.declared.{line.Takes.{Takes}, lists.Lists.{Lists}, option_fault.OptionFault.{OptionFault}}
 use Rattle.command_line.specs.{declared.options.ConflictingFlags.{ConflictingFlags}, declared.options.Options.{Options}, Line.{AsksForm}}
 use Rattle.command_line.specs.Line.{AsksOneOf, Flags, GivesForm, GivesForms, HasLists, HasOneForm, HasOptions, HasText, IsGiven, Matches}
-use Rattle.command_line.specs.{Line.{Table, words_of}, CommandLine.{GivesAfter, GivesNoFile, GivesTwo, HasUnfit, both_given, form_flags}}
-use Rattle.command_line.specs.{CommandLine.{no_file}, OptionFault.{MakesNoForm, option_fault_text}}
+use Rattle.command_line.specs.{Line.{Table, words_of}, CommandLine.{GivesAfter, GivesNoInquiry, GivesNoWindow, GivesTwo, HasUnfit}}
+use Rattle.command_line.specs.{CommandLine.{IsRefusedFor, both_given, form_flags, no_file}, Faults.{IsRefusal, IsUnasked}}
+use Rattle.command_line.specs.OptionFault.{MakesNoForm, MakesNoInquiry, MakesNoWindow, option_fault_text, text_of}
+use Rattle.command_line.specs.declared.words.{WordsFault.{WordsFault}, WordsFault.TheVariants.{Memory, Help, Refused}}
+use Rattle.command_line.specs.declared.words.AskFault.TheVariants.{Words}
 use Rattle.command_line.specs.declared.line.Takes.TheVariants as takes
 use Rattle.command_line.specs.declared.option_fault.OptionFault.TheVariants as option_fault
 
@@ -131,7 +134,7 @@ all-known (row ∷ table) are name rows asked (inl own) =
     known rows row.1 asked.1 (within rows row.1 (ap (λ (all : List Flags). get_or all 0 []) are)) own.2
 all-known (row ∷ table) are name rows asked (inr own) = all-known table (ap (λ (all : List Flags). drop 1 all) are) name rows asked own
 
--- ---- options that make no form
+-- ---- options that make no inquiry
 
 -- the line of the prefix at a place
 unfit-line : (program : Text) (prefixes : List Text) (at : Option ℕ) (name prefix line : Text)
@@ -141,10 +144,10 @@ unfit-line program prefixes None name prefix line unfit is = absurd unfit
 unfit-line program prefixes (Some i) name prefix line unfit is = is ∙ ap₂ (no_file program) unfit.0 unfit.1
 
 -- two flags that ask for forms are refused, and a prefix that fits no file
-pub form-refused : (program : Text) (options : Options) (lists : Lists) (names : List Text) (option_fault : OptionFault)
+form-refused : (program : Text) (options : Options) (lists : Lists) (names : List Text) (option_fault : OptionFault)
     → MakesNoForm options lists names option_fault → (rows : List Row) → Known rows options → HasLists rows lists
     → all_of (codes "FILE") rows ≡ Some names → (line : Text) → line ≡ option_fault_text program option_fault
-    → GivesTwo program form_flags rows line ⊎ GivesNoFile program rows line
+    → GivesNoInquiry program rows line
 form-refused program options lists names (option_fault.ConflictingFlags both) none rows has given files line is =
     inl (gives-two program form_flags rows both (has.2 both none) line is)
 form-refused program options lists names (option_fault.NoMoment flag text) none rows has given files line is = absurd none
@@ -154,5 +157,39 @@ form-refused program options lists names (option_fault.NoFile flag prefix) none 
     let unfit = unfit-line program listeners (unfit_prefix listeners names) flag.now prefix.now line none is in
     let own = words_of (codes "listener") rows in
     let of_rows = subst (λ (prefixes : List Text). HasUnfit program prefixes (unfit_prefix prefixes names) line) given.listeners unfit in
-    inr (subst (λ (all : List Text). HasUnfit program own (unfit_prefix own all) line)
-    (sym (ap (λ (all : Option (List Text)). unwrap_or all []) files)) of_rows)
+    inr (inl (subst (λ (all : List Text). HasUnfit program own (unfit_prefix own all) line)
+    (sym (ap (λ (all : Option (List Text)). unwrap_or all []) files)) of_rows))
+
+-- so is each text that names no moment, and a window without one
+pub inquiry-refused : (program : Text) (options : Options) (lists : Lists) (names : List Text) (option_fault : OptionFault)
+    → MakesNoInquiry options lists names option_fault → (rows : List Row) → Known rows options → HasLists rows lists
+    → all_of (codes "FILE") rows ≡ Some names → (line : Text) → line ≡ option_fault_text program option_fault
+    → GivesNoInquiry program rows line
+inquiry-refused program options lists names option_fault (inl none) rows has given files line is =
+    form-refused program options lists names option_fault none rows has given files line is
+inquiry-refused program options lists names option_fault (inr none) rows has given files line is =
+    inr (inr (subst₂ (λ (since until : Option Text). GivesNoWindow program since until line) has.3 has.4
+    (subst (GivesNoWindow program (text_of options.since) (text_of options.until)) (sym is) (go none))))
+  where
+    go : MakesNoWindow (text_of options.since) (text_of options.until) option_fault
+        → GivesNoWindow program (text_of options.since) (text_of options.until) (option_fault_text program option_fault)
+    go (inl since) = inl (since program)
+    go (inr (inl until)) = inr (inl (until program))
+    go (inr (inr empty)) = inr (inr (empty program))
+
+-- such words are refused, in which clap finds no fault
+pub refused-for : {A : Type 0} (Asks : Text → List Row → A → Type 0) (Why : List Row → Text → Type 0) (why : Text) (line : App)
+    (words : List Text) (asked : A) (names : List Text) (fault : WordsFault) → fault_of line words ≡ []
+    → Matches Asks (subcommand_of line words) asked names
+    → ((name : Text) (rows : List Row) → Asks name rows asked → all_of (codes "FILE") rows ≡ Some names → (text : Text) → text ≡ why
+    → Why rows text)
+    → IsRefusal why fault → IsUnasked (fault_of line words) (Words fault) ⊎ IsRefusedFor Why line words (Words fault)
+refused-for Asks Why why line words asked names Memory none is_asked refuses is = inl tt
+refused-for Asks Why why line words asked names (Help text) none is_asked refuses is = absurd is
+refused-for Asks Why why line words asked names (Refused text) none is_asked refuses is =
+    inr (none, go (subcommand_of line words) is_asked)
+  where
+    go : (matched : Option (Text × List Row)) → Matches Asks matched asked names
+        → IsSomeAnd matched (λ (m : Text × List Row). Why m.1 (string_bytes text))
+    go None is_asked = absurd is_asked
+    go (Some m) is_asked = refuses m.0 m.1 is_asked.0 is_asked.1 (string_bytes text) is

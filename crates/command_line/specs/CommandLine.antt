@@ -3,6 +3,7 @@ use Rattle.std.specs.Prelude.{◌≡◌, ◌⊎◌, ⊤, ◌&&◌, ◌++◌, ◌
 use Rattle.std.specs.{Prelude.{map, ℕ, if◌then◌else◌, nat_le, slice_index_or, string_bytes, true, false, []}, List.{list_all}}
 use Rattle.clap.specs.Words.{App, Row, Text, fault_of, first_of, one_of, subcommand_of}
 use Rattle.mdns_capture.specs.declared.moment.Moment.{Moment}
+use Rattle.mdns_lives.specs.{Window.{is_reversed}, declared.window.Window.{Window}}
 use Rattle.mdns_lives.specs.declared.life.Which.TheVariants as which
 use Rattle.mdns_browse.specs.declared.report.{Ask.{Ask}, Form.{Form}}
 use Rattle.mdns_browse.specs.declared.report.Ask.TheVariants as ask
@@ -11,7 +12,7 @@ use Rattle.mdns_survey.specs.declared.request.{What.{What}, AsOf.{AsOf}, AsOf.Th
 use Rattle.mdns_survey.specs.declared.request.What.TheVariants as what
 use Rattle.mdns_survey.specs.declared.request.Request.TheVariants as request
 use Rattle.mdns_listeners.specs.Groups.{unfit_prefix}
-use Rattle.mdns_trace.specs.{declared.inquiry.Inquiry.{Inquiry}, Window.{is_reversed}, declared.window.Window.{Window}}
+use Rattle.mdns_trace.specs.declared.inquiry.Inquiry.{Inquiry}
 use Rattle.mdns_trace.specs.declared.inquiry.Inquiry.TheVariants as inquiry
 use Rattle.mdns_trace.specs.declared.inquiry.Trace.TheVariants as trace
 use Rattle.command_line.specs.declared.{line.Takes.{Takes}, mdnsmerge.Asks.{Asks}, mdnsmerge.Scope.{Scope}, words.WhyAsks.{WhyAsks}}
@@ -55,43 +56,71 @@ word_flags = about_flag ∷ printers_flag ∷ []
 abbrev pub common_forms : Flags
 common_forms = (codes "json", takes.Nothing form.Json) ∷ []
 
--- those of the forms for people, and all flags that ask for a form
+-- those, and the flag of the form for people
 abbrev pub people_forms : Flags
-people_forms = (codes "pretty", takes.Nothing form.Pretty) ∷ []
+people_forms = common_forms ++ (codes "pretty", takes.Nothing form.Pretty) ∷ []
 
+-- all flags that ask for a form: those, and the flag of the form for spreadsheets
 abbrev pub form_flags : Flags
-form_flags = common_forms ++ people_forms
+form_flags = people_forms ++ (codes "csv", takes.Nothing form.Csv) ∷ []
 
 -- the flags of a report that `told` reads
 abbrev pub told_flags : Flags
 told_flags = (codes "at", takes.Seconds) ∷ []
 
--- the flags of what is written in a form, as of a moment
+-- the flags of a report
 abbrev pub report_flags : Flags
 report_flags = at_flag ∷ before_flag ∷ (word_flags ++ skip_flag ∷ form_flags)
 
--- the flags of the page, which has one form, as of a moment
-abbrev pub page_flags : Flags
-page_flags = at_flag ∷ before_flag ∷ (word_flags ++ listener_flag ∷ skip_flag ∷ [])
+-- the flags of lives and of changes
+abbrev pub lives_flags : Flags
+lives_flags = at_flag ∷ before_flag ∷ (window_flags ++ (word_flags ++ skip_flag ∷ form_flags))
 
--- the flags of the hearings and of the packets; those of the spans are `form_flags`, and those of the files `common_forms`
+-- the flags of the page, which has one form
+abbrev pub page_flags : Flags
+page_flags = at_flag ∷ before_flag ∷ (window_flags ++ (word_flags ++ listener_flag ∷ skip_flag ∷ []))
+
+-- the flags of the hearings and of the packets; those of the spans are `people_forms`, and those of the files `common_forms`
 abbrev pub hearings_flags : Flags
 hearings_flags = window_flags ++ (word_flags ++ form_flags)
 
 abbrev pub packets_flags : Flags
-packets_flags = window_flags ++ form_flags
+packets_flags = window_flags ++ people_forms
 
 -- the flags of what is written of listeners
 abbrev pub listeners_flags : Flags
-listeners_flags = listener_flag ∷ form_flags
+listeners_flags = listener_flag ∷ people_forms
+
+-- ---- the moments
+
+-- the text is given, and names the moment
+abbrev pub Names : Option Text → Moment → Type 0
+Names None moment = ⊥
+Names (Some text) moment = IsMomentText text moment
+
+-- as of the newest hearing, or of the moment that the text of `--at` or of `--before` names
+abbrev pub GivesAsOf : Option Text → Option Text → AsOf → Type 0
+GivesAsOf at before Newest = (at ≡ None) × (before ≡ None)
+GivesAsOf at before (At moment) = Names at moment × (before ≡ None)
+GivesAsOf at before (Before moment) = (at ≡ None) × Names before moment
+
+-- a bound of the window is the moment that the text names, and there is none without a text
+abbrev pub IsBound : Option Text → Option Moment → Type 0
+IsBound text None = text ≡ None
+IsBound text (Some moment) = Names text moment
+
+-- the texts of `--since` and of `--until` give this window, whose bounds are reversed or not
+abbrev pub GivesWindow : Option Text → Option Text → Bool → Window → Type 0
+GivesWindow since until reversed window = IsBound since window.since × IsBound until window.until
+    × (is_reversed window.since window.until ≡ reversed)
 
 -- ---- `mdnsmerge`
 
--- the subcommand of each report
+-- the subcommand of each report that `told` reads
 abbrev pub reports : List (Text × Ask)
 reports = (codes "records", ask.Records) ∷ (codes "types", ask.Types) ∷ (codes "instances", ask.Instances) ∷ []
 
--- the subcommands that `told` reads: the reports, and the check
+-- these, and the check
 abbrev pub whats : Table (Option Ask)
 whats = map (λ row. (row.0, told_flags, Some row.1)) reports ++ (codes "check", [], None) ∷ []
 
@@ -102,8 +131,9 @@ command_line = line_with (codes "mdnsmerge") false whats
 -- the subcommands that `asked` reads
 abbrev pub tasks : Table Asks
 tasks = map (λ row. (row.0, report_flags, asks.Report row.1)) reports
-    ++ (codes "lives", report_flags, asks.Lives which.All)
-    ∷ (codes "changes", report_flags, asks.Lives which.Changes)
+    ++ (codes "hosts", report_flags, asks.Report ask.Hosts)
+    ∷ (codes "lives", lives_flags, asks.Lives which.All)
+    ∷ (codes "changes", lives_flags, asks.Lives which.Changes)
     ∷ (codes "page", page_flags, asks.Page)
     ∷ (codes "check", skip_flag ∷ [], asks.Check) ∷ []
 
@@ -123,21 +153,11 @@ MakesWhat flags rows own asked = (at : Option Moment) × HasSeconds flags rows a
 abbrev pub AsksWhat : Text → List Row → What → Type 0
 AsksWhat = AsksOneOf MakesWhat whats
 
--- the text is given, and names the moment
-abbrev pub Names : Option Text → Moment → Type 0
-Names None moment = ⊥
-Names (Some text) moment = IsMomentText text moment
-
--- as of the newest hearing, or of the moment that the text of `--at` or of `--before` names
-abbrev pub GivesAsOf : Option Text → Option Text → AsOf → Type 0
-GivesAsOf at before Newest = (at ≡ None) × (before ≡ None)
-GivesAsOf at before (At moment) = Names at moment × (before ≡ None)
-GivesAsOf at before (Before moment) = (at ≡ None) × Names before moment
-
--- the form, the moment and the words that these flags give, and whether files that can't be used are left out
+-- the form, the moments and the words that these flags give, and whether files that can't be used are left out
 abbrev pub GivesScope : Flags → List Row → Scope → Type 0
 GivesScope flags rows scope = HasForm flags rows scope.form
     × GivesAsOf (first_of (codes "at") rows) (first_of (codes "before") rows) scope.as_of
+    × GivesWindow (first_of (codes "since") rows) (first_of (codes "until") rows) false scope.window
     × HasLists rows scope.lists
     × IsFlag (one_of (codes "skip-unusable") rows) scope.skip_unusable
 
@@ -145,15 +165,20 @@ GivesScope flags rows scope = HasForm flags rows scope.form
 abbrev pub task_of : Asks → Scope → Task
 task_of (asks.Report ask) scope =
     Survey (request.Report (record { ask = ask; form = scope.form; as_of = scope.as_of; about = scope.lists.about }))
-task_of (asks.Lives which) scope =
-    Survey (request.Lives (record { which = which; form = scope.form; as_of = scope.as_of; about = scope.lists.about }))
-task_of asks.Page scope = Page scope.as_of scope.lists.about scope.lists.listeners
+task_of (asks.Lives which) scope = Survey (request.Lives (record {
+  which = which;
+  form = scope.form;
+  as_of = scope.as_of;
+  window = scope.window;
+  about = scope.lists.about;
+}))
+task_of asks.Page scope = Page scope.as_of scope.window scope.lists.about scope.lists.listeners
 task_of asks.Check scope = Survey request.Check
 
 -- each prefix of a listener fits one of the files
 abbrev pub HasFitting : Task → List Text → Type 0
 HasFitting (Survey request) names = ⊤
-HasFitting (Page as_of about listeners) names = unfit_prefix (map string_bytes listeners.items) names ≡ None
+HasFitting (Page as_of window about listeners) names = unfit_prefix (map string_bytes listeners.items) names ≡ None
 
 abbrev pub job_of : Asks → Scope → Job
 job_of own scope = record { task = task_of own scope; skip_unusable = scope.skip_unusable }
@@ -165,6 +190,39 @@ MakesJob flags rows own job = (scope : Scope) × GivesScope flags rows scope × 
 -- a subcommand with these matches asks for this
 abbrev pub AsksJob : Text → List Row → Job → Type 0
 AsksJob = AsksOneOf MakesJob tasks
+
+-- ---- `mdnswhy`
+
+-- the subcommands, each with what it asks for where no flag asks for a form
+abbrev pub inquiries : Table Inquiry
+inquiries = (codes "hearings", hearings_flags, inquiry.Trace (trace.Hearings form.Lines))
+    ∷ (codes "packets", packets_flags, inquiry.Trace (trace.Packets form.Lines))
+    ∷ (codes "spans", people_forms, inquiry.Trace (trace.Spans form.Lines))
+    ∷ (codes "files", common_forms, inquiry.Files form.Lines)
+    ∷ (codes "listeners", listeners_flags, inquiry.Listeners form.Lines) ∷ []
+
+-- the command line of `mdnswhy`
+abbrev pub why_line : App
+why_line = line_with (codes "mdnswhy") true inquiries
+
+-- the same in a form
+abbrev pub in_form : Inquiry → Form → Inquiry
+in_form (inquiry.Trace (trace.Hearings own)) form = inquiry.Trace (trace.Hearings form)
+in_form (inquiry.Trace (trace.Packets own)) form = inquiry.Trace (trace.Packets form)
+in_form (inquiry.Trace (trace.Spans own)) form = inquiry.Trace (trace.Spans form)
+in_form (inquiry.Files own) form = inquiry.Files form
+in_form (inquiry.Listeners own) form = inquiry.Listeners form
+
+-- what a subcommand asks for, in the form that its flags ask for
+abbrev pub MakesInquiry : Flags → List Row → Inquiry → Inquiry → Type 0
+MakesInquiry flags rows own asked = (form : Form) × HasForm flags rows form × (asked ≡ in_form own form)
+
+-- a subcommand with these matches asks for this
+abbrev pub AsksWhy : Text → List Row → WhyAsks → Type 0
+AsksWhy name rows asks = AsksOneOf MakesInquiry inquiries name rows asks.inquiry × HasLists rows asks.lists
+    × GivesWindow (first_of (codes "since") rows) (first_of (codes "until") rows) false asks.window
+
+-- ---- refusals
 
 -- clap finds no fault in the words, but they are refused with this line, since the matches are such
 abbrev pub IsRefusedFor : (List Row → Text → Type 0) → App → List Text → AskFault → Type 0
@@ -216,47 +274,6 @@ abbrev pub GivesNoMoment : Text → List Row → Text → Type 0
 GivesNoMoment program rows line =
     NamesNone program (codes "at") (codes "before") rows line ⊎ NamesNone program (codes "before") (codes "at") rows line
 
--- ---- `mdnswhy`
-
--- the subcommands, each with what it asks for where no flag asks for a form
-abbrev pub inquiries : Table Inquiry
-inquiries = (codes "hearings", hearings_flags, inquiry.Trace (trace.Hearings form.Lines))
-    ∷ (codes "packets", packets_flags, inquiry.Trace (trace.Packets form.Lines))
-    ∷ (codes "spans", form_flags, inquiry.Trace (trace.Spans form.Lines))
-    ∷ (codes "files", common_forms, inquiry.Files form.Lines)
-    ∷ (codes "listeners", listeners_flags, inquiry.Listeners form.Lines) ∷ []
-
--- the command line of `mdnswhy`
-abbrev pub why_line : App
-why_line = line_with (codes "mdnswhy") true inquiries
-
--- the same in a form
-abbrev pub in_form : Inquiry → Form → Inquiry
-in_form (inquiry.Trace (trace.Hearings own)) form = inquiry.Trace (trace.Hearings form)
-in_form (inquiry.Trace (trace.Packets own)) form = inquiry.Trace (trace.Packets form)
-in_form (inquiry.Trace (trace.Spans own)) form = inquiry.Trace (trace.Spans form)
-in_form (inquiry.Files own) form = inquiry.Files form
-in_form (inquiry.Listeners own) form = inquiry.Listeners form
-
--- what a subcommand asks for, in the form that its flags ask for
-abbrev pub MakesInquiry : Flags → List Row → Inquiry → Inquiry → Type 0
-MakesInquiry flags rows own asked = (form : Form) × HasForm flags rows form × (asked ≡ in_form own form)
-
--- a bound of the window is the moment that the text names, and there is none without a text
-abbrev pub IsBound : Option Text → Option Moment → Type 0
-IsBound text None = text ≡ None
-IsBound text (Some moment) = Names text moment
-
--- the texts of `--since` and of `--until` give this window, whose bounds are reversed or not
-abbrev pub GivesWindow : Option Text → Option Text → Bool → Window → Type 0
-GivesWindow since until reversed window = IsBound since window.since × IsBound until window.until
-    × (is_reversed window.since window.until ≡ reversed)
-
--- a subcommand with these matches asks for this
-abbrev pub AsksWhy : Text → List Row → WhyAsks → Type 0
-AsksWhy name rows asks = AsksOneOf MakesInquiry inquiries name rows asks.inquiry × HasLists rows asks.lists
-    × GivesWindow (first_of (codes "since") rows) (first_of (codes "until") rows) false asks.window
-
 -- the option of that name is given, its text names no moment, and so says the line
 abbrev pub IsNoBound : Text → Text → Option Text → Text → Type 0
 IsNoBound program name given line = (text : Text) × (given ≡ Some text)
@@ -291,3 +308,8 @@ GivesNoFile program rows line =
 abbrev pub GivesNoInquiry : Text → List Row → Text → Type 0
 GivesNoInquiry program rows line = GivesTwo program form_flags rows line ⊎ GivesNoFile program rows line
     ⊎ GivesNoWindow program (first_of (codes "since") rows) (first_of (codes "until") rows) line
+
+-- the same, or they don't say as of when
+abbrev pub GivesNoTask : Text → List Row → Text → Type 0
+GivesNoTask program rows line = GivesNoInquiry program rows line ⊎ GivesBoth program at_flag before_flag rows line
+    ⊎ GivesNoMoment program rows line

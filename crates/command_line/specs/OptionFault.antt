@@ -3,6 +3,7 @@ use Rattle.std.specs.Prelude.{◌≡◌, ◌≢◌, ◌⊎◌, List, [], Option,
 use Rattle.std.specs.{Prelude.{option_map, slice_index_or, string_bytes}, Borrow.{Bor}}
 use Rattle.clap.specs.Words.{Text}
 use Rattle.mdns_capture.specs.declared.moment.Moment.{Moment}
+use Rattle.mdns_lives.specs.declared.window.Window.{Window}
 use Rattle.mdns_browse.specs.declared.report.Form.{Form}
 use Rattle.mdns_survey.specs.declared.request.AsOf.{AsOf}
 use Rattle.mdns_listeners.specs.Groups.{unfit_prefix}
@@ -10,14 +11,9 @@ use Rattle.command_line.specs.declared.{lists.Lists.{Lists}, options.Options.{Op
 use Rattle.command_line.specs.CommandLine.{GivesAsOf, GivesWindow, IsEmptyWindow, IsNoBound, both_given, empty_window, no_file, no_moment}
 use Rattle.command_line.specs.Moments.{IsMomentText}
 use Rattle.command_line.specs.declared.option_fault.OptionFault.TheVariants as option_fault
-use Rattle.mdns_trace.specs.declared.window.Window.{Window}
 
 abbrev pub text_of : Option (Bor Text) → Option Text
 text_of = option_map (λ t. t.now)
-
--- these options give the form, and say as of when
-abbrev pub MakesFormAsOf : Options → Form × AsOf → Type 0
-MakesFormAsOf options made = (options.form ≡ Ok made.0) × GivesAsOf (text_of options.at) (text_of options.before) made.1
 
 -- this text is given by the option of this name, and by no other
 abbrev pub IsAlone : Text → Text → Options → Type 0
@@ -38,6 +34,11 @@ MakesNoAsOf options (option_fault.NoFile name prefix) = ⊥
 abbrev pub MakesFormWindow : Options → Form × Window → Type 0
 MakesFormWindow options made = (options.form ≡ Ok made.0) × GivesWindow (text_of options.since) (text_of options.until) false made.1
 
+-- and say as of when
+abbrev pub MakesBounds : Options → Form × Window × AsOf → Type 0
+MakesBounds options made =
+    MakesFormWindow options (made.0, made.1) × GivesAsOf (text_of options.at) (text_of options.before) made.2
+
 -- for this reason the options, with these words, make no form on these files
 abbrev pub MakesNoForm : Options → Lists → List Text → OptionFault → Type 0
 MakesNoForm options lists names (option_fault.ConflictingFlags both) = options.form ≡ Err both
@@ -46,10 +47,6 @@ MakesNoForm options lists names option_fault.EmptyWindow = ⊥
 MakesNoForm options lists names (option_fault.NoFile name prefix) =
     IsSomeAnd (unfit_prefix (map string_bytes lists.listeners.items) names) (λ at.
     (name.now ≡ codes "listener") × (prefix.now ≡ slice_index_or (map string_bytes lists.listeners.items) at []))
-
--- for one of these reasons they make no task
-abbrev pub MakesNone : Options → Lists → List Text → OptionFault → Type 0
-MakesNone options lists names option_fault = MakesNoForm options lists names option_fault ⊎ MakesNoAsOf options option_fault
 
 -- the error line of a program of that name
 abbrev pub option_fault_text : Text → OptionFault → Text
@@ -72,3 +69,7 @@ MakesNoWindow since until option_fault = HasLine (λ program. IsNoBound program 
 abbrev pub MakesNoInquiry : Options → Lists → List Text → OptionFault → Type 0
 MakesNoInquiry options lists names option_fault =
     MakesNoForm options lists names option_fault ⊎ MakesNoWindow (text_of options.since) (text_of options.until) option_fault
+
+-- for one of these reasons they make no task
+abbrev pub MakesNoTask : Options → Lists → List Text → OptionFault → Type 0
+MakesNoTask options lists names option_fault = MakesNoInquiry options lists names option_fault ⊎ MakesNoAsOf options option_fault

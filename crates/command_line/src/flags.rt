@@ -29,7 +29,7 @@ pub(crate) const SINCE: Flag = Flag {
     name: "since",
     takes: Takes::Moment,
     value: "MOMENT",
-    help: "From then on: seconds since 1970, or date, time and zone",
+    help: "On or after seconds since 1970 or date, time and zone",
 };
 
 pub(crate) const UNTIL: Flag = Flag {
@@ -101,20 +101,45 @@ const PRETTY: Flag = Flag {
     help: "Readable columns, for people",
 };
 
-/// The flags of what is written in a form, as of a moment.
+const CSV: Flag = Flag {
+    name: "csv",
+    takes: Takes::Nothing(Form::Csv),
+    value: "",
+    help: "Comma-separated values, for a spreadsheet",
+};
+
+/// The flags of a report.
 pub(crate) const REPORT_FLAGS: &[Flag] = with_forms!(
     [AT, BEFORE, ABOUT, PRINTERS, SKIP_UNUSABLE],
-    [PRETTY]
+    [PRETTY, CSV]
 );
 
-/// The flags of the page, which has one form, as of a moment.
-pub(crate) const PAGE_FLAGS: &[Flag] = &[AT, BEFORE, ABOUT, PRINTERS, LISTENER, SKIP_UNUSABLE];
+/// The flags of lives and of changes.
+pub(crate) const LIVES_FLAGS: &[Flag] = with_forms!(
+    [AT, BEFORE, SINCE, UNTIL, ABOUT, PRINTERS, SKIP_UNUSABLE],
+    [PRETTY, CSV]
+);
+
+/// The flags of the page, which has one form.
+pub(crate) const PAGE_FLAGS: &[Flag] = &[
+    AT,
+    BEFORE,
+    SINCE,
+    UNTIL,
+    ABOUT,
+    PRINTERS,
+    LISTENER,
+    SKIP_UNUSABLE,
+];
 
 /// The flags of `check`.
 pub(crate) const CHECK_FLAGS: &[Flag] = &[SKIP_UNUSABLE];
 
 /// The flags of `hearings`.
-pub(crate) const HEARINGS_FLAGS: &[Flag] = with_forms!([SINCE, UNTIL, ABOUT, PRINTERS], [PRETTY]);
+pub(crate) const HEARINGS_FLAGS: &[Flag] = with_forms!(
+    [SINCE, UNTIL, ABOUT, PRINTERS],
+    [PRETTY, CSV]
+);
 
 /// The flags of `packets`.
 pub(crate) const PACKETS_FLAGS: &[Flag] = with_forms!([SINCE, UNTIL], [PRETTY]);

@@ -1,5 +1,5 @@
-//! What `--help` says besides the usage and the options: what is answered, an example, the exit statuses, and how to
-//! get captures. A page is one screen, of at most 24 lines of 80 columns.
+//! What `--help` says besides the usage and the options: what is answered, an example, and the exit statuses. A page is one screen,
+//! of at most 24 lines of 80 columns.
 
 /// The texts of one page.
 #[derive(Clone, Copy)]
@@ -15,9 +15,7 @@ macro_rules! page {
     ($own:literal) => {
         concat!(
             $own,
-            "\n\n\
-Exit: 0 printed; 1 printed, but a file is damaged; 2 refused (run mdnswhy files)
-To record: tcpdump -i eth0 -U -w a.pcap udp port 5353"
+            "\n\nExit: 0 printed; 1 printed, but a file is damaged; 2 refused (run mdnswhy files)"
         )
     };
 }
@@ -29,7 +27,8 @@ pub const PROGRAM: HelpText = HelpText {
         "\
 Captures by several listeners that share one clock count as one:
     mdnsmerge instances west.pcap east.pcap
-`mdnsmerge COMMAND --help` says more of each command."
+`mdnsmerge COMMAND --help` says more of each command. To record:
+    tcpdump -i eth0 -U -w a.pcap udp port 5353"
     ),
 };
 
@@ -69,14 +68,24 @@ Live as of the newest hearing, or of --at, which may not be earlier:
     ),
 };
 
+/// `mdnsmerge hosts --help`.
+pub const HOSTS: HelpText = HelpText {
+    about: "The hosts that were live, with their addresses",
+    more: page!(
+        "\
+Live as of the newest hearing, or of --at, which may not be earlier. A line is
+HOST ADDRESS...; --pretty and --json also list the instances on each host:
+    mdnsmerge hosts west.pcap east.pcap
+    elm.local 198.51.100.22 2001:0db8:0077:0000:0000:0000:0000:0016 ..."
+    ),
+};
+
 /// `mdnsmerge lives --help`.
 pub const LIVES: HelpText = HelpText {
     about: "When each record was live, and why it ended, a line for each life",
     more: page!(
         "\
-A line says when a record was live, and how that ended: `goodbye`, `flushed`,
-`expired`, or `live` past the last packet, or past --at or --before:
-    mdnsmerge lives west.pcap east.pcap
+A life ended by `goodbye`, `flushed` or `expired`, or is `live` past the end:
     doum.local A 198.51.100.21 from 1795332398.060651000 ttl 120 ... flushed"
     ),
 };
@@ -87,9 +96,7 @@ pub const CHANGES: HelpText = HelpText {
     more: page!(
         "\
 All `lives` of a name and type if a record came, or came back, after another:
-    mdnsmerge changes west.pcap east.pcap
-    doum.local A 198.51.100.21 from 1795332398.060651000 ttl 120 ... flushed
-    doum.local A 198.51.100.121 from 1795332432.917026000 ttl 0 ... goodbye"
+    mdnsmerge changes --pretty --since 2026-11-22T07:00Z west.pcap east.pcap"
     ),
 };
 
@@ -99,9 +106,8 @@ pub const HTML_PAGE: HelpText = HelpText {
     more: page!(
         "\
 A picture and words say when each service instance was live, and how that ended.
-The page also has what was live at the end, which is that of `lives`, and a lane
-and a row of Captures for each file, or for all files of a --listener. It is one
-file without scripts; open it in any browser, or print it to PDF from there:
+The page also has what was live at the end, as `lives` has it, and a lane and a
+row of Captures for each file or --listener. It is one file for any browser:
     mdnsmerge page west.pcap east.pcap > ticket.html"
     ),
 };
@@ -125,8 +131,8 @@ pub const WHY: HelpText = HelpText {
         "\
 Captures by several listeners, sorted, are the history of a name:
     mdnswhy hearings --pretty --about elm.local west.pcap east.pcap | sort
-
-`mdnswhy COMMAND --help` says more of each command."
+`mdnswhy COMMAND --help` says more of each command. To record:
+    tcpdump -i eth0 -U -w a.pcap udp port 5353"
     ),
 };
 

@@ -2,24 +2,24 @@
 
 ghost use Rattle.std.specs.Prelude.{◌≡◌, ◌≢◌, ◌⊎◌, [], IfErr, IfOk, None, codes, map, string_bytes};
 ghost use Rattle.clap.specs.Words.{fault_of};
-ghost use Rattle.command_line.specs.{Line.{IsAsked}, Faults.{IsUnasked, IsUntold}};
-ghost use Rattle.command_line.specs.CommandLine.{AsksJob, AsksWhat, GivesAsOf, GivesBoth, GivesNoFile, GivesNoMoment, GivesTwo, HasFitting};
-ghost use Rattle.command_line.specs.CommandLine.{IsRefusedFor, at_flag, before_flag, command_line, command_line_with_past, form_flags};
-ghost use Rattle.command_line.specs.{CommandLine.{job_of, task_of, what_of}, OptionFault.{MakesFormAsOf, MakesNoAsOf, MakesNone, text_of}};
+ghost use Rattle.command_line.specs.{Line.{IsAsked}, Faults.{IsUnasked, IsUntold}, CommandLine.{AsksJob, AsksWhat, GivesAsOf, GivesNoTask}};
+ghost use Rattle.command_line.specs.CommandLine.{HasFitting, IsRefusedFor, command_line, command_line_with_past, job_of, task_of, what_of};
+ghost use Rattle.command_line.specs.OptionFault.{MakesBounds, MakesNoAsOf, MakesNoTask, text_of};
 ghost use Rattle.mdns_listeners.specs.Groups.{unfit_prefix};
 
-use crate::flags::{AT, AT_SECONDS, BEFORE, CHECK_FLAGS, PAGE_FLAGS, REPORT_FLAGS};
+use crate::flags::{AT, AT_SECONDS, BEFORE, CHECK_FLAGS, LIVES_FLAGS, PAGE_FLAGS, REPORT_FLAGS};
 use crate::help;
 use crate::line::{CommandTable, Subcommand};
 use crate::lists::Lists;
 use crate::moments::moment_of_text;
-use crate::option_fault::{OptionFault, form_of, refusal_of};
+use crate::option_fault::{OptionFault, refusal_of};
 use crate::options::{ConflictingFlags, Options};
 use crate::read::read;
+use crate::window::form_and_window;
 use crate::words::{AskFault, Asked, Job, Task, Told, WordsFault};
 use mdns_browse::report::{Ask, Form};
 use mdns_capture::Moment;
-use mdns_survey::request::{AsOf, LivesRequest, ReportRequest, Request, What, Which};
+use mdns_survey::request::{AsOf, LivesRequest, ReportRequest, Request, What, Which, Window};
 use std::alloc::Global;
 
 /// What a subcommand of `asked` asks for.
@@ -36,11 +36,12 @@ enum Asks {
 struct Scope {
     form: Form,
     as_of: AsOf,
+    window: Window,
     lists: Lists,
     skip_unusable: bool,
 }
 
-/// The subcommands: the reports, which take `$flags`, the `$other` ones, and `check`, which takes `$check_flags`. `$report` turns
+/// The subcommands: the reports of `told`, which take `$flags`, the `$other` ones, and `check`, which takes `$check_flags`. `$report` turns
 /// an `Ask` into what the subcommand asks for.
 macro_rules! subcommands {
     ($flags:expr, $report:path, [$($other:expr),*], $check_flags:expr, $check:expr) => {
@@ -92,15 +93,21 @@ const ASKED: CommandTable<Asks> = CommandTable {
         Asks::Report,
         [
             Subcommand {
+                name: "hosts",
+                page: help::HOSTS,
+                flags: REPORT_FLAGS,
+                asks: Asks::Report(Ask::Hosts),
+            },
+            Subcommand {
                 name: "lives",
                 page: help::LIVES,
-                flags: REPORT_FLAGS,
+                flags: LIVES_FLAGS,
                 asks: Asks::Lives(Which::All),
             },
             Subcommand {
                 name: "changes",
                 page: help::CHANGES,
-                flags: REPORT_FLAGS,
+                flags: LIVES_FLAGS,
                 asks: Asks::Lives(Which::Changes),
             },
             Subcommand {
@@ -165,27 +172,25 @@ fn what_of(ask: Option<Ask>, at: Option<Moment>) -> What
 ///
 /// It is a subcommand and its flags, and then one or more files. Each subcommand takes `--skip-unusable`. One whose answer
 /// depends on a moment takes `--at` or `--before`, `--about WORD`, any number of times, and `--printers`; one that has several
-/// forms also the flag of a form, and `page` also `--listener PREFIX`, any number of times. `--version` asks for the version.
+/// forms also the flag of a form, `lives`, `changes` and `page` also `--since` and `--until`, and `page` also `--listener PREFIX`,
+/// any number of times. `--version` asks for the version.
 ///
-/// `--at MOMENT` and `--before MOMENT` take seconds since 1970, with up to nine digits of a fraction, or a date and time of RFC
-/// 3339 with its zone; a space may be in place of the `T`, and the second may be left out. A leap second, `23:59:60`, names no
-/// moment. A `WORD` that ends in a dot is asked about with it and without it.
+/// A `MOMENT` is seconds since 1970, with up to nine digits of a fraction, or a date and time of RFC 3339 with its zone; a space
+/// may be in place of the `T`, and the second may be left out. A leap second, `23:59:60`, names no moment. A `WORD` that ends in a
+/// dot is asked about with it and without it.
 ///
 /// # Errors
 ///
 /// `Help` where help was asked for, `Version` where the version was, `Refused` where the words are no such command
-/// line, give both moments or two forms, give a text that names no moment, or a prefix with which no file's name begins,
-/// without its folders, and `Memory` where an allocation failed.
+/// line, give both `--at` and `--before` or two forms, give a text that names no moment, moments of which `--since` isn't earlier
+/// than `--until`, or a prefix with which no file's name begins, without its folders, and `Memory` where an allocation failed.
 pub fn asked(alloc: Global, words: Vec<String>) -> Result<Asked<Job>, AskFault>
     ensures asked { IfOk result (IsAsked AsksJob command_line_with_past (map string_bytes words.items)) }
     ensures files { IfOk result (λ asked. asked.names.items ≢ []) }
     ensures fit { IfOk result (λ asked. HasFitting asked.what.task (map string_bytes asked.names.items)) }
     ensures unasked { IfErr result (λ fault.
         IsUnasked (fault_of command_line_with_past (map string_bytes words.items)) fault
-        ⊎ IsRefusedFor (GivesBoth (codes "mdnsmerge") at_flag before_flag) command_line_with_past (map string_bytes words.items) fault
-        ⊎ IsRefusedFor (GivesTwo (codes "mdnsmerge") form_flags) command_line_with_past (map string_bytes words.items) fault
-        ⊎ IsRefusedFor (GivesNoMoment (codes "mdnsmerge")) command_line_with_past (map string_bytes words.items) fault
-        ⊎ IsRefusedFor (GivesNoFile (codes "mdnsmerge")) command_line_with_past (map string_bytes words.items) fault) }
+        ⊎ IsRefusedFor (GivesNoTask (codes "mdnsmerge")) command_line_with_past (map string_bytes words.items) fault) }
 {
     read_asked(alloc, words.as_slice())
 }
@@ -196,21 +201,19 @@ fn read_asked(alloc: Global, words: &[String]) -> Result<Asked<Job>, AskFault>
     ensures fit { IfOk result (λ asked. HasFitting asked.what.task (map string_bytes asked.names.items)) }
     ensures unasked { IfErr result (λ fault.
         IsUnasked (fault_of command_line_with_past (map string_bytes words.now)) fault
-        ⊎ IsRefusedFor (GivesBoth (codes "mdnsmerge") at_flag before_flag) command_line_with_past (map string_bytes words.now) fault
-        ⊎ IsRefusedFor (GivesTwo (codes "mdnsmerge") form_flags) command_line_with_past (map string_bytes words.now) fault
-        ⊎ IsRefusedFor (GivesNoMoment (codes "mdnsmerge")) command_line_with_past (map string_bytes words.now) fault
-        ⊎ IsRefusedFor (GivesNoFile (codes "mdnsmerge")) command_line_with_past (map string_bytes words.now) fault) }
+        ⊎ IsRefusedFor (GivesNoTask (codes "mdnsmerge")) command_line_with_past (map string_bytes words.now) fault) }
 {
     let asked = read(alloc, &ASKED, words)?;
     let ((asks, options), lists) = asked.what;
     let names = asked.names;
-    match form_as_of(options, &lists, names.as_slice()) {
-        Ok((form, as_of)) => Ok(Asked {
+    match bounds_of(options, &lists, names.as_slice()) {
+        Ok((form, window, as_of)) => Ok(Asked {
             what: job_of(
                 asks,
                 Scope {
                     form,
                     as_of,
+                    window,
                     lists,
                     skip_unusable: options.skip_unusable,
                 },
@@ -221,20 +224,20 @@ fn read_asked(alloc: Global, words: &[String]) -> Result<Asked<Job>, AskFault>
     }
 }
 
-// Returns the form and as of when the answer is made, where each prefix fits one of the files.
-fn form_as_of<'a>(
+// Returns the form, the window and as of when the answer is made, where each prefix fits one of the files.
+fn bounds_of<'a>(
     options: Options<'a>,
     lists: &'a Lists,
     names: &[String],
-) -> Result<(Form, AsOf), OptionFault<'a>>
-    ensures ok { IfOk result (MakesFormAsOf options.entry) }
+) -> Result<(Form, Window, AsOf), OptionFault<'a>>
+    ensures ok { IfOk result (MakesBounds options.entry) }
     ensures fit { IfOk result (λ made.
         unfit_prefix (map string_bytes lists.now.listeners.items) (map string_bytes names.now) ≡ None) }
-    ensures err { IfErr result (MakesNone options.entry lists.now (map string_bytes names.now)) }
+    ensures err { IfErr result (MakesNoTask options.entry lists.now (map string_bytes names.now)) }
 {
-    let form = form_of(options, lists, names)?;
+    let (form, window) = form_and_window(options, lists, names)?;
     let as_of = as_of(options)?;
-    Ok((form, as_of))
+    Ok((form, window, as_of))
 }
 
 // Returns what is to be done.
@@ -255,6 +258,7 @@ fn task_of(asks: Asks, scope: Scope) -> Task
     let Scope {
         form,
         as_of,
+        window,
         lists,
         ..
     } = scope;
@@ -270,10 +274,12 @@ fn task_of(asks: Asks, scope: Scope) -> Task
             which,
             form,
             as_of,
+            window,
             about,
         })),
         Asks::Page => Task::Page {
             as_of,
+            window,
             about,
             listeners,
         },

@@ -1,26 +1,20 @@
 //! The command line of `mdnswhy`.
 
-ghost use Rattle.std.specs.Prelude.{◌≡◌, ◌≢◌, ◌⊎◌, [], IfErr, IfOk, None, codes, false, map, string_bytes};
+ghost use Rattle.std.specs.Prelude.{◌≡◌, ◌≢◌, ◌⊎◌, [], IfErr, IfOk, None, codes, map, string_bytes};
 ghost use Rattle.clap.specs.Words.{fault_of};
 ghost use Rattle.command_line.specs.{Line.{IsAsked}, Faults.{IsUnasked}};
-ghost use Rattle.command_line.specs.CommandLine.{AsksWhy, GivesNoInquiry, GivesWindow, IsBound, IsNoBound, IsRefusedFor, in_form, why_line};
-ghost use Rattle.command_line.specs.OptionFault.{HasLine, MakesFormWindow, MakesNoInquiry, MakesNoWindow, text_of};
+ghost use Rattle.command_line.specs.CommandLine.{AsksWhy, GivesNoInquiry, IsRefusedFor, in_form, why_line};
 ghost use Rattle.mdns_listeners.specs.Groups.{unfit_prefix};
 
-use crate::flags::{
-    FILES_FLAGS, HEARINGS_FLAGS, LISTENERS_FLAGS, PACKETS_FLAGS, SINCE, SPANS_FLAGS, UNTIL,
-};
+use crate::flags::{FILES_FLAGS, HEARINGS_FLAGS, LISTENERS_FLAGS, PACKETS_FLAGS, SPANS_FLAGS};
 use crate::help;
 use crate::line::{CommandTable, Subcommand};
-use crate::lists::Lists;
-use crate::moments::moment_of_text;
-use crate::option_fault::{OptionFault, form_of, refusal_of};
-use crate::options::Options;
+use crate::option_fault::refusal_of;
 use crate::read::read;
+use crate::window::form_and_window;
 use crate::words::{AskFault, Asked, WhyAsks};
 use mdns_browse::report::Form;
-use mdns_capture::Moment;
-use mdns_trace::{Inquiry, Trace, Window};
+use mdns_trace::{Inquiry, Trace};
 use std::alloc::Global;
 
 /// The command line, with what each subcommand asks for where no flag asks for a form.
@@ -65,7 +59,7 @@ const WHY_ASKED: CommandTable<Inquiry> = CommandTable {
 /// Reads the words of a command line of `mdnswhy`, of which the first is the program's name.
 ///
 /// It is a subcommand, and then one or more files. All take `--json`, and all but `files` also `--pretty`. `hearings` also
-/// takes `--printers` and `--about WORD`, and `listeners` also `--listener PREFIX`, these two any number of times. `hearings` and
+/// takes `--csv`, `--printers` and `--about WORD`, and `listeners` also `--listener PREFIX`, these two any number of times. `hearings` and
 /// `packets` also take `--since MOMENT` and `--until MOMENT`, with moments as `asked` reads them. `--help` asks for help, and
 /// `--version` for the version.
 ///
@@ -106,55 +100,6 @@ fn read_why(alloc: Global, words: &[String]) -> Result<Asked<WhyAsks>, AskFault>
             names,
         }),
         Err(option_fault) => Err(AskFault::Words(refusal_of(alloc, "mdnswhy", option_fault))),
-    }
-}
-
-// Returns the form and the window, where each prefix fits one of the files.
-fn form_and_window<'a>(
-    options: Options<'a>,
-    lists: &'a Lists,
-    names: &[String],
-) -> Result<(Form, Window), OptionFault<'a>>
-    ensures ok { IfOk result (MakesFormWindow options.entry) }
-    ensures fit { IfOk result (λ made.
-        unfit_prefix (map string_bytes lists.now.listeners.items) (map string_bytes names.now) ≡ None) }
-    ensures err { IfErr result (MakesNoInquiry options.entry lists.now (map string_bytes names.now)) }
-{
-    let form = form_of(options, lists, names)?;
-    match window_of(options) {
-        Ok(window) => Ok((form, window)),
-        Err(option_fault) => Err(option_fault),
-    }
-}
-
-// Returns the window that the options give.
-fn window_of(options: Options<'_>) -> Result<Window, OptionFault<'_>>
-    ensures ok { IfOk result (GivesWindow (text_of options.entry.since) (text_of options.entry.until) false) }
-    ensures err { IfErr result (MakesNoWindow (text_of options.entry.since) (text_of options.entry.until)) }
-{
-    let since = bound_of(SINCE.name, options.since)?;
-    let until = bound_of(UNTIL.name, options.until)?;
-    let window = Window { since, until };
-    if window.is_empty() {
-        return Err(OptionFault::EmptyWindow);
-    }
-    Ok(window)
-}
-
-// Returns the moment that the text of the flag `name` names, if it is given.
-fn bound_of<'a>(
-    name: &'static str,
-    given: Option<&'a str>,
-) -> Result<Option<Moment>, OptionFault<'a>>
-    ensures ok { IfOk result (IsBound (text_of given.entry)) }
-    ensures err { IfErr result (HasLine (λ program. IsNoBound program name.now (text_of given.entry))) }
-{
-    let Some(text) = given else {
-        return Ok(None);
-    };
-    match moment_of_text(text) {
-        Some(moment) => Ok(Some(moment)),
-        None => Err(OptionFault::NoMoment { name, text }),
     }
 }
 

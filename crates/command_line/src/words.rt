@@ -6,8 +6,8 @@ ghost use Rattle.command_line.specs.declared.words.AskFault.TheVariants.{Words};
 
 use crate::lists::Lists;
 use mdns_message::Want;
-use mdns_survey::request::{AsOf, Request, Subjects, What};
-use mdns_trace::{Inquiry, Window};
+use mdns_survey::request::{AsOf, Request, Subjects, What, Window};
+use mdns_trace::Inquiry;
 use std::error::Error;
 use std::fmt;
 
@@ -36,6 +36,7 @@ pub enum Task {
     /// A page.
     Page {
         as_of: AsOf,
+        window: Window,
         about: Subjects,
         /// The prefixes of listeners, as they were given; each fits a file.
         listeners: Vec<String>,

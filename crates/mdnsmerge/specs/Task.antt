@@ -25,7 +25,8 @@ asked_lives_of lives names = asked_lives_if (is_warned lives.form (length names)
 abbrev pub asked_by : Task → List (List ℕ) → Asked
 asked_by (Survey (Lives lives)) names = asked_lives_of lives names
 asked_by (Survey request) names = asked_of request names
-asked_by (Page as_of about listeners) names = asked_page names (grouped (map string_bytes listeners.items) names) about as_of
+asked_by (Page as_of window about listeners) names =
+    asked_page names (grouped (map string_bytes listeners.items) names) about window as_of
 
 -- of all but a check, an error line is written for each capture that isn't whole
 abbrev pub says_endings : Task → Bool

@@ -54,6 +54,7 @@ pub(crate) fn answer_task<R: Source + Drop, O: Sink, E: Sink>(
         }
         Task::Page {
             as_of,
+            window,
             about,
             listeners,
         } => match Groups::new(alloc, names, listeners.as_slice()) {
@@ -62,6 +63,7 @@ pub(crate) fn answer_task<R: Source + Drop, O: Sink, E: Sink>(
                     names,
                     groups: &groups,
                     as_of,
+                    window,
                     about,
                 };
                 answer_with(page, true, named(names), readers, out, err)
@@ -105,7 +107,7 @@ fn is_warned(form: Form, count: usize) -> bool
 {
     match form {
         Form::Pretty => are_compared(count),
-        Form::Lines | Form::Json => false,
+        Form::Lines | Form::Json | Form::Csv => false,
     }
 }
 

@@ -12,6 +12,7 @@ use mdns_listeners::listeners::ListenersRequest;
 use mdns_page::page::PageRequest;
 use mdns_survey::survey::{SurveyFault, survey};
 use mdns_survey::{AsOf, ListenFault, Request, Subjects, survey_request, survey_with};
+use mdns_trace::Window;
 use std::alloc::Global;
 use test_values::lines::AT_100;
 use test_values::streams::{SlowReader, SlowWriter, slow_writer};
@@ -90,6 +91,7 @@ fn page_fault(
         names: names.as_slice(),
         groups: &groups,
         as_of,
+        window: Window::ALL,
         about,
     };
     survey_with(alloc, readers, page, out).err()

@@ -43,6 +43,7 @@ fn request_of(alloc: Global, run: Run) -> Request {
             which: Which::All,
             form: Form::Lines,
             as_of,
+            window: Window::ALL,
             about,
         }),
         _ => Request::Check,
@@ -57,6 +58,7 @@ fn page_of<'a>(alloc: Global, names: &'a [String], groups: &'a Groups) -> PageRe
         names,
         groups,
         as_of: AsOf::Newest,
+        window: Window::ALL,
         about: Subjects::new(Vec::new(alloc)),
     }
 }

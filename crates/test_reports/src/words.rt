@@ -51,6 +51,10 @@ pub(crate) const COMMAND_LINES: &[(&[&str], Meaning)] = &[
         &["mdnsmerge", "records", "--before", "150", "a.pcap"],
         Meaning::Refused("error: unexpected argument '--before' found\n"),
     ),
+    (
+        &["mdnsmerge", "hosts", "a.pcap"],
+        Meaning::Refused("error: unrecognized subcommand 'hosts'\n"),
+    ),
 ];
 
 // Makes the moment of a second, if there is one.

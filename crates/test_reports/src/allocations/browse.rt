@@ -149,6 +149,13 @@ fn instances_are_reported_again(rt: HostRuntime) {
 }
 
 #[test]
+fn hosts_are_reported_again(rt: HostRuntime) {
+    let host = "printer.local 192.0.2.10 2001:0db8:0000:0000:0000:0000:0000:0010\n";
+    let lookup = Lookup::Lines(Ask::Hosts, host);
+    holds(&rt, succeeds(rt.alloc(), Call::Browse(lookup)));
+}
+
+#[test]
 fn a_moment_too_early_wants_no_memory(rt: HostRuntime) {
     holds(&rt, succeeds(rt.alloc(), Call::Browse(Lookup::Early)));
 }

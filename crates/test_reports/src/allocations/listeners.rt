@@ -45,7 +45,7 @@ fn is_refused(out: &SlowWriter, err: &SlowWriter, status: u8) -> bool {
 
 fn text_in(form: Form) -> &'static str {
     match form {
-        Form::Lines => LINES,
+        Form::Lines | Form::Csv => LINES,
         Form::Json => OBJECTS,
         Form::Pretty => TABLES,
     }

@@ -1,8 +1,10 @@
-use Rattle.std.proofs.Common.{◌≡◌, rules, map, string_bytes}
+use Rattle.std.proofs.Common.{codes, refl, rules, map, string_bytes}
+use Rattle.mdns_lives.specs.declared.window.Window.{Window}
 use Rattle.mdns_browse.specs.declared.report.Form.{Form}
-use Rattle.mdns_trace.specs.declared.window.Window.{Window}
-use Rattle.command_line.specs.{CommandLine.{AsksWhy, why_line}, Line.{IsAsked}, OptionFault.{MakesFormWindow, MakesNoInquiry}}
-use Rattle.command_line.proofs.{TableLemmas.{asks-also}, WhyLemmas.{AsksRead, inquiry-asked, option_fault-refused, why_asks}}
+use Rattle.command_line.specs.{CommandLine.{AsksWhy, GivesNoInquiry, inquiries, why_line}, Line.{IsAsked}}
+use Rattle.command_line.specs.OptionFault.{MakesFormWindow, MakesNoInquiry}
+use Rattle.command_line.proofs.{TableLemmas.{all-known, asks-also, inquiry-refused, refused-for}, WhyLemmas.{AsksRead, inquiry-asked}}
+use Rattle.command_line.proofs.WhyLemmas.{why_asks}
 use Rattle.command_line.proofs.mdnswhy.read_why.Goals as goal
 
 pub returns-in-Ok-clause-asked : goal.returns-in-Ok-clause-asked
@@ -22,4 +24,6 @@ returns-in-Err-clause-unasked c =
     let asked : IsAsked AsksRead why_line words c.in_ok-asked.asked = c.in_ok-asked.ensures.asked in
     let option_fault = c.in-Err.option_fault in
     let none : MakesNoInquiry what.0.1 what.1 names option_fault = search rules in
-    option_fault-refused why_line words what names option_fault c.refusal_of.result asked.0 asked.1 none c.refusal_of.ensures
+    refused-for AsksRead (GivesNoInquiry (codes "mdnswhy")) _ why_line words what names c.refusal_of.result asked.0 asked.1
+    (λ name rows asks. inquiry-refused (codes "mdnswhy") what.0.1 what.1 names option_fault none rows
+    (all-known inquiries refl name rows what.0 asks.0) asks.1) c.refusal_of.ensures
