@@ -82,7 +82,6 @@ bench: mdnsmerge
 
 # Runs the program on damaged captures, and looks whether its answers are what they must be (trials/README.md).
 fuzz: mdnsmerge
-	fuzz/run --shapes
 	fuzz/run $(FUZZ)
 
 # Packages, in out/packages: a tar, and where dpkg-deb is there a Debian package (packages/try tries them).

@@ -17,15 +17,18 @@ QUOTED = "back\\slash \"\u00e9\".pcap"
 IN_FOLDER = "folder/one.pcap"
 
 
+ONE = ONE_PACKET.read_bytes()
+# With the header of a second packet, without its last byte.
+CUT = ONE + ONE[24:39]
+# A capture, one that is cut short, and files that are none.
+SMALL = {"one.pcap": ONE, IN_FOLDER: ONE, TWO_LINES: ONE, "cut.pcap": CUT, QUOTED: CUT, "empty.pcap": b"",
+         "text.pcap": b"No capture, but a text that is longer than a file header.\n"}
+
+
 def lay_out_small(folder):
-    """Puts a capture, one that is cut short, and files that are none into a folder."""
-    one = ONE_PACKET.read_bytes()
-    # The header of a second packet, without its last byte.
-    cut = one + one[24:39]
+    """Puts the small files into a folder."""
     (folder / "folder").mkdir()
-    files = {"one.pcap": one, IN_FOLDER: one, TWO_LINES: one, "cut.pcap": cut, QUOTED: cut, "empty.pcap": b"",
-             "text.pcap": b"No capture, but a text that is longer than a file header.\n"}
-    for name, content in files.items():
+    for name, content in SMALL.items():
         (folder / name).write_bytes(content)
 
 

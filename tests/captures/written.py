@@ -57,7 +57,7 @@ class Row(NamedTuple):
     def case(self, folder):
         """The run over the files of the row, once they are laid out in a folder."""
         names = self.lay_out(folder)
-        out, err, status = ANSWER.fullmatch(self.answer.replace("\\n", "\n")).groups()
+        out, err, status = ANSWER.fullmatch(self.answer.replace("\\r\\n", "\r\n").replace("\\n", "\n")).groups()
         return Case((*self.asked.split(), *names), int(status or WHOLE), out, err or "", place=self.place)
 
 

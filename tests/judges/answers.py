@@ -7,16 +7,17 @@ from functools import cached_property, lru_cache
 from itertools import compress, takewhile
 from typing import Callable, NamedTuple
 
-from tests.captures.wire import LAST_MOMENT
 from tests.judges.causes import DAMAGED, LOST, causes_of
+from tests.judges.csv_forms import csv_text
 from tests.judges.hearings import hearings_of
-from tests.judges.json_forms import MEMBERS, json_text
-from tests.judges.lines import Line, gives_instance, instances_text, line_of, lines_of, moment_of, sets_of, types_names
+from tests.judges.json_forms import MEMBERS, json_text, objects_of
+from tests.judges.lines import (Line, gives_instance, host_text, hosts_in, instances_text, line_of, lines_of, moment_of, sets_of,
+                                types_names)
 from tests.judges.listeners import COMMAND, listeners_text, unfit_text, warnings_text
-from tests.judges.lives import CHOICES, lives_text, records_text, rows_of
-from tests.judges.pretty import instances_columns, is_apart, lives_columns, pretty_text, records_columns, types_columns
+from tests.judges.lives import CHOICES, lives_text, records_text, rows_of, window_of
+from tests.judges.pretty import hosts_columns, instances_columns, is_apart, lives_columns, pretty_text, records_columns, types_columns
 from tests.judges.savefile import frames_in, reading_of
-from tests.judges.subjects import gives_about, is_about, is_name, is_record_about, subjects_of
+from tests.judges.subjects import is_about, is_host_about, is_instance_about, is_name, is_record_about, subjects_of
 from tests.judges.traced import TEXTS, traced_text
 from tests.judges.words import moment_text
 from tests.running.commands import FORMS, TRACES
@@ -64,8 +65,8 @@ class Life(NamedTuple):
 
 
 class Basis:
-    """What a question is answered from: the files, the hearings that count, the moment as of which records are live, and the span of
-    lives."""
+    """What a question is answered from: the files, the hearings that count, the moment as of which records are live, the span of
+    lives, and the window."""
 
     def __init__(self, asked, files):
         self.asked, self.files = asked, files
@@ -77,6 +78,7 @@ class Basis:
         self.now = self.newest if given is None else given
         self.end = max(self.moments, default=0) if given is None else given
         self.begin = min([self.end, *self.moments])
+        self.window = window_of(asked)
         self.rows = rows_of(self.hearings)
 
     @cached_property
@@ -86,6 +88,18 @@ class Basis:
     @cached_property
     def sets(self):
         return sets_of(self.lines)
+
+    @cached_property
+    def instances(self):
+        return list(filter(gives_instance, self.lines))
+
+    @cached_property
+    def hosts(self):
+        return hosts_in(self.lines)
+
+    def text(self, command):
+        """The lines of a report of all."""
+        return KINDS[command].lines_text(self, KINDS[command].listed(self))
 
 
 class Kind(NamedTuple):
@@ -102,10 +116,15 @@ def texts_of(_, some):
 
 def lives_kind(choice):
     """What a command lists that chooses so from all lives."""
-    return Kind(lambda basis: list(lives_in(lives_text(choice.of_rows(basis.rows), basis.end))),
+    def columns(basis, _, some):
+        begin, end = (moment if given is None else given for moment, given in (
+            (basis.begin, basis.asked.since), (basis.end, basis.asked.until)))
+        return lives_columns(some, begin, end, choice.words)
+
+    return Kind(lambda basis: list(lives_in(lives_text(choice.of_rows(basis.rows, basis.window), basis.window, basis.end))),
                 lambda _, words, life: is_about(is_record_about, words, life.record),
                 texts_of,
-                lambda basis, _, some: lives_columns(some, basis.begin, basis.end, choice.words))
+                columns)
 
 
 KINDS = {
@@ -117,14 +136,21 @@ KINDS = {
                   lambda _, words, name: is_about(is_name, words, name),
                   lambda _, some: "".join(f"{name}\n" for name in some),
                   lambda basis, _, some: types_columns(some, basis.now)),
-    "instances": Kind(lambda basis: list(filter(gives_instance, basis.lines)),
-                      lambda basis, words, line: gives_about(words, line, basis.sets),
+    "instances": Kind(lambda basis: basis.instances,
+                      lambda basis, words, line: is_about(lambda word, one: is_instance_about(word, one, basis.sets), words, line),
                       lambda basis, some: instances_text(some, basis.sets),
                       lambda basis, words, some: instances_columns(
                           some, [line for line in basis.lines if is_apart(line) and is_about(is_record_about, words, line)],
                           basis.sets, basis.now)),
+    "hosts": Kind(lambda basis: basis.hosts,
+                  lambda basis, words, lines: is_about(lambda word, one: is_host_about(word, one, basis.instances, basis.sets), words, lines),
+                  lambda _, some: "".join(f"{host_text(lines)}\n" for lines in some),
+                  lambda basis, _, some: hosts_columns(some, basis.instances, basis.sets, basis.now)),
     **{ask: lives_kind(choice) for ask, choice in CHOICES.items()},
 }
+
+# The texts of objects, by the options that ask for them.
+OF_OBJECTS = {"--json": json_text, "--csv": csv_text}
 
 
 def lives_in(text):
@@ -148,10 +174,8 @@ def report_text(basis):
     some = list(compress(listed, kept))
     if asked.form == "--pretty":
         return head_text(basis) + kind.columns(basis, asked.about, some)
-    if asked.form == "--json":
-        records = "".join(f"{line.text}\n" for line in basis.lines)
-        objects = json_text(asked.ask, kind.lines_text(basis, listed), lambda _: records).splitlines(keepends=True)
-        return "".join(compress(objects, kept))
+    if asked.form:
+        return OF_OBJECTS[asked.form](asked.ask, compress(objects_of(asked.ask, kind.lines_text(basis, listed), basis.text), kept))
     return kind.lines_text(basis, some)
 
 
@@ -175,12 +199,17 @@ def trace_text(asked, files):
     """The text of mdnswhy, file after file: of hearings and packets, those in the window, and of hearings, those about the words."""
     text = traced_text(asked.ask, files)
     if asked.since is not None or asked.until is not None:
-        begin, end = asked.since or 0, LAST_MOMENT + 1 if asked.until is None else asked.until
-        text = "".join(line for line in text.splitlines(keepends=True) if begin <= moment_of(line.split()[0]) < end)
+        window = window_of(asked)
+        text = "".join(line for line in text.splitlines(keepends=True) if window.has(moment_of(line.split()[0])))
     if asked.about:
         text = "".join(line for line in text.splitlines(keepends=True) if is_about(is_record_about, asked.about, heard_in(line)))
-    if asked.form == "--json":
-        return json_text(asked.ask, text, lambda _: check_text(files))
+    return formed(asked, text, lambda _: check_text(files))
+
+
+def formed(asked, text, other):
+    """Lines in the form that is asked for; `other` gives the text of another command."""
+    if asked.form in OF_OBJECTS:
+        return OF_OBJECTS[asked.form](asked.ask, objects_of(asked.ask, text, other))
     return pretty_text(asked.ask, text) if asked.form else text
 
 
@@ -206,7 +235,7 @@ def answer_to(program, words, files):
     if asked.ask in TEXTS:
         return Answer(status, trace_text(asked, files), endings)
     if asked.ask == COMMAND:
-        return Answer(status, listeners_text(files, asked.listener, (asked.form,) if asked.form else ()), endings)
+        return Answer(status, formed(asked, listeners_text(files, asked.listener), None), endings)
     basis = Basis(asked, files)
     if asked.at is not None and asked.at < basis.newest:
         return Answer(2, "", f"{program}: the moment is earlier than the newest hearing, {moment_text(basis.newest)}\n")

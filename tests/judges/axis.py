@@ -7,17 +7,24 @@ UNITS, LEAST = 1000, 3
 
 
 class Axis:
-    """An axis to a moment, by the first and the last moment of each capture's packets."""
+    """An axis to a moment, by the first and the last moment of each capture's packets; or of a window, whose bounds are moments or
+    None."""
 
-    def __init__(self, end, spans):
+    def __init__(self, now, spans, since=None, until=None):
         every = [moment for span in spans if span for moment in span]
-        self.end, self.start = end, min([end, *every])
+        end = now if until is None else until
+        self.now, self.start = now, min([end, *every]) if since is None else since
+        self.end = max(self.start, end)
         # Captures may have recorded past the moment that is asked for, and their rows tell when.
-        self.form = form_of(self.start, max([end, *every]))
-        self.unit = (end - self.start) // UNITS + 1
+        self.form = form_of(min([self.start, *every]), max([self.end, now, *every]))
+        self.unit = (self.end - self.start) // UNITS + 1
 
     def place(self, moment):
-        return (min(moment, self.end) - self.start) // self.unit
+        return (max(min(moment, self.end), self.start) - self.start) // self.unit
+
+    def draws(self, span):
+        """Whether a capture with packets recorded at a moment of the axis."""
+        return span.first <= self.end and self.start <= span.last
 
     def bar(self, start, until):
         return self.place(start), max(self.place(until), self.place(start) + LEAST)

@@ -96,6 +96,17 @@ def instances_of(text, other):
                "texts": texts}
 
 
+def hosts_of(text, other):
+    """The objects of hosts, each of a line, with the instances that have a server on it; and its services, which only CSV has."""
+    instances = list(instances_of(other("instances"), other))
+    for line in text.splitlines():
+        host, *addresses = line.split()
+        services = [(one["instance"], server["port"]) for one in instances for server in one["servers"]
+                    if server["target"].lower() == host.lower()]
+        yield {"host": host, "shown": shown_name(host), "addresses": addresses,
+               "instances": list(dict.fromkeys(instance for instance, _ in services)), "services": services}
+
+
 def files_of(text, other):
     """The objects of captures: the line of each, and those below it, which say what it lost and what to do."""
     checked = map(CHECKED.fullmatch, other("check").splitlines())
@@ -130,11 +141,15 @@ def listeners_of(text, _other):
         yield members if names is None else {"source": members.pop("source"), "names": names.split(), **members}
 
 
-BLOCKS = {"spans": spans_of, "instances": instances_of, "files": files_of, "listeners": listeners_of}
+BLOCKS = {"spans": spans_of, "instances": instances_of, "hosts": hosts_of, "files": files_of, "listeners": listeners_of}
 
 
-def json_text(command, text, other):
-    """The JSON of a command that prints this text of words; `other` gives the text of another command over the same files."""
+def objects_of(command, text, other):
+    """The objects of a command that prints this text of words; `other` gives the text of another command over the same files."""
     if command in BLOCKS:
-        return "".join(map(text_of, BLOCKS[command](text, other)))
-    return "".join(text_of(object_of(MEMBERS[command], line)) for line in text.splitlines())
+        return list(BLOCKS[command](text, other))
+    return [object_of(MEMBERS[command], line) for line in text.splitlines()]
+
+
+def json_text(_, objects):
+    return "".join(text_of({name: told for name, told in one.items() if name != "services"}) for one in objects)

@@ -4,7 +4,8 @@ seconds listeners heard records. No answer of the program is asked.
 
 `page_text.py` writes the page that says it, of which only the style is taken from the program's.
 
-Moments are nanoseconds since 1970. The *end* is the moment that is asked for, or the latest moment of any packet."""
+Moments are nanoseconds since 1970. *Now* is the moment that is asked for, or the latest moment of any packet; the axis may end at
+another one."""
 
 from collections import Counter
 from typing import NamedTuple
@@ -36,12 +37,14 @@ class Asked(NamedTuple):
     before: int = None
     about: tuple = ()
     listener: tuple = ()
+    since: int = None
+    until: int = None
 
     @property
     def words(self):
         """The options that ask for it."""
-        moments = [word for flag, moment in (("--at", self.at), ("--before", self.before)) if moment is not None
-                   for word in (flag, moment_text(moment))]
+        moments = [word for flag in ("at", "before", "since", "until") if getattr(self, flag) is not None
+                   for word in (f"--{flag}", moment_text(getattr(self, flag)))]
         return [*moments, *(f"--about={word}" for word in self.about), *(f"--listener={prefix}" for prefix in self.listener)]
 
 
@@ -51,7 +54,8 @@ class Judge(Axis):
     def __init__(self, files, asked):
         self.about, self.listeners, basis = subjects_of(asked.about), listeners_of(files, asked.listener), Basis(asked, files)
         self.spans = [one.span for one in self.listeners]
-        super().__init__(basis.end, self.spans)
+        super().__init__(basis.end, self.spans, asked.since, asked.until)
+        self.asked, self.window = asked, basis.window
         # How each file ends that isn't whole, and why packets told nothing.
         self.cut = [(name, reading_of(capture).ending) for name, capture in files if not reading_of(capture).is_whole]
         self.causes = sum((causes_of(capture) for _, capture in files), Counter())
@@ -64,13 +68,14 @@ class Judge(Axis):
         for owner, kind, data in self.accounts:
             if kind == SRV:
                 self.servers.setdefault(owner, []).append(self.lives[owner, kind, data])
-        self.drawn = list(filter(self.is_drawn, self.accounts))
+        self.known, hosts, apart = (list(filter(kind, self.accounts)) for kind in (self.is_known, self.is_host, self.is_apart))
+        self.is_silent = not self.now and not any((self.known, hosts, apart, self.servers))
+        self.drawn = list(filter(self.is_drawn, self.known))
         self.is_large = len(self.drawn) > LARGE
-        self.hosts = [] if self.is_large else list(filter(self.is_host, self.accounts))
-        self.apart = [] if self.is_large else list(filter(self.is_apart, self.accounts))
+        self.hosts, self.apart = ([] if self.is_large else list(filter(self.is_drawn, keys)) for keys in (hosts, apart))
         rows = [*self.drawn, *self.hosts, *self.apart]
-        # Whether all rows together have few lives, those of servers too.
-        self.has_titles = sum(len(self.lives[key]) + sum(map(len, self.servers_of(key))) for key in rows) <= TITLED_LIVES
+        # Whether all rows together have few lives, also outside a window, those of servers too.
+        self.has_titles = sum(len(lives) for key in rows for lives in (self.lives[key], *self.servers_of(key))) <= TITLED_LIVES
         self.is_open = len(rows) <= OPEN_ROWS
         self.lanes = lane_count(self.is_large, len(self.listeners))
         # The seconds in which each listener heard a record.
@@ -79,9 +84,12 @@ class Judge(Axis):
     # Lives
 
     def is_live(self, key):
-        return self.lives[key][-1].until > self.end
+        return self.lives[key][-1].until > self.now
 
     def is_drawn(self, key):
+        return any(map(self.window.meets, self.lives[key]))
+
+    def is_known(self, key):
         """Whether a record gives an instance that is about the words. Servers and addresses may have ended."""
         line = self.line(key)
         return (key[1] == PTR and gives_instance(line)

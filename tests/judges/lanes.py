@@ -64,18 +64,18 @@ def top_of(lanes, index):
     return BARS + LANE * index if index < lanes else BARS
 
 
-def ticks_of(captures, lanes, place):
-    """The paths of a row's ticks, by the seconds of each capture: the class of each path, its height, and its places."""
+def ticks_of(captures, lanes, window, place):
+    """The paths of a row's ticks in a window, by the seconds of each capture: the class of each path, its height, and its places."""
     paths = []
     for index, seconds in enumerate(captures if lanes else []):
-        heard = {place(second.first) for second in seconds if second.goodbye is None}
-        ended = {place(second.goodbye) for second in seconds if second.goodbye is not None}
+        heard = {place(second.first) for second in seconds if second.goodbye is None and window.has(second.first)}
+        ended = {place(second.goodbye) for second in seconds if second.goodbye is not None and window.has(second.goodbye)}
         top = top_of(lanes, index)
         paths += [(of_class, top, sorted(places)) for of_class, places in (("t", heard), ("z", ended)) if places]
     return paths
 
 
-def bases_of(spans, lanes, end, bar):
+def bases_of(axis, lanes):
     """The lines on which ticks stand, by the span of each capture's packets: the height of each, and from where to where.
-    There are none without lanes, and one for each capture with packets up to the end of the page."""
-    return [(top_of(lanes, index) + BASE, *bar(*span)) for index, span in enumerate(spans) if lanes and span and span.first <= end]
+    There are none without lanes, and one for each capture that recorded at a moment of the axis."""
+    return [(top_of(lanes, index) + BASE, *axis.bar(*span)) for index, span in enumerate(axis.spans) if lanes and span and axis.draws(span)]

@@ -86,6 +86,25 @@ def instance_text(line, sets):
     return "".join(f"{said}\n" for said in (line.words[0], *(below or ["  unresolved"]), *texts))
 
 
+def hosts_in(lines):
+    """The lines of the addresses of each owner that has some; those of A are first."""
+    hosts = {}
+    for line in lines:
+        if line.kind in ("A", "AAAA"):
+            hosts.setdefault(wire_of(line.owner), []).append(line)
+    return list(hosts.values())
+
+
+def host_text(lines):
+    """The line of a host."""
+    return " ".join([lines[0].text.split(" ")[0], *(line.words[0] for line in lines)])
+
+
+def servers_on(host, line, sets):
+    """The servers of an instance, given by the line of a PTR record, that are on a host, given by the lines of its addresses."""
+    return [server for server in sets.get((wire_of(line.target), SRV), ()) if wire_of(server.target) == wire_of(host[0].owner)]
+
+
 def addresses_of(server, sets):
     host = wire_of(server.target)
     return sets.get((host, A), []) + sets.get((host, AAAA), [])

@@ -3,17 +3,16 @@ programs: which messages each listener heard, alone or not, and missed, and how 
 
 JSON and columns follow from these lines."""
 
-import os
 from collections import defaultdict
 from functools import lru_cache
 from typing import NamedTuple, Optional
 
 from tests.captures.wire import A, AAAA
 from tests.judges.hearings import number_at, payload_of, source_of, told_by
-from tests.judges.json_forms import APART, json_text
-from tests.judges.pretty import listeners_columns, warned_words
+from tests.judges.json_forms import APART
+from tests.judges.pretty import warned_words
 from tests.judges.savefile import frames_in
-from tests.judges.words import bytes_text, moment_text, name_text
+from tests.judges.words import file_text, moment_text, name_text
 
 COMMAND = "listeners"
 
@@ -22,13 +21,6 @@ OF_IPV4 = 4
 
 # The most files that are compared for warnings.
 MOST_COMPARED = 64
-
-# The words that ask for each form, and what it must be by the lines of words.
-FORMS = {
-    (): lambda lines: lines,
-    ("--json",): lambda lines: json_text(COMMAND, lines, None),
-    ("--pretty",): listeners_columns,
-}
 
 
 class Message(NamedTuple):
@@ -94,7 +86,7 @@ class Listener:
 
     def missed(self, listeners, messages):
         """How many of some messages it never heard, although another one did while it listened."""
-        return sum(any(self.listened(moment) for other in listeners for moment in other.moments_of([message]))
+        return sum(any(self.listened(moment) for other in listeners for moment in other.heard.get(message, ()))
                    for message in messages if message not in self.heard)
 
     def alone(self, listeners):
@@ -176,13 +168,8 @@ def names_of(names, source):
     return [min(spelled[folded]) for folded in sorted(spelled)]
 
 
-def listeners_text(captures, prefixes=(), form=()):
-    """What is printed of captures, each with its name, in some form."""
-    return FORMS[form](lines_text(captures, prefixes))
-
-
-def lines_text(captures, prefixes):
-    """A line for each listener, for each two, and for what each heard of a sender."""
+def listeners_text(captures, prefixes):
+    """Of captures, each with its name, a line for each listener, for each two, and for what each heard of a sender."""
     listeners = listeners_of(captures, prefixes)
     messages = {message for listener in listeners for message in listener.heard}
     names = {name for _, capture in captures for name in recorded_in(capture).names}
@@ -230,10 +217,6 @@ def pair_line(pair):
     ahead, low, high = (("-" if nanos < 0 else "") + moment_text(abs(nanos)) for nanos in pair.quartiles) if pair.quartiles else "---"
     return (f"{file_text(pair.one.name)} {file_text(pair.other.name)} common {pair.common} "
             f"ahead {ahead} from {low} to {high} by {len(pair.ahead)}")
-
-
-def file_text(name):
-    return bytes_text(os.fsencode(name))
 
 
 def bounds(span):

@@ -5,7 +5,7 @@ from bisect import bisect_right
 from functools import lru_cache
 from typing import Callable, NamedTuple
 
-from tests.captures.wire import PTR, SECOND
+from tests.captures.wire import LAST_MOMENT, PTR, SECOND
 from tests.judges.hearings import Hearing
 from tests.judges.words import data_words, kind_text, moment_text, name_text
 
@@ -23,6 +23,23 @@ class Life(NamedTuple):
         if self.last.ttl == 0:
             return "goodbye"
         return "expired" if self.until == end_alone(self.last) else "flushed"
+
+
+class Window(NamedTuple):
+    """From one moment on and before another."""
+    since: int
+    until: int
+
+    def has(self, moment):
+        return self.since <= moment < self.until
+
+    def meets(self, life):
+        return life.start < self.until and self.since < life.until
+
+
+def window_of(asked):
+    """All moments but those that are left out."""
+    return Window(asked.since or 0, LAST_MOMENT + 1 if asked.until is None else asked.until)
 
 
 class Account:
@@ -92,28 +109,28 @@ def rows_of(hearings):
     return [(account.hearings[-1], lives) for account, lives in accounts(hearings).values()]
 
 
-def lives_text(rows, end):
-    """The lives of rows, a line for each, where the captures end at a moment; some go on after it."""
+def lives_text(rows, window, end):
+    """The lives of rows that meet a window, a line for each, where the captures end at a moment; some go on after it."""
     return "".join(
         f"{record_text(last)} from {moment_text(life.start)} {end_text(life)} {life.reason if life.until <= end else 'live'}\n"
-        for last, lives in rows for life in lives)
+        for last, lives in rows for life in filter(window.meets, lives))
 
 
-def changes_in(rows):
-    """The rows with all their lives where a life of their record set is a change, and with none elsewhere."""
+def changes_in(rows, window):
+    """The rows with all their lives where a life of their record set is a change in a window, and with none elsewhere."""
     sets = {}
     for last, lives in rows:
         sets.setdefault(last.set_key, []).extend(life.start for life in lives)
     begun = {set_key: sorted(moments) for set_key, moments in sets.items()}
-    changed = {last.set_key for last, lives in rows if last.kind != PTR and has_change(lives, begun[last.set_key])}
+    changed = {last.set_key for last, lives in rows if last.kind != PTR and has_change(lives, begun[last.set_key], window)}
     return [(last, lives if last.set_key in changed else []) for last, lives in rows]
 
 
-def has_change(lives, begun):
-    """Whether before one of a record's lives, and after each earlier one, a life of the set began: so it was another
-    record's."""
+def has_change(lives, begun, window):
+    """Whether before one of a record's lives that begins in a window, and after each earlier one, a life of the set began: so it was
+    another record's."""
     before = [-1, *(life.start for life in lives)]
-    return any(begun[bisect_right(begun, earlier)] < life.start for earlier, life in zip(before, lives))
+    return any(begun[bisect_right(begun, earlier)] < life.start and window.has(life.start) for earlier, life in zip(before, lives))
 
 
 def records_text(rows, now):
@@ -131,13 +148,13 @@ def end_text(life):
 
 
 class Choice(NamedTuple):
-    """How a command chooses from the rows of all records, and what the head of its columns says of that."""
+    """How a command chooses from the rows of all records, by a window, and what the head of its columns says of that."""
     of_rows: Callable
     words: str
 
 
 # The commands that list lives, and all in which they differ.
 CHOICES = {
-    "lives": Choice(lambda rows: rows, ""),
+    "lives": Choice(lambda rows, _: rows, ""),
     "changes": Choice(changes_in, " of record sets that changed,"),
 }

@@ -114,7 +114,8 @@ def page_text(judge, style):
         group_text(True, f"<bdi>{counted(len(judge.listeners), 'capture')}</bdi>{AXIS}<small>recorded, and how the file ends</small>",
                    (capture_text(judge, one) for one in judge.listeners)),
         '</div>\n<h2 id="timeline">Timeline</h2>\n', *timeline_text(judge),
-        f'</div>\n<h2 id="live">What was live at <time>{millis(judge.end)}</time></h2>\n<div class="g l">\n', *live_text(judge),
+        '</div>\n<h2 id="live">What was live' + (f" at <time>{millis(judge.now)}</time>" if judge.now else "") + '</h2>\n<div class="g l">\n',
+        *live_text(judge),
         '</div>\n<h2 id="nothing">Skipped and refused packets</h2>\n', table_of(judge.causes),
         "</main></body></html>\n"))
 
@@ -130,15 +131,15 @@ def head_text(judge, style):
     classes = {place: ' class="y"' if len(label) == len("2026-11-22") else "" for place, label in ticks.items()}
     labels = "".join(f'<text{classes[place]} x="{place // 10}.{place % 10}%" y="12">{label}</text>'
                      for place, label in ticks.items() if place in LABELED)
-    height, bases = height_of(judge.lanes), bases_of(judge.spans, judge.lanes, judge.end, judge.bar)
+    height, bases = height_of(judge.lanes), bases_of(judge, judge.lanes)
     low, high = (path_of("v", "".join(f"M{place} 0V{bottom}" for place in ticks)) for bottom in (24, height))
     lines = path_of("n", "".join(f"M{start} {base}H{end}" for base, start, end in bases)) if judge.lanes else ""
-    days = " to ".join(dict.fromkeys(map(day, (judge.start, judge.end))))
+    title = "Multicast DNS" + (f", {' to '.join(dict.fromkeys(map(day, (judge.start, judge.end))))}" if judge.end else "")
     return f"""<!doctype html>
 <html lang="en"><head><meta charset="utf-8">
 <meta http-equiv="Content-Security-Policy" content="default-src 'none'; style-src 'unsafe-inline'">
 <meta name="viewport" content="width=device-width">
-<title>Multicast DNS, {days}</title>
+<title>{title}</title>
 <style>
 {style}li>svg{{height:{height}px}}
 </style></head>
@@ -148,7 +149,7 @@ def head_text(judge, style):
 <g id="g">{high}{lines}</g>
 </defs></svg>
 <main>
-<h1>Multicast DNS, {days}</h1>
+<h1>{title}</h1>
 """
 
 
@@ -162,16 +163,20 @@ def label_of(moment, step, form):
 
 def lead_text(judge):
     """The sentence on what was live, what the page is about, and the warnings."""
-    lasts = [judge.lives[key][-1] for key in judge.drawn]
-    ended = Counter(life.reason for life in lasts if life.until <= judge.end)
-    goodbyes = sum(life.until > judge.end and life.reason == "goodbye" for life in lasts)
+    lasts = [judge.lives[key][-1] for key in judge.known]
+    ended = Counter(life.reason for life in lasts if life.until <= judge.now)
+    goodbyes = sum(life.until > judge.now and life.reason == "goodbye" for life in lasts)
     said = f" ({goodbyes:,} said goodbye)" if goodbyes else ""
     others = counted(sum(ended.values()), "other")
     before = ", ".join(f"{ended[reason]:,} {how}" for reason, how in ENDS.items() if ended[reason])
     lost = sum(judge.causes[cause] for cause in LOST)
+    bounds = "".join(f" {word} <time>{millis(moment)}</time>" for word, moment in (
+        ("since", judge.asked.since), ("until", judge.asked.until)) if moment is not None)
     return "".join((
+        '<p class="lead">Nothing was heard: mdnswhy files FILE... says why.</p>\n' if judge.is_silent else
         f'<p class="lead">{counted(len(lasts) - sum(ended.values()), "service instance was", "service instances were")} live at '
-        f"<time>{millis(judge.end)}</time>{said}." + (f" {others} had ended before: {before}." if before else "") + "</p>\n",
+        f"<time>{millis(judge.now)}</time>{said}." + (f" {others} had ended before: {before}." if before else "") + "</p>\n",
+        f'<p class="note">Only lives{bounds} are drawn; counts and words are of all that was heard.</p>\n' if bounds else "",
         f'<p class="note">Only what is about {", ".join(map(name_bdi, judge.about))}.</p>\n' if judge.about else "",
         *(f'<p class="warn">{name_bdi(name)}: {ending}. What came later is missing, goodbyes too.</p>\n' for name, ending in judge.cut),
         *(f'<p class="warn">{name_bdi(one)} beside {name_bdi(other)}: {words}</p>\n' for one, other, words in warnings_of(judge.pairs)),
@@ -182,9 +187,9 @@ def capture_text(judge, one):
     """The row of a listener: what it recorded, from when until when, how its files end, and what it heard beside others."""
     counts, ending, compared, beside = judge.counts(one), judge.ending(one), judge.compared(one), judge.beside(one)
     span = f"{judge.short(one.span.first)} – {judge.short(one.span.last)}" if one.span else "no packets"
-    # One that began after the end has words alone.
+    # One that recorded before the axis or after it has words alone.
     bar = path("r", "M{} 19H{}", [judge.bar(*one.span)], f"recorded {millis(one.span.first)} to {millis(one.span.last)}") \
-        if one.span and one.span.first <= judge.end else ""
+        if one.span and judge.draws(one.span) else ""
     return "".join((
         f"<li><div>{own(judge.sign(one))}&#160;{name_bdi(one.name)}"
         f"<small>{counted(counts['packets'], 'packet')}, {counted(counts['hearings'], 'hearing')}</small></div>"
@@ -223,16 +228,17 @@ def row_text(judge, key):
     name, address = judge.owner(key), f" <code>{words_of(line)[0]}</code>"
     if key[1] == PTR:
         name, address = (shown_name if is_apart(line) else shown_label)(name_text(judge.accounts[key].hearings[-1].data)), ""
-    pins = [path(of_class, form, sorted({judge.bar(life.start, life.until)[1] for life in lives
-                                         if life.until <= judge.end and life.reason == cause}))
+    drawn = list(filter(judge.window.meets, lives))
+    pins = [path(of_class, form, sorted({judge.bar(life.start, life.until)[1] for life in drawn
+                                         if life.until <= min(judge.now, judge.end) and life.reason == cause}))
             for pin, cause, head in PINS for of_class, form in ((pin, "M{} 4V17"), (head, "M{} 4h.01")) if of_class]
-    ticks = [path(of_class, f"M{{}} {top}v5", places) for of_class, top, places in ticks_of(seconds, judge.lanes, judge.place)]
+    ticks = [path(of_class, f"M{{}} {top}v5", places) for of_class, top, places in ticks_of(seconds, judge.lanes, judge.window, judge.place)]
     earlier = f"<small>{len(lives) - IN_WORDS:,} earlier</small>" if len(lives) > IN_WORDS else ""
     return "".join((
         f"<li><div>{bdi(name)}{address}<small>heard {own(heard_text(counts_of(seconds)))}</small></div>"
         f'<svg viewBox="0 0 1000 {height_of(judge.lanes)}" {DRAWN}><use href="#g"/>',
-        bars_text(judge, "b", "M{} 12H{}", lives),
-        *(bars_text(judge, "s", "M{} 19H{}", some, "server ") for some in judge.servers_of(key)),
+        bars_text(judge, "b", "M{} 12H{}", drawn),
+        *(bars_text(judge, "s", "M{} 19H{}", filter(judge.window.meets, some), "server ") for some in judge.servers_of(key)),
         *pins, *ticks, f"</svg><div>{earlier}", *(life_text(judge, life) for life in lives[-IN_WORDS:]), "</div></li>\n"))
 
 
@@ -246,12 +252,12 @@ def bars_text(judge, of_class, form, lives, word=""):
 
 
 def how(judge, life):
-    return GOING_ON[life.reason] if life.until > judge.end else life.reason
+    return GOING_ON[life.reason] if life.until > judge.now else life.reason
 
 
 def life_text(judge, life):
     """A life in words. The end on the day of its start is a time of day."""
-    if life.until > judge.end:
+    if life.until > judge.now:
         return f"<p>{judge.short(life.start)} &#8211; <b>{how(judge, life)}</b></p>"
     until = date_of(life.until).strftime("%H:%M:%S") if day(life.start) == day(life.until) else judge.short(life.until)
     return f"<p>{judge.short(life.start)} &#8211; {until} {how(judge, life)}</p>"
@@ -272,14 +278,14 @@ def heard_text(heard):
 def live_text(judge):
     """What was live at the end: the groups of the instances of the timeline that were."""
     sets = sets_of(judge.line(key) for key in judge.accounts if judge.is_live(key))
-    for name, keys in by_type(judge, filter(judge.is_live, judge.drawn)):
+    for name, keys in by_type(judge, filter(judge.is_live, judge.known)):
         yield group_text(judge.is_open, bdi(name) + "<small>server, addresses</small><small>text</small>",
                          (live_row_text(judge, key, sets) for key in keys))
 
 
 def live_row_text(judge, key, sets):
     line, life = judge.line(key), judge.lives[key][-1]
-    left = "said goodbye" if line.ttl == 0 else f"{duration(life.until - judge.end)} left"
+    left = "said goodbye" if line.ttl == 0 else f"{duration(life.until - judge.now)} left"
     servers = []
     for server in sets.get((wire_of(line.target), SRV), ()):
         *_, target = server.words

@@ -1,11 +1,12 @@
 """What `--pretty` must print, made of the lines of words that the same question gives: columns of `mdnsmerge`, and lines or
 columns of `mdnswhy`."""
 
+import re
 from datetime import datetime, timedelta, timezone
 
 from tests.captures.wire import SECOND, SRV, TXT
 from tests.judges.json_forms import APART, LISTENER, MEMBERS, SENDER, SPAN
-from tests.judges.lines import addresses_of, gives_instance, is_service, moment_of, wire_of
+from tests.judges.lines import addresses_of, gives_instance, host_text, is_service, moment_of, servers_on, wire_of
 from tests.judges.shown import LABEL, bytes_of, short_ipv6, shown, shown_name, shown_words
 
 EPOCH = datetime(1970, 1, 1, tzinfo=timezone.utc)
@@ -42,6 +43,16 @@ def instances_columns(instances, others, sets, now):
     return text + (paragraph(["names that aren't one label and the type", *rows]) if rows else "")
 
 
+def hosts_columns(hosts, instances, sets, now):
+    """The hosts, each with its addresses, and below it the instances on it, each with its ports there."""
+    text = heading(hosts, "host", "hosts", now)
+    for host in hosts:
+        text += "\n" + "  ".join([shown_name(host_text(host).split(" ")[0]), *(words_of(line)[0] for line in host)]) + "\n"
+        text += "".join(f"  {shown_name(line.words[0])}  port {server.words[2]}\n"
+                        for line in instances for server in servers_on(host, line, sets))
+    return text
+
+
 def shown_label(name):
     """The first label of a name alone."""
     return shown(bytes_of(LABEL.match(name)[0]))
@@ -57,14 +68,16 @@ def words_below(line, sets):
 
 
 def lives_columns(lives, begin, end, chosen):
-    """A table of lives, each a record's line, when it was live from and until, and how it ended; and which are chosen."""
+    """A table of lives, each a record's line, when it was live from and until, in parentheses where it goes on, and how it ended; and
+    which are chosen."""
     # What will end a life that goes on, unless that is its TTL.
     going_on = {"goodbye": "live, said goodbye", "flushed": "live, flushed"}
     rows = [(millis(life.start), millis(life.until),
              life.how if life.how != "live" else going_on.get(left(life.record, life.record.heard), "live"),
              life.record.kind, shown_record(life.record)) for life in lives]
-    return (f"{len(rows)} {'life' if len(rows) == 1 else 'lives'}{chosen} between {millis(begin)} and {millis(end)}\n"
-            + table(("FROM", "UNTIL", "END", "TYPE", "RECORD"), rows))
+    # The end of a life that goes on is a forecast, in parentheses.
+    lines = re.sub(r"^(\S+)  (\S+)  (?=live)", r"\1 (\2) ", table(("FROM", "UNTIL", "END", "TYPE", "RECORD"), rows), flags=re.M)
+    return f"{len(rows)} {'life' if len(rows) == 1 else 'lives'}{chosen} between {millis(begin)} and {millis(end)}\n" + lines
 
 
 def heading(rows, one, many, now):
@@ -128,6 +141,8 @@ def is_apart(line):
 
 def pretty_text(trace, text):
     """What `mdnswhy` prints for people, of the text of all its plain lines."""
+    if trace == "listeners":
+        return listeners_columns(text)
     return "".join(f"{PRETTY[trace](line)}\n" for line in text.splitlines())
 
 

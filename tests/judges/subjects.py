@@ -7,7 +7,7 @@ from functools import lru_cache
 from itertools import takewhile
 
 from tests.captures.wire import NAMED, NAMES, SRV, Content
-from tests.judges.lines import addresses_of, gives_instance, wire_of
+from tests.judges.lines import addresses_of, servers_on, wire_of
 from tests.judges.pretty import shown_label, shown_record, words_of
 from tests.judges.shown import LABEL, shown_name
 
@@ -99,9 +99,10 @@ def is_instance_about(word, line, sets):
                    or any(is_address(word, address) for address in addresses_of(server, sets)) for server in servers))
 
 
-def gives_about(words, line, sets):
-    """Whether a line gives an instance that is about one of the words, by the lines of each record set."""
-    return gives_instance(line) and is_about(lambda word, one: is_instance_about(word, one, sets), words, line)
+def is_host_about(word, host, instances, sets):
+    """Whether a host, given by the lines of its addresses, is about a word: by one of these, or by an instance on it."""
+    return any(is_record_about(word, line) for line in host) or any(
+        servers_on(host, line, sets) and is_instance_about(word, line, sets) for line in instances)
 
 
 def some_word(rng, lines):

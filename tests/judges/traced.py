@@ -7,7 +7,7 @@ from tests.judges.causes import DAMAGED, LOSSES, cause_of, causes_of
 from tests.judges.hearings import Hearing, source_of, told_by
 from tests.judges.lives import record_text
 from tests.judges.savefile import frames_in, reading_of, snapshot_length
-from tests.judges.words import moment_text
+from tests.judges.words import file_text, moment_text
 
 # What the lines of `files` say of packets that were lost to a fragment, the only cause of the examples.
 CURES = {cause: "what it told is missing, unless another message told it" for cause in ("fragment", "IPv6 fragment")}
@@ -62,4 +62,4 @@ def text_of(command, name, capture):
 
 def traced_text(command, captures):
     """What a command prints of captures, each with its name, file after file."""
-    return "".join(text_of(command, name, capture) for name, capture in captures)
+    return "".join(text_of(command, file_text(name), capture) for name, capture in captures)

@@ -1,6 +1,7 @@
 """Records as reports print them, made from their bytes."""
 
 import ipaddress
+import os
 import struct
 
 from tests.captures.wire import SECOND, TYPES, Content
@@ -12,6 +13,11 @@ def kind_text(kind):
 
 def moment_text(moment):
     return f"{moment // SECOND}.{moment % SECOND:09}"
+
+
+def file_text(name):
+    """The name of a file as its bytes."""
+    return bytes_text(os.fsencode(name))
 
 
 def name_text(name):

@@ -13,15 +13,11 @@ FLAG = re.compile(r"(?m)^      (--[a-z-]+)( <[A-Z]+>)?  +(.*)$")
 # What each flag takes, and its help.
 FLAGS = {flag: (takes, text) for flag, takes, text in FLAG.findall((PAGES / "flags.txt").read_text())}
 
-# The flags that ask for a form, and each two of them.
-FORMS = ("--json", "--pretty")
-TWO_FORMS = tuple(combinations(FORMS, 2))
+# The flags that ask for a form.
+FORMS = ("--json", "--pretty", "--csv")
 
 # What all pages say at their end.
-END = """\
-Exit: 0 printed; 1 printed, but a file is damaged; 2 refused (run mdnswhy files)
-To record: tcpdump -i eth0 -U -w a.pcap udp port 5353
-"""
+END = "Exit: 0 printed; 1 printed, but a file is damaged; 2 refused (run mdnswhy files)\n"
 
 
 def page(name):
@@ -53,10 +49,22 @@ def flags_of(command):
     return tuple(flag for flag, *_ in FLAG.findall(page(command)))
 
 
-# The commands of mdnsmerge, those that answer as of a moment, and of these those that answer in each form.
+def forms_of(command):
+    """The flags of a command that ask for a form."""
+    return tuple(form for form in FORMS if form in flags_of(command))
+
+
+def two_forms(commands):
+    """Each two of the flags that ask for a form, of each of some commands."""
+    return [(command, *two) for command in commands for two in combinations(forms_of(command), 2)]
+
+
+# The commands of mdnsmerge, those that answer as of a moment, and of these those that have several forms, and those that list
+# what is in a window.
 COMMANDS = commands_of("program")
 ANSWERS = taking("--at", COMMANDS)
 ASKS = taking("--pretty", COMMANDS)
+WINDOWED = taking("--since", COMMANDS)
 
 # The commands of mdnswhy; those that stop at a file that is no capture, all but `files`; and of these those that answer file
 # after file.

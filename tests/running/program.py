@@ -79,8 +79,8 @@ def text_of(output):
 
 
 def people_of(output):
-    """A page, objects or columns for people: UTF-8 in which no character is hidden but the end of a line."""
+    """A page, objects, CSV or columns for people: UTF-8 in which no character is hidden but the end of a line."""
     text = output.decode("utf-8", "replace")
     expect(text.encode() == output, "no UTF-8 in", output)
-    expect(not HIDDEN_CHARACTER.search(text.replace("\n", "")), "a character that people don't see in", output)
+    expect(not HIDDEN_CHARACTER.search(text.replace("\r\n", "").replace("\n", "")), "a character that people don't see in", output)
     return text

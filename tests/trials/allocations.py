@@ -30,7 +30,7 @@ from tests.captures.built import frame_of, labels, lay_out_small, write_capture
 from tests.captures.link import Link
 from tests.captures.wire import SECOND, TXT
 from tests.judges.lives import CHOICES
-from tests.running.commands import ASKS, COMMANDS, FORMS, WHYS, flags_of
+from tests.running.commands import ASKS, COMMANDS, FORMS, WHYS, flags_of, forms_of
 from tests.running.program import Answer
 from tests.running.runs import DAMAGED, REFUSED, WHOLE, answer_of, differences, fails, placed
 from tests.trials.memory import again
@@ -62,8 +62,8 @@ PACKETS, TWICE, OFTEN, OF_KNOWN = 1_000, "twice.pcap", "often.pcap", 2_000
 # So many records with a text of so many bytes, each of which is printed as four: together more than is printed at once.
 LONG_TEXTS, LONG = 15, 1_275
 
-# What follows the record in a line of a life, or in an object.
-AFTER_RECORD = re.compile(r' from \d|,"from":')
+# What follows the record in a line of a life, in an object or in a row.
+AFTER_RECORD = re.compile(r' from \d|,"from":|,\d{4}-')
 
 
 @placed
@@ -90,9 +90,11 @@ RUNS = (
     *(Run((ask, "--pretty", "--about", "a", *BOTH), 2, WHOLE) for ask in CHOICES),
     Run(("lives", "--pretty", "long.pcap"), 1, WHOLE),
     Run(("lives", "--before", "1795332450", *BOTH), 2, WHOLE),
+    *(Run((ask, "--since", "1795332440", "--until", "1795332450", *BOTH), 2, WHOLE) for ask in CHOICES),
+    Run(("hosts", "--pretty", "--about", "elm shell", *BOTH), 2, WHOLE),
     Run(("lives", "long.pcap"), 1, WHOLE),
     Run(("lives", "--json", "long.pcap"), 1, WHOLE),
-    Run(("page", "--before", "1795332450", "--about", "alder.", "--listener", "w", *BOTH), 2, WHOLE),
+    Run(("page", "--before", "1795332450", "--since", "1795332440", "--about", "alder.", "--listener", "w", *BOTH), 2, WHOLE),
     *(Run((command, "one.pcap", "cut.pcap"), 2, DAMAGED) for command in COMMANDS),
     Run(("records", "--at", "99", "one.pcap"), 1, REFUSED),
     Run(("lives", "--at", "99", "one.pcap"), 1, REFUSED),
@@ -111,10 +113,10 @@ WHY_RUNS = tuple(run._replace(program="mdnswhy") for run in (
     *(Run((command, "one.pcap", "cut.pcap"), 2, DAMAGED) for command in WHYS),
     Run(("hearings", "one.pcap", "text.pcap"), 2, REFUSED),
     Run(("spans", "one.pcap", "text.pcap"), 2, REFUSED),
-    *(Run(("listeners", form, "--listener", "w", *BOTH), 2, WHOLE) for form in FORMS),
+    *(Run(("listeners", form, "--listener", "w", *BOTH), 2, WHOLE) for form in forms_of("listeners")),
     Run(("listeners", "one.pcap", "text.pcap"), 2, REFUSED),
     Run(("hearings", "--about", "a", *BOTH), 2, WHOLE),
-    Run(("hearings", "--pretty", *BOTH), 2, WHOLE),
+    *(Run(("hearings", form, *BOTH), 2, WHOLE) for form in FORMS),
     Run(("hearings", "missing.pcap"), 1, REFUSED, are_read=False),
     Run(("--help",), 0, WHOLE),
     Run(("hearings", "--help"), 0, WHOLE),

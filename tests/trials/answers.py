@@ -1,8 +1,9 @@
-"""Runs over small captures: the rows of `captures.rows`, and those of `why.rows` for mdnswhy, which have their bytes, of
+"""Runs over small captures: the rows of `captures.rows`, of `shapes`, and of `why.rows` for mdnswhy, which have their bytes, of
 `hearings.rows` and `lives.rows`, which have what was heard, and of `listeners.rows` for mdnswhy, which have either.
 
 What must come of each row stands in it."""
 
+from itertools import chain
 from typing import NamedTuple
 
 from tests import TOP
@@ -12,8 +13,8 @@ from tests.running.runs import agrees, fails
 
 
 class Table(NamedTuple):
-    """The files of names and rows, of which the last one has the rows; how many rows there are, so that one that is lost is
-    missed; and whether they name vectors beside the lines of reports."""
+    """The files of names and rows, of which the last one has the rows, or each of some; how many rows there are, so that one that is lost
+    is missed; and whether they name vectors beside the lines of reports."""
     names: tuple
     count: int
     program: str = "mdnsmerge"
@@ -21,14 +22,16 @@ class Table(NamedTuple):
 
     def rows(self):
         known = {**vectors(), **lines()} if self.has_vectors else lines()
-        return rows_of(known, *(TOP / "trials" / name for name in self.names))
+        *names, rows = (sorted((TOP / "trials").glob(name)) for name in self.names)
+        return [row for path in rows for row in rows_of(known, *chain(*names), path)]
 
 
 TABLES = (Table(("captures.rows",), 178),
-          Table(("hearings.rows",), 120, has_vectors=False),
-          Table(("hearings.rows", "lives.rows"), 119, has_vectors=False),
-          Table(("captures.rows", "why.rows"), 237, "mdnswhy"),
-          Table(("captures.rows", "listeners.rows"), 85, "mdnswhy"))
+          Table(("hearings.rows",), 150, has_vectors=False),
+          Table(("hearings.rows", "lives.rows"), 149, has_vectors=False),
+          Table(("captures.rows", "why.rows"), 248, "mdnswhy"),
+          Table(("captures.rows", "listeners.rows"), 85, "mdnswhy"),
+          Table(("shapes/*.rows",), 50, has_vectors=False))
 
 
 def try_answers(merge, folder, about=""):

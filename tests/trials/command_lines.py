@@ -5,18 +5,17 @@ names in them. What is asked for shows in the answer over captures that are made
 named, in the order of the words."""
 
 import re
-from calendar import timegm
+import shlex
 from itertools import cycle
-from typing import NamedTuple, Optional
+from typing import NamedTuple
 
 from tests import TOP
 from tests.captures.built import frame_of, lay_out_small, pointer, write_capture
 from tests.captures.wire import SECOND
-from tests.judges.answers import answer_to
-from tests.judges.lives import CHOICES
-from tests.judges.words import moment_text
-from tests.running.commands import ANSWERS, ASKS, COMMANDS, END, FLAGS, TWO_FORMS, flags_of, page
-from tests.running.runs import WHOLE, Case, agrees, fails, placed, refused, said
+from tests.captures.written import blocks_of
+from tests.judges.answers import WORDS, answer_to
+from tests.running.commands import ANSWERS, ASKS, COMMANDS, END, FLAGS, WINDOWED, flags_of, page, two_forms
+from tests.running.runs import WHOLE, Case, agrees, fails, refused, said
 
 TRY_HELP = "For more information, try '--help'.\n"
 
@@ -77,28 +76,10 @@ def no_moment(words, flag, quoted):
                 "or a date and time with its zone (2026-11-22T07:27:00Z)")
 
 
-# Texts that name no moment.
-NO_MOMENTS = (
-    "", " ", "noon", "-5", "-0", "+", "1e9", "0x10", "5 ", " 5", "1_000", "4294967296", "4294967296.0", "99999999999999999999",
-    "1.", ".5", "1.5.5", "1.+5", "1.0000000001", "--5", "++5",
-    # Without a zone, or with half of one.
-    "2026-11-22", "2026-11-22T07:27:00", "2026-11-22T07:27", "2026-11-22Z", "2026-11-22T07:27:00+01",
-    "2026-11-22T07:27:00+0100", "2026-11-22T07:27:00+1:00", "2026-11-22T07:27:00+24:00", "2026-11-22T07:27:00-01:60",
-    "2026-11-22T07:27:00UTC", "2026-11-22T07:27:00 Z", "2026-11-22T07:27:00ZZ", "2026-11-22T07:27:00Z ",
-    "2026-11-22T07:27:00+01:00Z",
-    # Days and times that there aren't.
-    "2026-00-22T07:27:00Z", "2026-13-22T07:27:00Z", "2026-11-00T07:27:00Z", "2026-11-31T07:27:00Z", "2026-01-32T07:27:00Z",
-    "2026-02-29T07:27:00Z", "2100-02-29T07:27:00Z", "2024-02-30T07:27:00Z", "2026-11-22T24:00:00Z", "2026-11-22T07:60:00Z",
-    "2026-11-22T23:59:60Z", "2026-11-22T07:27:61Z",
-    # Too few or too many digits, or other marks.
-    "26-11-22T07:27:00Z", "2026-1-22T07:27:00Z", "2026-11-2T07:27:00Z", "2026-11-22T7:27:00Z", "2026-11-22T07:27:0Z",
-    "02026-11-22T07:27:00Z", "2026/11/22T07:27:00Z", "20261122T072700Z", "2026-11-22_07:27:00Z", "2026-11-22  07:27:00Z",
-    "2026-11-22T07.27.00Z", "+2026-11-22T07:27:00Z", "2026-11-22T07:27:00,5Z", "2026-11-22T07:27.5Z", "2026-11-22T07:27:00.Z",
-    "2026-11-22T07:27:00.0000000001Z", "2026-11-22T07Z",
-    # Earlier and later than any moment.
-    "1969-12-31T23:59:59.999999999Z", "1970-01-01T00:00:00+00:01", "0000-01-01T00:00:00+23:59", "2106-02-07T06:28:16Z",
-    "2106-02-07T06:28:15-00:01", "9999-12-31T23:59:59-23:59",
-)
+# The rows of command lines that ask for something, and the texts that name no moment.
+ROWS = TOP / "trials/told.rows"
+LINES_OF_ROWS = [(f"trials/{ROWS.name}:{number}", [shlex.split(cell) for cell in line.split("|")]) for number, line, _ in blocks_of(ROWS)]
+NO_MOMENTS = [text for _, cells in LINES_OF_ROWS if len(cells) == 1 for text in cells[0]]
 
 REPORT = "records [OPTIONS] <FILE>..."
 NO_FILE = "the following required arguments were not provided:\n  <FILE>..."
@@ -131,6 +112,21 @@ REFUSALS = (
     *(said([command, *words, "one.pcap"], "--at and --before can't be given together") for command in ANSWERS
       for words in (["--at", "5", "--before", "5"], ["--before=6", "--at=5"], ["--at", "noon", "--before", "5"],
                     ["--at", "noon", "--before", ""])),
+    *(no_moment([command, f"{flag}={value}", "one.pcap"], flag, f"'{value}' ") for command in WINDOWED for flag in ("--since", "--until")
+      for value in ("noon", "1e9", "4294967296", "1.0000000001", "2026-11-22T07:27:00")),
+    *(case for command in WINDOWED for case in (
+        no_moment([command, "--until", "then", "--since", "now", "one.pcap"], "--since", "'now' "),
+        no_moment([command, "--since", "5", "--until", "", "--at", "noon", "one.pcap"], "--until", "'' "),
+        no_moment([command, "--since", "\u0661", "one.pcap"], "--since", ""),
+        no_moment([command, "--since", "5", "--until", "6", "--before", "noon", "one.pcap"], "--before", "'noon' "),
+        said([command, "--since", "5", "--at", "7", "--before", "7", "one.pcap"], "--at and --before can't be given together"),
+        misused([command, "--since", "5", "--since", "6", "one.pcap"], "the argument '--since <MOMENT>' cannot be used multiple times",
+                f"{command} [OPTIONS] <FILE>..."),
+        misused([command, "one.pcap", "--until"], "a value is required for '--until <MOMENT>' but none was supplied"))),
+    *(said([command, *words, "missing.pcap"], "--since must be earlier than --until: nothing lies between them") for command in WINDOWED
+      for words in (["--since", "100", "--until", "100"], ["--until=99.999999999", "--since", "1970-01-01T00:01:40Z"],
+                    ["--until", "0", "--since=0", "--at", "5"], ["--before", "7", "--since", "6", "--until", "5"],
+                    ["--since", "6", "--until", "5", "--at", "5", "--before", "5"])),
     *(misused(["records", *given(flag), *given(flag), "one.pcap"],
               f"the argument '{flag}{takes}' cannot be used multiple times", REPORT)
       for flag, (takes, text) in FLAGS.items() if flag in flags_of("records") and not text.endswith("; repeatable")),
@@ -148,7 +144,7 @@ REFUSALS = (
     *(misused(["records", *words, "one.pcap"], "a value is required for '--about <WORD>' but none was supplied")
       for words in (["--about="], ["--about", ""], ["--about", "elm", "--about", "", "--printers"])),
     *(said([command, *words, "one.pcap"], f"{one} and {other} can't be given together")
-      for command in ASKS for one, other in TWO_FORMS for words in ([one, other], [other, "--about=a", one])),
+      for command, one, other in two_forms(ASKS) for words in ([one, other], [other, "--about=a", one])),
     misused(["records", "--version", "one.pcap"], "unexpected argument '--version' found", REPORT,
             "to pass '--version' as a value, use '-- --version'"),
     misused(["records", "--ta", "5", "one.pcap"], "unexpected argument '--ta' found", REPORT,
@@ -180,86 +176,17 @@ HELP = (
 )
 
 
-def utc(year, month, day=1, hour=0, minute=0, second=0):
-    """The moment of a date and time, by Python's calendar, in nanoseconds."""
-    return timegm((year, month, day, hour, minute, second)) * SECOND
-
-
-@placed
 class Told(NamedTuple):
-    """Words after the program's name: what is asked, of which files in which order, and as of which moment, or before
-    which, in nanoseconds, or as of the newest hearing."""
+    """Words after the program's name, and what they ask for: a command, files in order, and options with moments in seconds."""
+    place: str
     words: tuple
     what: str
     names: tuple
-    at: Optional[int] = None
-    before: Optional[int] = None
-    place: str = ""
+    options: tuple
 
 
-TOLD = (
-    Told(("records", "--at", "99", "v1.pcap"), "records", ("v1.pcap",), 99 * SECOND),
-    Told(("types", "--at", "4294967295", "a", "b"), "types", ("a", "b"), 4294967295 * SECOND),
-    Told(("instances", "a"), "instances", ("a",)),
-    Told(("check", "a", "b"), "check", ("a", "b")),
-    Told(("check", "b", "a", "b"), "check", ("b", "a", "b")),
-    Told(("records", "--at=0", "a"), "records", ("a",), 0),
-    Told(("records", "a", "--at", "5", "b"), "records", ("a", "b"), 5 * SECOND),
-    Told(("records", "a", "b", "--at", "5"), "records", ("a", "b"), 5 * SECOND),
-    # A sign and zeros in front, as `u32` reads them.
-    Told(("records", "--at", "+150", "a"), "records", ("a",), 150 * SECOND),
-    Told(("records", "--at", "0150", "a"), "records", ("a",), 150 * SECOND),
-    # A name may be any text.
-    Told(("check", "-"), "check", ("-",)),
-    Told(("check", "a b", "\u00e9.pcap"), "check", ("a b", "\u00e9.pcap")),
-    Told(("check", "records"), "check", ("records",)),
-    # After `--` all words are names.
-    Told(("check", "--", "-x.pcap"), "check", ("-x.pcap",)),
-    Told(("check", "--", "--", "--help"), "check", ("--", "--help")),
-    Told(("records", "--", "--at", "5"), "records", ("--at", "5")),
-    Told(("records", "--at", "5", "--", "--at"), "records", ("--at",), 5 * SECOND),
-    Told(("instances", "a", "--", "-b"), "instances", ("a", "-b")),
-    Told(("records", "--at=4294967295", "check"), "records", ("check",), 4294967295 * SECOND),
-    Told(("records", "--at", "00004294967295", "a"), "records", ("a",), 4294967295 * SECOND),
-    Told(("types", "--at=+0", "a"), "types", ("a",), 0),
-    Told(("records", "--before", "150", "a"), "records", ("a",), before=150 * SECOND),
-    Told(("types", "--before=4294967295", "a", "b"), "types", ("a", "b"), before=4294967295 * SECOND),
-    Told(("instances", "b", "--before", "+05", "a"), "instances", ("b", "a"), before=5 * SECOND),
-    Told(("records", "--before", "0", "a"), "records", ("a",), before=0),
-    Told(("records", "--at", "5", "--", "--before"), "records", ("--before",), 5 * SECOND),
-    *(told for ask in CHOICES for told in (
-        Told((ask, "a"), ask, ("a",)),
-        Told((ask, "a", "--at", "5", "b"), ask, ("a", "b"), 5 * SECOND),
-        Told((ask, "--before", "150", "a"), ask, ("a",), before=150 * SECOND))),
-    Told(("lives", "a", "b", "a"), "lives", ("a", "b", "a")),
-    Told(("lives", "--at=0", "a"), "lives", ("a",), 0),
-    Told(("lives", "--before", "2026-11-22 07:27Z", "--", "-x.pcap"), "lives", ("-x.pcap",), before=utc(2026, 11, 22, 7, 27)),
-    # Seconds with a fraction, as moments are printed.
-    Told(("records", "--at", "1795332403.397617000", "a"), "records", ("a",), 1795332403_397617000),
-    Told(("records", "--at", "1.5", "a"), "records", ("a",), 1_500000000),
-    Told(("types", "--before", "5.000000001", "a"), "types", ("a",), before=5_000000001),
-    Told(("types", "--before=+05.10", "a"), "types", ("a",), before=5_100000000),
-    Told(("records", "--at", "4294967295.999999999", "a"), "records", ("a",), 4294967295_999999999),
-    # Dates and times.
-    Told(("records", "--at", "2026-11-22T07:27:00Z", "a"), "records", ("a",), utc(2026, 11, 22, 7, 27)),
-    Told(("types", "--before", "2026-11-22T07:27:00.25+01:00", "a"), "types", ("a",),
-         before=utc(2026, 11, 22, 6, 27) + SECOND // 4),
-    Told(("records", "--before", "2026-11-21 22:57:00.000000001-08:30", "a"), "records", ("a",),
-         before=utc(2026, 11, 22, 7, 27) + 1),
-    Told(("instances", "--before", "2026-11-22 07:27Z", "a", "b"), "instances", ("a", "b"), before=utc(2026, 11, 22, 7, 27)),
-    Told(("records", "--at", "2026-11-22t07:27:59z", "a"), "records", ("a",), utc(2026, 11, 22, 7, 27, 59)),
-    Told(("records", "--at=2024-02-29T23:59:59-00:00", "a"), "records", ("a",), utc(2024, 2, 29, 23, 59, 59)),
-    Told(("records", "--at=2000-02-29 00:00+00:00", "a"), "records", ("a",), utc(2000, 2, 29)),
-    Told(("records", "--at=2100-02-28T23:59:59Z", "a"), "records", ("a",), utc(2100, 2, 28, 23, 59, 59)),
-    Told(("records", "--at=2100-03-01T00:00:00Z", "a"), "records", ("a",), utc(2100, 3, 1)),
-    *(Told(("records", f"--at={year}-{month:02}-01T00:00Z", "a"), "records", ("a",), utc(year, month))
-      for year in (2027, 2028) for month in range(1, 13)),
-    Told(("records", "--at", "1970-01-01T00:00:00Z", "a"), "records", ("a",), 0),
-    Told(("records", "--at", "1970-01-01T23:59:00+23:59", "a"), "records", ("a",), 0),
-    Told(("records", "--before", "1969-12-31T23:30:00-01:00", "a"), "records", ("a",), before=1800 * SECOND),
-    Told(("records", "--at", "2106-02-07T06:28:15.999999999Z", "a"), "records", ("a",), 4294967295_999999999),
-    Told(("records", "--before", "2106-02-08T06:27:15+23:59", "a"), "records", ("a",), before=4294967295 * SECOND),
-)
+TOLD = [Told(place, words, asked[0], asked[1:], options) for place, (words, asked, options) in (
+    line for line in LINES_OF_ROWS if len(line[1]) == 3)]
 
 # No file has an empty name. Files are opened in the order of the words, and the first that can't be is named.
 NAMELESS = (
@@ -276,32 +203,34 @@ def packet(label, moment, ttl):
     return moment, frame_of([(record, ttl) for record in records])
 
 
-def scenes(told):
-    """The packets of captures over which what is asked has another answer as of each other moment, and before each other one."""
-    if told.before is not None:
-        earlier = [packet("new", told.before - 1, 120), packet("old", told.before - SECOND, 1)] if told.before else []
-        return [[packet("at", told.before, 120), *earlier]]
-    if told.at is None:
+def scenes(asked):
+    """The packets of captures over which what is asked has another answer as of each other moment, before each other one, and in each other
+    window."""
+    if (asked.since, asked.until) != (None, None):
+        over = [] if asked.since is None else [packet(f"over-{ago}", asked.since - SECOND + ago, 1) for ago in (0, 1)]
+        return [over + ([] if asked.until is None else [packet(f"new-{ago}", asked.until - ago, 120) for ago in (0, 1)])]
+    if asked.before is not None:
+        earlier = [packet("new", asked.before - 1, 120), packet("old", asked.before - SECOND, 1)] if asked.before else []
+        return [[packet("at", asked.before, 120), *earlier]]
+    if asked.at is None:
         return [[packet("new", SECOND - 1, 120), packet("old", 0, 1)]]
-    if told.at == 0:
+    if asked.at == 0:
         # The moment is earlier than the second hearing.
         return [[packet("new", 0, 120)], [packet("new", 1, 120)]]
-    ttl, start = divmod(told.at, SECOND)
+    ttl, start = divmod(asked.at, SECOND)
     return [[packet("new", start + 1, ttl), packet("old", start, ttl)]]
 
 
 def try_told(told, program, folder):
     """Tries words in a folder with files of their names, each cut short, and answers how many runs failed."""
     folder.mkdir()
-    failed = 0
-    moments = (("--at", told.at), ("--before", told.before))
-    asked = [told.what, *(word for flag, moment in moments if moment is not None for word in (flag, moment_text(moment)))]
-    for packets in scenes(told):
+    failed, asked = 0, [told.what, *told.options]
+    for packets in scenes(WORDS.parse_args(asked)):
         capture = write_capture(folder / told.names[0], "little-nano", packets) + b"\0"
         for name in told.names:
             (folder / name).write_bytes(capture)
         must = answer_to("mdnsmerge", asked, [(name, capture) for name in told.names])
-        failed += not agrees(Case(told.words, *must, place=told.place), program, folder)
+        failed += not agrees(Case(tuple(told.words), *must, place=told.place), program, folder)
     return failed
 
 

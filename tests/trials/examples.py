@@ -16,7 +16,7 @@ def try_examples():
         captures, _, asked = path.stem.partition(".")
         command, *form = asked.split("-")
         files = [(f"{name}.pcap", (EXAMPLES / f"{name}.pcap").read_bytes()) for name in captures.split("-")]
-        text = path.read_text("utf-8")
+        text = path.read_bytes().decode()
         must = answer_to("mdnswhy" if command in WHYS else "mdnsmerge", [command, *(f"--{one}" for one in form)], files).out
         if command == "page":
             must = page_text(Judge(files, Asked()), style_of(text))

@@ -5,7 +5,7 @@
 import tempfile
 from pathlib import Path
 
-from tests.fuzz.oracles import Case, Seen
+from tests.fuzz.oracles import Case
 from tests.judges.page_text import own, style_of
 from tests.running.program import Finding, Program
 from tests.running.runs import fails
@@ -20,7 +20,7 @@ PRINTED = 20
 
 def page_of(program, folder, case):
     """The page of a case, which must be the judge's."""
-    asking = Case({"mdnsmerge": Program(program, folder, PATIENCE)}, None, (), Seen())
+    asking = Case({"mdnsmerge": Program(program, folder, PATIENCE)})
     asking.captures.update(case.lay_out(folder))
     return asking.ask_page([name for name, _ in case.files], case.asked)[1]
 
@@ -29,12 +29,10 @@ def found_in(program, folder, case, styles):
     """What is wrong with the page of a case, whose style is added to those of others."""
     try:
         text = page_of(program, folder, case)
-        other = page_of(program, folder, case.alike) if case.alike else text
     except Finding as finding:
         return str(finding).splitlines()[:PRINTED]
     styles.update({style_of(text)} - {""})
-    return [*(["  pages look different"] if len(styles) > 1 else []), *(f"  it lacks {line}" for line in case.has if own(line) not in text),
-            *(["  it isn't the page of what is the same by definition"] if other != text else [])]
+    return [*(["  pages look different"] if len(styles) > 1 else []), *(f"  it lacks {line}" for line in case.has if own(line) not in text)]
 
 
 def try_page(program, folder, words=""):

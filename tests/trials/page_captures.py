@@ -1,14 +1,11 @@
 """Captures for pages, each about one thing that a page can get wrong: hostile texts, damaged and cut files, ends of lives,
 spans, in which seconds captures heard a record, why packets told nothing, what is asked."""
 
-import random
-
 from tests import EXAMPLES, TOP
 from tests.captures.built import frame_of
 from tests.captures.floods import ORDERS, flushes
 from tests.captures.hostile import product
 from tests.captures.link import META, START, Link, Record
-from tests.captures.mutations import captures_of
 from tests.captures.real import NAMES, repeated
 from tests.captures.sources import IPV6_SOURCE
 from tests.captures.wire import AAAA, LAST_MOMENT, PTR, SECOND, SRV, ipv6_frame
@@ -26,8 +23,7 @@ NIGHT = 1_700_006_370 * SECOND
 
 def cases(folder):
     """All cases. Bytes of captures are made in the folder."""
-    for make in (examples, few, hostile, damaged, causes, ended, spans, lanes, compared, listeners, many, services, names, servers,
-                 asked, generated):
+    for make in (examples, few, hostile, damaged, causes, ended, spans, lanes, compared, listeners, many, services, names, servers, asked):
         yield from make(folder)
 
 
@@ -223,20 +219,12 @@ def compared(_):
         """Packets by a clock that is ahead, by these nanoseconds in turn."""
         return [(moment + nanos[place % len(nanos)], frame) for place, (moment, frame) in enumerate(packets)]
 
-    clocks = {"4 s ahead": [4 * SECOND], "4 s behind": [-4 * SECOND], "a tenth of a second ahead": [SECOND // 10],
-              "1 ns more ahead": [SECOND // 10 + 1], "unsteady": [0, SECOND, 2 * SECOND]}
-    for what, nanos in clocks.items():
+    for what, nanos in {"4 s behind": [-4 * SECOND], "a tenth of a second ahead": [SECOND // 10], "unsteady": [0, SECOND, 2 * SECOND]}.items():
         yield Case(f"a clock {what}", [("a.pcap", heard), ("b.pcap", ahead(heard, *nanos))])
     yield Case("a clock 4 s ahead, and other messages",
                [("a.pcap", heard + other[:3]), ("b.pcap", ahead(heard[1:] + other[5:], 4 * SECOND))])
-    yield Case("one message in common", [("a.pcap", heard[:5]), ("b.pcap", heard[4:])])
-    yield Case("nothing in common", [("a.pcap", heard), ("b.pcap", other)])
-    yield Case("nothing in common, at other times", [("a.pcap", heard), ("b.pcap", ahead(other, DAY))])
-    yield Case("no message once in both", [("a.pcap", heard + heard), ("b.pcap", heard)])
     yield Case("two links, and a clock 4 s ahead on each",
                [("a.pcap", heard), ("b.pcap", other), ("c.pcap", ahead(heard, 4 * SECOND)), ("d.pcap", ahead(other, 4 * SECOND))])
-    yield Case("three captures, of which the second is 4 s ahead",
-               [("a.pcap", heard), ("b.pcap", ahead(heard, 4 * SECOND)), ("c.pcap", heard)])
     yield Case("three captures, of which the third has nothing in common with the first",
                [("a.pcap", heard[:4]), ("b.pcap", heard), ("c.pcap", heard[4:])])
     yield Case("six captures, each with a clock of its own",
@@ -253,9 +241,9 @@ def lanes(_):
 
     def heard(what, *tenths, ttls):
         packets = [says(START + tenth * SECOND // 10, one, ttl=ttl) for tenth, ttl in zip(tenths, ttls)]
-        yield (whole := alone(f"{what} in one second", *packets, end))
+        yield alone(f"{what} in one second", *packets, end)
         files = in_parts("a.pcap", [*packets, end], *range(1, len(packets) + 1))
-        yield Case(f"{what} in one second, each in a file of one listener", files, Asked(listener=("a.pcap",)), alike=whole)
+        yield Case(f"{what} in one second, each in a file of one listener", files, Asked(listener=("a.pcap",)))
 
     yield from heard("a hearing and a goodbye", 2, 7, ttls=(9, 0))
     yield from heard("a goodbye and a hearing", 2, 7, ttls=(0, 9))
@@ -392,7 +380,26 @@ def asked(_):
     for word in ("one", "_ipp._tcp", "printer", "192.0.2.1", "nothing at all", "ONE._http._tcp.local"):
         yield Case(f"about {word}", files, Asked(about=(word,)))
     yield Case("about two words before a moment", files, Asked(before=at(5), about=("two", "one")))
+    yield from windows(files)
     yield from about_hosts()
+
+
+def windows(files):
+    """Pages of windows: before, within and after what was recorded, at the bounds of lives, and of more than what was recorded."""
+    for since, until in ((None, 9), (9, None), (9, 10), (10, 20), (11, 19), (-50, -20), (-50, 500), (10, 11), (140, 141), (500, None), (None, -5)):
+        window = {flag: at(second) for flag, second in (("since", since), ("until", until)) if second is not None}
+        yield Case(f"a window from {since} s to {until} s", files, Asked(**window))
+        yield Case(f"a window from {since} s to {until} s before a moment", files, Asked(before=at(15), about=("one", "printer"), **window))
+    yield Case("a window as of a later moment", files, Asked(at=at(100), since=at(50)))
+    for nanos in (-1, 0, 1):
+        yield Case(f"a window from {nanos} ns after a life, to its begin", files, Asked(since=at(10) + nanos, until=at(20) + nanos))
+    yield Case("a window of a nanosecond", files, Asked(since=at(20), until=at(20) + 1))
+    yield Case("a window across a day", [("a.pcap", [full(NIGHT, b"one"), full(NIGHT + DAY, b"two")])],
+               Asked(since=NIGHT + DAY - SECOND, until=NIGHT + DAY + 1))
+    many = [("a.pcap", [says(at(20 * number), service(b"one"), ttl=5) for number in range(1200)])]
+    for count in (1, 1001):
+        yield Case(f"a window with {count} of 1200 lives", many, Asked(until=at(20 * count)))
+    yield Case("a window of five captures", (files * 3)[:5], Asked(since=at(9), until=at(20)))
 
 
 def about_hosts():
@@ -421,11 +428,3 @@ def about_hosts():
                        ("oak.local..", "<bdi>oak.local..</bdi>, <bdi>oak.local.</bdi>")):
         yield Case(f"about {word}, of hosts", files, Asked(about=(word, "yew")), (f"Only what is about {told}, <bdi>yew</bdi>.",))
     yield Case("about words of markup", files, Asked(about=("</bdi><b>", "&amp;", "\u202eelm", "elm")))
-
-
-def generated(folder):
-    """Captures of the fuzzing, damaged in every way."""
-    for seed in range(80):
-        captures = captures_of(random.Random(seed), folder / "made.pcap")
-        files = [(f"{place // 2}-{place}.pcap", bytes(capture)) for place, capture in enumerate(captures)]
-        yield Case(f"generated, {seed}", files, Asked(listener=("0",) * (seed % 2)))

@@ -32,9 +32,8 @@ class Case(NamedTuple):
     # Names, each with bytes, or with packets as moments and frames.
     files: list
     asked: Asked = Asked()
-    # Lines that it has, worked out by hand, and another case whose page is the same.
+    # Lines that it has, worked out by hand.
     has: tuple = ()
-    alike: tuple = None
     place: str = ""
 
     def lay_out(self, folder):

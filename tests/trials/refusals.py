@@ -46,19 +46,12 @@ FILES = (
     said(["records", "locked.pcap"], "locked.pcap: cannot be opened", is_nobody=True),
     *(said([command, "--at", "99", "one.pcap"], "the moment is earlier than the newest hearing, 100.000000000")
       for command in ("records", "lives", "page")),
-    Case(("records", "--at", "100", "one.pcap"), WHOLE, LINE),
-    Case(("records", "--at", "219", "one.pcap"), WHOLE, LINE),
-    Case(("records", "--at", "220", "one.pcap"), WHOLE),
-    Case(("types", "one.pcap"), WHOLE),
     Case(("records", "named like -- this"), WHOLE, LINE),
     Case(("records", "/dev/stdin"), WHOLE, LINE, standard_input="one.pcap"),
     Case(("records", "one.pcap"), WHOLE, LINE, is_nobody=True),
-    Case(("check", "one.pcap", "one.pcap"), WHOLE, f"one.pcap: {COUNTS} whole\n" * 2),
     Case(("check", "one.pcap", "cut.pcap"), DAMAGED, f"one.pcap: {COUNTS} whole\ncut.pcap: {COUNTS} cut at 117\n"),
     Case(("records", "cut.pcap"), DAMAGED, LINE, "mdnsmerge: cut.pcap: cut at 117\n"),
     Case(("records", "cut.pcap", "one.pcap", "cut.pcap"), DAMAGED, LINE, "mdnsmerge: cut.pcap: cut at 117\n" * 2),
-    Case(("lives", "one.pcap"), WHOLE, LIFE),
-    Case(("lives", "--before", "100", "one.pcap"), WHOLE),
     Case(("lives", "cut.pcap", "one.pcap", "cut.pcap"), DAMAGED, LIFE, "mdnsmerge: cut.pcap: cut at 117\n" * 2),
 )
 

@@ -1,6 +1,6 @@
 """Runs of the program over pipes, FIFOs and standard input, whose bytes come in pieces.
 
-Each run is made over files first. What must come of it is known as for `refusals.py`, or is what `examples/expected/` has."""
+Each run is made over files first."""
 
 import os
 import shutil
@@ -13,9 +13,8 @@ from itertools import cycle
 from tests import EXAMPLES
 from tests.captures.built import frame_of, labels, lay_out_small, write_capture
 from tests.captures.wire import A, SECOND
-from tests.running.runs import DAMAGED, WHOLE, Case, agrees, said
-from tests.trials.refusals import COUNTS, LIFE, LINE
-
+from tests.judges.answers import answer_to
+from tests.running.runs import Case, agrees
 
 # How many bytes come at once, again and again, and after how many pieces there is no pause any more.
 PIECES = (1, 2, 3, 5, 7, 16, 61, 255, 1009, 4099, 65_537)
@@ -25,34 +24,17 @@ PAUSE = 0.005
 # A frame that is longer than what is read ahead, and is no message.
 LONG_FRAME = bytes(200_000)
 
-LATER_LINE = "b.local A 192.0.2.2 ttl 120 heard 101.000000000 until 221.000000000\n"
+# Several are opened at once, and read one after another.
+ASKED = ("records one.pcap", "records cut.pcap", "check cut.pcap", "records long.pcap", "check long.pcap", "records west.pcap", "types east.pcap",
+         "lives cut.pcap", "lives east.pcap", "records empty.pcap", "check text.pcap", "records west.pcap east.pcap",
+         "instances west.pcap east.pcap", "lives west.pcap east.pcap", "check west.pcap east.pcap", "records long.pcap one.pcap cut.pcap",
+         "records west.pcap text.pcap", "check text.pcap west.pcap")
 
 
-def expected(name):
-    return (EXAMPLES / "expected" / f"{name}.txt").read_text()
-
-
-CASES = (
-    Case(("records", "one.pcap"), WHOLE, LINE),
-    Case(("records", "cut.pcap"), DAMAGED, LINE, "mdnsmerge: cut.pcap: cut at 117\n"),
-    Case(("check", "cut.pcap"), DAMAGED, f"cut.pcap: {COUNTS} cut at 117\n"),
-    Case(("records", "long.pcap"), WHOLE, LINE + LATER_LINE),
-    Case(("check", "long.pcap"), WHOLE, "long.pcap: packets 3 skipped 1 refused 0 messages 2 hearings 2 whole\n"),
-    Case(("records", "west.pcap"), WHOLE, expected("west.records")),
-    Case(("types", "east.pcap"), WHOLE, expected("east.types")),
-    Case(("lives", "cut.pcap"), DAMAGED, LIFE, "mdnsmerge: cut.pcap: cut at 117\n"),
-    Case(("lives", "east.pcap"), WHOLE, expected("east.lives")),
-    said(["records", "empty.pcap"], "empty.pcap: file header is cut short"),
-    said(["check", "text.pcap"], "text.pcap: not a classic pcap file"),
-    # Several are opened at once, and read one after another.
-    Case(("records", "west.pcap", "east.pcap"), WHOLE, expected("west-east.records")),
-    Case(("instances", "west.pcap", "east.pcap"), WHOLE, expected("west-east.instances")),
-    Case(("lives", "west.pcap", "east.pcap"), WHOLE, expected("west-east.lives")),
-    Case(("check", "west.pcap", "east.pcap"), WHOLE, expected("west-east.check")),
-    Case(("records", "long.pcap", "one.pcap", "cut.pcap"), DAMAGED, LINE + LATER_LINE, "mdnsmerge: cut.pcap: cut at 117\n"),
-    said(["records", "west.pcap", "text.pcap"], "text.pcap: not a classic pcap file"),
-    said(["check", "text.pcap", "west.pcap"], "text.pcap: not a classic pcap file"),
-)
+def cases(folder):
+    """The runs over files of the folder, as the judges have them."""
+    for command, *names in map(str.split, ASKED):
+        yield Case((command, *names), *answer_to("mdnsmerge", [command], [(name, (folder / name).read_bytes()) for name in names]))
 
 
 def feed(begin, capture):
@@ -128,7 +110,7 @@ def try_streams(program, folder):
     """Tries all cases over files, FIFOs and standard input; answers how many runs failed."""
     lay_out(folder)
     results = []
-    for case in CASES:
+    for case in cases(folder):
         results += [agrees(case, program, folder, "over files"), over_fifos(case, program, folder, folder / "fifos")]
         if len(case.words) == 2:
             results.append(over_standard_input(case, program, folder))
