@@ -76,9 +76,14 @@ def no_moment(words, flag, quoted):
                 "or a date and time with its zone (2026-11-22T07:27:00Z)")
 
 
+def cells_of(name):
+    """The place and the cells of each row of command lines."""
+    return [(f"trials/{name}:{number}", [cell.strip() for cell in line.split("|")])
+            for number, line, _ in blocks_of(TOP / "trials" / name)]
+
+
 # The rows of command lines that ask for something, and the texts that name no moment.
-ROWS = TOP / "trials/told.rows"
-LINES_OF_ROWS = [(f"trials/{ROWS.name}:{number}", [shlex.split(cell) for cell in line.split("|")]) for number, line, _ in blocks_of(ROWS)]
+LINES_OF_ROWS = [(place, list(map(shlex.split, cells))) for place, cells in cells_of("told.rows")]
 NO_MOMENTS = [text for _, cells in LINES_OF_ROWS if len(cells) == 1 for text in cells[0]]
 
 REPORT = "records [OPTIONS] <FILE>..."
@@ -86,29 +91,25 @@ NO_FILE = "the following required arguments were not provided:\n  <FILE>..."
 NO_COMMAND = ("'mdnsmerge' requires a subcommand but one was not provided\n"
               f"  [subcommands: {', '.join(COMMANDS)}]")
 
+
+def refused_rows():
+    """The rows of command lines that are refused."""
+    return [misused(shlex.split(words), fault.replace("NO_FILE", NO_FILE), *usage, place=place)
+            for place, (words, fault, *usage) in cells_of("refused.rows")]
+
+
 REFUSALS = (
     misused([], NO_COMMAND, "<COMMAND>"),
     # Since version 5.18 Linux gives an empty name in place of none.
     misused([], NO_COMMAND, "<COMMAND>", is_nameless=True),
-    misused(["record", "one.pcap"], "unrecognized subcommand 'record'", "<COMMAND>", "a similar subcommand exists: 'records'"),
-    misused(["one.pcap"], "unrecognized subcommand 'one.pcap'", "<COMMAND>"),
-    misused([""], "unrecognized subcommand ''", "<COMMAND>"),
-    misused(["help"], "unrecognized subcommand 'help'", "<COMMAND>"),
-    misused(["--at", "5", "records", "one.pcap"], "unexpected argument '--at' found", "<COMMAND>", "'records --at' exists"),
-    misused(["--before", "5", "records", "one.pcap"], "unexpected argument '--before' found", "<COMMAND>",
-            "'records --before' exists"),
+    *refused_rows(),
     *(misused([name], NO_FILE, f"{name} <FILE>...") for name in COMMANDS),
-    misused(["records", "--at", "5"], NO_FILE, "records --at <MOMENT> <FILE>..."),
     *(no_moment([command, f"{flag}={value}", "one.pcap"], flag, f"'{value}' ")
       for value in NO_MOMENTS for command, flag in zip(ANSWERS, cycle(("--at", "--before")))),
     # Only printable ASCII is repeated.
     *(no_moment(["records", "--before", value, "one.pcap"], "--before", "")
       for value in ("12\n3", "\x1b[2J", "1\x7f", "\u0661\u0662", "2026-11-22\u00a007:27Z")),
     no_moment(["records", "--at", "noon", "one.pcap"], "--at", "'noon' "),
-    # With no tip to say `-- -5`, which would be a file's name.
-    *(misused(["records", "--at", number, "one.pcap"], f"unexpected argument '{number}' found", REPORT) for number in ("-1", "-5")),
-    misused(["records", "one.pcap", "--at"], "a value is required for '--at <MOMENT>' but none was supplied"),
-    misused(["records", "--before", "5"], NO_FILE, "records --before <MOMENT> <FILE>..."),
     *(said([command, *words, "one.pcap"], "--at and --before can't be given together") for command in ANSWERS
       for words in (["--at", "5", "--before", "5"], ["--before=6", "--at=5"], ["--at", "noon", "--before", "5"],
                     ["--at", "noon", "--before", ""])),
@@ -136,23 +137,9 @@ REFUSALS = (
     *(misused([command, *given(flag), "one.pcap"], f"unexpected argument '{flag}' found",
               f"{command} {'[OPTIONS] ' * bool(flags_of(command))}<FILE>...", f"to pass '{flag}' as a value, use '-- {flag}'")
       for command in COMMANDS for flag in FLAGS if flag not in flags_of(command)),
-    misused(["page", "--at", "5", "--at", "5", "one.pcap"], "the argument '--at <MOMENT>' cannot be used multiple times",
-            "page [OPTIONS] <FILE>..."),
-    misused(["records", "--about", "-x", "one.pcap"], "unexpected argument '-x' found", REPORT,
-            "to pass '-x' as a value, use '-- -x'"),
-    misused(["lives", "one.pcap", "--about"], "a value is required for '--about <WORD>' but none was supplied"),
-    *(misused(["records", *words, "one.pcap"], "a value is required for '--about <WORD>' but none was supplied")
-      for words in (["--about="], ["--about", ""], ["--about", "elm", "--about", "", "--printers"])),
     *(said([command, *words, "one.pcap"], f"{one} and {other} can't be given together")
       for command, one, other in two_forms(ASKS) for words in ([one, other], [other, "--about=a", one])),
-    misused(["records", "--version", "one.pcap"], "unexpected argument '--version' found", REPORT,
-            "to pass '--version' as a value, use '-- --version'"),
-    misused(["records", "--ta", "5", "one.pcap"], "unexpected argument '--ta' found", REPORT,
-            "to pass '--ta' as a value, use '-- --ta'"),
-    misused(["records", "-x", "one.pcap"], "unexpected argument '-x' found", REPORT, "to pass '-x' as a value, use '-- -x'"),
     *unfit_prefixes("page", "mdnsmerge"),
-    misused(["check", "-x.pcap"], "unexpected argument '-x' found", "check [OPTIONS] <FILE>...",
-            "to pass '-x' as a value, use '-- -x'"),
     said(["records", b"\xff.pcap"], "an argument is not UTF-8 text"),
     said([b"\xff"], "an argument is not UTF-8 text"),
     # Among good ones, too, wherever it stands and whatever they ask for.
