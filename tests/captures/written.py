@@ -106,6 +106,11 @@ def blocks_of(path):
     return blocks
 
 
+def cells_of(path):
+    """The file and line of each row of a table, and its cells."""
+    return [(f"{path.relative_to(TOP)}:{number}", [cell.strip() for cell in line.split("|")]) for number, line, _ in blocks_of(path)]
+
+
 def expanded(text, known):
     """Puts what is known in the place of each name."""
     for name in NAME.findall(text):

@@ -12,7 +12,7 @@ from typing import NamedTuple
 from tests import TOP
 from tests.captures.built import frame_of, lay_out_small, pointer, write_capture
 from tests.captures.wire import SECOND
-from tests.captures.written import blocks_of
+from tests.captures.written import cells_of
 from tests.judges.answers import WORDS, answer_to
 from tests.running.commands import ANSWERS, ASKS, COMMANDS, END, FLAGS, WINDOWED, flags_of, page, two_forms
 from tests.running.runs import WHOLE, Case, agrees, fails, refused, said
@@ -76,14 +76,8 @@ def no_moment(words, flag, quoted):
                 "or a date and time with its zone (2026-11-22T07:27:00Z)")
 
 
-def cells_of(name):
-    """The place and the cells of each row of command lines."""
-    return [(f"trials/{name}:{number}", [cell.strip() for cell in line.split("|")])
-            for number, line, _ in blocks_of(TOP / "trials" / name)]
-
-
 # The rows of command lines that ask for something, and the texts that name no moment.
-LINES_OF_ROWS = [(place, list(map(shlex.split, cells))) for place, cells in cells_of("told.rows")]
+LINES_OF_ROWS = [(place, list(map(shlex.split, cells))) for place, cells in cells_of(TOP / "trials/told.rows")]
 NO_MOMENTS = [text for _, cells in LINES_OF_ROWS if len(cells) == 1 for text in cells[0]]
 
 REPORT = "records [OPTIONS] <FILE>..."
@@ -95,7 +89,7 @@ NO_COMMAND = ("'mdnsmerge' requires a subcommand but one was not provided\n"
 def refused_rows():
     """The rows of command lines that are refused."""
     return [misused(shlex.split(words), fault.replace("NO_FILE", NO_FILE), *usage, place=place)
-            for place, (words, fault, *usage) in cells_of("refused.rows")]
+            for place, (words, fault, *usage) in cells_of(TOP / "trials/refused.rows")]
 
 
 REFUSALS = (

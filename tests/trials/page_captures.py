@@ -9,6 +9,7 @@ from tests.captures.link import META, START, Link, Record
 from tests.captures.real import NAMES, repeated
 from tests.captures.sources import IPV6_SOURCE
 from tests.captures.wire import AAAA, LAST_MOMENT, PTR, SECOND, SRV, ipv6_frame
+from tests.captures.written import bytes_of, cells_of, expanded
 from tests.judges.judged_page import Asked
 from tests.trials.page_listeners import in_parts, listeners
 from tests.trials.page_names import names
@@ -93,39 +94,19 @@ def causes(_):
     """Packets that tell nothing, each for one cause."""
     four = full(START, b"one")[1]
     six = frame_of([(service(b"one"), TTL)], ipv6_frame, IPV6_SOURCE)
-    attention = {
-        "VLAN tag": changed(four, 12, b"\x81\0\0\1\x08\0"), "outer VLAN tag": changed(six, 12, b"\x88\xa8\0\1\x86\xdd"),
-        "cut Ethernet header": four[:13], "cut IPv4 header": four[:33], "cut IPv6 header": six[:53],
-        "cut datagram": four[:-1], "cut datagram over IPv6": six[:-1], "first fragment": changed(four, 20, b"\x20"),
-        "last fragment": changed(four, 21, b"\1"), "IPv6 fragment": changed(six, 20, b"\x2c"),
-        "IPv6 in IPv4": changed(four, 14, b"\x65"), "short IPv4 header": changed(four, 14, b"\x44"),
-        "IPv4 in IPv6": changed(six, 14, b"\x40"),
-        "total length": changed(four, 16, b"\0\x13"), "short UDP length": changed(four, 38, b"\0\7"),
-        "long UDP length": changed(six, 58, b"\xff"), "no UDP header": changed(four, 16, b"\0\x1b"),
-        "OPCODE": changed(four, 44, b"\x8c"), "RCODE": changed(six, 65, b"\3"),
-        "cut message header": changed(four, 38, b"\0\x13"), "damaged message": changed(four, 54, b"\x40")}
-    normal = {
-        "query": changed(four, 44, b"\4"), "query with an OPCODE": changed(six, 64, b"\x7c"),
-        "source port": changed(four, 34, b"\0\x35"), "port": changed(six, 56, b"\0\x35"),
-        "group": changed(four, 33, b"\xfc"), "IPv6 group": changed(six, 53, b"\xfc"),
-        "TCP": changed(four, 23, b"\6"), "ICMP over IPv6": changed(six, 20, b"\x3a"),
-        "ARP": changed(four, 12, b"\x08\x06"), "extension header": changed(six, 20, b"\0")}
-    for name, wrong in {**attention, **normal}.items():
-        yield alone(f"a packet of {name}", (START, four), (at(1), wrong))
-    told = [(at(place), wrong) for place, wrong in enumerate([*normal.values(), *attention.values()])]
+    known = {"IPV4": four.hex(), "IPV6": six.hex()}
+    wrong = {name: bytes_of(expanded(words, known)) for _, (name, words) in cells_of(TOP / "trials/causes.rows")}
+    for name, frame in wrong.items():
+        yield alone(f"a packet of {name}", (START, four), (at(1), frame))
+    told = [(at(place), frame) for place, frame in enumerate(wrong.values())]
     yield alone("packets of each cause", *told)
     files = [("a.pcap", told + told[::2]), ("b.pcap", told[::3]), ("c.pcap", []), ("d.pcap", [(at(5), four)])]
     yield Case("packets of each cause in several captures", files)
     yield Case("packets of each cause, many of them later", files, Asked(before=at(6)))
     yield Case("packets of each cause, of a page about a word", files, Asked(about=("nothing",)))
-    yield alone("thousands of queries and tags", *((START + number, normal["query"]) for number in range(2345)),
-                *((START + number, attention["VLAN tag"]) for number in range(1000)))
+    yield alone("thousands of queries and tags", *((START + number, wrong["query"]) for number in range(2345)),
+                *((START + number, wrong["VLAN tag"]) for number in range(1000)))
     yield alone("a message without a listed record", (START, frame_of([])))
-
-
-def changed(frame, place, other):
-    """A frame with other bytes at a place."""
-    return frame[:place] + other + frame[place + len(other):]
 
 
 def ended(_):
