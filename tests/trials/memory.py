@@ -8,11 +8,13 @@ import resource
 from itertools import islice
 from typing import NamedTuple
 
+from tests import TOP
 from tests.captures.built import frame_of, labels, lay_out_small, write_capture
 from tests.captures.floods import flushes, hearings, instances, late_flushes, records
 from tests.captures.link import MICROSECOND, START, Link
 from tests.captures.unique import unique
 from tests.captures.wire import SECOND, TXT
+from tests.captures.written import cells_of
 from tests.running.commands import TRACES
 from tests.running.measure import become_reaper, cost_of
 from tests.running.runs import WHOLE, fails, placed
@@ -44,40 +46,18 @@ class Pair(NamedTuple):
     place: str = ""
 
 
-def pair(what, asked, name, program="mdnsmerge", short=None, **bounds):
-    """The runs over a capture, and over its first packets or a small one."""
-    return Pair(what, asked, [f"{name}.pcap"], [short or f"{name}-begin.pcap"], program, **bounds)
-
-
 def pairs():
     """The runs that are compared."""
+    for place, (what, words, bounds) in cells_of(TOP / "trials/memory.rows"):
+        program, asked, name, *short = words.split()
+        most = {bound: float(size) for bound, size in (word.split("=") for word in bounds.split())}
+        yield Pair(what, asked, [f"{name}.pcap"], [f"{one}.pcap" for one in short or [f"{name}-begin"]], program, place=place, **most)
+    for trace in TRACES:
+        yield Pair(f"200000 packets by {trace}", trace, ["few.pcap"], ["few-begin.pcap"], "mdnswhy")
     some = 1_000 if may_open(1_000) else 500
-    yield pair("200000 packets of few records", "records", "few")
-    yield pair("200000 packets that are counted", "check", "few")
-    yield pair("flushes of one set for 4000 seconds", "records", "flushes")
-    # The moments of one of the seconds, while others wait and both are sorted.
-    yield pair("100000 late flushes of one set", "records", "late", growth=2.0)
-    yield pair("10000 messages of new records", "records", "new", short="one.pcap", growth=48.0, ceiling=48.0)
-    # Each record has a list of two hearings, 24 bytes.
-    yield pair("10000 messages of records that are heard twice", "lives", "again", short="one.pcap", growth=50.0, ceiling=50.0)
-    # Those that are remembered, 8 MiB at most, with what finds them.
-    yield pair("40000 messages of 500 bytes that come twice", "records", "repeated", growth=11.0)
-    yield pair("400000 flushes of one set within a second", "lives", "flood", growth=20.0, ceiling=20.0)
-    yield pair("400000 hearings of one record within a second", "lives", "heard")
-    # They are heard 850,000 times, most with a flush: 24 bytes a hearing and 12 a flush, and what any run takes.
-    yield pair("200000 packets of few records by their lives", "lives", "few", growth=32.0, ceiling=32.0)
-    # 300,000 lives, none of which waits for another.
-    yield pair("300 messages of instances of one type", "changes", "instances", short="one.pcap", growth=115.0, ceiling=115.0)
     yield Pair(f"{some} files", "records", ["one.pcap"] * some, ["one.pcap"])
     yield Pair(f"{some} files with one of {SCATTERED} instances each", "page", scattered(some), scattered(SCATTERED),
                growth=4.0, ceiling=32.0)
-    # The moments at which listeners heard them.
-    yield pair("200000 packets of few messages by listeners", "listeners", "few", "mdnswhy", growth=10.0)
-    # Each is kept once, with the moments of both times that it comes.
-    yield pair("40000 messages of 500 bytes that come twice, by listeners", "listeners", "repeated", "mdnswhy", growth=36.0,
-               ceiling=36.0)
-    for trace in TRACES:
-        yield pair(f"200000 packets by {trace}", trace, "few", "mdnswhy")
 
 
 def captures():
