@@ -26,12 +26,10 @@ from tests.running.program import Answer
 
 WORDS = argparse.ArgumentParser(add_help=False)
 WORDS.add_argument("ask")
-WORDS.add_argument("--at", type=moment_of)
-WORDS.add_argument("--before", type=moment_of)
-WORDS.add_argument("--since", type=moment_of)
-WORDS.add_argument("--until", type=moment_of)
-WORDS.add_argument("--about", action="append", default=[])
-WORDS.add_argument("--listener", action="append", default=[])
+for flag in ("--at", "--before", "--since", "--until"):
+    WORDS.add_argument(flag, type=moment_of)
+for flag in ("--about", "--listener"):
+    WORDS.add_argument(flag, action="append", default=[])
 for form in FORMS:
     WORDS.add_argument(form, dest="form", action="store_const", const=form)
 

@@ -70,6 +70,14 @@ def given(flag):
     return (flag, "5") if FLAGS[flag][0] else (flag,)
 
 
+def unknown_flags(commands, program):
+    """Refusals of commands that are given a flag which they don't have."""
+    return [misused([command, *given(flag), "one.pcap"], f"unexpected argument '{flag}' found",
+                    f"{command} {'[OPTIONS] ' * bool(flags_of(command))}<FILE>...", f"to pass '{flag}' as a value, use '-- {flag}'",
+                    program)
+            for command in commands for flag in FLAGS if flag not in flags_of(command)]
+
+
 def no_moment(words, flag, quoted):
     """A refusal of a value that names no moment."""
     return said(words, f"invalid moment {quoted}for {flag}: give seconds since 1970 (1795332403.397617) "
@@ -128,9 +136,7 @@ REFUSALS = (
     *(misused(["records", f"{flag}=true", "one.pcap"],
               f"unexpected value 'true' for '{flag}' found; no more were expected", f"records {flag} <FILE>...")
       for flag, (takes, _) in FLAGS.items() if not takes),
-    *(misused([command, *given(flag), "one.pcap"], f"unexpected argument '{flag}' found",
-              f"{command} {'[OPTIONS] ' * bool(flags_of(command))}<FILE>...", f"to pass '{flag}' as a value, use '-- {flag}'")
-      for command in COMMANDS for flag in FLAGS if flag not in flags_of(command)),
+    *unknown_flags(COMMANDS, "mdnsmerge"),
     *(said([command, *words, "one.pcap"], f"{one} and {other} can't be given together")
       for command, one, other in two_forms(ASKS) for words in ([one, other], [other, "--about=a", one])),
     *unfit_prefixes("page", "mdnsmerge"),

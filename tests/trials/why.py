@@ -6,10 +6,10 @@ from tests.captures.built import IN_FOLDER, ONE, QUOTED, SMALL, TWO_LINES, lay_o
 from tests.judges.answers import answer_to
 from tests.judges.listeners import COMMAND
 from tests.running import runs
-from tests.running.commands import STRICT, WHYS, flags_of, forms_of, page, two_forms
+from tests.running.commands import STRICT, WHYS, forms_of, page, two_forms
 from tests.running.runs import DAMAGED, REFUSED, WHOLE, Case, agrees, fails
 from tests.trials import command_lines
-from tests.trials.command_lines import NO_FILE, unfit, unfit_prefixes, version_of
+from tests.trials.command_lines import NO_FILE, unfit, unfit_prefixes, unknown_flags, version_of
 
 said = partial(runs.said, program="mdnswhy")
 misused = partial(command_lines.misused, program="mdnswhy")
@@ -87,14 +87,7 @@ WORDS = (
     *(misused([trace[:-1], "one.pcap"], f"unrecognized subcommand '{trace[:-1]}'", "<COMMAND>",
               f"a similar subcommand exists: '{trace}'") for trace in WHYS),
     *(misused([trace], NO_FILE, f"{trace} <FILE>...") for trace in WHYS),
-    *(misused([trace, "--at", "5", "one.pcap"], "unexpected argument '--at' found", f"{trace} [OPTIONS] <FILE>...",
-              "to pass '--at' as a value, use '-- --at'") for trace in WHYS),
-    *(misused([trace, flag, "a", "one.pcap"], f"unexpected argument '{flag}' found", f"{trace} [OPTIONS] <FILE>...",
-              f"to pass '{flag}' as a value, use '-- {flag}'")
-      for trace in WHYS for flag in ("--since", "--until", "--about", "--printers", "--listener", "--skip-unusable", "--csv")
-      if flag not in flags_of(trace)),
-    misused(["files", "--pretty", "one.pcap"], "unexpected argument '--pretty' found", "files [OPTIONS] <FILE>...",
-            "to pass '--pretty' as a value, use '-- --pretty'"),
+    *unknown_flags(WHYS, "mdnswhy"),
     *(said([command, *words, "one.pcap"], f"{one} and {other} can't be given together")
       for command, one, other in two_forms(STRICT) for words in ([one, other], [other, one])),
     *(Case((word,), WHOLE, version_of("mdnswhy")) for word in ("--version", "-V")),
