@@ -3,8 +3,8 @@
 from tests.captures.wire import SECOND
 from tests.judges.lines import moment_of
 from tests.judges.lives import CHOICES
-from tests.judges.pretty import date_of, short_source
-from tests.judges.shown import bytes_of, shown, shown_name, shown_words
+from tests.judges.pretty import date_of
+from tests.judges.shown import bytes_of, short_address, shown, shown_name, shown_words
 
 RECORD = ("owner", "type", "data")
 HEADERS = {
@@ -62,7 +62,7 @@ FIELDS = {
     **dict.fromkeys(("owner", "host", "type"), lambda told, _: shown_name(told)),
     **dict.fromkeys(MOMENTS, moment_field),
     "data": lambda told, row: " ".join(shown_words(row["type"], told)),
-    "source": lambda told, _: short_source(told),
-    "addresses": lambda told, _: " ".join(map(short_source, told)),
+    "source": lambda told, _: short_address(told),
+    "addresses": lambda told, _: " ".join(map(short_address, told)),
     "texts": lambda told, _: " ".join(shown(bytes_of(word)) for words in told for word in words),
 }

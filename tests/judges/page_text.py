@@ -6,6 +6,7 @@ import html
 import re
 from collections import Counter
 from itertools import groupby
+from pathlib import Path
 
 from tests.captures.wire import PTR, SECOND, SRV
 from tests.judges.axis import day
@@ -55,6 +56,8 @@ GOING_ON = {"goodbye": "still live, said goodbye", "flushed": "still live, flush
 # The classes of pins and of their heads, and what they say.
 PINS = (("m1", "goodbye", "h1"), ("m2", "expired", None), ("m3", "flushed", "h3"))
 
+# All before the lead, with names in braces in the places of what differs.
+HEAD = Path(__file__).with_name("page_head.html").read_text("utf-8")
 STYLE = re.compile(r"<style>\n(.*\n)li>svg\{height:\d+px\}\n</style>", re.S)
 AXIS = '<svg class="x" aria-hidden="true"><use href="#x"/></svg>'
 DRAWN = 'preserveAspectRatio="none" aria-hidden="true"'
@@ -135,22 +138,7 @@ def head_text(judge, style):
     low, high = (path_of("v", "".join(f"M{place} 0V{bottom}" for place in ticks)) for bottom in (24, height))
     lines = path_of("n", "".join(f"M{start} {base}H{end}" for base, start, end in bases)) if judge.lanes else ""
     title = "Multicast DNS" + (f", {' to '.join(dict.fromkeys(map(day, (judge.start, judge.end))))}" if judge.end else "")
-    return f"""<!doctype html>
-<html lang="en"><head><meta charset="utf-8">
-<meta http-equiv="Content-Security-Policy" content="default-src 'none'; style-src 'unsafe-inline'">
-<meta name="viewport" content="width=device-width">
-<title>{title}</title>
-<style>
-{style}li>svg{{height:{height}px}}
-</style></head>
-<body>
-<svg class="d" width="0" height="0" aria-hidden="true"><defs><symbol id="x" overflow="visible">{labels}</symbol>
-<g id="v">{low}</g>
-<g id="g">{high}{lines}</g>
-</defs></svg>
-<main>
-<h1>{title}</h1>
-"""
+    return HEAD.format(title=title, style=style, height=height, labels=labels, low=low, high=high, lines=lines)
 
 
 def label_of(moment, step, form):

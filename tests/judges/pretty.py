@@ -7,7 +7,7 @@ from datetime import datetime, timedelta, timezone
 from tests.captures.wire import SECOND, SRV, TXT
 from tests.judges.json_forms import APART, LISTENER, MEMBERS, SENDER, SPAN
 from tests.judges.lines import addresses_of, gives_instance, host_text, is_service, moment_of, servers_on, wire_of
-from tests.judges.shown import LABEL, bytes_of, short_ipv6, shown, shown_name, shown_words
+from tests.judges.shown import LABEL, bytes_of, short_address, shown, shown_name, shown_words
 
 EPOCH = datetime(1970, 1, 1, tzinfo=timezone.utc)
 
@@ -150,7 +150,7 @@ def pretty_hearing(line):
     moment, name, source, owner, kind, data, ttl, flush = MEMBERS["hearings"].fullmatch(line).groups()
     said = ("goodbye" if ttl == "0" else f"ttl {ttl}") + (flush or "")
     record = "  ".join([shown_name(owner), *shown_words(kind, data.split())])
-    return f"{millis(moment_of(moment))}  {said:14}  {short_source(source):15}  {name}  {kind:4}  {record}"
+    return f"{millis(moment_of(moment))}  {said:14}  {short_address(source):15}  {name}  {kind:4}  {record}"
 
 
 def pretty_packet(line):
@@ -178,17 +178,13 @@ def listeners_columns(text):
         table(("LISTENER", "OTHER", "COMMON", "THE OTHER'S CLOCK"),
               [(row["file"], row["other"], row["common"], clock_words(row)) for row in pairs]),
         table(("SENDER", "LISTENER", "HEARD", "MISSED", "FROM", "UNTIL", "NAMES"),
-              [(short_source(row["source"]), row["file"], row["heard"], row["missed"], *begin_and_end(row),
+              [(short_address(row["source"]), row["file"], row["heard"], row["missed"], *begin_and_end(row),
                 ", ".join(map(shown_name, row["names"].split()))) for row in senders]),
     )).removeprefix("\n")
 
 
 def begin_and_end(row):
     return ["-" if row[name] == "-" else millis(moment_of(row[name])) for name in ("from", "until")]
-
-
-def short_source(source):
-    return short_ipv6(source) if ":" in source else source
 
 
 def clock_words(row):

@@ -36,7 +36,7 @@ def shown_words(kind, words):
     """The words of a record's data, of its exact ones."""
     content = NAMED[kind].content
     if content is Content.ADDRESS:
-        return [short_ipv6(word) if ":" in word else word for word in words]
+        return list(map(short_address, words))
     if content is Content.NAME:
         return [shown_name(words[0])]
     if content is Content.STRINGS:
@@ -71,8 +71,10 @@ def shown_character(character, marked):
     return f"\\{character}" if character in marked else character
 
 
-def short_ipv6(text):
-    """An address of eight groups by RFC 5952: without leading zeros, the first of the longest runs of zero groups as `::`."""
+def short_address(text):
+    """An address; one of eight groups by RFC 5952: without leading zeros, the first of the longest runs of zero groups as `::`."""
+    if ":" not in text:
+        return text
     groups = [f"{int(group, 16):x}" for group in text.split(":")]
     runs = [(start, end) for start in range(8) for end in range(start + 2, 9) if set(groups[start:end]) == {"0"}]
     if not runs:

@@ -2,11 +2,12 @@
 
 `Want`, the faults `Memory` and the errors of allocations may be made of one another alone: in a `From` of such an error, in
 the arm of a `match` that names one, or where a call failed that fails in no other way. So none is made of a number. The
-places that have another reason are in OTHERS."""
+places that have another reason are in `wants.txt`."""
 
 import re
 
 from tests import TOP
+from tests.captures.written import blocks_of
 from tests.planted.edits import BESIDE
 from tests.planted.items import items_of
 
@@ -14,18 +15,8 @@ from tests.planted.items import items_of
 ERROR = r"(?:\w+::)*(?:Want|Memory|AllocError|AllocFailed)\b"
 ALLOCATES = {"vec!", "with_capacity", "push", "from_str"}
 
-# Places with another reason: the file, the line that opens the block, and why.
-OTHERS = {
-    ("clap_fault.rt", "ErrorKind::OutOfMemory => AskFault::Words(WordsFault::Memory),"): "`clap` says that memory is wanted",
-    ("history.rt", "if key.is_of(&hearing.heard) {"): "it is asked only where `push` failed",
-    ("life_text.rt", "let Some(count) = self.count.checked_add(lives.len()) else {"): "as many lives as a `usize` counts lie in memory",
-    ("message_gathering.rt", "let Some(newest) = moments.newest() else {"): "a message that is remembered came at some moment",
-    ("message_gathering.rt", "let Ok(()) = reader.read(newest, message.bytes()) else {"): "the message was read before",
-    ("program.rt", "if readers.push(reader).is_err() {"): "only `push` may fail",
-    ("message_chronicle.rt", "Err(_) => Err(Want),"): "the message was read before",
-    ("verdicts.rt", "| FilesFault::Memory => SurveyFault::Memory,"): "a file is judged whatever its fault, so `Listen` is `Memory`",
-    ("program.rt", "if readers .push(ReadAhead::new(rt.alloc(), Through(file))) .is_err() {"): "only `push` may fail",
-}
+# Places with another reason: the file, and the line that opens the block.
+OTHERS = {tuple(line.split(": ", 1)) for _, line, _ in blocks_of(TOP / "tests/planted/wants.txt")}
 
 SIGNATURE = re.compile(r"\bfn (\w+)\b[^{;]*?-> ([^{;]*)")
 WANTS = re.compile(rf"(?:Option<)?Result<.*, {ERROR}>")

@@ -28,6 +28,7 @@ from typing import NamedTuple
 from tests import EXAMPLES, TOP
 from tests.captures.built import frame_of, labels, lay_out_small, write_capture
 from tests.captures.link import Link
+from tests.captures.real import NAMES as BOTH
 from tests.captures.wire import SECOND, TXT
 from tests.judges.lives import CHOICES
 from tests.running.commands import ASKS, COMMANDS, FORMS, WHYS, flags_of, forms_of
@@ -52,8 +53,6 @@ STOPPED = -signal.SIGABRT
 # The bytes of a file's buffer. No other allocation of these runs has as many, except that the text of `lives`, of `hearings` or of a
 # page may.
 BUFFER = 65_536
-
-BOTH = ("west.pcap", "east.pcap")
 
 # So many packets of few records come twice and twelve times in these files, and how many allocations more the longer run may ask for:
 # lists of moments that outgrow their place take some, where its 42,330 more hearings would take as many.

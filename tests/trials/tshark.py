@@ -9,12 +9,11 @@ import subprocess
 import xml.etree.ElementTree as ElementTree
 
 from tests import EXAMPLES
+from tests.captures.real import NAMES
 from tests.captures.wire import NAMED, PORT, TYPES, Content
 from tests.judges.json_forms import MEMBERS
-from tests.judges.shown import bytes_of, labels, short_ipv6
+from tests.judges.shown import bytes_of, labels, short_address
 from tests.running.runs import difference, fails
-
-CAPTURES = ("west.pcap", "east.pcap")
 
 # Responses to the group, each in a packet of its own, right behind the fixed header of IP.
 FILTER = (f"mdns && udp.srcport == {PORT} && udp.dstport == {PORT} && (ip.dst == 224.0.0.251 || ipv6.dst == ff02::fb)"
@@ -44,7 +43,7 @@ def words_of(kind, words):
     """The words of a record's data, as they are compared."""
     content = NAMED[kind].content
     if content is Content.ADDRESS:
-        return [short_ipv6(word) if ":" in word else word for word in words]
+        return list(map(short_address, words))
     if content is Content.STRINGS:
         return [bytes_of(word) for word in words]
     return [*words[:-1], name_of(words[-1])]
@@ -55,8 +54,7 @@ def heard(why, name):
     text = subprocess.run([why, "hearings", name], cwd=EXAMPLES, capture_output=True, check=True, encoding="ascii").stdout
     for line in text.splitlines():
         moment, _, source, owner, kind, words, ttl, flush = MEMBERS["hearings"].fullmatch(line).groups()
-        source = short_ipv6(source) if ":" in source else source
-        yield line_of(moment, source, name_of(owner), kind, words_of(kind, words.split()), ttl, bool(flush))
+        yield line_of(moment, short_address(source), name_of(owner), kind, words_of(kind, words.split()), ttl, bool(flush))
 
 
 def dissected(name):
@@ -110,11 +108,11 @@ def try_tshark(merge, _folder):
         print("tshark isn't installed, so no other program has read which packets have which records: skipped")
         return 0
     failed = count = 0
-    for name in CAPTURES:
+    for name in NAMES:
         must, was = (sorted(lines) for lines in (dissected(name), heard(merge.with_name("mdnswhy"), name)))
         count += len(must)
         texts = ["".join(f"{line}\n" for line in lines) for lines in (must, was)]
         failed += fails(f"examples/{name}", "the records of packets by tshark (-) and by mdnswhy hearings (+)",
                         difference("  the lines", *texts) if must else ["  tshark names no records"])
-    print(f"{count} records in the packets that tshark reads of {len(CAPTURES)} captures, {failed} captures differ")
+    print(f"{count} records in the packets that tshark reads of {len(NAMES)} captures, {failed} captures differ")
     return failed
