@@ -1,9 +1,11 @@
 """A large link: thousands of hosts that announce, answer, ask, move, leave and come back for hours."""
 
 import random
+import shlex
 import struct
 from collections import deque
 from itertools import islice
+from pathlib import Path
 from typing import NamedTuple
 
 from tests.captures.wire import A, AAAA, ANY, NSEC, PTR, QUERY, SECOND, SRV, TXT, ipv4_frame, ipv6_frame, message_of
@@ -55,21 +57,14 @@ class Kind(NamedTuple):
     text: tuple
 
 
-KINDS = (
-    Kind("_ipp", "Printer", 631, (
-        "txtvers=1", "rp=ipp/print", "ty=Laser 4200", "adminurl=http://printer.local/admin",
-        "pdl=application/pdf,image/urf,image/pwg-raster", "Color=T", "Duplex=T", "priority=50")),
-    Kind("_printer", "Queue", 515, ("txtvers=1", "rp=raw", "note=second floor")),
-    Kind("_http", "Wiki", 80, ("path=/wiki", "version=1.2")),
-    Kind("_ssh", "Shell", 22, ()),
-    Kind("_sftp-ssh", "Files", 22, ("u=guest",)),
-    Kind("_smb", "Share", 445, ()),
-    Kind("_airplay", "Screen", 7000, (
-        "deviceid=02:00:5E:00:53:01", "features=0x5A7FFFF7,0x1E", "model=TV3,2", "srcvers=220.68")),
-    Kind("_googlecast", "Cast", 8009, ("id=5e1f2ab4", "ve=05", "md=Stick", "ic=/setup/icon.png", "fn=Cast", "st=0")),
-    Kind("_hap", "Lamp", 5001, ("c#=2", "ff=0", "id=02:00:5E:00:53:02", "md=Lamp", "pv=1.1", "s#=1", "sf=0")),
-    Kind("_workstation", "Desk", 9, ()),
-)
+def read_kinds(file):
+    """The kinds that a file lists, below a line on its cells."""
+    for line in file.read_text().splitlines()[1:]:
+        label, noun, port, text = map(str.strip, line.split("|"))
+        yield Kind(label, noun, int(port), tuple(shlex.split(text)))
+
+
+KINDS = tuple(read_kinds(Path(__file__).with_name("kinds.txt")))
 
 
 class Record(NamedTuple):
