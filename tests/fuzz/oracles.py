@@ -191,7 +191,7 @@ class Case:
         return self.add(rng.choice(NAMES).format(name), b"".join(made))
 
     def lives(self):
-        """Lives and records by all that was heard, as of a later moment, in windows, and before a moment; and of captures that say the same."""
+        """Lives and records by all that was heard, later, in windows, and before a moment; and of captures that say the same."""
         rng = self.rng
         lives = list(lives_in(self.ask_lives()["lives"]))
         self.seen.update(f"lives {life.how}" for life in lives)

@@ -141,7 +141,7 @@ KINDS = {
                           some, [line for line in basis.lines if is_apart(line) and is_about(is_record_about, words, line)],
                           basis.sets, basis.now)),
     "hosts": Kind(lambda basis: basis.hosts,
-                  lambda basis, words, lines: is_about(lambda word, one: is_host_about(word, one, basis.instances, basis.sets), words, lines),
+                  lambda basis, words, lines: is_about(lambda word, it: is_host_about(word, it, basis.instances, basis.sets), words, lines),
                   lambda _, some: "".join(f"{host_text(lines)}\n" for lines in some),
                   lambda basis, _, some: hosts_columns(some, basis.instances, basis.sets, basis.now)),
     **{ask: lives_kind(choice) for ask, choice in CHOICES.items()},

@@ -220,7 +220,7 @@ def row_text(judge, key):
     pins = [path(of_class, form, sorted({judge.bar(life.start, life.until)[1] for life in drawn
                                          if life.until <= min(judge.now, judge.end) and life.reason == cause}))
             for pin, cause, head in PINS for of_class, form in ((pin, "M{} 4V17"), (head, "M{} 4h.01")) if of_class]
-    ticks = [path(of_class, f"M{{}} {top}v5", places) for of_class, top, places in ticks_of(seconds, judge.lanes, judge.window, judge.place)]
+    ticks = [path(kind, f"M{{}} {top}v5", places) for kind, top, places in ticks_of(seconds, judge.lanes, judge.window, judge.place)]
     earlier = f"<small>{len(lives) - IN_WORDS:,} earlier</small>" if len(lives) > IN_WORDS else ""
     return "".join((
         f"<li><div>{bdi(name)}{address}<small>heard {own(heard_text(counts_of(seconds)))}</small></div>"

@@ -25,8 +25,8 @@ PAUSE = 0.005
 LONG_FRAME = bytes(200_000)
 
 # Several are opened at once, and read one after another.
-ASKED = ("records one.pcap", "records cut.pcap", "check cut.pcap", "records long.pcap", "check long.pcap", "records west.pcap", "types east.pcap",
-         "lives cut.pcap", "lives east.pcap", "records empty.pcap", "check text.pcap", "records west.pcap east.pcap",
+ASKED = ("records one.pcap", "records cut.pcap", "check cut.pcap", "records long.pcap", "check long.pcap", "records west.pcap",
+         "types east.pcap", "lives cut.pcap", "lives east.pcap", "records empty.pcap", "check text.pcap", "records west.pcap east.pcap",
          "instances west.pcap east.pcap", "lives west.pcap east.pcap", "check west.pcap east.pcap", "records long.pcap one.pcap cut.pcap",
          "records west.pcap text.pcap", "check text.pcap west.pcap")
 
