@@ -46,7 +46,7 @@ def commands(folder):
                 # Some are refused, and say so.
                 yield place, False, f"{found[1]} || true", [line.removeprefix("    ") for line in found[2].splitlines()], TOP
             else:
-                for command in COMMAND.findall(found[1].replace(r"\|", "|")):
+                for command in COMMAND.findall(found[1]):
                     yield place, False, re.sub(r" > (\S+)$", r" > \1 && cat \1", command), None, folder
 
 
