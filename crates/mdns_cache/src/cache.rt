@@ -192,8 +192,8 @@ impl Cache {
         all_of(self.flushes.get(set))
     }
 
-    /// Returns an iterator over the records in key order, each with its last hearing.
-    pub(crate) fn walk(&self) -> Walk<'_, Key, Latest>
+    /// Returns an iterator over the records in key order, each with its last hearing, whether it is live or not.
+    pub fn walk(&self) -> Walk<'_, Key, Latest>
         ensures entries { result ≡ self.now.lasts }
         ensures sorted { IsStrictlySortedBy key_cmp (keys_of self.now.lasts) }
     {

@@ -15,8 +15,7 @@ module _ {T E : Type 0} (r : Result T E) (old other : Account) where
   -- the hearings were joined in part, and the last hearing wasn't
   pub part_history : (h : Seconds) → IsPartOfJoin join_seconds old.history other.history h
       → OnErr r (IsPartOfJoin join_account old other (account old.latest h))
-  part_history h part =
-      on_err_any r (part_of_both old other old.latest h (IsPartOfJoin-old later-laws old.latest other.latest tt tt) part)
+  part_history h part = search (arith, on_err_any, part_of_both, IsPartOfJoin-old, later-laws)
 
   -- the hearings were joined, and the last hearing in part
   pub part_latest : (l : Latest) (h : Seconds) → IsAccount old → IsAccount other → h ≡ join_seconds old.history other.history

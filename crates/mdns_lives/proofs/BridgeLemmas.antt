@@ -16,8 +16,7 @@ use Rattle.mdns_lives.proofs.{FilterLemmas.{from-filter, to-filter}, OrderLemmas
 
 pub until-in : (now : ℕ) (heard : List Hearing) (h : Hearing) → Contains (heard_until now heard) h
     → Contains heard h × (h.moment.nanos ≤ now)
-until-in now heard h m =
-    let w = from-filter (λ (x : Hearing). nat_le x.moment.nanos now) heard h m in (w.0, leb-true h.moment.nanos now w.1)
+until-in now heard h m = grind (arith, from-filter (λ (x : Hearing). nat_le x.moment.nanos now) heard h m, leb-true)
 
 pub until-from : (now : ℕ) (heard : List Hearing) (h : Hearing) → Contains heard h → h.moment.nanos ≤ now
     → Contains (heard_until now heard) h
@@ -94,11 +93,7 @@ module _ (some_last : SomeLast) (heard : List Hearing) (key : Key) (history : Li
       let old : s.flush + second ≤ now = s.old in
       record {
         flush = w.flush;
-        strikes = record {
-          among = until-from now heard w.flush w.among (omega (arith, at, old));
-          of_set = w.of_set;
-          later = omega (arith, at, later);
-        };
+        strikes = grind (arith, until-from);
         old = omega (arith, at, old);
       }
 
@@ -137,11 +132,7 @@ module _ (some_last : SomeLast) (heard : List Hearing) (key : Key) (history : Li
       let found = IsLastAs-from now w.last w.is_last in
       let out = out-same found.last w.last found.moment found.ttl in (
         found.last,
-        record {
-          last = found.is_last;
-          running = subst (λ n. now < n) (sym out) w.running;
-          unstruck = λ s. w.unstruck (subst (λ t. IsStruckBy flushes t now) found.moment (struck-into now found.last.moment.nanos s));
-        },
+        grind (arith, struck-into),
       )
 
   -- ---- reasons
@@ -157,20 +148,13 @@ module _ (some_last : SomeLast) (heard : List Hearing) (key : Key) (history : Li
   end_for-from l h end Expired e f p = let out = out-same l h e f in (omega (arith, f, p.0), p.1 ∙ sym out)
   end_for-from l h end Goodbye e f p = let out = out-same l h e f in (omega (arith, f, p.0), p.1 ∙ sym out)
   end_for-from l h end Flushed e f p =
-      let out = out-same l h e f in (
-        subst (λ n. end < n) (sym out) p.0,
-        flush_end-from l.moment.nanos end (subst (λ t. IsFlushEnd flushes t end) (sym e) p.1),
-      )
+      grind (arith, out-same l h e f, flush_end-from l.moment.nanos end (subst (λ t. IsFlushEnd flushes t end) (sym e) p.1))
 
   ends-into : (life : Life) → EndsThen heard key life → EndsBy history flushes life
   ends-into life w =
       let same : heard_as w.last ≡ life.last =
       heard-same (heard_as w.last) life.last (ap (λ (m : Moment). m.nanos) w.moment) w.ttl in
-      record {
-        is_last = subst (λ (h : RecordHearing). IsLastAt history life.until h) same (IsLastAt-from_last life.until w.last w.is_last);
-        ends = subst (λ (h : RecordHearing). IsEndBy flushes h life.until life.reason) same
-            (end_for-into w.last life.until life.reason w.ends);
-      }
+      grind (arith, IsLastAt-from_last life.until w.last w.is_last, end_for-into w.last life.until life.reason w.ends)
 
   ends-from : (life : Life) → EndsBy history flushes life → EndsThen heard key life
   ends-from life w =

@@ -70,8 +70,7 @@ no-less from (m ∷ begun) none = absurd (omega (arith, none))
 all-later : (from m low : ℕ) (lives : List Life) → from ≤ low → AreApartAfter low lives
     → list_all (λ (own : Life). nat_le from own.from.nanos || nat_lt own.from.nanos m) lives ≡ true
 all-later from m low [] l a = refl
-all-later from m low (own ∷ lives) l a =
-    grind (arith, nat_le, le-leb, nat_lt, all-later from m own.until lives (omega (arith, l, a.0, a.1)) a.2)
+all-later from m low (own ∷ lives) l a = grind (arith, le-leb, all-later from m own.until lives (omega (arith, l, a.0, a.1)) a.2)
 
 module _ (life : Life) (lives : List Life) where
   -- the first life is a change where a life of the set began before it
@@ -79,8 +78,7 @@ module _ (life : Life) (lives : List Life) where
       → list_any (is_between (life ∷ lives) life) begun ≡ list_any (λ m. nat_lt m life.from.nanos) begun
   first-change apart [] = refl
   first-change apart (m ∷ begun) =
-      let later = all-later life.from.nanos m life.until lives (omega (arith, apart.0)) apart.1 in
-      grind (arith, nat_tests, later, first-change apart begun)
+      grind (arith, all-later life.from.nanos m life.until lives (omega (arith, apart.0)) apart.1, nat_tests, first-change apart begun)
 
   -- for a later life only those count that began after the first
   later-change : (later : Life) → life.from.nanos < later.from.nanos → (begun : List ℕ)
@@ -93,9 +91,7 @@ module _ (life : Life) (lives : List Life) where
       ≡ list_any (λ (later : Life). in_window window later.from && list_any (is_between lives later) (after life.from.nanos begun)) some
   later-changes window begun low [] l apart = refl
   later-changes window begun low (later ∷ some) l apart =
-      let here = later-change later (omega (arith, l, apart.0)) begun in
-      let rest = later-changes window begun later.until some (omega (arith, l, apart.0, apart.1)) apart.2 in
-      λ i. (in_window window later.from && here i) || rest i
+      grind (arith, later-change, later-changes window begun later.until some (omega (arith, l, apart.0, apart.1)) apart.2)
 
 -- one of the lives is a change that began in the window: the first is, or one of those after it
 pub changes-on : (window : Window) (begun : List ℕ) (last : Latest) (life : Life) (lives : List Life) → AreApart (life ∷ lives)
@@ -122,9 +118,7 @@ module _ (window : Window) (begun : List ℕ) (last : Latest) (lives : List Life
   both = drop_more lives k life within ∙ ap (λ (first : Life). first ∷ rest) (sym is)
 
   decides : comes_back window begun (last, drop k lives) ≡ (changed || comes_back window (after life.from.nanos begun) (last, rest))
-  decides = ap (λ (some : List Life). comes_back window begun (last, some)) both
-      ∙ changes-on window begun last life rest (subst AreApart both apart)
-      ∙ ap (λ b. b || comes_back window (after life.from.nanos begun) (last, rest)) (sym change)
+  decides = grind (arith, both, changes-on)
 
   pub left-change : changed ≡ true → true ≡ comes_back window begun (last, drop k lives)
   left-change some = sym (decides ∙ ap (λ b. b || comes_back window (after life.from.nanos begun) (last, rest)) some)
@@ -134,8 +128,7 @@ module _ (window : Window) (begun : List ℕ) (last : Latest) (lives : List Life
 
   pub left-on : (later : List ℕ) → changed ≡ false → later ≡ after life.from.nanos begun
       → comes_back window later (last, drop (k + 1) lives) ≡ comes_back window begun (last, drop k lives)
-  left-on later none is_after = ap (λ (ms : List ℕ). comes_back window ms (last, rest)) is_after
-      ∙ sym (decides ∙ ap (λ b. b || comes_back window (after life.from.nanos begun) (last, rest)) none)
+  left-on later none is_after = grind (arith, decides)
 
 -- ---- the records of a set
 

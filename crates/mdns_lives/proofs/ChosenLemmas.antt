@@ -1,7 +1,7 @@
 -- Which record sets have changed, by each set alone.
 use Rattle.std.proofs.Common.{◌≡◌, ◌≢◌, Bool, true, false, ◌&&◌, ◌||◌, ◌==◌, not, nat_le, nat_lt}
-use Rattle.std.proofs.Common.{if◌then◌else◌, cond, IsTrue, ◌↔◌, ℕ, ◌<◌, List, [], ◌∷◌, ◌++◌, map, slice_get}
-use Rattle.std.proofs.Common.{Option, None, Some, unwrap_or, refl, sym, ap, ◌∙◌, subst, true≢false, append_assoc, append-nil, arith}
+use Rattle.std.proofs.Common.{if◌then◌else◌, IsTrue, ◌↔◌, ℕ, ◌<◌, List, [], ◌∷◌, ◌++◌, map, slice_get}
+use Rattle.std.proofs.Common.{Option, None, Some, unwrap_or, refl, sym, ap, ◌∙◌, true≢false, append_assoc, append-nil, arith}
 use Rattle.std.proofs.lemmas.{Bool.{and_parts, or_right}, Bool.Decides.{nat_tests}, List.{map-append}, List.Elements.{filter-append}}
 use Rattle.std.specs.{List.{AllByRecursion, filter, list_all, list_any}, List.Sorted.{IsStrictlySortedBy}, declared.cmp.Ordering.{Ordering}}
 use Rattle.std.specs.{declared.cmp.Ordering.TheVariants.{Less, Equal, Greater}, Ordering.{is_eq}, Cmp.{tied_itself}}
@@ -13,7 +13,7 @@ use Rattle.mdns_cache.specs.LentRecords.{last_lent}
 use Rattle.mdns_lives.specs.declared.{life.Life.{Life}, life.Which.{Which}, life.Which.TheVariants.{All, Changes}}
 use Rattle.mdns_lives.specs.declared.{lives.RecordLives.{RecordLives}, window.Window.{Window}}
 use Rattle.mdns_lives.specs.Changes.{AreOf, AreOfOne, begins_in, begins_of, by_sets, changes_in, chosen, comes_back, goes_on}
-use Rattle.mdns_lives.specs.Changes.{has_change, has_changed, is_between, is_of_set, is_pointer_record, kept_if, left_after, left_of}
+use Rattle.mdns_lives.specs.Changes.{has_changed, is_between, is_of_set, is_pointer_record, kept_if, left_of}
 use Rattle.mdns_lives.specs.{Changes.{maybe_next, maybe_row, met_in}, Lives.{AreApart}, LentLives.{row_lent}, Window.{in_window}}
 use Rattle.mdns_lives.proofs.{LiveLifeLemmas.{Row, row_record}}
 use Rattle.mdns_cache.proofs.LiveWalkLemmas.{key_after}
@@ -28,8 +28,7 @@ same-set : (set key : RecordSet) → is_eq (set_key_cmp set key) ≡ true → se
 same-set set key e = set_key_cmp-exact set key (is_Equal (set_key_cmp set key) e)
 
 of-itself : (set key : RecordSet) → set ≡ key → is_eq (set_key_cmp set key) ≡ true
-of-itself set key same =
-    ap (λ (k : RecordSet). is_eq (set_key_cmp set k)) (sym same) ∙ ap is_eq (tied_itself set_key_cmp-total set)
+of-itself set key same = grind (arith, tied_itself, set_key_cmp-total)
 
 -- ---- lists of which only some elements count
 
@@ -54,11 +53,7 @@ NoneOf set rows = AllByRecursion (λ (row : Row). set ≢ set_in row) rows
 
 none-of : (set : RecordSet) (rows : List Row) → NoneOf set rows → filter (is_in set) rows ≡ []
 none-of set [] none = refl
-none-of set (row ∷ rows) none = λ i. cond (out (is_in set row) refl i) (row ∷ filter (is_in set) rows) (none-of set rows none.1 i)
-  where
-    out : (b : Bool) → is_in set row ≡ b → is_in set row ≡ false
-    out false e = e
-    out true e = absurd (none.0 (same-set set (set_in row) e))
+none-of set (row ∷ rows) none = grind (arith, same-set, none-of set rows none.1)
 
 -- ---- a set, and rows of others
 
@@ -87,10 +82,7 @@ Follow row rows = AllByRecursion (λ key. key_cmp (row_record row) key ≡ Less)
 
 later-none : (set : RecordSet) (row : Row) (rows : List Row) → set_key_cmp set (set_in row) ≡ Less → Follow row rows → NoneOf set rows
 later-none set row [] less follow = tt
-later-none set row (next ∷ rows) less follow = (
-  less-other set (set_in next) (less-on set (set_in row) (set_in next) less (key_after (row_record row) (row_record next) follow.0)),
-  later-none set row rows less follow.1,
-)
+later-none set row (next ∷ rows) less follow = search (arith, less-other, less-on, key_after, later-none set row rows less follow.1)
 
 others-left : (x row : Row) (rows : List Row) → Follow x (row ∷ rows) → Follow row rows → is_in (set_in x) row ≡ false
     → NoneOf (set_in x) (row ∷ rows)
@@ -149,8 +141,7 @@ pub record ReadSo (window : Window) (first rows set rest : List Row) : Type 0 wh
 
 own-rows : (set : RecordSet) (rows : List Row) → AreOf set rows → filter (is_in set) rows ≡ rows
 own-rows set [] own = refl
-own-rows set (row ∷ rows) own =
-    λ i. cond (of-itself set (set_in row) (sym own.0) i) (row ∷ own-rows set rows own.2 i) (filter (is_in set) rows)
+own-rows set (row ∷ rows) own = grind (arith, of-itself, own-rows set rows own.2)
 
 -- ---- a record that is alone in its set
 
@@ -177,15 +168,12 @@ any-own : (lives : List Life) (life : Life) (begun : List ℕ) → ((m : ℕ) �
     → list_any (is_between lives life) begun ≡ false
 any-own lives life [] into = refl
 any-own lives life (m ∷ begun) into =
-    let here = none-own lives life m (into m (grind (arith, nat_tests))) in
-    let rest = any-own lives life begun (λ q held. into q (or_right (m == q) _ held)) in
-    λ i. here i || rest i
+    grind (arith, none-own, nat_tests, or_right, any-own lives life begun (λ q held. into q (or_right (m == q) _ held)))
 
 pub goes-on-first : (first second : Row) (l m : Latest) (is : Bool) → l ≡ first.0 → m ≡ second.0
     → (IsTrue is ↔ ((is_pointer_record l ≡ false) × (set_key_of l.resource ≡ set_key_of m.resource))) → goes_on (first ∷ []) second.0 ≡ is
 goes-on-first first second l m is e f test =
-    (λ i. not (is_pointer_record (sym e i)) && is_of_set (set_key_of (sym e i).resource) (sym f i))
-    ∙ sym (is-held (is_pointer_record l) (set_key_of l.resource) (set_key_of m.resource) is test)
+    grind (arith, is-held (is_pointer_record l) (set_key_of l.resource) (set_key_of m.resource) is test)
 
 -- ---- the lives that are chosen
 
@@ -213,18 +201,13 @@ module _ (window : Window) where
   module _ (set : RecordSet) (xs more : List Row) (own : AllOf set xs) (none : is_shared_set set ≡ false → NoneOf set more) where
     first-rows : (rows : List Row) → AllOf set rows → map (changed_in (xs ++ more)) rows ≡ map (changed_in xs) rows
     first-rows [] all = refl
-    first-rows (row ∷ rows) all =
-        let here = as-changed (xs ++ more) xs (set_in row) (λ unshared. changed-left (set_in row) xs more
-        (subst (λ (key : RecordSet). NoneOf key more) (sym all.0) (none (ap is_shared_set (sym all.0) ∙ unshared)))) in
-        λ i. changed-alike (xs ++ more) xs row here i ∷ first-rows rows all.1 i
+    first-rows (row ∷ rows) all = grind (arith, as-changed, changed-left, changed-alike, first-rows rows all.1)
 
     other-rows : (rows : List Row) → (is_shared_set set ≡ false → NoneOf set rows)
         → map (changed_in (xs ++ more)) rows ≡ map (changed_in more) rows
     other-rows [] others = refl
     other-rows (row ∷ rows) others =
-        let here = as-changed (xs ++ more) more (set_in row) (λ unshared. changed-right (set_in row) xs more
-        (none-other set (set_in row) xs (λ same. (others (ap is_shared_set same ∙ unshared)).0 same) own)) in
-        λ i. changed-alike (xs ++ more) more row here i ∷ other-rows rows (λ unshared. (others unshared).1) i
+        grind (arith, as-changed, changed-right, none-other, changed-alike, other-rows rows (λ unshared. (others unshared).1))
 
     changes-both : changes_in window (xs ++ more) ≡ changes_in window xs ++ changes_in window more
     changes-both = map-append (changed_in (xs ++ more)) xs more ∙ (λ i. first-rows xs own i ++ other-rows more none i)
@@ -236,8 +219,7 @@ module _ (window : Window) where
       → (if b then by_sets window (x ∷ xs ++ row ∷ []) rows else changes_in window (x ∷ xs) ++ by_sets window (row ∷ []) rows)
       ≡ changes_in window (x ∷ xs ++ row ∷ rows)
   one-step x row xs rows true e own on others next = on e ∙ ap (changes_in window) (append_assoc (x ∷ xs) (row ∷ []) rows)
-  one-step x row xs rows false e own on others next =
-      ap (λ (more : List Row). changes_in window (x ∷ xs) ++ more) next ∙ sym (changes-both (set_in x) (x ∷ xs) (row ∷ rows) own (others e))
+  one-step x row xs rows false e own on others next = grind (arith, changes-both (set_in x) (x ∷ xs) (row ∷ rows) own (others e))
 
   sets-from : (x : Row) (xs rows : List Row) → AllOf (set_in x) (x ∷ xs) → IsStrictlySortedBy key_cmp (map row_record (x ∷ rows))
       → by_sets window (x ∷ xs) rows ≡ changes_in window (x ∷ xs ++ rows)
@@ -267,29 +249,17 @@ module _ (window : Window) where
 
   pub read-more : (first rows set old : List Row) (row : Row) (rest more : List Row) → ReadSo window first rows set old → old ≡ row ∷ rest
       → goes_on set row.0 ≡ true → AreApart row.1 → more ≡ set ++ row ∷ [] → ReadSo window first rows more rest
-  read-more first rows set old row rest more read next on apart pushed = record {
-    left = read.left ∙ ap (by_sets window set) next
-        ∙ ap (λ b. if b then by_sets window (set ++ row ∷ []) rest else changes_in window set ++ by_sets window (row ∷ []) rest) on
-        ∙ ap (λ (s : List Row). by_sets window s rest) (sym pushed);
-    one = subst AreOfOne (sym pushed) (one-more set row read.one on apart);
-  }
+  read-more first rows set old row rest more read next on apart pushed = grind (arith, one-more)
 
   kept-of : (all : List Row) (set : RecordSet) (rows : List Row) (changed : Bool) → AreOf set rows → has_changed window all set ≡ changed
       → map (changed_in all) rows ≡ map (kept_if window changed) rows
   kept-of all set [] changed own is = refl
-  kept-of all set (row ∷ rows) changed own is =
-      let here = ap (has_changed window all) own.0 ∙ is in
-      λ i. kept_if window (here i) row ∷ kept-of all set rows changed own.2 is i
+  kept-of all set (row ∷ rows) changed own is = grind (arith, kept-of all set rows changed own.2 is)
 
   -- the moments may be sorted
   changed-sorted : (set : RecordSet) (rows : List Row) → AreOf set rows
       → has_changed window rows set ≡ (not (set.number == 12) && list_any (comes_back window (ascending (begins_in rows))) rows)
-  changed-sorted set rows own =
-      let begun = begins_in rows in
-      ap (has_change window set) (own-rows set rows own)
-      ∙ ap (λ b. not (set.number == 12) && b) (any-alike (comes_back window begun) (comes_back window (ascending begun)) rows
-      (λ (row : Row). any-alike _ _ row.1
-      (λ (life : Life). ap (λ b. in_window window life.from && b) (sym (any-sorted (is_between row.1 life) begun)))))
+  changed-sorted set rows own = grind (arith, own-rows, any-alike, any-sorted)
 
   pub kept-set : (set : List RecordLives) (begun : List ℕ) (changed : Bool) → AreOfOne (map row_lent set)
       → begun ≡ ascending (begins_in (map row_lent set)) → changed ≡ list_any (comes_back window begun) (map row_lent set)
@@ -303,20 +273,12 @@ module _ (window : Window) where
   none-back : (lives some : List Life)
       → list_any (λ (life : Life). in_window window life.from && list_any (is_between lives life) (begins_of lives)) some ≡ false
   none-back lives [] = refl
-  none-back lives (life ∷ some) =
-      let here = any-own lives life (begins_of lives) (λ m held. held) in
-      (λ i. (in_window window life.from && here i) || none-back lives some i)
-      ∙ ap (λ b. b || false) (and-false (in_window window life.from))
+  none-back lives (life ∷ some) = grind (arith, any-own, and-false, none-back lives some)
 
   -- the lives of a record that is alone in its set are no changes
   pub changes-alone : (row : Row) → changes_in window (row ∷ []) ≡ (row.0, []) ∷ []
   changes-alone row =
-      let set = set_in row in
-      let own : filter (is_in set) (row ∷ []) ≡ row ∷ [] = λ i. cond (of-itself set set refl i) (row ∷ []) [] in
-      let back = ap (λ (begun : List ℕ). comes_back window begun row) (append-nil (begins_of row.1)) ∙ none-back row.1 row.1 in
-      let none : has_changed window (row ∷ []) set ≡ false =
-      ap (has_change window set) own ∙ (λ i. not (set.number == 12) && (back i || false)) ∙ and-false (not (set.number == 12)) in
-      λ i. kept_if window (none i) row ∷ []
+      grind (arith, of-itself, append-nil (begins_of row.1), none-back row.1 row.1, and-false (not ((set_in row).number == 12)))
 
   -- nothing is left of a set that was read
   pub left-from : (which : Which) (changed : Bool) (old new : List Row) (took : Option RecordLives) (next : Option Row)
@@ -325,23 +287,14 @@ module _ (window : Window) where
       → by_sets window (maybe_next next) rows ≡ by_sets window (first ∷ []) rest
       → left_of which window changed old (maybe_next next) walk ≡ by_sets window (first ∷ []) rest
   left-from All changed old new took next walk rows first rest is split none empty walks begun = absurd (cc)
-  left-from Changes changed old new took next walk rows first rest is split none empty walks begun =
-      (λ i. map (kept_if window changed) old ++ left_after window (maybe_next next) (walks i))
-      ∙ ap (λ (xs : List Row). xs ++ by_sets window (maybe_next next) rows)
-      (split ∙ (λ i. maybe_row (none i) ++ map (kept_if window changed) (empty i)))
-      ∙ begun
+  left-from Changes changed old new took next walk rows first rest is split none empty walks begun = grind arith
 
   -- the second record doesn't go on with the set of the first
   pub left-apart : (which : Which) (changed : Bool) (new : List Row) (first second taken : Row) (rest after : List Row) → which ≡ Changes
       → new ≡ [] → rest ≡ second ∷ after → goes_on (first ∷ []) second.0 ≡ false → changes_in window (first ∷ []) ≡ taken ∷ []
       → by_sets window (first ∷ []) rest ≡ taken ∷ left_of which window changed new (second ∷ []) (Some after)
   left-apart All changed new first second taken rest after is empty more ends alone = absurd (cc)
-  left-apart Changes changed new first second taken rest after is empty more ends alone =
-      ap (by_sets window (first ∷ [])) more
-      ∙ ap (λ b. if b then by_sets window (first ∷ second ∷ []) after
-      else changes_in window (first ∷ []) ++ by_sets window (second ∷ []) after) ends
-      ∙ ap (λ (xs : List Row). xs ++ by_sets window (second ∷ []) after) alone
-      ∙ ap (λ (xs : List Row). taken ∷ (map (kept_if window changed) xs ++ by_sets window (second ∷ []) after)) (sym empty)
+  left-apart Changes changed new first second taken rest after is empty more ends alone = grind arith
 
   pub read-two : (first second : Row) (rows set : List Row) → goes_on (first ∷ []) second.0 ≡ true → AreApart first.1 → AreApart second.1
       → set ≡ first ∷ second ∷ [] → ReadSo window (first ∷ []) (second ∷ rows) set rows

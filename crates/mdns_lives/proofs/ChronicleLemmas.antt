@@ -1,14 +1,13 @@
 -- The hearings that the contents of a chronicle stand for.
-use Rattle.std.proofs.Common.{rules, arith, ◌≡◌, ◌↔◌, ◌⊎◌, ℕ, List, [], ◌++◌, Option, None, Some, refl, sym, ap, ◌∙◌}
-use Rattle.std.proofs.Common.{subst, inl, inr}
+use Rattle.std.proofs.Common.{rules, arith, ◌≡◌, ◌↔◌, ◌⊎◌, ℕ, List, [], ◌++◌, Option, None, Some, refl, sym, ap, ◌∙◌, subst, inl, inr}
 use Rattle.std.proofs.lemmas.List.Elements.{Contains-append_left, Contains-append_right, Contains-append_cases}
-use Rattle.std.specs.{Prelude.{MatchOption}, Ordering.{nat_cmp}}
+use Rattle.std.specs.{Ordering.{nat_cmp}}
 use Rattle.mdns_message.specs.{declared.hearing.Hearing.{Hearing}, declared.key.Key.{Key}, RecordSet.{RecordSet}, Resource.{key_cmp}}
 use Rattle.mdns_message.specs.{Resource.{set_key_cmp}, laws.Resource.{key_cmp-total, key_cmp-exact, set_key_cmp-total, set_key_cmp-exact}}
 use Rattle.join_map.specs.Entries.{value_at, joined, joined_at, IsJoinMap}
 use Rattle.join_map.specs.laws.Entries.{joined_at-None, ValidAt, valid_at, value_at-join, IsJoinMap-none, IsJoinMap-join}
-use Rattle.mdns_join.specs.{declared.latest.Latest.{Latest}, Latest.{later}, Kept.{union}, laws.Kept.{union_parts, union_left, union_right}}
-use Rattle.mdns_cache.specs.Live.{IsUnheard, IsLast, IsFlushedAt}
+use Rattle.mdns_join.specs.{Latest.{later}, Kept.{union}, laws.Kept.{union_parts, union_left, union_right}}
+use Rattle.mdns_cache.specs.Live.{IsFlushedAt}
 use Rattle.mdns_cache.proofs.{StandsPartLemmas.{Contains-nil, lasts-append}, StandsForLemmas.{newest-append}}
 use Rattle.mdns_lives.specs.{declared.account.Account.{Account}, declared.life.RecordHearing.{RecordHearing}, Account.{join_account}}
 use Rattle.mdns_lives.specs.{Account.{IsAccount}, History.{IsHeardAs}, Seconds.{Ends, AreEndsIn, Seconds, join_ends, IsSeconds}}
@@ -19,12 +18,10 @@ use Rattle.mdns_lives.proofs.SecondsLemmas.{ends-joined, at-join}
 -- ---- hearings of lists
 
 IsHeardAs-left : (gs hs : List Hearing) (key : Key) (h : RecordHearing) → IsHeardAs gs key h → IsHeardAs (gs ++ hs) key h
-IsHeardAs-left gs hs key h w =
-    record { hearing = w.hearing; among = Contains-append_left gs hs w.hearing w.among; of_record = w.of_record; gives = w.gives }
+IsHeardAs-left gs hs key h w = search (arith, Contains-append_left)
 
 IsHeardAs-right : (gs hs : List Hearing) (key : Key) (h : RecordHearing) → IsHeardAs hs key h → IsHeardAs (gs ++ hs) key h
-IsHeardAs-right gs hs key h w =
-    record { hearing = w.hearing; among = Contains-append_right gs hs w.hearing w.among; of_record = w.of_record; gives = w.gives }
+IsHeardAs-right gs hs key h w = search (arith, Contains-append_right)
 
 IsHeardAs-cases : (gs hs : List Hearing) (key : Key) (h : RecordHearing) → IsHeardAs (gs ++ hs) key h → IsHeardAs gs key h ⊎ IsHeardAs hs key h
 IsHeardAs-cases gs hs key h w = elim (Contains-append_cases gs hs w.hearing w.among) [
@@ -33,12 +30,10 @@ IsHeardAs-cases gs hs key h w = elim (Contains-append_cases gs hs w.hearing w.am
 ]
 
 IsFlushedAt-left : (gs hs : List Hearing) (set : RecordSet) (m : ℕ) → IsFlushedAt gs set m → IsFlushedAt (gs ++ hs) set m
-IsFlushedAt-left gs hs set m w =
-    record { flush = w.flush; among = Contains-append_left gs hs w.flush w.among; of_set = w.of_set; at_it = w.at_it }
+IsFlushedAt-left gs hs set m w = search (arith, Contains-append_left)
 
 IsFlushedAt-right : (gs hs : List Hearing) (set : RecordSet) (m : ℕ) → IsFlushedAt hs set m → IsFlushedAt (gs ++ hs) set m
-IsFlushedAt-right gs hs set m w =
-    record { flush = w.flush; among = Contains-append_right gs hs w.flush w.among; of_set = w.of_set; at_it = w.at_it }
+IsFlushedAt-right gs hs set m w = search (arith, Contains-append_right)
 
 IsFlushedAt-cases : (gs hs : List Hearing) (set : RecordSet) (m : ℕ) → IsFlushedAt (gs ++ hs) set m
     → IsFlushedAt gs set m ⊎ IsFlushedAt hs set m
@@ -98,10 +93,8 @@ flush_in-joined (Some a) (Some b) m = grind (arith, union_parts, union_left, uni
 
 pub chronicles-none : Chronicles no_accounts []
 chronicles-none = record {
-  accounts = record {
-    records = IsJoinMap-none key_cmp-total key_cmp-exact account-laws;
-    flushes = IsJoinMap-none set_key_cmp-total set_key_cmp-exact union-laws;
-  };
+  accounts =
+      grind (arith, IsJoinMap-none key_cmp-total key_cmp-exact account-laws, IsJoinMap-none set_key_cmp-total set_key_cmp-exact union-laws);
   lasts = λ key h m o. Contains-nil h m;
   histories = λ key s h w _. Contains-nil w.hearing w.among;
   flushes = λ set m. (λ e. absurd e, λ w. absurd (Contains-nil w.flush w.among));
@@ -111,8 +104,7 @@ chronicles-none = record {
 module _ (c d : Accounts) (gs hs : List Hearing) (u : Chronicles c gs) (v : Chronicles d hs) where
   flushes-joined : (set : RecordSet) → value_at set_key_cmp set (joined set_key_cmp union c.flushes d.flushes)
       ≡ joined_at union (value_at set_key_cmp set c.flushes) (value_at set_key_cmp set d.flushes)
-  flushes-joined set =
-      value_at-join set_key_cmp-total set_key_cmp-exact union set c.flushes d.flushes u.accounts.flushes.sorted v.accounts.flushes.sorted
+  flushes-joined set = search (arith, value_at-join, set_key_cmp-total, set_key_cmp-exact)
 
   pub chronicles-join : Chronicles (join_accounts c d) (gs ++ hs)
   chronicles-join = record {
@@ -120,10 +112,7 @@ module _ (c d : Accounts) (gs hs : List Hearing) (u : Chronicles c gs) (v : Chro
       records = IsJoinMap-join key_cmp-total key_cmp-exact account-laws c.records d.records u.accounts.records v.accounts.records;
       flushes = IsJoinMap-join set_key_cmp-total set_key_cmp-exact union-laws c.flushes d.flushes u.accounts.flushes v.accounts.flushes;
     };
-    lasts = λ key. subst (λ (o : Option Latest). MatchOption o (IsUnheard (gs ++ hs) key) (IsLast (gs ++ hs) key))
-        (sym (lasts-joined c.records d.records u.accounts.records v.accounts.records key))
-        (lasts-append gs hs key (latest_in (value_at key_cmp key c.records)) (latest_in (value_at key_cmp key d.records))
-        (u.lasts key) (v.lasts key));
+    lasts = grind (arith, lasts-joined, lasts-append);
     histories = λ key s. subst (λ (o : Option Ends). AreEndsIn (IsHeardAs (gs ++ hs) key) s o)
         (sym (histories-joined c.records d.records u.accounts.records v.accounts.records key s))
         (ends-joined {P = IsHeardAs gs key} {Q = IsHeardAs hs key} (IsHeardAs-left gs hs key) (IsHeardAs-right gs hs key)

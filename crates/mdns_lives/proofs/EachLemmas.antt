@@ -1,7 +1,7 @@
 -- A hearing at each of some moments: what its contents stand for.
-use Rattle.std.proofs.Common.{inl, inr, rules, Contains, MatchOption, Result, OnOk, OnErr, refl, sym, ap, ◌∙◌, subst, arith}
+use Rattle.std.proofs.Common.{rules, Contains, MatchOption, Result, OnOk, OnErr, refl, sym, ap, ◌∙◌, subst, arith}
 use Rattle.std.proofs.Common.{◌≡◌, ◌≢◌, ◌↔◌, ℕ, ◌≤◌, Bool, true, false, ◌&&◌, cond, List, [], ◌∷◌}
-use Rattle.std.proofs.{Common.{◌++◌, Option, None, Some, if◌then◌else◌, true≢false}, lemmas.Result.{on_err_weaker}}
+use Rattle.std.proofs.{Common.{◌++◌, None, Some, if◌then◌else◌, true≢false}, lemmas.Result.{on_err_weaker}}
 use Rattle.std.specs.{declared.cmp.Ordering.TheVariants.{Greater}, Ordering.{nat_cmp, is_eq}, Cmp.{tied_itself}}
 use Rattle.mdns_capture.specs.declared.moment.Moment.{Moment}
 use Rattle.mdns_message.specs.{declared.hearing.Hearing.{Hearing}, declared.key.Key.{Key}, RecordSet.{RecordSet}}
@@ -33,8 +33,7 @@ each_account h ts = IsSeconds-of (heard_each h.ttl ts)
 
 each_flushes : (h : Hearing) (ts : List Moment) (b : Bool)
     → IsJoinMap set_key_cmp IsAscending (if b then one_entry (set_key_of h.heard) (ascending (nanos_of ts)) else [])
-each_flushes h ts true = IsJoinMap-one set_key_cmp-total set_key_cmp-exact union-laws (set_key_of h.heard) (ascending (nanos_of ts))
-    (IsAscending-ascending (nanos_of ts))
+each_flushes h ts true = search (arith, IsJoinMap-one, set_key_cmp-total, set_key_cmp-exact, union-laws, IsAscending-ascending)
 each_flushes h ts false = IsJoinMap-none set_key_cmp-total set_key_cmp-exact union-laws
 
 pub accounts_each-valid : (h : Hearing) (ts : List Moment) → AreAccounts (accounts_each h ts)
@@ -60,10 +59,7 @@ module _ (h : Hearing) (ts : List Moment) (latest : IsLatestIn ts h.moment) wher
   -- another record wasn't heard
   unlike : (key : Key) → is_eq (key_cmp key (key_of h.heard)) ≡ false → (g : Hearing) → Contains (at_each ts h) g
       → key_of g.heard ≡ key → ⊥
-  unlike key e g m o =
-      let f = from_map (λ (t : Moment). heard_at t h) ts g m in
-      let same : key_of h.heard ≡ key = ap (λ (x : Hearing). key_of x.heard) f.1 ∙ o in
-      true≢false (sym (ap is_eq (tied_itself key_cmp-total key)) ∙ ap (λ (k : Key). is_eq (key_cmp key k)) (sym same) ∙ e)
+  unlike key e g m o = grind (arith, from_map (λ (t : Moment). heard_at t h) ts g m, true≢false, tied_itself key_cmp-total key)
 
   lasts-each : (key : Key) (b : Bool) → is_eq (key_cmp key (key_of h.heard)) ≡ b
       → MatchOption (latest_in (cond b (Some (account_each h ts)) None)) (IsUnheard (at_each ts h) key) (IsLast (at_each ts h) key)
@@ -100,13 +96,7 @@ module _ (h : Hearing) (ts : List Moment) (latest : IsLatestIn ts h.moment) wher
 
   flushes-at : (set : RecordSet) (m : ℕ) → IsFlushIn (value_at set_key_cmp set (flushes_each h ts)) m ↔ IsFlushedAt (at_each ts h) set m
   flushes-at set m =
-      let b = is_flush_of set h in
-      let is = flushed h set ts in
-      subst (λ (o : Option (List ℕ)). IsFlushIn o m ↔ IsFlushedAt (at_each ts h) set m) (sym (value_in set h.flush)) (
-        λ f. IsFlushedAt-from_has (at_each ts h) set m
-            (subst (λ (ns : List ℕ). has ns m ≡ true) (sym is) ((in_ascending b m).0 f)),
-        λ w. (in_ascending b m).1 (subst (λ (ns : List ℕ). has ns m ≡ true) is (has-from_flushed (at_each ts h) set m w)),
-      )
+      grind (arith, flushed h set ts, value_in set h.flush, IsFlushedAt-from_has, in_ascending (is_flush_of set h) m, has-from_flushed)
 
   pub stands-at_each : Chronicles (accounts_each h ts) (at_each ts h)
   stands-at_each = record {
@@ -132,13 +122,7 @@ module _ (h : Hearing) (ts : List Moment) (latest : IsLatestIn ts h.moment) wher
 -- ---- one moment
 
 pub latest-one : (m : Moment) → IsLatestIn (m ∷ []) m
-latest-one m = record {
-  among = Contains-head m [];
-  greatest = λ t c. elim (Contains-cases m [] t c) [
-    | inl same ↦ subst (λ (x : Moment). x.nanos ≤ m.nanos) same (omega arith)
-    | inr none ↦ absurd (Contains-nil t none)
-  ];
-}
+latest-one m = grind (arith, Contains-head, Contains-cases, Contains-nil)
 
 pub accounts_each-one : (h : Hearing) → accounts_each h (h.moment ∷ []) ≡ accounts_of h
 unfolding seconds_of

@@ -83,10 +83,7 @@ module _ (flushes : List ℕ) where
         last = last;
         is_last = w;
         running = omega (arith, l, long);
-        unstruck = λ s.
-            let later : last.moment.nanos + second < s.flush = s.later in
-            let old : s.flush + second ≤ now = s.old in
-            absurd (omega (arith, later, old, l));
+        unstruck = grind arith;
       }
 
   ends-late : (last : RecordHearing) (end : ℕ) (reason : EndReason) → IsEndBy flushes last end reason → last.moment.nanos + second ≤ end
@@ -161,8 +158,7 @@ module _ (flushes : List ℕ) (hs es : List RecordHearing) (are : AreEndsOf hs e
   ends-from life w =
       let l = last_of_all life.until life.last w.is_last in
       elim (last_or_young life.until l.0 l.1) [
-        | inl at ↦ (let same = one_last es life.until l.0 life.last at w.is_last in
-            record { is_last = subst (λ (x : RecordHearing). IsLastAt hs life.until x) same l.1; ends = w.ends })
+        | inl at ↦ grind (arith, one_last es life.until l.0 life.last)
         | inr y ↦ (let late = ends-late flushes life.last life.until life.reason w.ends in
             let up = no_later y.end life.last (w.is_last.greatest y.end y.among y.by_then) in
             absurd (omega (arith, late, up, y.young)))

@@ -1,5 +1,5 @@
 -- Which elements a filter leaves.
-use Rattle.std.proofs.Common.{◌≡◌, ◌+◌, Bool, true, List, ◌∷◌, ◌++◌, Contains, take, drop, refl, sym, ap, ◌∙◌}
+use Rattle.std.proofs.Common.{◌≡◌, ◌+◌, Bool, true, List, ◌∷◌, ◌++◌, Contains, take, drop, refl, sym, ap, ◌∙◌, arith}
 use Rattle.std.proofs.{Common.{subst}, lemmas.List.{drop_more, take-append-drop}, lemmas.List.Elements.{All-contains, All-contains_itself}}
 use Rattle.std.proofs.lemmas.List.Elements.{All-filter, Contains-append_right, filter-append, filter_passes}
 use Rattle.std.specs.List.{filter}
@@ -20,5 +20,4 @@ to-filter {X} p xs x (k, within, is) passes =
     ap (λ y. take k xs ++ y ∷ rest) (sym is) ∙ ap (λ ys. take k xs ++ ys) (sym (drop_more xs k x within)) ∙ take-append-drop k xs in
     let kept : filter p (x ∷ rest) ≡ x ∷ filter p rest = rw passes refl in
     let after : Contains (filter p (x ∷ rest)) x = subst (λ (ys : List X). Contains ys x) (sym kept) (Contains-head x (filter p rest)) in
-    subst (λ (ys : List X). Contains ys x) (sym (filter-append p (take k xs) (x ∷ rest)) ∙ ap (filter p) parts)
-    (Contains-append_right (filter p (take k xs)) (filter p (x ∷ rest)) x after)
+    grind (arith, filter-append p (take k xs) (x ∷ rest), Contains-append_right (filter p (take k xs)) (filter p (x ∷ rest)) x after)

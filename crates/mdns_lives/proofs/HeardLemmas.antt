@@ -1,9 +1,8 @@
 -- The seconds that a walk over hearings in order gives, and those that are held.
 use Rattle.std.proofs.Common.{rules, ◌≡◌, ℕ, ◌<◌, ◌≤◌, true, false, Bool, ◌==◌, List, [], ◌∷◌, map, Option, None, Some, Contains}
-use Rattle.std.proofs.Common.{◌⊎◌, refl, sym, ap, ◌∙◌, subst, inl, inr, arith, if◌then◌else◌, eqb-true, eq-eqb}
+use Rattle.std.proofs.{Common.{◌⊎◌, refl, sym, ◌∙◌, subst, inl, inr, arith, eqb-true, eq-eqb}, lemmas.Bool.Decides.{nat_tests}}
 use Rattle.std.specs.{declared.cmp.Ordering.TheVariants.{Less}, Ordering.{nat_cmp}, Cmp.{nat_cmp_is}, List.{AllByRecursion}}
 use Rattle.std.specs.List.Sorted.{IsStrictlySortedBy}
-use Rattle.std.proofs.lemmas.Bool.Decides.{nat_tests}
 use Rattle.join_map.specs.Entries.{value_at}
 use Rattle.mdns_message.specs.{declared.hearing.Hearing.{Hearing}, declared.key.Key.{Key}, Resource.{key_cmp}}
 use Rattle.mdns_cache.proofs.StandsPartLemmas.{Contains-nil, Contains-head, Contains-later, Contains-cases}
@@ -58,30 +57,19 @@ record IsBegun (current : SecondHeard) (hs : List RecordHearing) : Type 0 where
 numbers-after : (n : ℕ) (seconds : List SecondHeard) → ((s : SecondHeard) → Contains seconds s → n < number_of s)
     → AllByRecursion (λ m. nat_cmp n m ≡ Less) (map number_of seconds)
 numbers-after n [] after = tt
-numbers-after n (s ∷ seconds) after = (
-  sym (nat_cmp_is n (number_of s) Less (after s (Contains-head s seconds))),
-  numbers-after n seconds (λ t m. after t (Contains-later s seconds t m)),
-)
+numbers-after n (s ∷ seconds) after =
+    grind (arith, nat_cmp_is, Contains-head, Contains-later, numbers-after n seconds (λ t m. after t (Contains-later s seconds t m)))
 
 -- the hearing is the first or the last one of the second that has begun, or among those left
 from-cases : (P : RecordHearing → Type 0) (current : SecondHeard) (hs : List RecordHearing) → P current.first → P current.last
     → ((x : RecordHearing) → Contains hs x → P x) → (x : RecordHearing) → Contains (all_from current hs) x → P x
-from-cases P current hs first last rest x m =
-    elim (Contains-cases current.first (current.last ∷ hs) x m) [
-      | inl same ↦ subst P same first
-      | inr later ↦ elim (Contains-cases current.last hs x later) [
-        | inl same ↦ subst P same last
-        | inr left ↦ rest x left
-      ]
-    ]
+from-cases P current hs first last rest x m = grind (arith, Contains-cases)
 
 last-among : (current : SecondHeard) (hs : List RecordHearing) → Contains (all_from current hs) current.last
-last-among current hs =
-    Contains-later current.first (current.last ∷ hs) current.last (Contains-head current.last hs)
+last-among current hs = grind (arith, Contains-later, Contains-head)
 
 left-among : (current : SecondHeard) (hs : List RecordHearing) (x : RecordHearing) → Contains hs x → Contains (all_from current hs) x
-left-among current hs x m =
-    Contains-later current.first (current.last ∷ hs) x (Contains-later current.last hs x m)
+left-among current hs x m = grind (arith, Contains-later current.first (current.last ∷ hs) x (Contains-later current.last hs x m))
 
 -- the second that has begun is the only one of its hearings
 begun-alone : (current : SecondHeard) → IsBegun current [] → AreSecondsOf (Contains (all_from current [])) (current ∷ [])
@@ -89,23 +77,14 @@ unfolding IsStrictlySortedBy
 begun-alone current b =
     let up = b.in_order.0 in
     let whole : (x : RecordHearing) → Contains (all_from current []) x → IsUpTo current.first x × IsUpTo x current.last =
-    from-cases (λ x. IsUpTo current.first x × IsUpTo x current.last) current [] (IsUpTo-itself current.first, up)
-    (up, IsUpTo-itself current.last) (λ x m. absurd (Contains-nil x m)) in
-    let here : AreEnds (Contains (all_from current [])) (number_of current) (ends current.first current.last) = record {
-      least_there = Contains-head current.first (current.last ∷ []);
-      greatest_there = last-among current [];
-      least_in = refl;
-      greatest_in = b.same;
-      between = λ h m _. whole h m;
-    } in
+    grind (arith, from-cases) in
+    let here : AreEnds (Contains (all_from current [])) (number_of current) (ends current.first current.last) =
+    grind (arith, Contains-head current.first (current.last ∷ []), last-among current []) in
     let named : (x : RecordHearing) → Contains (all_from current []) x → number_of current ≡ second_of x =
     from-cases (λ x. number_of current ≡ second_of x) current [] refl (sym b.same) (λ x m. absurd (Contains-nil x m)) in
     record {
       ascending = (tt, tt);
-      each = λ s m. elim (Contains-cases current [] s m) [
-        | inl same ↦ subst (λ (t : SecondHeard). AreEnds (Contains (all_from current [])) (number_of t) (ends t.first t.last)) same here
-        | inr rest ↦ absurd (Contains-nil s rest)
-      ];
+      each = grind (arith, Contains-cases, Contains-nil);
       all = λ x m. (current, Contains-head current [], named x m);
     }
 
@@ -119,8 +98,7 @@ module _ (current : SecondHeard) (h : RecordHearing) (hs : List RecordHearing) (
   after x m = let l = second-up_to h x (first_least h hs b.in_order.1.1 x m) in omega (arith, past, l)
 
   once-left : (x : RecordHearing) → Contains (all_from (heard_once h) hs) x → Contains (h ∷ hs) x
-  once-left = from-cases (Contains (h ∷ hs)) (heard_once h) hs (Contains-head h hs) (Contains-head h hs)
-      (λ x m. Contains-later h hs x m)
+  once-left = grind (arith, from-cases)
 
   -- a hearing of this second is between its ends
   abbrev IsHere : RecordHearing → Type 0
@@ -162,10 +140,7 @@ module _ (current : SecondHeard) (h : RecordHearing) (hs : List RecordHearing) (
   unfolding IsStrictlySortedBy
   begun-over = record {
     ascending = (numbers-after (number_of current) seconds number-after, rest.ascending);
-    each = λ s m. elim (Contains-cases current seconds s m) [
-      | inl same ↦ subst (λ (t : SecondHeard). AreEnds There (number_of t) (ends t.first t.last)) same this_ends
-      | inr later ↦ later_ends s later
-    ];
+    each = grind (arith, Contains-cases, this_ends, later_ends);
     all = λ x m. elim (where_is x m) [
       | inl here ↦ (current, Contains-head current seconds, here.0)
       | inr left ↦ (let found = rest.all x (Contains-later h (h ∷ hs) x left) in
@@ -187,8 +162,7 @@ seconds_from-on current h hs same = grind (arith, eq-eqb, same)
 pub seconds_from-anew : (current : SecondHeard) (h : RecordHearing) (hs : List RecordHearing) → (second_of h == number_of current) ≡ false
     → seconds_from current (h ∷ hs) ≡ current ∷ seconds_from (heard_once h) hs
 unfolding seconds_from
-seconds_from-anew current h hs other =
-    ap (λ (b : Bool). if b then seconds_from (heard_again current h) hs else current ∷ seconds_from (heard_once h) hs) other
+seconds_from-anew current h hs other = grind arith
 
 -- the last hearing so far is between the first one and the next
 again-between : (current : SecondHeard) (h : RecordHearing) (hs : List RecordHearing) → IsBegun current (h ∷ hs) → second_of h ≡ number_of current
@@ -214,8 +188,7 @@ again-among current h hs = search (rules, from-cases, Contains-head, left-among,
 
 AreSecondsOf-from : (hs : List RecordHearing) (current : SecondHeard) → IsBegun current hs
     → AreSecondsOf (Contains (all_from current hs)) (seconds_from current hs)
-AreSecondsOf-from [] current b =
-    subst (AreSecondsOf (Contains (all_from current []))) (sym (seconds_from-over current)) (begun-alone current b)
+AreSecondsOf-from [] current b = grind (arith, seconds_from-over current, begun-alone current b)
 AreSecondsOf-from (h ∷ hs) current b = by (second_of h == number_of current) refl (AreSecondsOf-from hs)
   where
     by : (t : Bool) → (second_of h == number_of current) ≡ t

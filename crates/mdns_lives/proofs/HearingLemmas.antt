@@ -1,6 +1,5 @@
 -- The hearings of a message at some moments, and that contents depend only on which hearings there are.
-use Rattle.std.proofs.Common.{◌≡◌, ◌↔◌, ℕ, List, [], ◌∷◌, ◌++◌, Option, None, Some, Contains, refl}
-use Rattle.std.proofs.Common.{ap, ◌∙◌, subst, map, MatchOption}
+use Rattle.std.proofs.Common.{◌≡◌, ◌↔◌, ℕ, List, [], ◌∷◌, ◌++◌, Option, None, Some, Contains, refl, ap, ◌∙◌, subst, map, MatchOption, arith}
 use Rattle.mdns_capture.specs.declared.moment.Moment.{Moment}
 use Rattle.mdns_message.specs.{declared.hearing.Hearing.{Hearing}, declared.key.Key.{Key}, Message.{MessageReads, hearing_of}}
 use Rattle.mdns_message.specs.RecordAt.{HeardRecord}
@@ -74,14 +73,7 @@ reads-at t u message hs r = record {
 
 module _ (t : Moment) (message : List ℕ) (hs : List Hearing) (reads : MessageReads t message hs) where
   pub IsHearingAt-read : (ts : List Moment) → Contains ts t → (h : Hearing) → Contains hs h → IsHearingAt message ts h
-  IsHearingAt-read ts came h m =
-      let e = moment_in t message hs reads h m in
-      record {
-        hearings = hs;
-        reads = subst (λ (u : Moment). MessageReads u message hs) e reads;
-        among = m;
-        came = subst (λ (u : Moment). Contains ts u) e came;
-      }
+  IsHearingAt-read ts came h m = grind (arith, moment_in t message hs reads h m)
 
   pub read-IsHearingAt : ReadsOnce → (ts : List Moment) (h : Hearing) → IsHearingAt message ts h → t ≡ h.moment → Contains hs h
   read-IsHearingAt once ts h w e = subst (λ (xs : List Hearing). Contains xs h)
@@ -113,5 +105,4 @@ all-exactly once t message hs reads ts h = (
 
 pub chronicles-each : ReadsOnce → (new : Accounts) (message : List ℕ) (ts : List Moment) (t : Moment) (hs before : List Hearing)
     → MessageReads t message hs → Chronicles new (before ++ all_at_each ts hs) → ChroniclesAt new message ts before
-chronicles-each once new message ts t hs before reads s =
-    record { later = all_at_each ts hs; chronicles = s; exactly = all-exactly once t message hs reads ts }
+chronicles-each once new message ts t hs before reads s = grind (arith, all-exactly once t message hs reads ts)

@@ -1,8 +1,6 @@
 -- The flushes that are too early to strike a record at a hearing strike none at a later hearing.
-use Rattle.std.proofs.Common.{◌≡◌, ℕ, zero, suc, ◌+◌, ◌-◌, ◌<◌, ◌≤◌, true, false, nat_lt, min, List, [], ◌∷◌, length, get_or}
-use Rattle.std.proofs.Common.{take, drop, refl, sym, ap, subst, ◌∙◌, arith, if◌then◌else◌, leb-true, leb-false}
-use Rattle.std.specs.Prelude.{nat_le}
-use Rattle.std.proofs.lemmas.{Bool.{ltb-true}, List.{take_rest}}
+use Rattle.std.proofs.Common.{◌≡◌, ℕ, zero, suc, ◌+◌, ◌-◌, ◌<◌, ◌≤◌, nat_lt, min, List, [], ◌∷◌, length, get_or}
+use Rattle.std.proofs.{Common.{take, drop, refl, sym, subst, ◌∙◌, arith, leb-true, leb-false}, lemmas.{Bool.{ltb-true}, List.{take_rest}}}
 use Rattle.mdns_capture.specs.{declared.moment.Moment.{Moment}, Limits.{second}}
 use Rattle.mdns_join.specs.{Kept.{IsAscending, IsAscendingAbove}, laws.Kept.{IsAscending-from_above}, Nanos.{nanos_of}}
 use Rattle.mdns_cache.specs.LentRecords.{AreEarlyUpTo, end_of}
@@ -59,17 +57,7 @@ module _ (fs gs : List ℕ) where
   unfolding lives_from
   same_after p [] life o same = refl
   same_after p (h ∷ hs) life o same =
-      let up = no_later p h o.0 in
-      let later : GiveSameEnds h.moment.nanos fs gs = λ t out l. same t out (omega (arith, up, l)) in
-      let begun = same_life h later in
-      elim (nat_le h.moment.nanos life.until) as (λ b.
-      (if b then lives_from fs (carried_on life (life_after fs h)) hs else life ∷ lives_from fs (life_after fs h) hs)
-      ≡ (if b then lives_from gs (carried_on life (life_after gs h)) hs else life ∷ lives_from gs (life_after gs h) hs)) [
-        | true ↦ same_after h hs (carried_on life (life_after fs h)) o.1 later
-            ∙ ap (λ (a : Life). lives_from gs (carried_on life a) hs) begun
-        | false ↦ ap (λ (ls : List Life). life ∷ ls)
-            (same_after h hs (life_after fs h) o.1 later ∙ ap (λ (a : Life). lives_from gs a hs) begun)
-      ]
+      grind (arith, no_later, same_life, same_after h hs (carried_on life (life_after fs h)) o.1, same_after h hs (life_after fs h) o.1)
 
   pub same_lives : (h : RecordHearing) (hs : List RecordHearing) (life : Life) → AreInOrder (h ∷ hs) → GiveSameEnds h.moment.nanos fs gs
       → lives_from fs life (h ∷ hs) ≡ lives_from gs life (h ∷ hs)
@@ -77,5 +65,4 @@ module _ (fs gs : List ℕ) where
 
   pub same_walk : (h : RecordHearing) (hs : List RecordHearing) → AreInOrder (h ∷ hs) → GiveSameEnds h.moment.nanos fs gs
       → walked fs (h ∷ hs) ≡ lives_from gs (life_after gs h) hs
-  same_walk h hs o same =
-      same_after h hs (life_after fs h) o same ∙ ap (λ (a : Life). lives_from gs a hs) (same_life h same)
+  same_walk h hs o same = grind (arith, same_after, same_life)

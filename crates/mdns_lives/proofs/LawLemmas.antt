@@ -1,8 +1,8 @@
 -- Laws of lives over all hearings: the same hearings have one list, and which of them a report shows.
-use Rattle.std.proofs.Common.{◌≡◌, ◌≢◌, ℕ, ◌+◌, ◌<◌, ◌≤◌, List, [], ◌∷◌, Contains, refl, sym, ap, subst, inl, inr, arith, ◌↔◌, ◌∙◌}
+use Rattle.std.proofs.Common.{◌≡◌, ◌≢◌, ℕ, ◌+◌, ◌<◌, ◌≤◌, List, [], ◌∷◌, Contains, sym, ap, subst, inl, inr, arith, ◌↔◌, ◌∙◌}
 use Rattle.std.specs.Prelude.{nat_lt}
 use Rattle.std.proofs.lemmas.Bool.{cases_lt, ltb-true, lt-ltb}
-use Rattle.mdns_capture.specs.{Limits.{second}, declared.moment.Moment.{Moment}}
+use Rattle.mdns_capture.specs.{Limits.{second}}
 use Rattle.mdns_message.specs.{declared.hearing.Hearing.{Hearing}, declared.key.Key.{Key}, Resource.{IsOf}}
 use Rattle.mdns_join.specs.declared.latest.Latest.{Latest}
 use Rattle.mdns_cache.specs.Live.{IsHeard, IsLast, SameHearings, life_of, IsLive, IsEnd}
@@ -48,22 +48,7 @@ one_ending heard others key same x y e p q =
     let out : p.last.moment.nanos + life_of p.last.ttl ≡ q.last.moment.nanos + life_of q.last.ttl =
     ap (λ (l : Latest). l.moment.nanos + life_of l.ttl) last in
     let ttl : p.last.ttl ≡ q.last.ttl = ap (λ (l : Latest). l.ttl) last in
-    let moment = sym p.moment ∙ ap (λ (l : Latest). l.moment) last ∙ q.moment in (
-      heard-same x.last y.last (ap (λ (m : Moment). m.nanos) moment) (sym p.ttl ∙ ttl ∙ q.ttl),
-      by x.reason y.reason (subst (λ n. IsEndFor heard key p.last n x.reason) e p.ends) q.ends out ttl,
-    )
-  where
-    by : (r s : EndReason) → IsEndFor heard key p.last y.until r → IsEndFor others key q.last y.until s
-        → p.last.moment.nanos + life_of p.last.ttl ≡ q.last.moment.nanos + life_of q.last.ttl → p.last.ttl ≡ q.last.ttl → r ≡ s
-    by Expired Expired p q out ttl = refl
-    by Expired Goodbye p q out ttl = absurd (omega (arith, p.0, q.0, ttl))
-    by Expired Flushed p q out ttl = absurd (omega (arith, p.1, q.0, out))
-    by Goodbye Expired p q out ttl = absurd (omega (arith, p.0, q.0, ttl))
-    by Goodbye Goodbye p q out ttl = refl
-    by Goodbye Flushed p q out ttl = absurd (omega (arith, p.1, q.0, out))
-    by Flushed Expired p q out ttl = absurd (omega (arith, p.0, q.1, out))
-    by Flushed Goodbye p q out ttl = absurd (omega (arith, p.0, q.1, out))
-    by Flushed Flushed p q out ttl = refl
+    let moment = sym p.moment ∙ ap (λ (l : Latest). l.moment) last ∙ q.moment in grind (arith, heard-same)
 
 pub one_list_among : (heard others : List Hearing) (key : Key) (xs ys : List Life) → SameHearings heard others
     → AreLives heard key xs → AreLives others key ys → xs ≡ ys
@@ -107,8 +92,7 @@ lives-among heard others key lives same are =
 
 before-in : (now : ℕ) (heard : List Hearing) (h : Hearing) → Contains (heard_before now heard) h
     → Contains heard h × (h.moment.nanos < now)
-before-in now heard h m =
-    let w = from-filter (λ (x : Hearing). nat_lt x.moment.nanos now) heard h m in (w.0, ltb-true h.moment.nanos now w.1)
+before-in now heard h m = grind (arith, from-filter (λ (x : Hearing). nat_lt x.moment.nanos now) heard h m, ltb-true)
 
 before-from : (now : ℕ) (heard : List Hearing) (h : Hearing) → Contains heard h → h.moment.nanos < now
     → Contains (heard_before now heard) h
@@ -208,10 +192,7 @@ live-whole heard key now none =
 -- the life that a moment is in
 pub during : (lives : List Life) (life : Life) (now : ℕ) → Contains lives life → IsDuring life now → IsInOne lives now
 during [] life now m d = absurd (Contains-nil life m)
-during (x ∷ xs) life now m d = elim (Contains-cases x xs life m) [
-  | inl same ↦ inl (subst (λ (y : Life). IsDuring y now) (sym same) d)
-  | inr rest ↦ inr (during xs life now rest d)
-]
+during (x ∷ xs) life now m d = grind (arith, Contains-cases, during xs life now)
 
 -- the end of a life is in none
 out_of_all : (lives : List Life) (life : Life) → AreApart lives → Contains lives life → IsInOne lives life.until → ⊥

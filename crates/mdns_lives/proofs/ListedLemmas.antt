@@ -48,14 +48,7 @@ module _ (P : RecordHearing → Type 0) where
 
   listed-there : (entries : Seconds) → AllEnds entries → (h : RecordHearing) → Contains (listed_ends entries) h → P h
   listed-there [] a h m = absurd (Contains-nil h m)
-  listed-there (e ∷ es) a h m =
-      elim (Contains-cases e.1.least (e.1.greatest ∷ listed_ends es) h m) [
-        | inl same ↦ subst P same a.0.least_there
-        | inr later ↦ elim (Contains-cases e.1.greatest (listed_ends es) h later) [
-          | inl same ↦ subst P same a.0.greatest_there
-          | inr rest ↦ listed-there es a.1 h rest
-        ]
-      ]
+  listed-there (e ∷ es) a h m = grind (arith, Contains-cases, listed-there es a.1 h)
 
   module _ (all : Seconds) (are : IsSeconds all) (at : (s : ℕ) → AreEndsIn P s (value_at nat_cmp s all)) where
     all_ends : (entries : Seconds) → ((e : ℕ × Ends) → Contains entries e → Contains all e) → AllEnds entries

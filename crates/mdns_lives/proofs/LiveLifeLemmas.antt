@@ -1,7 +1,6 @@
 -- As of a moment that no hearing is later than, the lives that go on after it are those of the records that are live then.
-use Rattle.std.proofs.Common.{◌≡◌, ◌⊎◌, ℕ, zero, suc, ◌<◌, ◌≤◌, Bool, nat_lt, List, [], ◌∷◌, ◌++◌, map}
-use Rattle.std.proofs.Common.{Contains, refl, sym, ap, ◌∙◌, subst, inl, inr, arith}
-use Rattle.std.proofs.lemmas.Bool.{cases_lt, ltb-true, lt-ltb, le-ltb}
+use Rattle.std.proofs.Common.{◌≡◌, ◌⊎◌, ℕ, zero, suc, ◌<◌, ◌≤◌, Bool, nat_lt, List, [], ◌∷◌, map}
+use Rattle.std.proofs.{Common.{Contains, refl, sym, ap, ◌∙◌, subst, inl, inr, arith}, lemmas.Bool.{cases_lt, ltb-true, lt-ltb, le-ltb}}
 use Rattle.std.specs.{List.{AllByRecursion, filter, flat_map}, List.Sorted.{IsStrictlySortedBy}, declared.cmp.Ordering.TheVariants.{Less}}
 use Rattle.mdns_message.specs.{declared.hearing.Hearing.{Hearing}, declared.key.Key.{Key}, Resource.{key_cmp}}
 use Rattle.mdns_join.specs.declared.latest.Latest.{Latest}
@@ -18,10 +17,7 @@ use Rattle.mdns_lives.proofs.{LawLemmas.{live-whole, none-after, until-all}, One
 after_of : (low : ℕ) (lives : List Life) (life : Life) → AreApartAfter low lives → Contains lives life
     → (low < life.from.nanos) × (life.from.nanos < life.until)
 after_of low [] life a m = absurd (Contains-nil life m)
-after_of low (x ∷ xs) life a m = elim (Contains-cases x xs life m) [
-  | inl same ↦ subst (λ (y : Life). (low < y.from.nanos) × (y.from.nanos < y.until)) same (a.0, a.1)
-  | inr rest ↦ (let later = after_of x.until xs life a.2 rest in (omega (arith, a.0, a.1, later.0), later.1))
-]
+after_of low (x ∷ xs) life a m = grind (arith, Contains-cases, after_of x.until xs life a.2)
 
 not_empty : (lives : List Life) (life : Life) → AreApart lives → Contains lives life → life.from.nanos < life.until
 not_empty [] life a m = absurd (Contains-nil life m)
@@ -36,12 +32,7 @@ not_just_before : (lives : List Life) (life : Life) (m : ℕ) → AreApart lives
 not_just_before [] life m a c e w = w
 not_just_before (x ∷ xs) life m a c e w =
     elim (Contains-cases x xs life c) [
-      | inl same ↦ (let from : suc m ≡ x.from.nanos = subst (λ (y : Life). suc m ≡ y.from.nanos) (sym same) e in
-          elim w [
-            | inl d ↦ (let begun : x.from.nanos ≤ m = d.0 in absurd (omega (arith, from, begun)))
-            | inr r ↦ (let late : x.until < m = after_low x.until xs m a.1 r in
-                let long : x.from.nanos < x.until = a.0 in absurd (omega (arith, from, late, long)))
-          ])
+      | inl same ↦ grind (arith, after_low)
       | inr rest ↦ (let later = (after_of x.until xs life a.1 rest).0 in
           elim w [
             | inl d ↦ (let before : m < x.until = d.1 in absurd (omega (arith, e, later, before)))
@@ -117,10 +108,8 @@ after_shown now key [] short a = tt
 after_shown now key (row ∷ rows) short a =
     let rest = after_shown now key rows (λ r m. short r (Contains-later row rows r m)) a.1 in
     elim (short row (Contains-head row rows)) [
-      | inl none ↦ subst (λ (ls : List Life). AllAfter key (map shown_record (map (λ (life : Life). (row.0, life.until)) ls
-          ++ live_rows now rows))) (sym none) rest
-      | inr one ↦ subst (λ (ls : List Life). AllAfter key (map shown_record (map (λ (life : Life). (row.0, life.until)) ls
-          ++ live_rows now rows))) (sym one.1) (a.0, rest)
+      | inl none ↦ grind arith
+      | inr one ↦ grind arith
     ]
 
 ascending_rows : (now : ℕ) (rows : List Row) → ((row : Row) → Contains rows row → IsShort now row.1)
@@ -131,11 +120,8 @@ ascending_rows now (row ∷ rows) short s =
     let later = λ (r : Row) (m : Contains rows r). short r (Contains-later row rows r m) in
     let rest = ascending_rows now rows later s.1 in
     elim (short row (Contains-head row rows)) [
-      | inl none ↦ subst (λ (ls : List Life). IsStrictlySortedBy key_cmp (map shown_record
-          (map (λ (life : Life). (row.0, life.until)) ls ++ live_rows now rows))) (sym none) rest
-      | inr one ↦ subst (λ (ls : List Life). IsStrictlySortedBy key_cmp (map shown_record
-          (map (λ (life : Life). (row.0, life.until)) ls ++ live_rows now rows))) (sym one.1)
-          (after_shown now (key_of_last row.0) rows later s.0, rest)
+      | inl none ↦ grind arith
+      | inr one ↦ grind (arith, after_shown now (key_of_last row.0) rows later s.0)
     ]
 
 -- a record has one end (`one_end` of mdns_cache)
@@ -224,8 +210,7 @@ module _ (some_end : SomeEnd) (until_end : UntilEnd) (same_end : OneEnd) (heard 
         → IsLive heard now (key_of_last l) l × IsEnd heard (key_of_last l) end
     into_live l end m =
         let w = from_rows (λ last life. (last, life.until)) now rows (l, end) m in
-        subst (λ (x : Latest × ℕ). IsLive heard now (key_of_last x.0) x.0 × IsEnd heard (key_of_last x.0) x.1) w.is
-        (live_life w.last w.lives w.life w.row w.among w.later)
+        grind (arith, live_life w.last w.lives w.life w.row w.among w.later)
 
     from_live : (l : Latest) (end : ℕ) → IsLive heard now (key_of_last l) l → IsEnd heard (key_of_last l) end
         → Contains (live_rows now rows) (l, end)

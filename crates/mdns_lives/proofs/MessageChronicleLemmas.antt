@@ -101,21 +101,13 @@ records-whole c heard s = chronicles-same s.told heard
 
 awaits-here : (front back : List Awaited) (x : Awaited) (h : Hearing) → IsHearingAt x.bytes x.moments h
     → IsAwaited (front ++ x ∷ back) h
-awaits-here front back x h w =
-    record { message = x; among = Contains-append_right front (x ∷ back) x (Contains-head x back); hears = w }
+awaits-here front back x h w = grind (arith, Contains-append_right, Contains-head)
 
 awaits-cases : (front back : List Awaited) (x y : Awaited) (h : Hearing) → IsAwaited (front ++ x ∷ back) h
     → IsHearingAt x.bytes x.moments h ⊎ IsAwaited (front ++ y ∷ back) h
 awaits-cases front back x y h w = elim (Contains-append_cases front (x ∷ back) w.message w.among) [
   | inl a ↦ inr (record { message = w.message; among = Contains-append_left front (y ∷ back) w.message a; hears = w.hears })
-  | inr b ↦ elim (Contains-cases x back w.message b) [
-    | inl e ↦ inl (subst (λ (m : Awaited). IsHearingAt m.bytes m.moments h) (sym e) w.hears)
-    | inr r ↦ inr (record {
-      message = w.message;
-      among = Contains-append_right front (y ∷ back) w.message (Contains-later y back w.message r);
-      hears = w.hears;
-    })
-  ]
+  | inr b ↦ grind (arith, Contains-cases, Contains-append_right, Contains-later)
 ]
 
 module _ (once : ReadsOnce) (c : Accounts) (bytes : List ℕ) (t : Moment) (hs : List Hearing) (reads : MessageReads t bytes hs) where
@@ -126,12 +118,7 @@ module _ (once : ReadsOnce) (c : Accounts) (bytes : List ℕ) (t : Moment) (hs :
       | inr e ↦ inr (read-IsHearingAt t bytes hs reads once (ts ++ t ∷ []) h w e)
     ],
     λ w. elim w [
-      | inl a ↦ record {
-        hearings = a.hearings;
-        reads = a.reads;
-        among = a.among;
-        came = Contains-append_left ts (t ∷ []) h.moment a.came;
-      }
+      | inl a ↦ grind (arith, Contains-append_left)
       | inr m ↦ IsHearingAt-read t bytes hs reads (ts ++ t ∷ []) (Contains-push ts t) h m
     ],
   )
@@ -251,8 +238,7 @@ unfolding messages_with
 messages_with-push [] [] m ts e = refl
 messages_with-push [] (u ∷ us) m ts e = absurd (omega (arith, e))
 messages_with-push (x ∷ ms) [] m ts e = absurd (omega (arith, e))
-messages_with-push (x ∷ ms) (u ∷ us) m ts e =
-    ap (λ (xs : List Awaited). awaited x.bytes u ∷ xs) (messages_with-push ms us m ts (omega (arith, e)))
+messages_with-push (x ∷ ms) (u ∷ us) m ts e = grind (arith, messages_with-push ms us m ts (omega (arith, e)))
 
 few_messages : (messages : List Remembered) (waiting : List (List Moment))
     → (length (messages_with messages waiting) ≤ length messages) × (length (messages_with messages waiting) ≤ length waiting)
@@ -294,8 +280,7 @@ chronicles-no_moment c message ts before none s = grind (arith, append-nil, Cont
 pub records-new : (c : Accounts) (messages : List Remembered) (waiting : List (List Moment)) → messages ≡ [] → Chronicles c []
     → RecordsAll c (messages_with messages waiting) []
 unfolding messages_with
-records-new c messages waiting none s =
-    subst (λ (ms : List Remembered). RecordsAll c (messages_with ms waiting) []) (sym none) (records-none c s)
+records-new c messages waiting none s = grind (arith, records-none)
 
 -- the message at a place has so many hearings
 pub reads-found : (messages : List Remembered) (place hearings : ℕ) (message : List ℕ) (t : Moment)

@@ -1,8 +1,7 @@
 -- The same hearings give the same rows of lives.
 use Rattle.std.proofs.Common.{rules, arith, ◌≡◌, List, [], ◌∷◌, map, Contains, refl, sym, ◌∙◌, subst, inl, inr}
 use Rattle.std.specs.{List.{AllByRecursion}, List.Sorted.{IsStrictlySortedBy}, declared.cmp.Ordering.TheVariants.{Less}}
-use Rattle.mdns_message.specs.{declared.hearing.Hearing.{Hearing}, declared.key.Key.{Key}, Resource.{key_cmp}}
-use Rattle.mdns_message.specs.laws.Resource.{key_cmp-total}
+use Rattle.mdns_message.specs.{declared.{hearing.Hearing.{Hearing}, key.Key.{Key}}, Resource.{key_cmp}, laws.Resource.{key_cmp-total}}
 use Rattle.mdns_cache.specs.Live.{SameHearings, key_of_last}
 use Rattle.mdns_cache.proofs.StandsPartLemmas.{Contains-nil, Contains-head, Contains-later, Contains-cases, IsLast-among}
 use Rattle.mdns_lives.specs.{declared.life.Life.{Life}, Chronicle.{AreAllLives}}
@@ -14,10 +13,7 @@ AllAfter key keys = AllByRecursion (λ k. key_cmp key k ≡ Less) keys
 after_first : (key : Key) (rows : List Row) (row : Row) → AllAfter key (map row_record rows) → Contains rows row
     → key_cmp key (row_record row) ≡ Less
 after_first key [] row a m = absurd (Contains-nil row m)
-after_first key (r ∷ rows) row a m = elim (Contains-cases r rows row m) [
-  | inl same ↦ subst (λ (x : Row). key_cmp key (row_record x) ≡ Less) same a.0
-  | inr rest ↦ after_first key rows row a.1 rest
-]
+after_first key (r ∷ rows) row a m = grind (arith, Contains-cases, after_first key rows row a.1)
 
 not_before_itself : (key : Key) → key_cmp key key ≡ Less → ⊥
 not_before_itself key l = grind (arith, key_cmp-total)

@@ -1,6 +1,5 @@
 -- A record has one list of lives.
-use Rattle.std.proofs.Common.{◌≡◌, ℕ, ◌<◌, ◌≤◌, List, [], ◌∷◌, Contains, refl, sym, subst, inl, inr, arith}
-use Rattle.std.proofs.lemmas.Bool.{cases_lt}
+use Rattle.std.proofs.{Common.{◌≡◌, ℕ, ◌<◌, ◌≤◌, List, [], ◌∷◌, Contains, refl, sym, subst, inl, inr, arith}, lemmas.Bool.{cases_lt}}
 use Rattle.mdns_join.specs.laws.Latest.{moment-same}
 use Rattle.mdns_lives.specs.declared.life.{RecordHearing.{RecordHearing}, Life.{Life}, EndReason.{EndReason}}
 use Rattle.mdns_lives.specs.{History.{IsEndBy, EndsBy, AreLivesBy}, Lives.{IsInOne, AreApartAfter, AreApart}}
@@ -8,16 +7,14 @@ use Rattle.mdns_cache.proofs.StandsPartLemmas.{Contains-head, Contains-later}
 use Rattle.mdns_lives.proofs.OrderLemmas.{heard-same, same_moment, same_ttl}
 
 life-same : (x y : Life) → x.from.nanos ≡ y.from.nanos → x.last ≡ y.last → x.until ≡ y.until → x.reason ≡ y.reason → x ≡ y
-life-same x y e l f g =
-    let from = moment-same x.from y.from e in λ i. record { from = from i; last = l i; until = f i; reason = g i }
+life-same x y e l f g = grind (arith, moment-same x.from y.from e)
 
 -- ---- the moments in lives that are apart
 
 pub after_low : (low : ℕ) (xs : List Life) (now : ℕ) → AreApartAfter low xs → IsInOne xs now → low < now
 after_low low [] now a w = absurd w
 after_low low (x ∷ xs) now a (inl d) = omega (arith, a.0, d.0)
-after_low low (x ∷ xs) now a (inr r) =
-    let rest : x.until < now = after_low x.until xs now a.2 r in omega (arith, a.0, a.1, rest)
+after_low low (x ∷ xs) now a (inr r) = grind (arith, after_low x.until xs now a.2 r)
 
 pub apart-rest : (low : ℕ) (xs : List Life) → AreApartAfter low xs → AreApart xs
 apart-rest low [] a = tt
@@ -63,11 +60,7 @@ one_ending heard flushes x y e p q =
     let up = q.is_last.greatest x.last p.is_last.among (subst (λ n. x.last.moment.nanos ≤ n) e p.is_last.by_then) in
     let down = p.is_last.greatest y.last q.is_last.among (subst (λ n. y.last.moment.nanos ≤ n) (sym e) q.is_last.by_then) in
     let moment = same_moment x.last y.last up down in
-    let ttl = same_ttl x.last y.last up down in (
-      heard-same x.last y.last moment ttl,
-      same_reason flushes x.last y.last y.until x.reason y.reason moment ttl
-          (subst (λ n. IsEndBy flushes x.last n x.reason) e p.ends) q.ends,
-    )
+    let ttl = same_ttl x.last y.last up down in grind (arith, heard-same, same_reason)
 
 -- lists of the same moments whose lives end for the same reasons are one list
 module _ (Ends Others : Life → Type 0) (one : (x y : Life) → x.until ≡ y.until → Ends x → Others y → IsEndAlike x y) where

@@ -1,7 +1,6 @@
 -- Hearings of a record in order.
-use Rattle.std.proofs.Common.{◌≡◌, ◌≤◌, false, List, [], ◌∷◌, Contains, refl, subst, inl, inr, ◌⊎◌, arith}
+use Rattle.std.proofs.{Common.{◌≡◌, ◌≤◌, false, List, [], ◌∷◌, Contains, refl, inl, inr, ◌⊎◌, arith}, lemmas.Bool.{cases_lt}}
 use Rattle.std.specs.Ordering.{is_lt}
-use Rattle.std.proofs.lemmas.Bool.{cases_lt}
 use Rattle.mdns_cache.proofs.StandsPartLemmas.{Contains-nil, Contains-cases}
 use Rattle.mdns_join.specs.laws.Latest.{moment-same}
 use Rattle.mdns_lives.specs.{declared.life.RecordHearing.{RecordHearing}, History.{IsUpTo, AreInOrder}, Seconds.{heard_cmp}}
@@ -42,11 +41,7 @@ IsUpTo-from_lt g h n = grind (arith, cases_lt)
 -- of hearings in order the first counts no more than any
 pub first_least : (h : RecordHearing) (hs : List RecordHearing) → AreInOrder (h ∷ hs) → (x : RecordHearing) → Contains (h ∷ hs) x → IsUpTo h x
 first_least h [] o x m = grind (arith, Contains-cases, IsUpTo-itself, Contains-nil)
-first_least h (g ∷ hs) o x m =
-    elim (Contains-cases h (g ∷ hs) x m) [
-      | inl same ↦ subst (λ (y : RecordHearing). IsUpTo h y) same (IsUpTo-itself h)
-      | inr rest ↦ IsUpTo-onward h g x o.0 (first_least g hs o.1 x rest)
-    ]
+first_least h (g ∷ hs) o x m = grind (arith, Contains-cases h (g ∷ hs) x m, IsUpTo-itself h, IsUpTo-onward, first_least g hs o.1 x)
 
 pub in_order-rest : (h : RecordHearing) (hs : List RecordHearing) → AreInOrder (h ∷ hs) → AreInOrder hs
 in_order-rest h [] o = tt

@@ -1,5 +1,5 @@
 -- The contents of a chronicle after a hearing that was refused.
-use Rattle.std.proofs.Common.{arith, ◌≡◌, ℕ, List, [], Option, sym, ap, ◌∙◌, subst}
+use Rattle.std.proofs.Common.{arith, ◌≡◌, ℕ, List, [], Option, sym, ap, ◌∙◌}
 use Rattle.mdns_capture.specs.declared.moment.Moment.{Moment}
 use Rattle.mdns_message.specs.{declared.key.Key.{Key}, RecordSet.{RecordSet}, Resource.{key_cmp, set_key_cmp}}
 use Rattle.mdns_message.specs.laws.Resource.{key_cmp-total, key_cmp-exact, set_key_cmp-total, set_key_cmp-exact}
@@ -34,8 +34,7 @@ AreGathered-none rs fs p q = grind (arith, chronicles-none)
 
 -- nothing was joined
 pub part_none : (old new other : Accounts) → AreAccounts old → AreAccounts other → new ≡ old → IsPartOfJoin join_accounts old other new
-part_none old new other u v same =
-    subst (IsPartOfJoin join_accounts old other) (sym same) (IsPartOfJoin-old accounts-laws old other u v)
+part_none old new other u v same = grind (arith, IsPartOfJoin-old, accounts-laws)
 
 module _ (old other : Accounts) (u : AreAccounts old) (v : AreAccounts other) where
   newest_within : newer old.newest (newer old.newest other.newest) ≡ newer old.newest other.newest
@@ -55,6 +54,4 @@ module _ (old other : Accounts) (u : AreAccounts old) (v : AreAccounts other) wh
 pub part_records : (old new other : Accounts) → AreAccounts old → AreAccounts other
     → new ≡ accounts (joined key_cmp join_account old.records other.records) old.flushes old.newest
     → IsPartOfJoin join_accounts old other new
-part_records old new other u v is =
-    subst (IsPartOfJoin join_accounts old other) (sym is) (part_their_records old other u v _
-    (IsPartOfJoin-join records-laws old.records other.records u.records v.records))
+part_records old new other u v is = grind (arith, part_their_records, IsPartOfJoin-join, records-laws)

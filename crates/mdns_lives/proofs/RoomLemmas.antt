@@ -1,11 +1,11 @@
 -- How many hearings are left of a list that was thinned.
 use Rattle.std.proofs.lemmas.{Grind.{common_steps}, Bool.{cases_lt}, List.{take_more, take_more_set, length-take-le, length-set}}
 use Rattle.std.proofs.Common.{◌≡◌, ◌≢◌, ℕ, ◌+◌, ◌-◌, ◌*◌, ◌<◌, ◌≤◌, List, [], ◌∷◌, ◌++◌, Contains, length, get_or, take, drop}
-use Rattle.std.proofs.Common.{slice_set, refl, sym, ap, ◌∙◌, subst, inl, inr, arith, append_assoc}
+use Rattle.std.proofs.Common.{slice_set, refl, sym, subst, inl, inr, arith, append_assoc}
 use Rattle.std.specs.declared.cmp.{Ordering.{Ordering}, Ordering.TheVariants.{Less, Equal, Greater}}
-use Rattle.std.specs.{Ordering.{nat_cmp, match_ordering}, Cmp.{nat_cmp_is}, List.{AllByRecursion}, Map.{keys_of}}
+use Rattle.std.specs.{Ordering.{nat_cmp, match_ordering}, List.{AllByRecursion}, Map.{keys_of}}
 use Rattle.join_map.specs.Entries.{put_entry}
-use Rattle.mdns_cache.proofs.StandsPartLemmas.{Contains-nil, Contains-head, Contains-later}
+use Rattle.mdns_cache.proofs.StandsPartLemmas.{Contains-nil, Contains-later}
 use Rattle.mdns_lives.specs.{declared.life.RecordHearing.{RecordHearing}, History.{AreInOrder}}
 use Rattle.mdns_lives.specs.Seconds.{second_of, IsSparse, Ends, ends, Seconds, join_ends, join_seconds, only, seconds_of, IsRoomFor}
 use Rattle.mdns_lives.proofs.{OrderLemmas.{no_later, first_least, in_order-rest}, SecondsLemmas.{seconds_of-push}}
@@ -32,14 +32,11 @@ after-put j k v (e ∷ es) l a = after_by (nat_cmp k e.0) j k v e es l a (after-
 after-seconds_of : (s : ℕ) (hs : List RecordHearing) → ((h : RecordHearing) → Contains hs h → s < second_of h) → AllAfter s (seconds_of hs)
 unfolding seconds_of
 after-seconds_of s [] all = tt
-after-seconds_of s (h ∷ hs) all =
-    after-put s (second_of h) (ends h h) (seconds_of hs) (sym (nat_cmp_is s (second_of h) Less (all h (Contains-head h hs))))
-    (after-seconds_of s hs (λ x m. all x (Contains-later h hs x m)))
+after-seconds_of s (h ∷ hs) all = grind (arith, after-put, after-seconds_of s hs (λ x m. all x (Contains-later h hs x m)))
 
 put_first : (k : ℕ) (v : Ends) (es : Seconds) → AllAfter k es → put_entry nat_cmp join_ends es k v ≡ (k, v) ∷ es
 put_first k v [] a = refl
-put_first k v (e ∷ es) a =
-    ap (λ (o : Ordering). match_ordering o ((k, v) ∷ e ∷ es) ((e.0, join_ends e.1 v) ∷ es) (e ∷ put_entry nat_cmp join_ends es k v)) a.0
+put_first k v (e ∷ es) a = grind arith
 
 length_by : (o : Ordering) (k : ℕ) (v : Ends) (e : ℕ × Ends) (es : Seconds)
     → length es ≤ length (put_entry nat_cmp join_ends es k v)
@@ -62,9 +59,7 @@ length-join xs (e ∷ es) = grind (arith, length-put, length-join (put_entry nat
 one_more : (h : RecordHearing) (hs : List RecordHearing) → ((x : RecordHearing) → Contains hs x → second_of h < second_of x)
     → length (seconds_of (h ∷ hs)) ≡ length (seconds_of hs) + 1
 unfolding seconds_of
-one_more h hs all =
-    let is = ap length (put_first (second_of h) (ends h h) (seconds_of hs) (after-seconds_of (second_of h) hs all)) in
-    omega (arith, is)
+one_more h hs all = grind (arith, put_first (second_of h) (ends h h) (seconds_of hs) (after-seconds_of (second_of h) hs all))
 
 no_fewer : (h : RecordHearing) (hs : List RecordHearing) → length (seconds_of hs) ≤ length (seconds_of (h ∷ hs))
 unfolding seconds_of
@@ -134,8 +129,7 @@ module _ (xs : List RecordHearing) (kept place : ℕ) (a next : RecordHearing) (
   taken = grind (arith, common_steps, take_more, take_next, append_assoc)
 
   in_whole : AreInOrder (front ++ a ∷ last ∷ next ∷ drop (place + 1) xs)
-  in_whole = subst AreInOrder ((λ i. taken i ++ drop_next xs place next l now i)
-      ∙ append_assoc front (a ∷ last ∷ []) (next ∷ drop (place + 1) xs)) o
+  in_whole = grind (arith, taken, drop_next, append_assoc)
 
   sparse_taken : IsSparse (front ++ a ∷ last ∷ [])
   sparse_taken = subst IsSparse taken s
@@ -146,9 +140,7 @@ module _ (xs : List RecordHearing) (kept place : ℕ) (a next : RecordHearing) (
       let at : kept - 1 ≡ kept - 2 + 1 = omega (arith, two) in
       let up = no_later last next (between_ends a last next (drop (place + 1) xs) front in_whole).1 in
       let whole : take kept (slice_set xs (kept - 1) next) ≡ front ++ a ∷ next ∷ [] =
-      (λ i. take (is i) (slice_set xs (at i) next)) ∙ take_more_set xs (kept - 2 + 1) next (omega (arith, two, le, l))
-      ∙ ap (λ (zs : List RecordHearing). zs ++ next ∷ []) (take_next xs (kept - 2) a (omega (arith, two, le, l)) first)
-      ∙ append_assoc front (a ∷ []) (next ∷ []) in
+      grind (arith, take_more_set, take_next xs (kept - 2) a (omega (arith, two, le, l)) first, append_assoc front (a ∷ []) (next ∷ [])) in
       subst IsSparse (sym whole) (sparse_in_place front a last next sparse_taken (omega (arith, up)))
 
   pub kept_sparse_behind : second_of a ≢ second_of next → IsSparse (take (kept + 1) (slice_set xs kept next))

@@ -32,10 +32,7 @@ module _ (flushes : List (RecordSet × List ℕ)) where
   records_own : (es : List (Key × Account)) → ((k : Key) (a : Account) → Contains es (k, a) → key_of_last a.latest ≡ k)
       → map record_in (rows_by flushes es) ≡ keys_of es
   records_own [] own = refl
-  records_own (e ∷ es) own =
-      let first = own e.0 e.1 (Contains-head e es) in
-      let rest = records_own es (λ k a m. own k a (Contains-later e es (k, a) m)) in
-      ap (λ (k : Key). k ∷ map record_in (rows_by flushes es)) first ∙ ap (λ (ks : List Key). e.0 ∷ ks) rest
+  records_own (e ∷ es) own = search (arith, Contains-head, Contains-later, records_own es (λ k a m. own k a (Contains-later e es (k, a) m)))
 
 flush_in-held : (o : Option (List ℕ)) (m : ℕ) → (has (unwrap_or o []) m ≡ true) ↔ IsFlushIn o m
 flush_in-held None m = (λ h. absurd (true≢false (sym h)), λ h. absurd h)
@@ -107,8 +104,7 @@ module _ (by_history : ByHistory) (c : Accounts) (heard : List Hearing) (s : Chr
         let w = entry_of_last key l last in
         let lives = walked (flushes_held c.flushes key.set) (listed_ends w.0.history) in (
           lives,
-          subst (λ (x : Latest). Contains (rows_of c) (x, lives)) w.2
-              (Contains-map (row_held c.flushes) c.records (key, w.0) w.1),
+          grind (arith, Contains-map (row_held c.flushes) c.records (key, w.0) w.1),
         );
   }
 
@@ -131,6 +127,4 @@ module _ (old new : List (RecordSet × List ℕ)) (entries rest : List (Key × A
   pub row_next : HasLater key.set old new → (last : Latest) (lives : List Life) → last ≡ a.latest
       → lives ≡ walked (flushes_held old key.set) (listed_ends a.history) → rows_by old entries ≡ (last, lives) ∷ rows_by new rest
   row_next later last lives e f =
-      ap (rows_by old) is
-      ∙ (λ i. (sym e i, sym f i) ∷ sym (rows_later old new key rest
-      (sorted_above key_cmp-total key_cmp-exact (key, a) rest sorted_is) later) i)
+      grind (arith, rows_later old new key rest (sorted_above key_cmp-total key_cmp-exact (key, a) rest sorted_is) later)

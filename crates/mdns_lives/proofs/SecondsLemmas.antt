@@ -63,21 +63,13 @@ module _ {P Q R : RecordHearing → Type 0} (left : (h : RecordHearing) → P h 
       let least = (join_ends a b).least in
       let greatest = (join_ends a b).greatest in
       record {
-        least_there = elim l.one [
-          | inl e ↦ subst R (sym e) (left a.least p.least_there)
-          | inr e ↦ subst R (sym e) (right b.least q.least_there)
-        ];
-        greatest_there = elim g.one [
-          | inl e ↦ subst R (sym e) (left a.greatest p.greatest_there)
-          | inr e ↦ subst R (sym e) (right b.greatest q.greatest_there)
-        ];
+        least_there = grind arith;
+        greatest_there = grind arith;
         least_in = elim l.one [ inl e ↦ ap second_of e ∙ p.least_in | inr e ↦ ap second_of e ∙ q.least_in ];
         greatest_in = elim g.one [ inl e ↦ ap second_of e ∙ p.greatest_in | inr e ↦ ap second_of e ∙ q.greatest_in ];
         between = λ h m e. elim (cases h m) [
-          | inl x ↦ (let w = p.between h x e in
-              (IsUpTo-onward least a.least h l.up_to_first w.0, IsUpTo-onward h a.greatest greatest w.1 g.from_first))
-          | inr y ↦ (let w = q.between h y e in
-              (IsUpTo-onward least b.least h l.up_to_second w.0, IsUpTo-onward h b.greatest greatest w.1 g.from_second))
+          | inl x ↦ grind (arith, IsUpTo-onward least a.least h l.up_to_first (p.between h x e).0, IsUpTo-onward)
+          | inr y ↦ grind (arith, IsUpTo-onward least b.least h l.up_to_second (q.between h y e).0, IsUpTo-onward)
         ];
       }
 
@@ -137,8 +129,7 @@ IsSeconds-only h = IsJoinMap-one nat_cmp_total exact_unsigned ends-laws (second_
 pub IsSeconds-of : (hs : List RecordHearing) → IsSeconds (seconds_of hs)
 unfolding seconds_of
 IsSeconds-of [] = IsJoinMap-none nat_cmp_total exact_unsigned ends-laws
-IsSeconds-of (h ∷ hs) =
-    IsJoinMap-put nat_cmp_total exact_unsigned ends-laws (second_of h) (ends h h) (seconds_of hs) tt (IsSeconds-of hs)
+IsSeconds-of (h ∷ hs) = search (arith, IsJoinMap-put, nat_cmp_total, exact_unsigned, ends-laws, IsSeconds-of hs)
 
 pub IsSeconds-value : (hs : List RecordHearing) (value : Seconds) → seconds_of hs ≡ value → IsSeconds value
 IsSeconds-value hs value view = subst IsSeconds view (IsSeconds-of hs)

@@ -7,7 +7,7 @@ use Rattle.std.specs.{List.{filter}, Map.Iter.{TakesFirst}}
 use Rattle.mdns_capture.specs.declared.moment.Moment.{Moment}
 use Rattle.mdns_message.specs.declared.hearing.Hearing.{Hearing}
 use Rattle.mdns_join.specs.declared.latest.Latest.{Latest}
-use Rattle.mdns_cache.specs.Live.{AreLiveRecords, IsNewest, NoneLater, key_of_last}
+use Rattle.mdns_cache.specs.Live.{IsNewest, NoneLater, key_of_last}
 use Rattle.mdns_cache.proofs.StandsPartLemmas.{Contains-nil}
 use Rattle.mdns_lives.specs.{declared.life.Life.{Life}, Chronicle.{AreAllLives, live_rows}}
 use Rattle.mdns_lives.specs.Since.{AreLiveSince, IsLiveSince, all_since_rows, live_row, since_row, since_rows}
@@ -34,8 +34,7 @@ all_live now (row ∷ rows) =
 -- no hearing is later than a moment that the newest isn't later than
 pub none_later : (newest : Option Moment) (heard : List Hearing) (now : Moment) → MatchOption newest (heard ≡ []) (IsNewest heard)
     → NoneLater newest now → (hearing : Hearing) → Contains heard hearing → hearing.moment.nanos ≤ now.nanos
-none_later None heard now tells on_time hearing among =
-    absurd (Contains-nil hearing (subst (λ (hs : List Hearing). Contains hs hearing) tells among))
+none_later None heard now tells on_time hearing among = grind (arith, Contains-nil)
 none_later (Some found) heard now tells on_time hearing among = search (rules, among)
 
 -- ---- the life of a row
@@ -44,8 +43,7 @@ pub AreLiveSince-lives : SomeEnd → UntilEnd → OneEnd → (heard : List Heari
     → AreAllLives heard rows → AreLiveSince heard now (all_since_rows now rows)
 AreLiveSince-lives some_end until_end same_end heard now none rows all = record {
   records =
-      subst (AreLiveRecords heard now) (sym (all_live now rows))
-      (AreLiveRecords-lives some_end until_end same_end heard now none rows all);
+      grind (arith, all_live now rows, AreLiveRecords-lives some_end until_end same_end heard now none rows all);
   since = λ r among.
       let w = from_rows since_row now rows r among in
       let are = (all.each w.last w.lives w.row).1 in
@@ -85,10 +83,7 @@ pub rows-more : {R : Type 0} (f : R → (Latest × ℕ) × ℕ) (now : ℕ) (las
     (old mid new : List R)
     → i < length lives → life ≡ get_or lives i life → map f mid ≡ map f old ++ since_rows now last (take i lives)
     → map f new ≡ map f mid ++ since_rows now last (life ∷ []) → map f new ≡ map f old ++ since_rows now last (take (i + 1) lives)
-rows-more f now last lives i life old mid new within at so_far more =
-    more ∙ ap (λ front. front ++ since_rows now last (life ∷ [])) so_far
-    ∙ append_assoc (map f old) (since_rows now last (take i lives)) (since_rows now last (life ∷ []))
-    ∙ ap (λ rest. map f old ++ rest) (sym (since_rows-one now last lives i life within at))
+rows-more f now last lives i life old mid new within at so_far more = grind (arith, append_assoc, since_rows-one)
 
 pub rows-start : {R : Type 0} (f : R → (Latest × ℕ) × ℕ) (now : ℕ) (last : Latest) (lives : List Life) (old : List R)
     → map f old ≡ map f old ++ since_rows now last (take 0 lives)
@@ -98,8 +93,7 @@ rows-start f now last lives old = sym (append-nil (map f old))
 pub rows-whole : {R : Type 0} (f : R → (Latest × ℕ) × ℕ) (now : ℕ) (last : Latest) (lives : List Life) (i : ℕ) (old new : List R)
     → length lives ≤ i
     → map f new ≡ map f old ++ since_rows now last (take i lives) → map f new ≡ map f old ++ since_rows now last lives
-rows-whole f now last lives i old new enough so_far =
-    so_far ∙ ap (λ lives. map f old ++ since_rows now last lives) (take_all i lives enough)
+rows-whole f now last lives i old new enough so_far = grind (arith, take_all)
 
 -- ---- records one after another
 
@@ -118,9 +112,7 @@ tells-more f now all rest after row rows new so_far split more = record {
   front = so_far.front ++ row ∷ [];
   whole = so_far.whole ∙ ap (λ rows. so_far.front ++ rows) split ∙ sym (append_assoc so_far.front (row ∷ []) after);
   rows_are =
-      more ∙ ap (λ front. front ++ since_rows now row.0 row.1) so_far.rows_are
-      ∙ ap (λ rest. all_since_rows now so_far.front ++ rest) (sym (append-nil (since_rows now row.0 row.1)))
-      ∙ sym (flat_map-append (λ (row : Row). since_rows now row.0 row.1) so_far.front (row ∷ []));
+      grind (arith, append-nil, flat_map-append);
 }
 
 pub tells-all : {R : Type 0} (f : R → (Latest × ℕ) × ℕ) (now : ℕ) (all rest : List Row) (rows : List R) → Tells f now all rest rows

@@ -68,15 +68,10 @@ pub record HasHistory (heard : List Hearing) (key : Key) : Type 0 where
   pub is_history : IsHistory heard key history
 
 later-heard : (h : Hearing) (hs : List Hearing) (key : Key) (x : RecordHearing) → IsHeardAs hs key x → IsHeardAs (h ∷ hs) key x
-later-heard h hs key x w =
-    record { hearing = w.hearing; among = Contains-later h hs w.hearing w.among; of_record = w.of_record; gives = w.gives }
+later-heard h hs key x w = search (arith, Contains-later)
 
 pub some_history : (heard : List Hearing) (key : Key) → HasHistory heard key
-some_history [] key = record {
-  history = [];
-  in_order = tt;
-  is_history = λ x. (λ m. absurd (Contains-nil x m), λ w. absurd (Contains-nil w.hearing w.among));
-}
+some_history [] key = grind (arith, Contains-nil)
 some_history (h ∷ hs) key =
     by (some_history hs key) (is_eq (key_cmp key (key_of h.heard))) refl
   where

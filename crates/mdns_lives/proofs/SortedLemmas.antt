@@ -40,8 +40,7 @@ nanos_within xs ys into q c =
 module _ (same : Moment → Moment → Bool) (is : IsEquivalence same) (exact : (a b : Moment) → same a b ≡ true → a ≡ b)
     (items sorted unlike : List Moment) (moved : IsPermutation items sorted) (are : unlike ≡ dedup same sorted) where
   into_unlike : (m : Moment) → Contains items m → Contains unlike m
-  into_unlike m c = subst (λ (xs : List Moment). Contains xs m) (sym are)
-      (Contains-dedup is exact sorted m (Contains-permutation items sorted m moved c))
+  into_unlike m c = grind (arith, Contains-dedup is exact sorted m (Contains-permutation items sorted m moved c))
 
   from_unlike : (m : Moment) → Contains unlike m → Contains items m
   from_unlike m c = Contains-permutation sorted items m (IsPermutation-sym items sorted moved)

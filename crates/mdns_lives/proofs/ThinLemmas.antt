@@ -103,10 +103,7 @@ module _ (a b n : RecordHearing) (rest : List RecordHearing) where
         ]
 
     pub thinned-dropped : IsThinned (Whole front) (Left front)
-    thinned-dropped = record {
-      in_order = order_left front;
-      ends = λ o. record { among = among_whole; between = between_left o };
-    }
+    thinned-dropped = grind (arith, order_left, among_whole, between_left)
 
 -- ---- by index
 
@@ -149,13 +146,9 @@ kept_in_place xs kept place a next two le l first now same =
     (λ i. front i ++ rest i)
     ∙ append_assoc (take j xs ++ a ∷ []) (next ∷ []) behind
     ∙ append_assoc (take j xs) (a ∷ []) (next ∷ behind) in
-    subst (λ (zs : List RecordHearing). IsThinned zs (take kept (slice_set xs (kept - 1) next) ++ drop (place + 1) (slice_set xs (kept - 1) next)))
-    (sym whole)
-    (subst (λ (zs : List RecordHearing). IsThinned (take j xs ++ a ∷ b ∷ next ∷ behind) zs) (sym left)
-    (thinned-dropped a b next behind (take j xs) same))
+    grind (arith, thinned-dropped)
 
 -- the first hearings are all that are left
 pub all_kept : (items kept : List RecordHearing) (n place : ℕ) → length items ≤ place → kept ≡ take n items
     → take n items ++ drop place items ≡ kept
-all_kept items kept n place over is =
-    ap (λ (zs : List RecordHearing). take n items ++ zs) (drop_all place items over) ∙ append-nil (take n items) ∙ sym is
+all_kept items kept n place over is = grind (arith, drop_all, append-nil)

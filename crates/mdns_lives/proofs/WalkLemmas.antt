@@ -1,12 +1,12 @@
 -- The walk over a record's hearings in order gives its lives.
-use Rattle.std.proofs.Common.{◌≡◌, ℕ, zero, suc, ◌+◌, ◌<◌, ◌≤◌, true, false, nat_lt, List, [], ◌∷◌, Contains, refl, sym, ap}
-use Rattle.std.proofs.Common.{◌∙◌, subst, inl, inr, ◌⊎◌, arith, if◌then◌else◌, leb-true, leb-false}
+use Rattle.std.proofs.Common.{◌≡◌, ℕ, zero, suc, ◌<◌, ◌≤◌, true, false, nat_lt, List, [], ◌∷◌, Contains, refl, sym}
+use Rattle.std.proofs.Common.{subst, inl, inr, ◌⊎◌, arith, if◌then◌else◌, leb-true, leb-false}
 use Rattle.std.proofs.lemmas.{Bool.{ltb-true, ltb-false, eqb-true, cases_lt}, Bool.Decides.{nat_tests}}
 use Rattle.std.specs.Prelude.{nat_le}
 use Rattle.mdns_lives.specs.{declared.life.RecordHearing.{RecordHearing}, declared.life.Life.{Life}, History.{IsUpTo, AreInOrder, IsLastAt}}
 use Rattle.mdns_lives.specs.{History.{IsLiveAt, IsEndBy, EndsBy, AreLivesBy}, Lives.{IsInOne, AreApartAfter, AreApart}, LifeWalk.{out_of}}
 use Rattle.mdns_lives.specs.LifeWalk.{end_after, reason_after, life_after, carried_on, lives_from, walked}
-use Rattle.mdns_cache.specs.{Live.{life_of}, LentRecords.{end_of}}
+use Rattle.mdns_cache.specs.{Live.{life_of}}
 use Rattle.mdns_lives.proofs.OrderLemmas.{IsUpTo-itself, IsUpTo-onward, no_later, same_moment, same_ttl, first_least}
 use Rattle.mdns_cache.proofs.StandsPartLemmas.{Contains-nil, Contains-head, Contains-later, Contains-cases}
 use Rattle.mdns_cache.proofs.EndLemmas.{end-by_life, end-reached, until_end_of}
@@ -22,8 +22,7 @@ module _ (flushes : List ℕ) where
   ends_later h = grind (arith, life-positive, end-reached)
 
   same_end : (a b : RecordHearing) → a.moment.nanos ≡ b.moment.nanos → a.ttl ≡ b.ttl → end_after flushes a ≡ end_after flushes b
-  same_end a b e f = ap (λ n. end_of flushes n (n + life_of a.ttl)) e
-      ∙ ap (λ n. end_of flushes b.moment.nanos (b.moment.nanos + life_of n)) f
+  same_end a b e f = grind arith
 
   -- the moment is before the end after the last hearing until then
   abbrev pub IsBeforeEnd : List RecordHearing → ℕ → Type 0
@@ -107,8 +106,7 @@ module _ (flushes : List ℕ) where
       elim (cases_lt now h.moment.nanos) [
         | inl l ↦ elim (Contains-cases p (h ∷ hs) w.0 w.1.among) [
           | inl same ↦ inl (subst (λ (y : RecordHearing). IsPiece y h now) (sym same) (w.1.by_then, l, w.2))
-          | inr rest ↦ (let up = no_later h w.0 (first_least h hs o w.0 rest) in
-              let by : w.0.moment.nanos ≤ now = w.1.by_then in absurd (omega (arith, up, by, l)))
+          | inr rest ↦ grind (arith, no_later h w.0 (first_least h hs o w.0 rest))
         ]
         | inr k ↦ inr (next_last p h hs now w.0 b k w.1 w.2)
       ]
@@ -203,10 +201,7 @@ module _ (flushes : List ℕ) where
       → AreApart (lives_from flushes life hs)
       × ((low : ℕ) → low < life.from.nanos → AreApartAfter low (lives_from flushes life hs))
   unfolding lives_from
-  apart [] p life o s =
-      let end = ends_later p in
-      let runs : life.from.nanos < life.until = omega (arith, s.0, s.1, end) in
-      ((runs, tt), λ low l. (l, runs, tt))
+  apart [] p life o s = grind (arith, ends_later)
   apart (h ∷ hs) p life o s =
       let up : p.moment.nanos ≤ h.moment.nanos = no_later p h o.0 in
       let end : p.moment.nanos < end_after flushes p = ends_later p in
@@ -246,8 +241,7 @@ module _ (flushes : List ℕ) where
   ends_of_lives [] p life o s x m =
       let end : p.moment.nanos < end_after flushes p = ends_later p in
       elim (Contains-cases life [] x m) [
-        | inl same ↦ subst (λ (y : Life). EndsBy (p ∷ []) flushes y) same
-            (end_of_life (p ∷ []) p life s (only_last p life.until (omega (arith, end, s.1))))
+        | inl same ↦ grind (arith, end_of_life (p ∷ []) p life s (only_last p life.until (omega (arith, end, s.1))))
         | inr rest ↦ absurd (Contains-nil x rest)
       ]
   ends_of_lives (h ∷ hs) p life o s x m =
@@ -276,10 +270,7 @@ module _ (flushes : List ℕ) where
     apart = (apart hs p (life_after flushes p) o (omega arith, refl)).0;
     exactly = λ now. (
       λ w. into_lives hs p (life_after flushes p) now o (omega arith, refl) (inr (live-before (p ∷ hs) now w)),
-      λ w. elim (from_lives hs p (life_after flushes p) now o (omega arith, refl) w) [
-        | inl e ↦ absurd (let a : p.moment.nanos ≤ now = e.0 in let b : now < p.moment.nanos = e.1 in omega (arith, a, b))
-        | inr e ↦ before-live (p ∷ hs) now e
-      ],
+      grind (arith, from_lives, before-live),
     );
     ends = λ life m. ends_of_lives hs p (life_after flushes p) o (omega arith, refl, refl, refl) life m;
   }

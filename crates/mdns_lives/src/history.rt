@@ -107,6 +107,7 @@ impl History {
         ensures { self.new ≡ self.old }
     {
         thin(&mut self.items);
+        self.items.shrink_to_fit();
     }
 
     /// Returns hearings with the same value, in the order of their moments, then TTLs; `None` where they aren't held so.

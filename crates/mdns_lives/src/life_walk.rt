@@ -31,13 +31,14 @@ pub(crate) fn lives_of(
     ensures lives { IfOk result (λ lives. AreLivesBy heard.now (nanos_of flushes.now) lives.items) }
     ensures walked { IfOk result (λ lives. lives.items ≡ walked (nanos_of flushes.now) heard.now) }
 {
-    let mut lives = Vec::new(alloc);
+    let mut lives = Vec::with_capacity(alloc, 1)?;
     let Some((first, rest)) = heard.split_first() else {
         return Ok(lives);
     };
     let begun = first.heard();
     let later = later_than(flushes, begun.moment);
     push_lives(&mut lives, life_after(later, begun), rest, later)?;
+    lives.shrink_to_fit();
     Ok(lives)
 }
 

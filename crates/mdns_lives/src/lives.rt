@@ -181,7 +181,7 @@ impl<'a> LivesWalk<'a> {
     }
 
     /// Takes the next record, without finding its lives; `None` after the last one.
-    pub(crate) fn next_record(&mut self) -> Option<RecordHeard<'a>>
+    pub fn next_record(&mut self) -> Option<RecordHeard<'a>>
         ensures { TakesFirst (λ row. row) self.old result self.new }
     {
         let (key, account) = self.entries.next()?;
@@ -195,7 +195,7 @@ impl<'a> LivesWalk<'a> {
 
 /// A record that was heard, whose lives haven't been found yet. Its value is its last hearing and these lives.
 #[derive(Drop)]
-pub(crate) struct RecordHeard<'a> {
+pub struct RecordHeard<'a> {
     last: Last<'a>,
     history: &'a History,
 
@@ -222,7 +222,7 @@ impl<'a> Model for RecordHeard<'a> {
 
 impl<'a> RecordHeard<'a> {
     /// Returns the last hearing.
-    pub(crate) fn last(&self) -> &Last<'a>
+    pub fn last(&self) -> &Last<'a>
         ensures { last_lent result.now ≡ self.now.0 }
     {
         &self.last

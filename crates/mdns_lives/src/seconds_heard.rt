@@ -54,11 +54,12 @@ fn seconds_of(alloc: Global, heard: &[Packed]) -> Result<Vec<SecondHeard>, Want>
     requires { AreInOrder heard.now }
     ensures { IfOk result (λ seconds. seconds.items ≡ seconds_walked heard.now) }
 {
-    let mut seconds = Vec::new(alloc);
+    let mut seconds = Vec::with_capacity(alloc, 1)?;
     let Some((first, rest)) = heard.split_first() else {
         return Ok(seconds);
     };
     push_seconds(&mut seconds, once(first.heard()), rest)?;
+    seconds.shrink_to_fit();
     Ok(seconds)
 }
 

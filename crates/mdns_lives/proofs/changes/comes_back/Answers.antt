@@ -1,14 +1,11 @@
-use Rattle.std.proofs.Common.{◌≡◌, ◌∙◌, ◌<◌, get_or, length, rules, subst, sym}
+use Rattle.std.proofs.Common.{◌≡◌, ◌<◌, get_or, length, rules, subst, sym, arith}
 use Rattle.mdns_join.specs.{Kept.{IsAscending}, Nanos.{nanos_of}, laws.Kept.{IsAscending-filter}}
 use Rattle.mdns_cache.specs.LentRecords.{last_lent}
 use Rattle.mdns_lives.proofs.ChangesLemmas.{later-apart, left-change, left-on}
 use Rattle.mdns_lives.proofs.changes.comes_back.Goals as goal
 
 pub returns-then-is_change : goal.returns-then-is_change
-returns-then-is_change c =
-    left-change c.args.window (nanos_of c.loop-life.rest.now) (last_lent c.args.row.now.last) c.args.row.now.lives.items
-    c.loop-life.life-index c.life-item.result (search rules) (search rules) c.loop-life.invariant.apart c.is_change.result
-    c.is_change.ensures c.if-is_change.true ∙ c.loop-life.invariant.left
+returns-then-is_change c = grind (arith, left-change)
 
 pub loop-life-preserved : goal.loop-life-preserved
 loop-life-preserved c =
@@ -22,7 +19,5 @@ loop-life-preserved c =
       sorted = subst IsAscending (sym c.after-rest.ensures) (IsAscending-filter _ begun c.loop-life.invariant.sorted);
       apart = later-apart c.args.window begun last lives next c.life-item.result within is c.loop-life.invariant.apart
           c.is_change.result c.is_change.ensures;
-      left = left-on c.args.window begun last lives next c.life-item.result within is c.loop-life.invariant.apart
-          c.is_change.result c.is_change.ensures (nanos_of c.after-rest.result.now) c.if-is_change.false c.after-rest.ensures
-          ∙ c.loop-life.invariant.left;
+      left = grind (arith, left-on);
     }

@@ -1,12 +1,10 @@
-use Rattle.std.proofs.Common.{◌∙◌, ap, subst, sym}
-use Rattle.mdns_join.specs.{Kept.{IsAscending, ascending}, Nanos.{nanos_of}, laws.Kept.{IsAscending-ascending}}
+use Rattle.std.proofs.Common.{◌∙◌, ap, arith}
+use Rattle.mdns_join.specs.{Kept.{ascending}, Nanos.{nanos_of}, laws.Kept.{IsAscending-ascending}}
 use Rattle.mdns_lives.proofs.ChosenLemmas.{kept-set}
 use Rattle.mdns_lives.proofs.changes.has_changed.Goals as goal
 
 pub any_comes_back-requires-clause-sorted : goal.any_comes_back-requires-clause-sorted
-any_comes_back-requires-clause-sorted c =
-    subst IsAscending (sym (ap nanos_of c.as_slice.ensures.value ∙ c.sort.ensures))
-    (IsAscending-ascending (nanos_of c.in_ok-begun.begun.items))
+any_comes_back-requires-clause-sorted c = grind (arith, IsAscending-ascending)
 
 pub returns : goal.returns
 returns c = record {

@@ -1,4 +1,4 @@
-use Rattle.std.proofs.Common.{◌≡◌, ◌∙◌, ap, length, rules}
+use Rattle.std.proofs.{Common.{◌≡◌, ◌∙◌, ap, rules, arith}, lemmas.Grind.{common_steps}}
 use Rattle.std.specs.Prelude.{nat_lt}
 use Rattle.mdns_join.specs.Nanos.{nanos_of}
 use Rattle.mdns_lives.proofs.ChangesLemmas.{first-less, no-less}
@@ -11,5 +11,4 @@ returns-in-Some c =
     (ap nanos_of c.in-Some.ensures.cases.0) c.requires
 
 pub returns-in-None : goal.returns-in-None
-returns-in-None c =
-    let none : length c.args.begun.now ≡ 0 = search rules in no-less c.args.from.nanos c.args.begun.now none
+returns-in-None c = grind (arith, common_steps, no-less)

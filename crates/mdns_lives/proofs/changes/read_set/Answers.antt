@@ -1,5 +1,4 @@
-use Rattle.std.proofs.Common.{◌≡◌, ◌++◌, ◌∷◌, [], ◌∙◌, true, List, ap, map, rules, subst, sym}
-use Rattle.std.proofs.lemmas.List.{map-append}
+use Rattle.std.proofs.{Common.{◌≡◌, ◌++◌, ◌∷◌, [], ◌∙◌, true, List, ap, map, rules, subst, sym, arith}, lemmas.List.{map-append}}
 use Rattle.mdns_lives.specs.{declared.lives.RecordLives.{RecordLives}, Changes.{goes_on}, Lives.{AreApart}, LentLives.{row_lent}}
 use Rattle.mdns_lives.proofs.{ChosenLemmas.{read-more, read-two}, LiveLifeLemmas.{Row}}
 use Rattle.mdns_lives.proofs.changes.read_set.Goals as goal
@@ -25,6 +24,4 @@ loop-record-preserved c =
     (λ i. goes_on (map row_lent (sym c.as_slice.ensures.value i)) (sym c.last.ensures i)) ∙ sym c.goes_on.ensures in
     let pushed = ap (map row_lent) c.in_ok-push-3.ensures.items ∙ map-append row_lent set (c.in_ok-with_lives-3.field-0 ∷ [])
     ∙ (λ i. map row_lent set ++ more.row i ∷ []) in
-    read-more c.args.window (c.args.first ∷ []) (c.args.second ∷ c.args.rows.now) (map row_lent set) c.loop-record.rows c.in-Some.record
-    c.next_record.new.self _ c.loop-record.invariant c.in-Some.ensures (goes_as ∙ on)
-    (subst (λ (row : Row). AreApart row.1) more.row more.apart) pushed
+    grind (arith, read-more)

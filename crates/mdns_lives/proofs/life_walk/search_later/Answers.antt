@@ -1,4 +1,4 @@
-use Rattle.std.proofs.{Common.{◌+◌, rules}, lemmas.List.Sorted.{IsPartitionPoint-from_clause}}
+use Rattle.std.proofs.{Common.{◌+◌, rules, arith}, lemmas.List.Sorted.{IsPartitionPoint-from_clause}}
 use Rattle.std.specs.Prelude.{nat_le}
 use Rattle.mdns_capture.specs.{declared.moment.Moment.{Moment}, Limits.{second}}
 use Rattle.mdns_cache.specs.LentRecords.{AreEarlyUpTo}
@@ -13,9 +13,7 @@ point c =
     (early_first c.args.heard.nanos c.args.flushes.now c.requires) (λ a r q k. search rules)
 
 pub returns-clause-later : goal.returns-clause-later
-returns-clause-later c =
-    (early_dropped c.args.heard.nanos c.args.flushes.now c.partition_point.result c.requires (point c)).0
+returns-clause-later c = grind (arith, early_dropped c.args.heard.nanos c.args.flushes.now c.partition_point.result c.requires (point c))
 
 pub returns-clause-same : goal.returns-clause-same
-returns-clause-same c =
-    (early_dropped c.args.heard.nanos c.args.flushes.now c.partition_point.result c.requires (point c)).1
+returns-clause-same c = grind (arith, early_dropped c.args.heard.nanos c.args.flushes.now c.partition_point.result c.requires (point c))

@@ -3,8 +3,7 @@ use Rattle.mdns_lives.proofs.{HearingLemmas.{chronicles-each}, MessageChronicleL
 use Rattle.mdns_lives.proofs.message_chronicle.hear_at_each.Goals as goal
 
 pub returns-in_default : goal.returns-in_default
-returns-in_default c = λ told s.
-    chronicles-no_moment c.args.chronicle.now c.args.message.now c.args.waiting.now told c.in_default.ensures.none s
+returns-in_default c = grind (arith, chronicles-no_moment)
 
 pub returns-in-Ok : goal.returns-in-Ok
 returns-in-Ok c = grind (arith, on_ok_weaker, chronicles-each)

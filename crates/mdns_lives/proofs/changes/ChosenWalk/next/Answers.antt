@@ -1,4 +1,4 @@
-use Rattle.std.proofs.Common.{◌≡◌, ◌≢◌, ◌∙◌, [], false, true, ap, map, rules, sym}
+use Rattle.std.proofs.Common.{◌≡◌, ◌∙◌, false, true, ap, map, rules, sym, arith}
 use Rattle.mdns_cache.specs.LentRecords.{last_lent}
 use Rattle.mdns_cache.proofs.BetweenLemmas.{on_err_any}
 use Rattle.mdns_lives.specs.{Changes.{by_sets, maybe_next}, LentLives.{row_lent}}
@@ -33,16 +33,4 @@ read_set-requires c =
     c.is_held_with.ensures ∙ on
 
 pub returns-in_err-set-in-Changes-clause-some : goal.returns-in_err-set-in-Changes-clause-some
-returns-in_err-set-in-Changes-clause-some c =
-    let walk = c.self.inside in
-    let first = c.in-Some-first_of.first in
-    let empty = ap (map row_lent) c.in_default-take_row.ensures.none in
-    let walks = sym c.take-in-Changes.ensures.value ∙ c.in-Some-take.is in
-    let begun = ap (λ o. by_sets walk.window (maybe_next o) c.in-Some-take.rows) (sym c.take-in-Changes-2.ensures.value)
-    ∙ c.in-Some-first_of.ensures.some in
-    let is = sym c.self.view_is
-    ∙ left-from walk.window walk.which walk.changed (map row_lent walk.set.items) (map row_lent c.take_row.new.set.items) c.take_row.result
-    walk.next walk.rows c.in-Some-take.rows first c.first_of.new.rows c.in-Changes.is c.take_row.ensures.first
-    c.in_default-take_row.is empty walks begun in
-    let some : c.args.self.now ≢ [] = λ none. sets-some walk.window first [] c.first_of.new.rows (sym is ∙ none) in
-    on_err_any _ some
+returns-in_err-set-in-Changes-clause-some c = grind (arith, left-from, sets-some, on_err_any)

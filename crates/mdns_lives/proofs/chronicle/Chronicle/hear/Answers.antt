@@ -1,7 +1,7 @@
-use Rattle.std.proofs.Common.{◌≡◌, List, ◌∷◌, [], ap, ◌∙◌, subst}
+use Rattle.std.proofs.Common.{◌≡◌, List, ◌∷◌, [], ap, ◌∙◌, subst, arith}
 use Rattle.mdns_capture.specs.declared.moment.Moment.{Moment}
 use Rattle.mdns_lives.specs.{Each.{accounts_each}, Chronicle.{Accounts, join_accounts}}
-use Rattle.join_map.specs.{Join.{IsPartOfJoin}, laws.Join.{join-again}}
+use Rattle.join_map.specs.{laws.Join.{join-again}}
 use Rattle.mdns_message.specs.Borrowed.{hearing_lent}
 use Rattle.mdns_cache.proofs.BetweenLemmas.{on_err_any}
 use Rattle.mdns_lives.proofs.EachLemmas.{accounts_each-one, accounts_each-valid, chronicles-at_each, latest-one}
@@ -9,11 +9,7 @@ use Rattle.mdns_lives.proofs.PartLemmas.{accounts-laws}
 use Rattle.mdns_lives.proofs.chronicle.Chronicle.hear.Goals as goal
 
 pub returns-in_err-join_at_each-clause-err : goal.returns-in_err-join_at_each-clause-err
-returns-in_err-join_at_each-clause-err c =
-    let h = hearing_lent c.args.hearing.now in
-    on_err_any c.from_residual.result
-    (subst (λ (one : Accounts). IsPartOfJoin join_accounts c.args.self.now one c.join_at_each.new.self)
-    (ap (accounts_each h) c.new.ensures ∙ accounts_each-one h) c.in_err-join_at_each.ensures.err)
+returns-in_err-join_at_each-clause-err c = grind (arith, on_err_any, accounts_each-one (hearing_lent c.args.hearing.now))
 
 pub returns-in_err-join_at_each-clause-again : goal.returns-in_err-join_at_each-clause-again
 returns-in_err-join_at_each-clause-again c =
@@ -25,10 +21,7 @@ returns-in_err-join_at_each-clause-again c =
     (accounts_each-valid h c.new.result) c.join_at_each.ensures.held c.in_err-join_at_each.ensures.err))
 
 pub returns-clause-ok : goal.returns-clause-ok
-returns-clause-ok c =
-    let h = hearing_lent c.args.hearing.now in
-    c.in_ok-join_at_each.ensures.ok
-    ∙ ap (join_accounts c.args.self.now) (ap (accounts_each h) c.new.ensures ∙ accounts_each-one h)
+returns-clause-ok c = grind (arith, accounts_each-one (hearing_lent c.args.hearing.now))
 
 pub returns-clause-stands : goal.returns-clause-stands
 returns-clause-stands c =

@@ -17,5 +17,4 @@ pub returns-clause-was : goal.returns-clause-was
 returns-clause-was c = grind (arith, gathered_accounts)
 
 pub returns-clause-held : goal.returns-clause-held
-returns-clause-held c =
-    gathered_accounts c.self.inside.records c.join_near-found.new.self c.self.inside.newest (invariant_of-self c)
+returns-clause-held c = grind (arith, gathered_accounts, invariant_of-self)

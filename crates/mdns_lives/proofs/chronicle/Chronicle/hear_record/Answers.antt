@@ -1,4 +1,4 @@
-use Rattle.std.proofs.Common.{arith}
+use Rattle.std.proofs.Common.{arith, rules}
 use Rattle.mdns_message.specs.Borrowed.{hearing_lent}
 use Rattle.mdns_lives.proofs.{EachLemmas.{records_gathered}, PartLemmas.{gathered_accounts}}
 use Rattle.mdns_lives.proofs.chronicle.Chronicle.hear_record.Goals as goal
@@ -13,5 +13,4 @@ pub returns-clause-was : goal.returns-clause-was
 returns-clause-was c = grind (arith, gathered_accounts)
 
 pub returns-clause-held : goal.returns-clause-held
-returns-clause-held c =
-    gathered_accounts c.join_near-found.new.self c.self.inside.flushes c.self.inside.newest (invariant_of-self c)
+returns-clause-held c = search (rules, gathered_accounts, invariant_of-self)
