@@ -81,7 +81,7 @@ def lives_columns(lives, begin, end, chosen):
 
 
 def heading(rows, one, many, now):
-    return f"{len(rows)} {one if len(rows) == 1 else many} live at {millis(now)}\n"
+    return f"{len(rows)} {one if len(rows) == 1 else many} live{f' at {millis(now)}' if now else ''}\n"
 
 
 def table(heads, rows):

@@ -6,7 +6,7 @@ use Rattle.std.specs.List.{flat_map}
 use Rattle.mdns_message.specs.Resource.{type_name, type_of}
 use Rattle.mdns_join.specs.declared.latest.Latest.{Latest}
 use Rattle.people_text.specs.MomentText.{clock_text, date_text, date_written, hours_text, seconds_text}
-use Rattle.mdns_browse.specs.Columns.{heading, padded, record_heads, record_row, record_table, time_left_text, spaces, unless_none, widest}
+use Rattle.mdns_browse.specs.Columns.{padded, record_heads, record_row, record_table, time_left_text, spaces, unless_none, widest}
 use Rattle.mdns_browse.specs.RecordShown.{shown_record}
 use Rattle.mdns_browse.proofs.ListLemmas.{map_more}
 
@@ -144,8 +144,13 @@ pub row_by_parts : (old gap left heard kind own a b c d e f g new : List ℕ) �
 row_by_parts old gap left heard kind own a b c d e f g new pa pb pc pd pe pf pg pn =
     rw (pn, pg, pf, pe, pd, pc, pb, pa) (simp append_assoc)
 
-pub report-some : {R X : Type 0} (f : R → X) (rows : List R) (old a b new one many text : List ℕ) (now : ℕ) → (length rows == 0) ≡ false
-    → a ≡ old ++ heading (length rows) one many now → b ≡ a ++ 10 ∷ [] → new ≡ b ++ text
-    → new ≡ old ++ (heading (length (map f rows)) one many now ++ unless_none (map f rows) text)
-report-some f [] old a b new one many text now some head line written = let both : true ≡ false = some in cc
-report-some f (row ∷ rows) old a b new one many text now some head line written = grind (arith, length-map, append_assoc)
+pub unless_none-some : {R X : Type 0} (f : R → X) (rows : List R) (old a new text : List ℕ) → (length rows == 0) ≡ false
+    → a ≡ old ++ 10 ∷ [] → new ≡ a ++ text → new ≡ old ++ unless_none (map f rows) text
+unless_none-some f [] old a new text some line written = let both : true ≡ false = some in cc
+unless_none-some f (row ∷ rows) old a new text some line written = grind (arith, append_assoc)
+
+-- a report by what it begins with, which depends on how many are listed, and by their texts
+pub listed_by_parts : {R X : Type 0} (f : R → X) {listed items : List R} {rows : List X} → listed ≡ items → map f items ≡ rows
+    → (head : ℕ → List ℕ) (texts : List X → List ℕ) {begun new : List ℕ} → begun ≡ head (length listed) → new ≡ begun ++ texts (map f listed)
+    → new ≡ head (length rows) ++ texts rows
+listed_by_parts f same found head texts begins written = grind (arith, length-map)

@@ -5,11 +5,11 @@ use Rattle.std.proofs.lemmas.{List.{append-nil, append_assoc, length-map}, Simd.
 use Rattle.std.specs.List.{flat_map}
 use Rattle.mdns_join.specs.declared.latest.Latest.{Latest}
 use Rattle.mdns_browse.specs.declared.{instance.Server.{Server}, instance_sheet.InstanceSheet.{InstanceSheet}}
-use Rattle.mdns_browse.specs.ColumnPieces.{Writes, piece_columns, row_pieces, rows_pieces, type_pieces}
+use Rattle.mdns_browse.specs.ColumnPieces.{Adds, Writes, piece_columns, row_after}
 use Rattle.mdns_browse.specs.Columns.{heading, instance_rows, instances_pretty, line_of_some, time_left_text, other_row, others_pretty}
 use Rattle.mdns_browse.specs.{Columns.{rows_by_type, server_line, spaces, type_begin, widest, words_line}, Services.{GivenRow, InstanceRow}}
 use Rattle.mdns_browse.specs.{Sheet.{server_pieces, servers_end, servers_pieces, instance_pieces}, RecordShown.{spaced_wide}}
-use Rattle.mdns_browse.specs.laws.ColumnPieces.{columns-laws}
+use Rattle.mdns_browse.specs.laws.ColumnPieces.{adds-both, columns-laws}
 use Rattle.mdns_browse.proofs.{LineLemmas.{flat_map-map, flat_map-pieces}, InstanceLemmas.{given_in}}
 
 -- ---- instances one after another
@@ -20,12 +20,15 @@ last_owner before (row ∷ rows) = last_owner row.given.last.resource.owner rows
 
 pub record Shows (rows : List InstanceRow) (before : List ℕ) (old new : InstanceSheet) : Type 0 where
   pub last : before ≡ last_owner [] rows
-  pub taken : Writes old (rows_pieces [] rows) new
+  pub taken : Adds old (λ width now. rows_by_type width now [] rows) new
 
-rows_pieces-more : (before : List ℕ) (rows : List InstanceRow) (row : InstanceRow)
-    → rows_pieces before (rows ++ row ∷ []) ≡ rows_pieces before rows ++ row_pieces (last_owner before rows) row
-rows_pieces-more before [] row = append-nil (row_pieces before row)
-rows_pieces-more before (first ∷ rows) row = grind (arith, append_assoc, rows_pieces-more first.given.last.resource.owner rows row)
+rows-more : (width now : ℕ) (before : List ℕ) (rows : List InstanceRow) (row : InstanceRow)
+    → rows_by_type width now before rows ++ row_after (last_owner before rows) row width now ≡ rows_by_type width now before (rows ++ row ∷ [])
+rows-more width now before [] row = sym (append-nil (row_after before row width now))
+rows-more width now before (first ∷ rows) row =
+    let owner = first.given.last.resource.owner in
+    append_assoc (row_after before first width now) (rows_by_type width now owner rows) (row_after (last_owner owner rows) row width now)
+    ∙ ap (λ text. row_after before first width now ++ text) (rows-more width now owner rows row)
 
 last_owner-more : (before : List ℕ) (rows : List InstanceRow) (row : InstanceRow)
     → last_owner before (rows ++ row ∷ []) ≡ row.given.last.resource.owner
@@ -36,14 +39,14 @@ pub shows-start : (sheet : InstanceSheet) → Shows [] [] sheet sheet
 shows-start sheet = record { last = refl; taken = columns-laws.nothing sheet }
 
 pub shows-more : {rows more : List InstanceRow} {before after : List ℕ} {old mid new : InstanceSheet} (row : InstanceRow) → Shows rows before old mid
-    → more ≡ rows ++ row ∷ [] → after ≡ row.given.last.resource.owner → Writes mid (row_pieces before row) new → Shows more after old new
+    → more ≡ rows ++ row ∷ [] → after ≡ row.given.last.resource.owner → Adds mid (row_after before row) new → Shows more after old new
 shows-more {rows} {more} {before} {after} {old} {mid} {new} row so_far whole owner taken =
     subst (λ rows. Shows rows after old new) (sym whole) record {
       last = owner ∙ sym (last_owner-more [] rows row);
       taken =
-          subst (λ pieces. Writes old pieces new) (sym (rows_pieces-more [] rows row))
-          (columns-laws.more old mid new (rows_pieces [] rows) (row_pieces (last_owner [] rows) row) so_far.taken
-          (subst (λ name. Writes mid (row_pieces name row) new) so_far.last taken));
+          adds-both (λ width now. rows_by_type width now [] rows) (row_after (last_owner [] rows) row)
+          (λ width now. rows_by_type width now [] (rows ++ row ∷ [])) (λ width now. rows-more width now [] rows row) so_far.taken
+          (subst (λ name. Adds mid (row_after name row) new) so_far.last taken);
     }
 
 -- ---- lines by pieces
@@ -79,21 +82,13 @@ module _ (width now : ℕ) where
   unfolding instance_rows
   row_text row = grind (arith, flat_map-append, servers_text, append-nil, flat_map-map)
 
-  type_text : (before owner : List ℕ) → flat_map (piece_columns width now) (type_pieces before owner) ≡ type_begin before owner
-  type_text before owner = grind (arith, append-nil)
-
-  pub rows_text : (before : List ℕ) (rows : List InstanceRow) → flat_map (piece_columns width now) (rows_pieces before rows)
-      ≡ rows_by_type width now before rows
-  rows_text before [] = refl
-  rows_text before (row ∷ rows) =
-      let owner = row.given.last.resource.owner in
-      let own = instance_pieces row in
-      flat_map-append (piece_columns width now) (row_pieces before row) (rows_pieces owner rows)
-      ∙ ap (λ text. text ++ flat_map (piece_columns width now) (rows_pieces owner rows))
-      (flat_map-append (piece_columns width now) (type_pieces before owner) own
-      ∙ ap (λ text. text ++ flat_map (piece_columns width now) own) (type_text before owner)
-      ∙ ap (λ text. type_begin before owner ++ text) (row_text row))
-      ∙ ap (λ text. type_begin before owner ++ instance_rows width now row ++ text) (rows_text owner rows)
+-- the lines of an instance, below the line of its type
+pub row_added : {old mid new : InstanceSheet} (before : List ℕ) (row : InstanceRow)
+    → Adds old (λ width now. type_begin before row.given.last.resource.owner) mid → Writes mid (instance_pieces row) new
+    → Adds old (row_after before row) new
+row_added before row =
+    adds-both (λ width now. type_begin before row.given.last.resource.owner) (λ width now. flat_map (piece_columns width now) (instance_pieces row))
+    (row_after before row) (λ width now. ap (λ text. type_begin before row.given.last.resource.owner ++ text) (row_text width now row))
 
 -- how much longer the record lives that gives an instance
 abbrev pub given_left : ℕ → GivenRow → List ℕ
@@ -104,10 +99,10 @@ pub columns_by_parts : (now width count : ℕ) (given : List GivenRow) (rows : L
     (others : List (Latest × ℕ)) (old a b new : List ℕ) → given ≡ given_in rows → old ≡ [] → count ≡ length given
     → width ≡ max (widest (map (given_left now) given)) (widest (map (time_left_text now) others))
     → a ≡ old ++ heading count (codes "instance") (codes "instances") now
-    → b ≡ a ++ flat_map (piece_columns width now) (rows_pieces [] rows) → new ≡ b ++ others_pretty width now others
+    → b ≡ a ++ rows_by_type width now [] rows → new ≡ b ++ others_pretty width now others
     → new ≡ instances_pretty now rows others
 columns_by_parts now width count given rows others old a b new shown none counts wide head written after =
-    grind (arith, length-map, map-map, rows_text)
+    grind (arith, length-map, map-map)
 
 -- columns with other names
 pub others-some : {R : Type 0} (f : R → Latest × ℕ) (rows : List R) (width now : ℕ) (old a new : List ℕ) → (length rows == 0) ≡ false

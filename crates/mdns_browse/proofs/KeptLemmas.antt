@@ -1,11 +1,11 @@
 -- What live records give, and what of it is kept: of records one after another it is what each part gives.
 use Rattle.std.proofs.Common.{arith, ◌≡◌, refl, ap, ℕ, Bool, true, List, [], ◌∷◌, ◌++◌, map, is_some}
-use Rattle.std.proofs.lemmas.{List.{map-append}, List.Elements.{filter-append, filter_map-append}}
-use Rattle.std.specs.List.{filter, filter_map}
+use Rattle.std.proofs.lemmas.{List.{map-append}, List.Elements.{filter-append, filter_map-append}, Grind.{flat_map-append}}
+use Rattle.std.specs.List.{filter, filter_map, flat_map}
 use Rattle.mdns_join.specs.declared.latest.Latest.{Latest}
 use Rattle.mdns_browse.specs.{About.{keeps_record, keeps_type}, Report.{records_about, types_about}}
 use Rattle.mdns_browse.specs.Services.{GivenRow, given_of, gives_instance, lasts_in, others_in, type_given, types_in}
-use Rattle.mdns_browse.specs.{Sheet.{live_record, service_type}, declared.about.Subject.{Subject}}
+use Rattle.mdns_browse.specs.declared.about.Subject.{Subject}
 use Rattle.mdns_browse.proofs.ListLemmas.{through-append}
 
 -- where each value is kept, all are
@@ -30,6 +30,11 @@ module _ (about : List Subject) where
   pub records_about-append : (xs ys : List (Latest × ℕ)) → records_about about (xs ++ ys) ≡ records_about about xs ++ records_about about ys
   records_about-append = filter-append (λ (row : Latest × ℕ). keeps_record about row.0.resource)
 
+  -- what is written of those that are kept
+  pub written-append : (text : Latest × ℕ → List ℕ) (xs ys : List (Latest × ℕ))
+      → flat_map text (records_about about (xs ++ ys)) ≡ flat_map text (records_about about xs) ++ flat_map text (records_about about ys)
+  written-append text = through-append (flat_map text) (records_about about) (flat_map-append text) records_about-append
+
   pub others_about-append : (xs ys : List (Latest × ℕ))
       → records_about about (others_in (xs ++ ys)) ≡ records_about about (others_in xs) ++ records_about about (others_in ys)
   others_about-append = grind (arith, through-append, records_about-append, filter-append, is_some)
@@ -37,12 +42,3 @@ module _ (about : List Subject) where
   pub types_about-append : (xs ys : List (Latest × ℕ)) → types_about about (xs ++ ys) ≡ types_about about xs ++ types_about about ys
   types_about-append =
       through-append (filter (keeps_type about)) (λ rows. types_in (lasts_in rows)) (filter-append (keeps_type about)) types-append
-
-  pub record_pieces-append : (xs ys : List (Latest × ℕ))
-      → map live_record (records_about about (xs ++ ys))
-      ≡ map live_record (records_about about xs) ++ map live_record (records_about about ys)
-  record_pieces-append = through-append (map live_record) (records_about about) (map-append live_record) records_about-append
-
-  pub type_pieces-append : (xs ys : List (Latest × ℕ))
-      → map service_type (types_about about (xs ++ ys)) ≡ map service_type (types_about about xs) ++ map service_type (types_about about ys)
-  type_pieces-append = through-append (map service_type) (types_about about) (map-append service_type) types_about-append

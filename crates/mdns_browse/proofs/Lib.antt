@@ -3,7 +3,6 @@ mod AboutServiceLemmas
 mod ColumnLemmas
 mod CsvLemmas
 mod DigitLemmas
-mod FormLemmas
 mod HostLemmas
 mod InstanceColumnLemmas
 mod InstanceLemmas

@@ -50,9 +50,6 @@ module _ {X Y : Type 0} (g : List X → List Y) (append : (xs ys : List X) → g
   left_all left old all none empty so_far =
       sym (append-nil old) ∙ ap (λ ys. old ++ ys) (sym (ap g none ∙ empty)) ∙ so_far
 
-  pub left_split : (x : X) (left after : List X) (one : List Y) → left ≡ x ∷ after → g (x ∷ []) ≡ one → g left ≡ one ++ g after
-  left_split x left after one split is = ap g split ∙ append (x ∷ []) after ∙ ap (λ ys. ys ++ g after) is
-
   -- pieces that a sheet takes of the first elements of a list
   pub takes_more : {R S : Type 0} {takes : S → List Y → S → Type 0} (laws : TakeLaws takes) (f : R → X) (rows : List R) (i : ℕ) (row : R)
       {old mid new : S} → i < length rows → row ≡ get_or rows i row → takes old (g (map f (take i rows))) mid

@@ -20,10 +20,6 @@ module _ {S P : Type 0} {takes : S → List P → S → Type 0} (laws : TakeLaws
     taken = laws.more old mid new at.front piece at.taken more;
   }
 
-  pub reaches-same : {old new : S} {all rest after : List P} → Reaches takes old all new rest → rest ≡ after
-      → Reaches takes old all new after
-  reaches-same {old} {new} {all} at same = subst (Reaches takes old all new) same at
-
   pub reaches-all : {old new : S} {all rest : List P} → Reaches takes old all new rest → rest ≡ [] → takes old all new
   reaches-all {old} {new} at none =
       subst (λ ps. takes old ps new) (sym (at.whole ∙ ap (λ ps. at.front ++ ps) none ∙ append-nil at.front)) at.taken

@@ -35,7 +35,3 @@ text_words-cons bytes string after split = rw split refl
 pub text_words-none : (bytes : List ℕ) → bytes ≡ [] → text_words bytes ≡ []
 unfolding text_words
 text_words-none bytes none = rw none refl
-
--- two parts written one after another
-pub two_parts : (old first second a b : List ℕ) → a ≡ old ++ first → b ≡ a ++ second → b ≡ old ++ (first ++ second)
-two_parts old first second a b one two = two ∙ ap (λ text. text ++ second) one ∙ append_assoc old first second

@@ -36,10 +36,14 @@ time_left_text now (last, end) =
 
 -- ---- what each report begins with
 
+-- at which moment; nothing of the moment 0, as of which a report is where nothing was heard
+unfoldable pub when_text : ℕ → List ℕ
+when_text now = if now == 0 then [] else codes " at " ++ millis_text now
+
 -- how many there are, and the moment
 unfoldable pub heading : ℕ → List ℕ → List ℕ → ℕ → List ℕ
 heading count one many now =
-    decimal count ++ 32 ∷ (if count == 1 then one else many) ++ codes " live at " ++ millis_text now ++ 10 ∷ []
+    decimal count ++ 32 ∷ (if count == 1 then one else many) ++ codes " live" ++ when_text now ++ 10 ∷ []
 
 -- an empty line and a text, unless there are no values that the text is of
 abbrev pub unless_none : {X : Type 0} → List X → List ℕ → List ℕ
@@ -71,19 +75,10 @@ record_table now rows =
     let kind = widest (codes "TYPE" ∷ map (λ (row : Latest × ℕ). type_name (type_of row.0.resource.body)) rows) in
     record_heads left heard kind ++ flat_map (record_row left heard kind now) rows
 
--- the report on records for people: how many there are, and a table
-abbrev pub records_pretty : ℕ → List (Latest × ℕ) → List ℕ
-records_pretty now rows = heading (length rows) (codes "record") (codes "records") now ++ unless_none rows (record_table now rows)
-
 -- ---- types
 
 unfoldable pub type_row : List ℕ → List ℕ
 type_row name = name_shown name ++ 10 ∷ []
-
--- the report on service types for people: how many there are, and a line for each
-abbrev pub types_pretty : ℕ → List (List ℕ) → List ℕ
-types_pretty now names =
-    heading (length names) (codes "service type") (codes "service types") now ++ unless_none names (flat_map type_row names)
 
 -- ---- instances
 

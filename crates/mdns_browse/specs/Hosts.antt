@@ -1,6 +1,6 @@
 -- Hosts: the owners of live A and AAAA records (RFC 6762, section 10), and the services on them: those whose SRV records have
 -- the host as their target (RFC 6763, section 4.1).
-use Rattle.std.specs.Prelude.{◌≡◌, ℕ, Bool, ◌||◌, if◌then◌else◌, List, [], ◌∷◌, ◌++◌, length, map, codes, is_some}
+use Rattle.std.specs.Prelude.{◌≡◌, ℕ, Bool, ◌==◌, ◌||◌, if◌then◌else◌, List, [], ◌∷◌, ◌++◌, length, map, codes, is_some}
 use Rattle.std.specs.{Fmt.{decimal}, List.{filter, flat_map, list_any}, List.Sorted.{IsSorted}, Ordering.{nat_cmp}}
 use Rattle.std.specs.{Borrow.{Bor}, Cmp.Lexicographic.{slice_cmp}, declared.cmp.Ordering.{Ordering}}
 use Rattle.dns_name.specs.Name.{folded, name_text}
@@ -9,18 +9,17 @@ use Rattle.mdns_message.specs.{Parts.{address_of}, Resource.{type_number}}
 use Rattle.mdns_message.specs.declared.record_type.RecordType.TheVariants as kind
 use Rattle.mdns_join.specs.declared.latest.Latest.{Latest}
 use Rattle.mdns_cache.specs.LentRecords.{last_lent}
-use Rattle.mdns_browse.specs.{About.{keeps_instance, keeps_record}, Columns.{heading}, RecordShown.{shown_words, spaced_wide}}
+use Rattle.mdns_browse.specs.{About.{keeps_heard, keeps_record}, RecordShown.{shown_words, spaced_wide}}
 use Rattle.mdns_browse.specs.{Csv.{Nothing, Number, Text, csv_line, joined}, Json.{json_member, json_object, json_words, text_member}}
 use Rattle.mdns_browse.specs.{RecordText.{data_words, spaced}, Services.{body_of, instances_in, lasts_in, rows_of_set, same_text}}
 use Rattle.mdns_browse.specs.declared.{about.Subject.{Subject}, instance.Instance.{Instance}, instance.Server.{Server}, host.Host.{Host}}
 use Rattle.mdns_browse.specs.declared.host.HostService.{HostService}
 
--- a server of an instance: the instance's name, the host and the port, and whether the instance is about one of the subjects
+-- a server of an instance: the instance's name, the host and the port
 pub record ServedRow : Type 0 where
   pub instance : List ℕ
   pub target : List ℕ
   pub port : ℕ
-  pub kept : Bool
 
 -- a host: its name, its A records and then its AAAA records, and the services on it, in the order of the instances
 pub record HostRow : Type 0 where
@@ -44,43 +43,40 @@ owners_of_addresses rows = map (λ (row : Latest). row.resource.owner) (filter h
 abbrev pub host_names : List Latest → List (List ℕ)
 host_names rows = once [] (owners_of_addresses rows)
 
-abbrev pub service_at : List Subject → Instance → Server → ServedRow
-service_at about instance server = record {
-  instance = instance.name;
-  target = server.target;
-  port = server.port;
-  kept = keeps_instance about instance;
-}
+abbrev pub service_at : Instance → Server → ServedRow
+service_at instance server = record { instance = instance.name; target = server.target; port = server.port }
 
 -- the servers of an instance, and those of all instances
-abbrev pub services_at : List Subject → Instance → List ServedRow
-services_at about instance = map (service_at about instance) instance.servers
+abbrev pub services_at : Instance → List ServedRow
+services_at instance = map (service_at instance) instance.servers
 
-abbrev pub services_in : List Subject → List Latest → List ServedRow
-services_in about rows = flat_map (services_at about) (instances_in rows)
+abbrev pub services_in : List Latest → List ServedRow
+services_in rows = flat_map services_at (instances_in rows)
 
 abbrev pub is_on : List ℕ → ServedRow → Bool
 is_on name service = same_text service.target name
 
-abbrev pub host_in : List Subject → List Latest → List ℕ → HostRow
-host_in about rows name = record {
+abbrev pub host_in : List Latest → List ℕ → HostRow
+host_in rows name = record {
   name = name;
   addresses = rows_of_set rows name (type_number kind.A) ++ rows_of_set rows name (type_number kind.Aaaa);
-  services = filter (is_on name) (services_in about rows);
+  services = filter (is_on name) (services_in rows);
 }
 
--- one of the host's address records is about one of the subjects, or one of its instances is; or there are no subjects
-unfoldable pub keeps_host : List Subject → HostRow → Bool
-keeps_host about host =
-    list_any (λ (row : Latest). keeps_record about row.resource) host.addresses
-    || list_any (λ (service : ServedRow). service.kept) host.services
+-- the hosts
+abbrev pub hosts_in : List Latest → List HostRow
+hosts_in rows = map (host_in rows) (host_names rows)
 
-abbrev pub hosts_in : List Subject → List Latest → List HostRow
-hosts_in about rows = filter (keeps_host about) (map (host_in about rows) (host_names rows))
+-- one of the host's address records is about one of the subjects, or one of the instances on it is; or there are no subjects
+unfoldable pub keeps_host : List Subject → List Latest → HostRow → Bool
+keeps_host about rows host =
+    (length about == 0)
+    || (list_any (λ (row : Latest). keeps_record about row.resource) host.addresses
+    || list_any (λ (service : ServedRow). keeps_heard about rows service.instance) host.services)
 
 -- what a report lists: the hosts about one of the subjects, of live records with their ends; all, where there are no subjects
 abbrev pub hosts_about : List Subject → List (Latest × ℕ) → List HostRow
-hosts_about about rows = hosts_in about (lasts_in rows)
+hosts_about about rows = filter (keeps_host about (lasts_in rows)) (hosts_in (lasts_in rows))
 
 -- ---- text
 
@@ -128,18 +124,10 @@ host_csv host =
 abbrev pub hosts_header : List ℕ
 hosts_header = codes "host,addresses,instance,port\r\n"
 
-abbrev pub hosts_pretty : ℕ → List HostRow → List ℕ
-hosts_pretty now hosts = heading (length hosts) (codes "host") (codes "hosts") now ++ flat_map host_rows hosts
-
 -- ---- as they are lent
 
 abbrev pub served_lent : HostService → ServedRow
-served_lent service = record {
-  instance = service.instance.now;
-  target = service.target.now;
-  port = service.port;
-  kept = service.kept;
-}
+served_lent service = record { instance = service.instance.now; target = service.target.now; port = service.port }
 
 abbrev pub host_lent : Host → HostRow
 host_lent host = record {

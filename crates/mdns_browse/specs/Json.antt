@@ -43,6 +43,10 @@ json_member name value = json_string name ++ 58 ∷ value
 abbrev pub text_member : List ℕ → List ℕ → List ℕ
 text_member name text = json_member name (json_string text)
 
+-- what is before the values of an array that is the value of a member after others
+abbrev pub array_begin : List ℕ → List ℕ
+array_begin name = 44 ∷ json_string name ++ 58 ∷ 91 ∷ []
+
 -- an object of these members, in this order (section 4)
 abbrev pub json_object : List (List ℕ) → List ℕ
 json_object members = 123 ∷ parted true members ++ 125 ∷ []
@@ -61,14 +65,16 @@ resource_members resource =
     text_member (codes "owner") (name_text resource.owner) ∷ text_member (codes "type") (type_name (type_of resource.body))
     ∷ json_member (codes "data") (json_words (data_words resource.body)) ∷ text_member (codes "shown") (shown_record resource) ∷ []
 
--- the line of a live record, by its last hearing and its end: the members of the record, the TTL as it was heard, the
--- moment and the end. Moments are strings, so that no reader rounds them
+-- of a hearing: the TTL as it was heard, the moment, and the end that it gives. Moments are strings, so that no reader rounds them
+abbrev pub hearing_members : (ttl heard until : ℕ) → List (List ℕ)
+hearing_members ttl heard until =
+    json_member (codes "ttl") (decimal ttl) ∷ text_member (codes "heard") (moment_text heard)
+    ∷ text_member (codes "until") (moment_text until) ∷ []
+
+-- the line of a live record, by its last hearing and its end
 unfoldable pub record_json : Latest × ℕ → List ℕ
 record_json (last, end) =
-    json_object
-    (resource_members last.resource
-    ++ json_member (codes "ttl") (decimal last.ttl) ∷ text_member (codes "heard") (moment_text last.moment.nanos)
-    ∷ text_member (codes "until") (moment_text end) ∷ []) ++ 10 ∷ []
+    json_object (resource_members last.resource ++ hearing_members last.ttl last.moment.nanos end) ++ 10 ∷ []
 
 -- the line of a service type: its name, and the name as people read it
 unfoldable pub type_json : List ℕ → List ℕ

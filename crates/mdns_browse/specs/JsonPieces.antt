@@ -1,38 +1,38 @@
--- The pieces of a report as JSON.
+-- The pieces of instances as JSON.
 use Rattle.std.specs.Prelude.{◌≡◌, ◌==◌, ℕ, Bool, true, false, List, [], ◌∷◌, ◌++◌, map, codes, string_bytes}
 use Rattle.std.specs.Fmt.{decimal}
 use Rattle.dns_name.specs.Name.{name_text}
 use Rattle.people_text.specs.Shown.{name_shown}
-use Rattle.mdns_browse.specs.{Hosts.{host_json}, Sheet.{Piece, host, live_record, service_type, instance_begin, server_begin}}
-use Rattle.mdns_browse.specs.{Sheet.{server_address, server_end, servers_end, instance_text, instance_end}, RecordShown.{shown_instance}}
-use Rattle.mdns_browse.specs.{RecordText.{data_words, text_words}, Json.{json_string, json_bool, json_words, record_json, type_json}}
-use Rattle.mdns_browse.specs.{Json.{comma_unless, parted, first_after}, declared.report_json.Objects.{Objects}}
+use Rattle.mdns_browse.specs.Sheet.{Piece, instance_begin, server_begin, server_address, server_end, servers_end, instance_text, instance_end}
+use Rattle.mdns_browse.specs.{RecordShown.{shown_instance}, RecordText.{data_words, text_words}, declared.report_json.Objects.{Objects}}
+use Rattle.mdns_browse.specs.Json.{array_begin, comma_unless, first_after, json_bool, json_member, json_string, json_words, parted, text_member}
+use Rattle.mdns_browse.specs.Services.{GivenRow}
+
+-- what an object says of an instance before its servers, and of a server before its addresses
+abbrev pub instance_members : GivenRow → List ℕ → List (List ℕ)
+instance_members given name =
+    text_member (codes "instance") (name_text name) ∷ text_member (codes "shown") (shown_instance name)
+    ∷ text_member (codes "type") (name_text given.last.resource.owner) ∷ json_member (codes "goodbye") (json_bool (given.last.ttl == 0)) ∷ []
+
+abbrev pub server_members : (priority weight port : ℕ) → List ℕ → List (List ℕ)
+server_members priority weight port target =
+    text_member (codes "target") (name_text target) ∷ text_member (codes "shown") (name_shown target)
+    ∷ json_member (codes "port") (decimal port) ∷ json_member (codes "priority") (decimal priority)
+    ∷ json_member (codes "weight") (decimal weight) ∷ []
 
 -- the text of a piece, which may be the first value of an array
 abbrev pub piece_json : Bool → Piece → List ℕ
-piece_json first (live_record row) = record_json row
-piece_json first (service_type name) = type_json name
-piece_json first (host row) = host_json row
-piece_json first (instance_begin given name) =
-    codes "{\"instance\":" ++ json_string (name_text name) ++ codes ",\"shown\":" ++ json_string (shown_instance name)
-    ++ codes ",\"type\":" ++ json_string (name_text given.last.resource.owner)
-    ++ codes ",\"goodbye\":" ++ json_bool (given.last.ttl == 0) ++ codes ",\"servers\":["
+piece_json first (instance_begin given name) = 123 ∷ parted true (instance_members given name) ++ array_begin (codes "servers")
 piece_json first (server_begin priority weight port target) =
-    comma_unless first
-    ++ (codes "{\"target\":" ++ json_string (name_text target) ++ codes ",\"shown\":" ++ json_string (name_shown target)
-    ++ codes ",\"port\":" ++ decimal port ++ codes ",\"priority\":" ++ decimal priority ++ codes ",\"weight\":" ++ decimal weight
-    ++ codes ",\"addresses\":[")
+    comma_unless first ++ (123 ∷ parted true (server_members priority weight port target) ++ array_begin (codes "addresses"))
 piece_json first (server_address address) = parted first (map json_string (data_words address))
 piece_json first server_end = codes "]}"
-piece_json first (servers_end none) = codes "],\"texts\":["
+piece_json first (servers_end none) = 93 ∷ array_begin (codes "texts")
 piece_json first (instance_text text) = comma_unless first ++ json_words (text_words text)
 piece_json first instance_end = codes "]}\n"
 
 -- whether the next value of the array is its first
 abbrev pub piece_next : Bool → Piece → Bool
-piece_next first (live_record row) = first_after true (data_words row.0.resource.body)
-piece_next first (service_type name) = first
-piece_next first (host row) = true
 piece_next first (instance_begin given name) = true
 piece_next first (server_begin priority weight port target) = true
 piece_next first (server_address address) = first_after first (data_words address)

@@ -1,5 +1,6 @@
 pub mod About
 pub mod Csv
+pub mod Forms
 pub mod Given
 pub mod Hosts
 pub mod Json

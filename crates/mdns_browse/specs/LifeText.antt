@@ -1,16 +1,15 @@
 -- The lives of records as text.
-use Rattle.std.specs.Prelude.{◌≡◌, ℕ, nat_lt, ◌==◌, if◌then◌else◌, List, [], ◌∷◌, ◌++◌, length, map, codes, Option, option_map, unwrap_or}
+use Rattle.std.specs.Prelude.{◌≡◌, ℕ, true, false, nat_lt, ◌==◌, if◌then◌else◌, List, [], ◌∷◌, ◌++◌, length, map, codes, Option, option_map, unwrap_or}
 use Rattle.std.specs.{Fmt.{decimal}, List.{flat_map}}
 use Rattle.mdns_capture.specs.{Text.{moment_text}, declared.moment.Moment.{Moment}}
-use Rattle.dns_name.specs.Name.{name_text}
 use Rattle.mdns_message.specs.{Resource.{type_name, type_of}, declared.resource.Resource.{Resource}}
 use Rattle.mdns_join.specs.declared.latest.Latest.{Latest}
 use Rattle.mdns_lives.specs.declared.life.{Life.{Life}, EndReason.{EndReason}, EndReason.TheVariants.{Expired, Goodbye, Flushed}}
 use Rattle.mdns_lives.specs.declared.{life.Which.{Which}, life.Which.TheVariants.{All, Changes}, window.Window.{Window}}
 use Rattle.mdns_browse.specs.declared.{report.Form.{Form}, report.Form.TheVariants.{Csv, Lines, Json, Pretty}, life_text.Layout.{Layout}}
-use Rattle.mdns_browse.specs.{Columns.{padded, widest}, RecordShown.{shown_record}, RecordText.{data_words, resource_text}}
+use Rattle.mdns_browse.specs.{Columns.{padded, widest}, RecordShown.{shown_record}, RecordText.{resource_text}}
 use Rattle.mdns_browse.specs.Csv.{Moment as MomentField, Number, Text, csv_line, resource_fields}
-use Rattle.mdns_browse.specs.Json.{json_string, json_member, json_object, json_words, resource_members, text_member}
+use Rattle.mdns_browse.specs.Json.{hearing_members, json_object, parted, resource_members, text_member}
 use Rattle.people_text.specs.MomentText.{millis_text}
 
 -- why a life ended, as a word
@@ -40,33 +39,23 @@ life_words end life =
     ++ codes " ttl " ++ decimal life.last.ttl ++ codes " heard " ++ moment_text life.last.moment.nanos
     ++ codes " until " ++ moment_text life.until ++ 32 ∷ end_text end life ++ 10 ∷ []
 
--- a life as an object: that of a live record, with `from` before `ttl`, and `end` last
+-- what an object says of a life: what that of a live record says of the last hearing, with `from` before it and `end` last
+abbrev pub life_members : ℕ → Life → List (List ℕ)
+life_members end life =
+    text_member (codes "from") (moment_text life.from.nanos) ∷ hearing_members life.last.ttl life.last.moment.nanos life.until
+    ++ text_member (codes "end") (end_text end life) ∷ []
+
+-- a life as an object
 unfoldable pub life_json : ℕ → Resource → Life → List ℕ
-life_json end resource life =
-    json_object
-    (resource_members resource
-    ++ text_member (codes "from") (moment_text life.from.nanos) ∷ json_member (codes "ttl") (decimal life.last.ttl)
-    ∷ text_member (codes "heard") (moment_text life.last.moment.nanos) ∷ text_member (codes "until") (moment_text life.until)
-    ∷ text_member (codes "end") (end_text end life) ∷ []) ++ 10 ∷ []
+life_json end resource life = json_object (resource_members resource ++ life_members end life) ++ 10 ∷ []
 
--- the beginning of that object: owner, type, and the words of the data
-abbrev pub resource_begin : Resource → List ℕ
-resource_begin resource =
-    codes "{\"owner\":" ++ json_string (name_text resource.owner)
-    ++ codes ",\"type\":" ++ json_string (type_name (type_of resource.body))
-    ++ codes ",\"data\":" ++ json_words (data_words resource.body)
-
--- what that object says of the record
+-- the beginning of that object, with what it says of the record
 abbrev pub resource_json : Resource → List ℕ
-resource_json resource = resource_begin resource ++ codes ",\"shown\":" ++ json_string (shown_record resource)
+resource_json resource = 123 ∷ parted true (resource_members resource)
 
 -- the rest of it, with what it says of the life
 abbrev pub life_rest : ℕ → Life → List ℕ
-life_rest end life =
-    codes ",\"from\":" ++ json_string (moment_text life.from.nanos) ++ codes ",\"ttl\":" ++ decimal life.last.ttl
-    ++ codes ",\"heard\":" ++ json_string (moment_text life.last.moment.nanos)
-    ++ codes ",\"until\":" ++ json_string (moment_text life.until)
-    ++ codes ",\"end\":" ++ json_string (end_text end life) ++ codes "}\n"
+life_rest end life = parted false (life_members end life) ++ codes "}\n"
 
 -- ---- comma-separated values
 

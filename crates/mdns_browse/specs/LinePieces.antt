@@ -1,15 +1,11 @@
--- The pieces of a report as lines.
+-- The pieces of instances as lines.
 use Rattle.std.specs.{Prelude.{ℕ, if◌then◌else◌, List, [], ◌∷◌, ◌++◌, codes}, Fmt.{decimal}}
 use Rattle.dns_name.specs.Name.{name_text}
-use Rattle.mdns_browse.specs.Hosts.{host_line}
-use Rattle.mdns_browse.specs.Sheet.{Piece, host, live_record, service_type, instance_begin, server_begin, server_address, server_end, servers_end}
-use Rattle.mdns_browse.specs.{Sheet.{instance_text, instance_end}, RecordText.{data_words, record_line, spaced, text_words}}
+use Rattle.mdns_browse.specs.Sheet.{Piece, instance_begin, server_begin, server_address, server_end, servers_end, instance_text, instance_end}
+use Rattle.mdns_browse.specs.RecordText.{data_words, spaced, text_words}
 
 -- the lines of a piece
 abbrev pub piece_lines : Piece → List ℕ
-piece_lines (live_record row) = record_line row
-piece_lines (service_type name) = name_text name ++ 10 ∷ []
-piece_lines (host row) = host_line row
 piece_lines (instance_begin given name) = name_text name ++ 10 ∷ []
 piece_lines (server_begin priority weight port target) =
     codes "  server " ++ name_text target ++ 32 ∷ decimal port

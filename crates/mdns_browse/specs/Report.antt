@@ -5,13 +5,11 @@ use Rattle.mdns_capture.specs.declared.moment.Moment.{Moment}
 use Rattle.mdns_message.specs.declared.hearing.Hearing.{Hearing}
 use Rattle.mdns_join.specs.declared.latest.Latest.{Latest}
 use Rattle.mdns_browse.specs.{About.{keeps_instance, keeps_record, keeps_type}, declared.about.Subject.{Subject}}
-use Rattle.mdns_browse.specs.Csv.{instance_csv, instances_header, record_csv, records_header, type_csv, types_header}
-use Rattle.mdns_browse.specs.Hosts.{host_csv, host_json, host_line, hosts_about, hosts_header, hosts_pretty}
-use Rattle.mdns_browse.specs.{RecordText.{instance_lines, record_line}, Json.{record_json, type_json, instance_json}}
-use Rattle.mdns_browse.specs.{Columns.{instances_pretty, records_pretty, types_pretty}, Services.{InstanceRow, IsOfLive, given_of}}
+use Rattle.mdns_browse.specs.{Forms.{hosts_text, instances_text, records_text, types_text}, Hosts.{host_line, hosts_about, hosts_in}}
+use Rattle.mdns_browse.specs.{RecordText.{instance_lines, record_line}, Services.{InstanceRow, IsOfLive, given_of}}
 use Rattle.mdns_browse.specs.{Services.{instance_rows_in, instances_in, lasts_in, others_in, types_in}, declared.report.Ask.{Ask}}
-use Rattle.mdns_browse.specs.declared.report.{Ask.TheVariants.{Records, Types, Instances, Hosts}, Form.{Form}, Form.TheVariants.{Csv, Lines, Json}}
-use Rattle.mdns_browse.specs.declared.report.{Form.TheVariants.{Pretty}, ReportFault.{ReportFault}, ReportFault.TheVariants.{Early, Memory}}
+use Rattle.mdns_browse.specs.declared.report.{Ask.TheVariants.{Records, Types, Instances, Hosts}, Form.{Form}}
+use Rattle.mdns_browse.specs.declared.report.{ReportFault.{ReportFault}, ReportFault.TheVariants.{Early, Memory}}
 
 -- the lines of words that answer the question of live records with their ends: a line for each record, for each service type,
 -- the lines of each service instance, or a line for each host, in key order
@@ -19,7 +17,7 @@ abbrev pub lines_in : Ask → List (Latest × ℕ) → List ℕ
 lines_in Records rows = flat_map record_line rows
 lines_in Types rows = flat_map (λ name. name_text name ++ 10 ∷ []) (types_in (lasts_in rows))
 lines_in Instances rows = flat_map instance_lines (instances_in (lasts_in rows))
-lines_in Hosts rows = flat_map host_line (hosts_about [] rows)
+lines_in Hosts rows = flat_map host_line (hosts_in (lasts_in rows))
 
 -- the text answers the question over all hearings, as of `now` nanoseconds
 abbrev pub IsReport : Ask → List Hearing → ℕ → List ℕ → Type 0
@@ -40,22 +38,10 @@ instances_about about rows =
 -- The text of a report in that form: lines of words; one JSON object a line; readable columns, as of `now` nanoseconds, with
 -- the live records that point from a service to another name after the instances; or comma-separated values after a header.
 abbrev pub text_about : List Subject → Form → ℕ → Ask → List (Latest × ℕ) → List ℕ
-text_about about Lines now Records rows = flat_map record_line (records_about about rows)
-text_about about Lines now Types rows = flat_map (λ name. name_text name ++ 10 ∷ []) (types_about about rows)
-text_about about Lines now Instances rows = flat_map (λ row. instance_lines row.instance) (instances_about about rows)
-text_about about Lines now Hosts rows = flat_map host_line (hosts_about about rows)
-text_about about Json now Records rows = flat_map record_json (records_about about rows)
-text_about about Json now Types rows = flat_map type_json (types_about about rows)
-text_about about Json now Instances rows = flat_map instance_json (instances_about about rows)
-text_about about Json now Hosts rows = flat_map host_json (hosts_about about rows)
-text_about about Pretty now Records rows = records_pretty now (records_about about rows)
-text_about about Pretty now Types rows = types_pretty now (types_about about rows)
-text_about about Pretty now Instances rows = instances_pretty now (instances_about about rows) (records_about about (others_in rows))
-text_about about Pretty now Hosts rows = hosts_pretty now (hosts_about about rows)
-text_about about Csv now Records rows = records_header ++ flat_map record_csv (records_about about rows)
-text_about about Csv now Types rows = types_header ++ flat_map type_csv (types_about about rows)
-text_about about Csv now Instances rows = instances_header ++ flat_map instance_csv (instances_about about rows)
-text_about about Csv now Hosts rows = hosts_header ++ flat_map host_csv (hosts_about about rows)
+text_about about form now Records rows = records_text form now (records_about about rows)
+text_about about form now Types rows = types_text form now (types_about about rows)
+text_about about form now Instances rows = instances_text form now (instances_about about rows) (records_about about (others_in rows))
+text_about about form now Hosts rows = hosts_text form now (hosts_about about rows)
 
 -- the text answers the question about these subjects in that form
 abbrev pub IsReportIn : List Subject → Form → Ask → List Hearing → ℕ → List ℕ → Type 0

@@ -1,19 +1,11 @@
--- The pieces of a report, in the order in which a sheet takes them.
+-- The pieces of instances, in the order in which a sheet takes them.
 use Rattle.std.specs.Prelude.{◌≡◌, ℕ, Bool, ◌==◌, List, [], ◌∷◌, ◌++◌, length, map, string_bytes}
 use Rattle.std.specs.{declared.string.String.{String}, List.{flat_map}}
 use Rattle.mdns_message.specs.Resource.{Body}
-use Rattle.mdns_join.specs.declared.latest.Latest.{Latest}
-use Rattle.mdns_browse.specs.declared.{about.Subject.{Subject}, instance.Server.{Server}, report.Ask.{Ask}}
-use Rattle.mdns_browse.specs.declared.report.Ask.TheVariants.{Records, Types, Instances, Hosts}
-use Rattle.mdns_browse.specs.{Hosts.{HostRow, hosts_about}, Report.{instances_about, records_about, types_about}, Services.{GivenRow, InstanceRow}}
+use Rattle.mdns_browse.specs.{declared.instance.Server.{Server}, Services.{GivenRow, InstanceRow}}
 
--- a piece of a report
+-- a piece of an instance
 pub data Piece : Type 0 where
-  -- a live record, by its last hearing and its end
-  live_record : Latest × ℕ → Piece
-  -- the name of a service type
-  service_type : List ℕ → Piece
-  host : HostRow → Piece
   -- the record that gives an instance and the instance's name, before its servers
   instance_begin : GivenRow → List ℕ → Piece
   -- the priority, weight, port and target of a server, before its addresses
@@ -51,17 +43,3 @@ pub record TakeLaws {S P : Type 0} (takes : S → List P → S → Type 0) : Typ
 -- a string has the text of each piece after its bytes
 abbrev pub writes : {A P : Type 0} → (P → List ℕ) → String A → List P → String A → Type 0
 writes text_of old pieces new = string_bytes new ≡ string_bytes old ++ flat_map text_of pieces
-
--- a sheet has taken the pieces of a value for which `Is` holds
-pub record AddsPieces {S P X : Type 0} (takes : S → List P → S → Type 0) (Is : X → Type 0) (pieces : X → List P)
-    (old new : S) : Type 0 where
-  pub value : X
-  pub right : Is value
-  pub taken : takes old (pieces value) new
-
--- the pieces of the answer to a question about some subjects, of the live records
-abbrev pub report_pieces : List Subject → Ask → List (Latest × ℕ) → List Piece
-report_pieces about Records rows = map live_record (records_about about rows)
-report_pieces about Types rows = map service_type (types_about about rows)
-report_pieces about Instances rows = flat_map instance_pieces (instances_about about rows)
-report_pieces about Hosts rows = map host (hosts_about about rows)

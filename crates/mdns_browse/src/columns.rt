@@ -3,8 +3,10 @@
 ghost use Rattle.std.specs.Prelude.{◌≡◌, ◌==◌, ◌++◌, ◌∷◌, [], if◌then◌else◌, length, map, max, IfOk, OnOk};
 ghost use Rattle.std.specs.String.{string_bytes};
 ghost use Rattle.mdns_cache.specs.LentRecords.{live_record_lent};
-ghost use Rattle.mdns_browse.specs.Columns.{heading, padded, spaces, time_left_text, widest};
+ghost use Rattle.mdns_browse.specs.{Columns.{heading, padded, spaces, time_left_text, when_text, widest}, Forms.{head}};
 
+use crate::report::Form;
+use crate::report_json::Objects;
 use mdns_cache::LiveRecord;
 use mdns_cache::lifetime::lifetime_nanos;
 use mdns_capture::Moment;
@@ -107,6 +109,34 @@ pub(crate) fn time_left_len(
     Ok(text.len())
 }
 
+/// What a report lists: the word for one, the word for more, and the header of comma-separated values.
+#[derive(Clone, Copy)]
+pub(crate) struct Called<'a> {
+    pub(crate) one: &'a str,
+    pub(crate) many: &'a str,
+    pub(crate) header: &'a str,
+}
+
+/// Begins a report: for people with how many there are, and as comma-separated values with their header.
+pub(crate) fn begin(
+    alloc: Global,
+    form: Form,
+    count: usize,
+    called: Called<'_>,
+    now: Moment,
+) -> Result<Objects, Want>
+    ensures { IfOk result (λ to. string_bytes to.text
+        ≡ head form count called.entry.one.now called.entry.many.now called.entry.header.now now.nanos) }
+{
+    let mut to = Objects::new(alloc);
+    match form {
+        Form::Lines | Form::Json => {}
+        Form::Pretty => push_heading(&mut to.text, count, called.one, called.many, now)?,
+        Form::Csv => to.text.push_str(called.header)?,
+    }
+    Ok(to)
+}
+
 /// Appends the first line of a report: how many there are, in a word for one and a word for more, and the moment.
 #[tactic(auto, unfolding(crate::specs::Columns::heading))]
 pub(crate) fn push_heading(
@@ -119,10 +149,21 @@ pub(crate) fn push_heading(
     ensures { OnOk result (string_bytes to.new ≡ string_bytes to.old ++ heading count one.now many.now now.nanos) }
 {
     let word = word_for(count, one, many);
-    write!(to, "{count} {word} live at ")?;
-    push_millis(to, now.nanos())?;
+    write!(to, "{count} {word} live")?;
+    push_when(to, now)?;
     to.push('\n')?;
     Ok(())
+}
+
+#[tactic(auto, unfolding(crate::specs::Columns::when_text))]
+fn push_when(to: &mut String, now: Moment) -> Result<(), Want>
+    ensures { OnOk result (string_bytes to.new ≡ string_bytes to.old ++ when_text now.nanos) }
+{
+    if now.nanos() == 0 {
+        return Ok(());
+    }
+    to.push_str(" at ")?;
+    push_millis(to, now.nanos())
 }
 
 /// Returns the word for one or the word for more.

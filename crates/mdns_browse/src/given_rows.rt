@@ -1,9 +1,9 @@
 //! The live records that give instances, and which of these instances are about the subjects.
 
-ghost use Rattle.std.specs.{Prelude.{◌≡◌, ◌++◌, ◌∷◌, [], List, map, IfOk, OnOk}, List.{filter}};
+ghost use Rattle.std.specs.{Prelude.{◌≡◌, ◌++◌, ◌∷◌, [], List, map, IfOk, OnOk}, List.{filter, filter_map}};
 ghost use Rattle.mdns_cache.specs.LentRecords.{last_lent};
 ghost use Rattle.mdns_browse.specs.{About.{keeps_instance}, Given.{given_lent, kept_given}, Report.{instances_about}};
-ghost use Rattle.mdns_browse.specs.Services.{AreAscending, GivenRow, given_of, gives_instance, instance_rows_in, lasts_in};
+ghost use Rattle.mdns_browse.specs.Services.{AreAscending, GivenRow, given_of, gives_instance, instance_row_in, instance_rows_in, lasts_in};
 
 use crate::about::Subject;
 use crate::keeps::keeps_heard_instance;
@@ -32,6 +32,9 @@ pub(crate) fn given_in<'a>(
     ensures rows { IfOk result (λ gathered. map last_lent gathered.rows.items ≡ lasts_in walk.entry) }
     ensures given { IfOk result (λ gathered. AreAscending (lasts_in walk.entry)
         → map given_lent gathered.given.items ≡ map (λ row. row.given) (instances_about about.now walk.entry)) }
+    ensures shown { IfOk result (λ gathered. AreAscending (lasts_in walk.entry)
+        → filter_map (instance_row_in (map last_lent gathered.rows.items)) (map given_lent gathered.given.items)
+        ≡ instances_about about.now walk.entry) }
 {
     let gathered = gather(alloc, walk)?;
     let rows = gathered.rows;

@@ -1,18 +1,18 @@
 //! Hosts: the owners of live addresses, and the services on them.
 
-ghost use Rattle.std.specs.{Prelude.{◌≡◌, ◌&&◌, ◌++◌, ◌∷◌, [], List, ℕ, map, not, IfOk, OnOk}, List.{filter, filter_map, flat_map, list_any}};
+ghost use Rattle.std.specs.{Prelude.{◌≡◌, ◌&&◌, ◌++◌, ◌∷◌, [], map, not, IfOk, OnOk}, List.{filter, filter_map, flat_map, list_any}};
 ghost use Rattle.std.specs.List.Sorted.{IsSorted, IsStable};
 ghost use Rattle.mdns_join.specs.declared.latest.Latest.{Latest};
 ghost use Rattle.mdns_cache.specs.LentRecords.{last_lent};
-ghost use Rattle.mdns_browse.specs.{About.{keeps_record}, Given.{given_lent}, Hosts.{AreByTarget, has_address, host_in, host_lent}};
-ghost use Rattle.mdns_browse.specs.Hosts.{hosts_about, hosts_in, is_on, keeps_host, served_lent, services_at, services_in, target_cmp};
-ghost use Rattle.mdns_browse.specs.{Services.{AreAscending, InstanceRow, instance_in, instance_row_in, lasts_in, same_text}, Sheet.{host}};
-ghost use Rattle.mdns_browse.specs.declared.about.Subject.{Subject};
+ghost use Rattle.mdns_browse.specs.{About.{keeps_heard, keeps_record}, Given.{given_lent}};
+ghost use Rattle.mdns_browse.specs.Hosts.{AreByTarget, ServedRow, has_address, host_in, host_lent, hosts_in, is_on, keeps_host};
+ghost use Rattle.mdns_browse.specs.{Hosts.{served_lent, services_at, services_in, target_cmp}};
+ghost use Rattle.mdns_browse.specs.Services.{AreAscending, InstanceRow, instance_in, instance_row_in, lasts_in, same_text};
 
 use crate::about::{Subject, keeps_heard_instance, keeps_record};
 use crate::given_rows::gather;
 use crate::lookup::of_set;
-use crate::sheet::{InstancePointer, Sheet};
+use crate::sheet::InstancePointer;
 use dns_name::fold::{folded_cmp, folded_eq};
 use mdns_cache::{Last, LiveWalk};
 use mdns_message::{Name, RecordType, Want};
@@ -27,8 +27,6 @@ pub struct HostService<'a> {
     pub target: &'a Name,
     /// The port of the service.
     pub port: u16,
-    /// Whether the instance is about one of the subjects.
-    pub kept: bool,
 }
 
 /// The owner of live A or AAAA records.
@@ -53,18 +51,14 @@ pub(crate) struct HostSource<'a> {
 
 /// Collects live records and the servers of their instances. The servers are sorted once, so that each host's are found by
 /// binary search.
-pub(crate) fn host_source<'a>(
-    alloc: Global,
-    about: &[Subject],
-    walk: LiveWalk<'a>,
-) -> Result<HostSource<'a>, Want>
+pub(crate) fn host_source<'a>(alloc: Global, walk: LiveWalk<'a>) -> Result<HostSource<'a>, Want>
     ensures rows { IfOk result (λ source. map last_lent source.rows.items ≡ lasts_in walk.entry) }
     ensures services { IfOk result (λ source. AreAscending (lasts_in walk.entry)
-        → AreByTarget (services_in about.now (lasts_in walk.entry)) source.services.items) }
+        → AreByTarget (services_in (lasts_in walk.entry)) source.services.items) }
 {
     let gathered = gather(alloc, walk)?;
     let rows = gathered.rows;
-    let mut services = services_of(alloc, about, rows.as_slice(), gathered.given.as_slice())?;
+    let mut services = services_of(alloc, rows.as_slice(), gathered.given.as_slice())?;
     sort_by_target(&mut services)?;
     Ok(HostSource { rows, services })
 }
@@ -72,22 +66,20 @@ pub(crate) fn host_source<'a>(
 // Collects the servers of the instances that the records give.
 fn services_of<'a>(
     alloc: Global,
-    about: &[Subject],
     rows: &[Last<'a>],
     given: &[InstancePointer<'a>],
 ) -> Result<Vec<HostService<'a>>, Want>
     ensures { IfOk result (λ services. AreAscending (map last_lent rows.now) → map served_lent services.items
-        ≡ flat_map (services_at about.now) (map (λ row. row.instance)
+        ≡ flat_map services_at (map (λ row. row.instance)
         (filter_map (instance_row_in (map last_lent rows.now)) (map given_lent given.now)))) }
 {
-    let mut scratch = String::new(alloc);
     let mut services = Vec::new(alloc);
     for row in given {
         // Each has the name of an instance: only PTR records give one.
         let Some(name) = row.row.last.resource.body.pointer() else {
             continue;
         };
-        push_services(&mut services, about, rows, name, &mut scratch)?;
+        push_services(&mut services, rows, name)?;
     }
     Ok(services)
 }
@@ -95,15 +87,12 @@ fn services_of<'a>(
 // Appends the servers of an instance.
 fn push_services<'a>(
     to: &mut Vec<HostService<'a>>,
-    about: &[Subject],
     rows: &[Last<'a>],
     name: &'a Name,
-    scratch: &mut String,
 ) -> Result<(), Want>
     ensures { OnOk result (AreAscending (map last_lent rows.now) → map served_lent to.new.items
-        ≡ map served_lent to.old.items ++ services_at about.now (instance_in (map last_lent rows.now) name.now)) }
+        ≡ map served_lent to.old.items ++ services_at (instance_in (map last_lent rows.now) name.now)) }
 {
-    let kept = keeps_heard_instance(about, rows, name, scratch)?;
     for row in of_set(rows, name, RecordType::Srv) {
         // Every row is an SRV record: no other data has this type number.
         let Some(service) = row.resource.body.service() else {
@@ -113,7 +102,6 @@ fn push_services<'a>(
             instance: name,
             target: service.target,
             port: service.port,
-            kept,
         })?;
     }
     Ok(())
@@ -135,8 +123,8 @@ pub(crate) fn kept_hosts<'a>(
     services: &'a [HostService<'a>],
 ) -> Result<Vec<Host<'a>>, Want>
     ensures { IfOk result (λ hosts. AreAscending (map last_lent rows.now)
-        → AreByTarget (services_in about.now (map last_lent rows.now)) services.now
-        → map host_lent hosts.items ≡ hosts_in about.now (map last_lent rows.now)) }
+        → AreByTarget (services_in (map last_lent rows.now)) services.now → map host_lent hosts.items
+        ≡ filter (keeps_host about.now (map last_lent rows.now)) (hosts_in (map last_lent rows.now))) }
 {
     let mut scratch = String::new(alloc);
     let mut hosts = Vec::new(alloc);
@@ -147,7 +135,7 @@ pub(crate) fn kept_hosts<'a>(
         }
         let name = &row.resource.owner;
         let host = host_at(rows, services, name);
-        push_kept_host(&mut hosts, about, host, &mut scratch)?;
+        push_kept_host(&mut hosts, about, rows, host, &mut scratch)?;
         before = name.wire();
     }
     Ok(hosts)
@@ -169,9 +157,8 @@ pub(crate) fn is_same(before: &[u8], name: &Name) -> bool
 
 // Finds the addresses and the services of a host.
 fn host_at<'a>(rows: &'a [Last<'a>], services: &'a [HostService<'a>], name: &'a Name) -> Host<'a>
-    ensures { (about : List Subject) → AreAscending (map last_lent rows.now)
-        → AreByTarget (services_in about (map last_lent rows.now)) services.now
-        → host_lent result ≡ host_in about (map last_lent rows.now) name.now }
+    ensures { AreAscending (map last_lent rows.now) → AreByTarget (services_in (map last_lent rows.now)) services.now
+        → host_lent result ≡ host_in (map last_lent rows.now) name.now }
 {
     Host {
         name,
@@ -195,35 +182,59 @@ fn services_on<'a>(services: &'a [HostService<'a>], name: &Name) -> &'a [HostSer
 fn push_kept_host<'a>(
     to: &mut Vec<Host<'a>>,
     about: &[Subject],
+    rows: &[Last<'_>],
     host: Host<'a>,
     scratch: &mut String,
 ) -> Result<(), Want>
-    ensures { OnOk result (map host_lent to.new.items
-        ≡ map host_lent to.old.items ++ filter (keeps_host about.now) (host_lent host.entry ∷ [])) }
+    ensures { OnOk result (AreAscending (map last_lent rows.now) → map host_lent to.new.items
+        ≡ map host_lent to.old.items ++ filter (keeps_host about.now (map last_lent rows.now)) (host_lent host.entry ∷ [])) }
 {
-    if keeps_host(about, &host, scratch)? {
+    if keeps_host(about, rows, &host, scratch)? {
         to.push(host)?;
     }
     Ok(())
 }
 
+// Checks that one of a host's records is about one of the subjects, or one of the instances on it.
 #[tactic(auto, unfolding(crate::specs::Hosts::keeps_host))]
-fn keeps_host(about: &[Subject], host: &Host<'_>, scratch: &mut String) -> Result<bool, Want>
-    ensures { IfOk result (λ keeps. keeps ≡ keeps_host about.now (host_lent host.now)) }
+fn keeps_host(
+    about: &[Subject],
+    rows: &[Last<'_>],
+    host: &Host<'_>,
+    scratch: &mut String,
+) -> Result<bool, Want>
+    ensures { IfOk result (λ keeps. AreAscending (map last_lent rows.now)
+        → keeps ≡ keeps_host about.now (map last_lent rows.now) (host_lent host.now)) }
 {
+    if about.is_empty() {
+        return Ok(true);
+    }
     if keeps_one(about, host.ipv4, scratch)? {
         return Ok(true);
     }
     if keeps_one(about, host.ipv6, scratch)? {
         return Ok(true);
     }
-    Ok(any_kept(host.services))
+    keeps_served(about, rows, host.services, scratch)
 }
 
-fn any_kept(services: &[HostService<'_>]) -> bool
-    ensures { result ≡ list_any (λ (service : HostService). service.kept) services.now }
+// Checks that the instance of one of the services is about one of the subjects.
+fn keeps_served(
+    about: &[Subject],
+    rows: &[Last<'_>],
+    services: &[HostService<'_>],
+    scratch: &mut String,
+) -> Result<bool, Want>
+    ensures { IfOk result (λ keeps. AreAscending (map last_lent rows.now) → keeps
+        ≡ list_any (λ (service : ServedRow). keeps_heard about.now (map last_lent rows.now) service.instance)
+        (map served_lent services.now)) }
 {
-    services.iter().any(|service| service.kept)
+    for service in services {
+        if keeps_heard_instance(about, rows, service.instance, scratch)? {
+            return Ok(true);
+        }
+    }
+    Ok(false)
 }
 
 // Checks that one of the records is about one of the subjects.
@@ -237,28 +248,4 @@ fn keeps_one(about: &[Subject], rows: &[Last<'_>], scratch: &mut String) -> Resu
         }
     }
     Ok(false)
-}
-
-/// Hands over each host that is about the subjects, in order.
-pub(crate) fn walk_hosts<S: Sheet>(
-    sheet: &mut S,
-    alloc: Global,
-    about: &[Subject],
-    records: LiveWalk<'_>,
-) -> Result<(), Want>
-    ensures { OnOk result (AreAscending (lasts_in records.entry)
-        → S.takes sheet.old (map host (hosts_about about.now records.entry)) sheet.new) }
-{
-    let source = host_source(alloc, about, records)?;
-    let hosts = kept_hosts(
-        alloc,
-        about,
-        source.rows.as_slice(),
-        source.services.as_slice(),
-    )?;
-    let listed = hosts.as_slice();
-    for host in listed {
-        sheet.host(host)?;
-    }
-    Ok(())
 }

@@ -1,31 +1,84 @@
 //! Hosts in each form of a report. After `Want` the contents of `to` are not specified.
 
-ghost use Rattle.std.specs.{Prelude.{◌≡◌, ◌++◌, ◌∷◌, [], List, map, true, IfOk, OnOk}, List.{flat_map}, String.{string_bytes}};
+ghost use Rattle.std.specs.{Prelude.{◌≡◌, ◌++◌, ◌∷◌, [], List, codes, map, true, IfOk, OnOk}, List.{flat_map}, String.{string_bytes}};
 ghost use Rattle.dns_name.specs.Name.{name_text};
 ghost use Rattle.mdns_message.specs.declared.hearing.Hearing.{Hearing};
 ghost use Rattle.mdns_cache.specs.{Contents.{StandsFor}, Live.{NoneLater}, LentRecords.{last_lent}};
-ghost use Rattle.mdns_browse.specs.{Csv.{Number, Text, csv_line}, Hosts.{HostRow, ServedRow, address_words, host_csv, host_json}};
-ghost use Rattle.mdns_browse.specs.Hosts.{host_lent, host_line, host_rows, once, served_lent, service_csv, service_row, services_csv};
-ghost use Rattle.mdns_browse.specs.{RecordShown.{shown_words, spaced_by}, Report.{IsReportIn}, Services.{body_of}};
-ghost use Rattle.mdns_browse.specs.declared.report.{Ask.TheVariants.{Hosts}, Form.TheVariants.{Csv, Pretty}};
+ghost use Rattle.mdns_browse.specs.{Csv.{Number, Text, csv_line}, Forms.{host_text}, Hosts.{ServedRow, address_words, host_csv, host_json}};
+ghost use Rattle.mdns_browse.specs.Hosts.{host_lent, host_line, host_rows, instances_on, once, served_lent, service_row, services_csv};
+ghost use Rattle.people_text.specs.Shown.{name_shown};
+ghost use Rattle.mdns_browse.specs.{Json.{json_member, json_words, parted, text_member}, RecordShown.{shown_words, spaced_by}, Report.{IsReportIn}, Services.{body_of}};
+ghost use Rattle.mdns_browse.specs.declared.report.Ask.TheVariants.{Hosts};
 
 use crate::about::Subject;
-use crate::columns::push_heading;
+use crate::columns::{Called, begin};
 use crate::csv::{Field, push_csv_line};
 use crate::data_words::{Word, WordSink, push_words};
 use crate::host::{Host, HostService, host_source, is_same, kept_hosts};
 use crate::record_shown::{GAP, push_shown_words};
+use crate::report::Form;
 use crate::report_csv::join;
 use crate::report_json::Objects;
 use mdns_cache::{Cache, Last};
 use mdns_capture::Moment;
-use mdns_message::Want;
+use mdns_message::{Name, Want};
 use people_text::shown_names::push_shown_name;
 use std::alloc::Global;
 
-/// Appends the line of a host: its name and its addresses.
+/// Writes the hosts of a cache that are about the subjects.
+pub(crate) fn hosts_text(
+    alloc: Global,
+    cache: &Cache,
+    form: Form,
+    about: &[Subject],
+    now: Moment,
+) -> Result<String, Want>
+    requires { NoneLater cache.now.newest now }
+    ensures { IfOk result (λ text. (heard : List Hearing) → StandsFor cache.now heard
+        → IsReportIn about.now form Hosts heard now.nanos (string_bytes text)) }
+{
+    let source = host_source(alloc, cache.walk_live(now))?;
+    let hosts = kept_hosts(
+        alloc,
+        about,
+        source.rows.as_slice(),
+        source.services.as_slice(),
+    )?;
+    let listed = hosts.as_slice();
+    let called = Called {
+        one: "host",
+        many: "hosts",
+        header: "host,addresses,instance,port\r\n",
+    };
+    let mut to = begin(alloc, form, listed.len(), called, now)?;
+    push_hosts(&mut to, form, listed)?;
+    Ok(to.text)
+}
+
+fn push_hosts(to: &mut Objects, form: Form, hosts: &[Host<'_>]) -> Result<(), Want>
+    ensures { OnOk result (string_bytes to.new.text
+        ≡ string_bytes to.old.text ++ flat_map (host_text form) (map host_lent hosts.now)) }
+{
+    for host in hosts {
+        push_host(to, form, host)?;
+    }
+    Ok(())
+}
+
+fn push_host(to: &mut Objects, form: Form, host: &Host<'_>) -> Result<(), Want>
+    ensures { OnOk result (string_bytes to.new.text ≡ string_bytes to.old.text ++ host_text form (host_lent host.now)) }
+{
+    match form {
+        Form::Lines => push_host_line(&mut to.text, host),
+        Form::Json => push_host_json(to, host),
+        Form::Pretty => push_host_rows(&mut to.text, host),
+        Form::Csv => push_csv_host(&mut to.text, host),
+    }
+}
+
+// Appends the line of a host: its name and its addresses.
 #[tactic(auto, unfolding(crate::specs::Hosts::host_line))]
-pub(crate) fn push_host_line(to: &mut String, host: &Host<'_>) -> Result<(), Want>
+fn push_host_line(to: &mut String, host: &Host<'_>) -> Result<(), Want>
     ensures { OnOk result (string_bytes to.new ≡ string_bytes to.old ++ host_line (host_lent host.now)) }
 {
     host.name.push_text(to)?;
@@ -44,24 +97,56 @@ fn push_address_words<W: WordSink>(to: &mut W, rows: &[Last<'_>]) -> Result<(), 
     Ok(())
 }
 
-/// Appends the object of a host.
-pub(crate) fn push_host_json(to: &mut Objects, host: &Host<'_>) -> Result<(), Want>
-    ensures text { OnOk result (string_bytes to.new.text ≡ string_bytes to.old.text ++ host_json (host_lent host.now)) }
-    ensures first { OnOk result (to.new.first ≡ true) }
+// Appends the object of a host.
+fn push_host_json(to: &mut Objects, host: &Host<'_>) -> Result<(), Want>
+    ensures { OnOk result (string_bytes to.new.text ≡ string_bytes to.old.text ++ host_json (host_lent host.now)) }
 {
-    to.text.push_str("{\"host\":")?;
-    to.quote_name(host.name)?;
-    to.shown_name(host.name)?;
-    to.text.push_str(",\"addresses\":[")?;
-    to.first = true;
+    push_host_names(to, host.name)?;
+    push_host_lists(to, host)?;
+    Ok(to.text.push_str("}\n")?)
+}
+
+// Begins the object of a host with its name.
+#[tactic(auto, unfolding(crate::specs::Json::parted))]
+fn push_host_names(to: &mut Objects, name: &Name) -> Result<(), Want>
+    ensures { OnOk result (string_bytes to.new.text ≡ string_bytes to.old.text
+        ++ 123 ∷ parted true (text_member (codes "host") (name_text name.now) ∷ text_member (codes "shown") (name_shown name.now) ∷ [])) }
+{
+    to.text.push('{')?;
+    to.name_member(true, "host", name)?;
+    to.shown_name(name)
+}
+
+// Appends the addresses of a host and the instances on it as members.
+fn push_host_lists(to: &mut Objects, host: &Host<'_>) -> Result<(), Want>
+    ensures { OnOk result (string_bytes to.new.text ≡ string_bytes to.old.text
+        ++ (44 ∷ json_member (codes "addresses") (json_words (address_words (host_lent host.now).addresses))
+        ++ 44 ∷ json_member (codes "instances") (json_words (map name_text (instances_on (host_lent host.now)))))) }
+{
+    push_addresses(to, host)?;
+    push_names(to, host.services)
+}
+
+// Appends the names of the instances of services as a member.
+fn push_names(to: &mut Objects, services: &[HostService<'_>]) -> Result<(), Want>
+    ensures { OnOk result (string_bytes to.new.text ≡ string_bytes to.old.text
+        ++ 44 ∷ json_member (codes "instances") (json_words
+        (map name_text (once [] (map (λ (service : ServedRow). service.instance) (map served_lent services.now)))))) }
+{
+    to.array_begin("instances")?;
+    push_instances(to, services)?;
+    Ok(to.text.push(']')?)
+}
+
+// Appends the addresses of a host as a member.
+fn push_addresses(to: &mut Objects, host: &Host<'_>) -> Result<(), Want>
+    ensures { OnOk result (string_bytes to.new.text ≡ string_bytes to.old.text
+        ++ 44 ∷ json_member (codes "addresses") (json_words (address_words (host_lent host.now).addresses))) }
+{
+    to.array_begin("addresses")?;
     push_address_words(to, host.ipv4)?;
     push_address_words(to, host.ipv6)?;
-    to.text.push_str("],\"instances\":[")?;
-    to.first = true;
-    push_instances(to, host.services)?;
-    to.text.push_str("]}\n")?;
-    to.first = true;
-    Ok(())
+    Ok(to.text.push(']')?)
 }
 
 // Hands over the name of each instance once: its services follow one another.
@@ -76,40 +161,6 @@ fn push_instances<W: WordSink>(to: &mut W, services: &[HostService<'_>]) -> Resu
         }
         to.word(Word::Name(&service.instance.borrowed()))?;
         before = service.instance.wire();
-    }
-    Ok(())
-}
-
-/// Writes the hosts of a cache that are about the subjects, each with the services on it below it.
-pub(crate) fn hosts_columns(
-    alloc: Global,
-    cache: &Cache,
-    about: &[Subject],
-    now: Moment,
-) -> Result<String, Want>
-    requires { NoneLater cache.now.newest now }
-    ensures { IfOk result (λ text. (heard : List Hearing) → StandsFor cache.now heard
-        → IsReportIn about.now Pretty Hosts heard now.nanos (string_bytes text)) }
-{
-    let source = host_source(alloc, about, cache.walk_live(now))?;
-    let hosts = kept_hosts(
-        alloc,
-        about,
-        source.rows.as_slice(),
-        source.services.as_slice(),
-    )?;
-    let mut text = String::new(alloc);
-    let listed = hosts.as_slice();
-    push_heading(&mut text, listed.len(), "host", "hosts", now)?;
-    push_hosts(&mut text, listed)?;
-    Ok(text)
-}
-
-fn push_hosts(to: &mut String, hosts: &[Host<'_>]) -> Result<(), Want>
-    ensures { OnOk result (string_bytes to.new ≡ string_bytes to.old ++ flat_map host_rows (map host_lent hosts.now)) }
-{
-    for host in hosts {
-        push_host_rows(to, host)?;
     }
     Ok(())
 }
@@ -157,39 +208,6 @@ fn push_service_row(to: &mut String, service: &HostService<'_>) -> Result<(), Wa
     Ok(())
 }
 
-/// Writes the hosts of a cache that are about the subjects as comma-separated values: a line for each service on a host.
-pub(crate) fn hosts_csv(
-    alloc: Global,
-    cache: &Cache,
-    about: &[Subject],
-    now: Moment,
-) -> Result<String, Want>
-    requires { NoneLater cache.now.newest now }
-    ensures { IfOk result (λ text. (heard : List Hearing) → StandsFor cache.now heard
-        → IsReportIn about.now Csv Hosts heard now.nanos (string_bytes text)) }
-{
-    let source = host_source(alloc, about, cache.walk_live(now))?;
-    let hosts = kept_hosts(
-        alloc,
-        about,
-        source.rows.as_slice(),
-        source.services.as_slice(),
-    )?;
-    let mut text = String::new(alloc);
-    text.push_str("host,addresses,instance,port\r\n")?;
-    push_csv_hosts(&mut text, hosts.as_slice())?;
-    Ok(text)
-}
-
-fn push_csv_hosts(to: &mut String, hosts: &[Host<'_>]) -> Result<(), Want>
-    ensures { OnOk result (string_bytes to.new ≡ string_bytes to.old ++ flat_map host_csv (map host_lent hosts.now)) }
-{
-    for host in hosts {
-        push_csv_host(to, host)?;
-    }
-    Ok(())
-}
-
 #[tactic(auto, unfolding(crate::specs::Hosts::host_csv))]
 fn push_csv_host(to: &mut String, host: &Host<'_>) -> Result<(), Want>
     ensures { OnOk result (string_bytes to.new ≡ string_bytes to.old ++ host_csv (host_lent host.now)) }
@@ -225,27 +243,16 @@ fn push_csv_services<'a>(
             ],
         );
     }
+    let mut instance = String::new(*to.allocator());
     for service in services {
-        push_csv_service(to, host, addresses, service)?;
+        instance.clear();
+        push_shown_name(&mut instance, &service.instance.borrowed())?;
+        push_csv_service(to, host, addresses, instance.as_str(), service.port)?;
     }
     Ok(())
 }
 
-fn push_csv_service(
-    to: &mut String,
-    host: &str,
-    addresses: &str,
-    service: &HostService<'_>,
-) -> Result<(), Want>
-    ensures { OnOk result (string_bytes to.new
-        ≡ string_bytes to.old ++ service_csv host.now addresses.now (served_lent service.now)) }
-{
-    let mut instance = String::new(*to.allocator());
-    push_shown_name(&mut instance, &service.instance.borrowed())?;
-    push_csv_service_line(to, host, addresses, instance.as_str(), service.port)
-}
-
-fn push_csv_service_line<'a>(
+fn push_csv_service<'a>(
     to: &mut String,
     host: &'a str,
     addresses: &'a str,

@@ -3,8 +3,8 @@
 ghost use Rattle.std.specs.{Prelude.{◌≡◌, List, [], map, max, IfOk, OnOk}, List.{filter_map}, String.{string_bytes}};
 ghost use Rattle.mdns_message.specs.declared.hearing.Hearing.{Hearing};
 ghost use Rattle.mdns_cache.specs.{Contents.{StandsFor}, Live.{NoneLater}, LentRecords.{last_lent, live_record_lent}};
-ghost use Rattle.mdns_browse.specs.{Given.{given_lent}, ColumnPieces.{Writes, row_pieces, rows_pieces, type_pieces}};
-ghost use Rattle.mdns_browse.specs.{Columns.{time_left_text, widest}, Report.{IsReportIn}};
+ghost use Rattle.mdns_browse.specs.{ColumnPieces.{Adds, row_after}, Given.{given_lent}};
+ghost use Rattle.mdns_browse.specs.{Columns.{rows_by_type, time_left_text, type_begin, widest}, Report.{IsReportIn}};
 ghost use Rattle.mdns_browse.specs.Services.{AreAscending, GivenRow, instance_in, instance_row_in};
 ghost use Rattle.mdns_browse.specs.declared.report.{Ask.TheVariants.{Instances}, Form.TheVariants.{Pretty}};
 
@@ -14,7 +14,8 @@ use crate::given_rows::given_in;
 use crate::instance_sheet::InstanceSheet;
 use crate::other_names::{kept_others, push_others};
 use crate::report_walk::walk_instance;
-use crate::sheet::{InstancePointer, Sheet};
+use crate::sheet::InstancePointer;
+use crate::type_forms::push_type_row;
 use dns_name::fold::folded_cmp;
 use mdns_cache::{Cache, Last, LiveRecord};
 use mdns_capture::Moment;
@@ -79,8 +80,8 @@ fn push_instances(
     rows: &[Last<'_>],
     given: &[InstancePointer<'_>],
 ) -> Result<(), Want>
-    ensures { OnOk result (AreAscending (map last_lent rows.now) → Writes sheet.old
-        (rows_pieces [] (filter_map (instance_row_in (map last_lent rows.now)) (map given_lent given.now))) sheet.new) }
+    ensures { OnOk result (AreAscending (map last_lent rows.now) → Adds sheet.old (λ width now. rows_by_type width now []
+        (filter_map (instance_row_in (map last_lent rows.now)) (map given_lent given.now))) sheet.new) }
 {
     let mut before: &[u8] = b"";
     for row in given {
@@ -102,7 +103,7 @@ fn push_instance(
     name: &Name,
     before: &[u8],
 ) -> Result<(), Want>
-    ensures { OnOk result (AreAscending (map last_lent rows.now) → Writes sheet.old (row_pieces before.now (record {
+    ensures { OnOk result (AreAscending (map last_lent rows.now) → Adds sheet.old (row_after before.now (record {
       given = given_lent given.now;
       instance = instance_in (map last_lent rows.now) name.now;
     })) sheet.new) }
@@ -113,10 +114,11 @@ fn push_instance(
 
 // Appends the name of a type, unless the instance before is of that type.
 fn push_type(sheet: &mut InstanceSheet, before: &[u8], owner: &Name) -> Result<(), Want>
-    ensures { OnOk result (Writes sheet.old (type_pieces before.now owner.now) sheet.new) }
+    ensures { OnOk result (Adds sheet.old (λ width now. type_begin before.now owner.now) sheet.new) }
 {
     if folded_cmp(before, owner.wire()).is_eq() {
         return Ok(());
     }
-    sheet.service_type(owner)
+    sheet.text.push('\n')?;
+    push_type_row(&mut sheet.text, owner)
 }

@@ -4,14 +4,11 @@ ghost use Rattle.std.specs.{Prelude.{◌≡◌, ◌++◌, ◌∷◌, [], codes, 
 ghost use Rattle.mdns_browse.specs.Columns.{spaces};
 
 use crate::columns::{push_padded_time_left, push_spaces};
-use crate::host::Host;
-use crate::record_columns::push_type_row;
 use crate::record_shown::{
     GAP, push_shown_instance, push_shown_order, push_shown_strings, push_shown_target,
     push_shown_words,
 };
 use crate::sheet::{InstancePointer, Sheet};
-use mdns_cache::LiveRecord;
 use mdns_capture::Moment;
 use mdns_message::{BorrowedBody, Bytes, Name, Want};
 use std::alloc::Global;
@@ -65,21 +62,6 @@ impl Sheet for InstanceSheet {
     ghost use Rattle.mdns_browse.specs.laws.ColumnPieces.{columns-laws};
 
     ghost takes = { Writes };
-
-    // Columns of instances have no other records.
-    fn live_record(&mut self, _row: &LiveRecord<'_>) -> Result<(), Want> {
-        Ok(())
-    }
-
-    fn service_type(&mut self, name: &Name) -> Result<(), Want> {
-        self.text.push('\n')?;
-        push_type_row(&mut self.text, name)
-    }
-
-    // Hosts have columns of their own.
-    fn host(&mut self, _row: &Host<'_>) -> Result<(), Want> {
-        Ok(())
-    }
 
     #[tactic(auto, unfolding(crate::specs::Columns::instance_row))]
     fn instance_begin(&mut self, given: &InstancePointer<'_>, name: &Name) -> Result<(), Want> {

@@ -6,7 +6,7 @@ ghost use Rattle.mdns_browse.specs.{Columns.{other_row, others_pretty}, Report.{
 
 use crate::about::Subject;
 use crate::columns::push_padded_time_left;
-use crate::record_columns::push_kept_record;
+use crate::record_forms::push_kept_record;
 use crate::record_shown::{GAP, push_shown_words};
 use crate::services::other_of;
 use mdns_cache::{LiveRecord, LiveWalk};

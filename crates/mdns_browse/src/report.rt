@@ -3,15 +3,13 @@
 ghost use Rattle.std.specs.{Prelude.{◌≡◌, ◌<◌, List, Err, IfOk, IfErr, IfSome, IfNone}, String.{string_bytes}};
 ghost use Rattle.mdns_message.specs.declared.hearing.Hearing.{Hearing};
 ghost use Rattle.mdns_cache.specs.{Live.{NoneLater}, Contents.{StandsFor}};
-ghost use Rattle.mdns_browse.specs.{Report.{IsReport, IsReportIn, IfEarly}, declared.report.Form.TheVariants.{Csv, Json, Lines, Pretty}};
+ghost use Rattle.mdns_browse.specs.Report.{IfEarly, IsReport, IsReportIn};
 
 use crate::about::Subject;
-use crate::host_forms::{hosts_columns, hosts_csv};
-use crate::instance_columns::instances_columns;
-use crate::record_columns::{records_columns, types_columns};
-use crate::report_csv::{instances_csv, records_csv, types_csv};
-use crate::report_json::Objects;
-use crate::report_walk::walk;
+use crate::host_forms::hosts_text;
+use crate::instance_forms::instances_text;
+use crate::record_forms::records_text;
+use crate::type_forms::types_text;
 use mdns_cache::Cache;
 use mdns_capture::Moment;
 use mdns_message::Want;
@@ -130,76 +128,6 @@ fn newest_after(cache: &Cache, now: Moment) -> Option<Moment>
     None
 }
 
-fn lines_of(
-    alloc: Global,
-    cache: &Cache,
-    ask: Ask,
-    about: &[Subject],
-    now: Moment,
-) -> Result<String, Want>
-    requires { NoneLater cache.now.newest now }
-    ensures { IfOk result (λ text. (heard : List Hearing) → StandsFor cache.now heard
-        → IsReportIn about.now Lines ask heard now.nanos (string_bytes text)) }
-{
-    let mut text = String::new(alloc);
-    walk(&mut text, alloc, cache, ask, about, now)?;
-    Ok(text)
-}
-
-fn json_of(
-    alloc: Global,
-    cache: &Cache,
-    ask: Ask,
-    about: &[Subject],
-    now: Moment,
-) -> Result<String, Want>
-    requires { NoneLater cache.now.newest now }
-    ensures { IfOk result (λ text. (heard : List Hearing) → StandsFor cache.now heard
-        → IsReportIn about.now Json ask heard now.nanos (string_bytes text)) }
-{
-    let mut objects = Objects::new(alloc);
-    walk(&mut objects, alloc, cache, ask, about, now)?;
-    Ok(objects.text)
-}
-
-fn columns_of(
-    alloc: Global,
-    cache: &Cache,
-    ask: Ask,
-    about: &[Subject],
-    now: Moment,
-) -> Result<String, Want>
-    requires { NoneLater cache.now.newest now }
-    ensures { IfOk result (λ text. (heard : List Hearing) → StandsFor cache.now heard
-        → IsReportIn about.now Pretty ask heard now.nanos (string_bytes text)) }
-{
-    match ask {
-        Ask::Records => records_columns(alloc, cache, about, now),
-        Ask::Types => types_columns(alloc, cache, about, now),
-        Ask::Instances => instances_columns(alloc, cache, about, now),
-        Ask::Hosts => hosts_columns(alloc, cache, about, now),
-    }
-}
-
-fn csv_of(
-    alloc: Global,
-    cache: &Cache,
-    ask: Ask,
-    about: &[Subject],
-    now: Moment,
-) -> Result<String, Want>
-    requires { NoneLater cache.now.newest now }
-    ensures { IfOk result (λ text. (heard : List Hearing) → StandsFor cache.now heard
-        → IsReportIn about.now Csv ask heard now.nanos (string_bytes text)) }
-{
-    match ask {
-        Ask::Records => records_csv(alloc, cache, about, now),
-        Ask::Types => types_csv(alloc, cache, about, now),
-        Ask::Instances => instances_csv(alloc, cache, about, now),
-        Ask::Hosts => hosts_csv(alloc, cache, about, now),
-    }
-}
-
 fn text_of(
     alloc: Global,
     cache: &Cache,
@@ -212,10 +140,10 @@ fn text_of(
     ensures { IfOk result (λ text. (heard : List Hearing) → StandsFor cache.now heard
         → IsReportIn about.now form ask heard now.nanos (string_bytes text)) }
 {
-    match form {
-        Form::Lines => lines_of(alloc, cache, ask, about, now),
-        Form::Json => json_of(alloc, cache, ask, about, now),
-        Form::Pretty => columns_of(alloc, cache, ask, about, now),
-        Form::Csv => csv_of(alloc, cache, ask, about, now),
+    match ask {
+        Ask::Records => records_text(alloc, cache, form, about, now),
+        Ask::Types => types_text(alloc, cache, form, about, now),
+        Ask::Instances => instances_text(alloc, cache, form, about, now),
+        Ask::Hosts => hosts_text(alloc, cache, form, about, now),
     }
 }

@@ -1,18 +1,18 @@
 //! Reports as JSON (RFC 8259): one object a line.
 
-ghost use Rattle.std.specs.{Prelude.{◌≡◌, ◌++◌, [], codes, take, true, false, OnOk}, Fmt.{decimal}, String.{string_bytes}};
+ghost use Rattle.std.specs.{Prelude.{◌≡◌, ◌++◌, ◌∷◌, [], codes, take, true, false, OnOk}, String.{string_bytes}};
 ghost use Rattle.dns_name.specs.Name.{name_text};
-ghost use Rattle.mdns_browse.specs.RecordText.{word_text, data_words};
-ghost use Rattle.mdns_browse.specs.Json.{json_string, comma_unless, first_after, parted, resource_members};
-ghost use Rattle.mdns_browse.specs.{LifeText.{life_rest, resource_begin, resource_json}, RecordShown.{shown_instance}};
-ghost use Rattle.mdns_capture.specs.Text.{moment_text};
 ghost use Rattle.mdns_message.specs.Borrowed.{resource_lent};
+ghost use Rattle.mdns_cache.specs.LentRecords.{live_record_lent};
 ghost use Rattle.people_text.specs.Shown.{name_shown};
+ghost use Rattle.mdns_browse.specs.Json.{array_begin, comma_unless, hearing_members, json_string, parted, record_json, resource_members};
+ghost use Rattle.mdns_browse.specs.{Given.{given_lent}, Json.{text_member, type_json}, JsonPieces.{instance_members, server_members}};
+ghost use Rattle.mdns_browse.specs.{LifeText.{life_rest, resource_json}, RecordShown.{shown_instance}, RecordText.{word_text}};
 
 use crate::data_words::{Word, WordSink, push_text_words, push_words};
-use crate::host::Host;
-use crate::host_forms::push_host_json;
-use crate::json::{json_bool, push_json_name, push_json_string, push_text_member};
+use crate::json::{
+    json_bool, push_json_name, push_json_string, push_number_member, push_text_member,
+};
 use crate::life_text::end_word;
 use crate::record_shown::{push_shown_instance, push_shown_record};
 use crate::sheet::{InstancePointer, Sheet};
@@ -55,13 +55,35 @@ impl Objects {
         push_json_string(&mut self.text, self.scratch.as_str())
     }
 
-    /// Appends the text of a name as a string.
-    pub(crate) fn quote_name(&mut self, name: &Name) -> Result<(), Want>
+    // Appends a member whose value is a word, after a comma unless it is the first.
+    fn member(&mut self, first: bool, name: &str, word: Word<'_>) -> Result<(), Want>
         ensures text { OnOk result (string_bytes self.new.text
-            ≡ string_bytes self.old.text ++ json_string (name_text name.now)) }
+            ≡ string_bytes self.old.text ++ (comma_unless first ++ text_member name.now (word_text word.entry))) }
         ensures first { self.new.first ≡ self.old.first }
     {
-        self.quote(Word::Name(&name.borrowed()))
+        self.scratch.clear();
+        word.push_text(&mut self.scratch)?;
+        push_text_member(&mut self.text, first, name, self.scratch.as_str())
+    }
+
+    /// Appends a member whose value is a name, after a comma unless it is the first.
+    pub(crate) fn name_member(&mut self, first: bool, name: &str, value: &Name) -> Result<(), Want>
+        ensures text { OnOk result (string_bytes self.new.text
+            ≡ string_bytes self.old.text ++ (comma_unless first ++ text_member name.now (name_text value.now))) }
+        ensures first { self.new.first ≡ self.old.first }
+    {
+        self.member(first, name, Word::Name(&value.borrowed()))
+    }
+
+    /// Appends the name of a member after others and the beginning of an array, its value.
+    pub(crate) fn array_begin(&mut self, name: &str) -> Result<(), Want>
+        ensures text { OnOk result (string_bytes self.new.text ≡ string_bytes self.old.text ++ array_begin name.now) }
+        ensures first { OnOk result (self.new.first ≡ true) }
+    {
+        push_json_name(&mut self.text, false, name)?;
+        self.text.push('[')?;
+        self.first = true;
+        Ok(())
     }
 
     // Appends a comma before a value of an array, unless it is the first.
@@ -79,70 +101,16 @@ impl Objects {
     // Appends the text for people in `scratch` as a member.
     fn shown(&mut self) -> Result<(), Want>
         ensures text { OnOk result (string_bytes self.new.text
-            ≡ string_bytes self.old.text ++ (codes ",\"shown\":" ++ json_string (string_bytes self.old.scratch))) }
+            ≡ string_bytes self.old.text ++ 44 ∷ text_member (codes "shown") (string_bytes self.old.scratch)) }
         ensures first { self.new.first ≡ self.old.first }
     {
-        self.text.push_str(",\"shown\":")?;
-        push_json_string(&mut self.text, self.scratch.as_str())
-    }
-
-    // Appends the owner, the type and the data of a record, the words of which are an array.
-    fn resource_begin(&mut self, resource: &Resource) -> Result<(), Want>
-        ensures text { OnOk result (string_bytes self.new.text ≡ string_bytes self.old.text ++ resource_begin resource.now) }
-        ensures first { OnOk result (self.new.first ≡ first_after true (data_words resource.now.body)) }
-    {
-        self.text.push_str("{\"owner\":")?;
-        self.quote_name(&resource.owner)?;
-        self.text.push_str(",\"type\":")?;
-        push_json_string(&mut self.text, resource.body.record_type().name())?;
-        self.text.push_str(",\"data\":[")?;
-        self.first = true;
-        push_words(self, &resource.body.borrowed())?;
-        self.text.push(']')?;
-        Ok(())
-    }
-
-    /// Appends the owner, the type and the data of a record, the words of which are an array, and the record as people
-    /// read it.
-    pub(crate) fn resource(&mut self, resource: &Resource) -> Result<(), Want>
-        ensures text { OnOk result (string_bytes self.new.text ≡ string_bytes self.old.text ++ resource_json resource.now) }
-        ensures first { OnOk result (self.new.first ≡ first_after true (data_words resource.now.body)) }
-    {
-        self.resource_begin(resource)?;
-        self.scratch.clear();
-        push_shown_record(&mut self.scratch, &resource.borrowed())?;
-        self.shown()
-    }
-
-    // Appends the TTL of a hearing, its moment, and the end that it gives.
-    fn hearing(&mut self, ttl: u32, heard: Moment, until: u64) -> Result<(), Want>
-        ensures text { OnOk result (string_bytes self.new.text ≡ string_bytes self.old.text
-            ++ (codes ",\"ttl\":" ++ decimal ttl ++ codes ",\"heard\":" ++ json_string (moment_text heard.nanos)
-            ++ codes ",\"until\":" ++ json_string (moment_text until))) }
-        ensures first { self.new.first ≡ self.old.first }
-    {
-        write!(self.text, ",\"ttl\":{ttl},\"heard\":")?;
-        self.quote(Word::Moment(heard.nanos()))?;
-        self.text.push_str(",\"until\":")?;
-        self.quote(Word::Moment(until))
-    }
-
-    // Appends the TTL of a live record, as heard, when it was heard and its end, and ends the line.
-    fn live(&mut self, row: &LiveRecord<'_>) -> Result<(), Want>
-        ensures text { OnOk result (string_bytes self.new.text ≡ string_bytes self.old.text
-            ++ (codes ",\"ttl\":" ++ decimal row.now.last.ttl
-            ++ codes ",\"heard\":" ++ json_string (moment_text row.now.last.moment.nanos)
-            ++ codes ",\"until\":" ++ json_string (moment_text row.now.end) ++ codes "}\n")) }
-        ensures first { self.new.first ≡ self.old.first }
-    {
-        self.hearing(row.last.ttl, row.last.moment, row.end)?;
-        Ok(self.text.push_str("}\n")?)
+        push_text_member(&mut self.text, false, "shown", self.scratch.as_str())
     }
 
     // Appends the name of an instance for people as a member.
     fn shown_instance(&mut self, name: &Name) -> Result<(), Want>
         ensures text { OnOk result (string_bytes self.new.text
-            ≡ string_bytes self.old.text ++ (codes ",\"shown\":" ++ json_string (shown_instance name.now))) }
+            ≡ string_bytes self.old.text ++ 44 ∷ text_member (codes "shown") (shown_instance name.now)) }
         ensures first { self.new.first ≡ self.old.first }
     {
         self.scratch.clear();
@@ -153,7 +121,7 @@ impl Objects {
     /// Appends a name for people as a member.
     pub(crate) fn shown_name(&mut self, name: &Name) -> Result<(), Want>
         ensures text { OnOk result (string_bytes self.new.text
-            ≡ string_bytes self.old.text ++ (codes ",\"shown\":" ++ json_string (name_shown name.now))) }
+            ≡ string_bytes self.old.text ++ 44 ∷ text_member (codes "shown") (name_shown name.now)) }
         ensures first { self.new.first ≡ self.old.first }
     {
         self.scratch.clear();
@@ -161,16 +129,122 @@ impl Objects {
         self.shown()
     }
 
-    /// Appends when a life began, its last hearing, and when and how it ends, and ends the line.
+    // Appends the owner, the type and the words of the data of a record as members.
+    #[tactic(auto, unfolding(crate::specs::Json::parted))]
+    fn exact_members(&mut self, first: bool, resource: &BorrowedResource<'_>) -> Result<(), Want>
+        ensures { OnOk result (string_bytes self.new.text
+            ≡ string_bytes self.old.text ++ parted first (take 3 (resource_members (resource_lent resource.now)))) }
+    {
+        self.member(first, "owner", Word::Name(&resource.owner))?;
+        push_text_member(
+            &mut self.text,
+            false,
+            "type",
+            resource.body.record_type().name(),
+        )?;
+        self.array_begin("data")?;
+        push_words(self, &resource.body)?;
+        Ok(self.text.push(']')?)
+    }
+
+    // Appends the members that say what a record is.
+    fn members(&mut self, first: bool, resource: &BorrowedResource<'_>) -> Result<(), Want>
+        ensures { OnOk result (string_bytes self.new.text
+            ≡ string_bytes self.old.text ++ parted first (resource_members (resource_lent resource.now))) }
+    {
+        self.exact_members(first, resource)?;
+        self.scratch.clear();
+        push_shown_record(&mut self.scratch, resource)?;
+        self.shown()
+    }
+
+    /// Begins an object with the members that say what a record is.
+    pub(crate) fn resource(&mut self, resource: &Resource) -> Result<(), Want>
+        ensures { OnOk result (string_bytes self.new.text ≡ string_bytes self.old.text ++ resource_json resource.now) }
+    {
+        self.text.push('{')?;
+        self.members(true, &resource.borrowed())
+    }
+
+    // Appends the TTL of a hearing, its moment, and the end that it gives as members.
+    #[tactic(auto, unfolding(crate::specs::Json::parted))]
+    fn hearing(&mut self, ttl: u32, heard: Moment, until: u64) -> Result<(), Want>
+        ensures { OnOk result (string_bytes self.new.text
+            ≡ string_bytes self.old.text ++ parted false (hearing_members ttl heard.nanos until)) }
+    {
+        push_number_member(&mut self.text, false, "ttl", ttl as u64)?;
+        self.member(false, "heard", Word::Moment(heard.nanos()))?;
+        self.member(false, "until", Word::Moment(until))
+    }
+
+    /// Appends the object of a live record.
+    pub(crate) fn record(&mut self, row: &LiveRecord<'_>) -> Result<(), Want>
+        ensures { OnOk result (string_bytes self.new.text ≡ string_bytes self.old.text ++ record_json (live_record_lent row.now)) }
+    {
+        self.resource(row.last.resource)?;
+        self.hearing(row.last.ttl, row.last.moment, row.end)?;
+        Ok(self.text.push_str("}\n")?)
+    }
+
+    /// Appends the object of a service type.
+    #[tactic(auto, unfolding(crate::specs::Json::type_json, crate::specs::Json::parted))]
+    pub(crate) fn service_type(&mut self, name: &Name) -> Result<(), Want>
+        ensures { OnOk result (string_bytes self.new.text ≡ string_bytes self.old.text ++ type_json name.now) }
+    {
+        self.text.push('{')?;
+        self.name_member(true, "type", name)?;
+        self.shown_name(name)?;
+        Ok(self.text.push_str("}\n")?)
+    }
+
+    /// Appends when a life began, its last hearing, and when and how it ends as members, and ends the line.
+    #[tactic(auto, unfolding(crate::specs::Json::parted))]
     pub(crate) fn life(&mut self, end_of_captures: Moment, life: &Life) -> Result<(), Want>
         ensures { OnOk result (string_bytes self.new.text ≡ string_bytes self.old.text ++ life_rest end_of_captures.nanos life.now) }
     {
-        self.text.push_str(",\"from\":")?;
-        self.quote(Word::Moment(life.from.nanos()))?;
+        self.member(false, "from", Word::Moment(life.from.nanos()))?;
         self.hearing(life.last.ttl, life.last.moment, life.until)?;
-        self.text.push_str(",\"end\":")?;
-        push_json_string(&mut self.text, end_word(end_of_captures, life))?;
+        push_text_member(
+            &mut self.text,
+            false,
+            "end",
+            end_word(end_of_captures, life),
+        )?;
         Ok(self.text.push_str("}\n")?)
+    }
+
+    // Begins the object of an instance with the members before its servers.
+    #[tactic(auto, unfolding(crate::specs::Json::parted))]
+    fn instance_members(&mut self, given: &InstancePointer<'_>, name: &Name) -> Result<(), Want>
+        ensures { OnOk result (string_bytes self.new.text
+            ≡ string_bytes self.old.text ++ 123 ∷ parted true (instance_members (given_lent given.now) name.now)) }
+    {
+        self.text.push('{')?;
+        self.name_member(true, "instance", name)?;
+        self.shown_instance(name)?;
+        self.name_member(false, "type", &given.row.last.resource.owner)?;
+        push_json_name(&mut self.text, false, "goodbye")?;
+        Ok(self.text.push_str(json_bool(given.row.last.ttl == 0))?)
+    }
+
+    // Begins the object of a server with the members before its addresses.
+    #[tactic(auto, unfolding(crate::specs::Json::parted))]
+    fn server_members(
+        &mut self,
+        priority: u16,
+        weight: u16,
+        port: u16,
+        target: &Name,
+    ) -> Result<(), Want>
+        ensures { OnOk result (string_bytes self.new.text
+            ≡ string_bytes self.old.text ++ 123 ∷ parted true (server_members priority weight port target.now)) }
+    {
+        self.text.push('{')?;
+        self.name_member(true, "target", target)?;
+        self.shown_name(target)?;
+        push_number_member(&mut self.text, false, "port", port as u64)?;
+        push_number_member(&mut self.text, false, "priority", priority as u64)?;
+        push_number_member(&mut self.text, false, "weight", weight as u64)
     }
 }
 
@@ -196,34 +270,9 @@ impl Sheet for Objects {
 
     ghost takes = { Grows pieces_json pieces_next };
 
-    fn live_record(&mut self, row: &LiveRecord<'_>) -> Result<(), Want> {
-        self.resource(row.last.resource)?;
-        self.live(row)
-    }
-
-    #[tactic(auto, unfolding(crate::specs::Json::type_json, crate::specs::Json::escaped, crate::specs::Json::parted))]
-    fn service_type(&mut self, name: &Name) -> Result<(), Want> {
-        self.text.push_str("{\"type\":")?;
-        self.quote_name(name)?;
-        self.shown_name(name)?;
-        Ok(self.text.push_str("}\n")?)
-    }
-
-    fn host(&mut self, row: &Host<'_>) -> Result<(), Want> {
-        push_host_json(self, row)
-    }
-
     fn instance_begin(&mut self, given: &InstancePointer<'_>, name: &Name) -> Result<(), Want> {
-        self.text.push_str("{\"instance\":")?;
-        self.quote_name(name)?;
-        self.shown_instance(name)?;
-        self.text.push_str(",\"type\":")?;
-        self.quote_name(&given.row.last.resource.owner)?;
-        self.text.push_str(",\"goodbye\":")?;
-        self.text.push_str(json_bool(given.row.last.ttl == 0))?;
-        self.text.push_str(",\"servers\":[")?;
-        self.first = true;
-        Ok(())
+        self.instance_members(given, name)?;
+        self.array_begin("servers")
     }
 
     fn server_begin(
@@ -234,15 +283,8 @@ impl Sheet for Objects {
         target: &Name,
     ) -> Result<(), Want> {
         self.comma()?;
-        self.text.push_str("{\"target\":")?;
-        self.quote_name(target)?;
-        self.shown_name(target)?;
-        write!(
-            self.text,
-            ",\"port\":{port},\"priority\":{priority},\"weight\":{weight},\"addresses\":["
-        )?;
-        self.first = true;
-        Ok(())
+        self.server_members(priority, weight, port, target)?;
+        self.array_begin("addresses")
     }
 
     fn server_address(&mut self, address: &BorrowedBody<'_>) -> Result<(), Want> {
@@ -256,9 +298,8 @@ impl Sheet for Objects {
     }
 
     fn servers_end(&mut self, _none: bool) -> Result<(), Want> {
-        self.text.push_str("],\"texts\":[")?;
-        self.first = true;
-        Ok(())
+        self.text.push(']')?;
+        self.array_begin("texts")
     }
 
     fn instance_text(&mut self, text: &Bytes) -> Result<(), Want> {
@@ -288,32 +329,7 @@ pub fn push_resource_members(
     ensures { OnOk result (string_bytes to.new
         ≡ string_bytes to.old ++ parted false (resource_members (resource_lent resource.now))) }
 {
-    push_exact_members(alloc, to, resource)?;
-    let mut shown = String::new(alloc);
-    push_shown_record(&mut shown, resource)?;
-    push_text_member(to, false, "shown", shown.as_str())
-}
-
-// Appends the members before `shown`.
-#[tactic(auto, unfolding(crate::specs::Json::parted))]
-fn push_exact_members(
-    alloc: Global,
-    to: &mut String,
-    resource: &BorrowedResource<'_>,
-) -> Result<(), Want>
-    ensures { OnOk result (string_bytes to.new
-        ≡ string_bytes to.old ++ parted false (take 3 (resource_members (resource_lent resource.now)))) }
-{
-    let mut words = Objects::new(alloc);
-    words.scratch.clear();
-    resource.owner.push_text(&mut words.scratch)?;
-    push_text_member(to, false, "owner", words.scratch.as_str())?;
-    push_text_member(to, false, "type", resource.body.record_type().name())?;
-    words.first = true;
-    push_words(&mut words, &resource.body)?;
-    push_json_name(to, false, "data")?;
-    to.push('[')?;
-    to.push_str(words.text.as_str())?;
-    to.push(']')?;
-    Ok(())
+    let mut members = Objects::new(alloc);
+    members.members(false, resource)?;
+    Ok(to.push_str(members.text.as_str())?)
 }

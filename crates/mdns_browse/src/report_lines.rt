@@ -3,12 +3,11 @@
 ghost use Rattle.std.specs.Prelude.{◌≡◌, ◌++◌, ◌∷◌, ◌≤◌, [], codes, length, OnOk};
 ghost use Rattle.std.specs.{Fmt.{decimal}, String.{string_bytes}};
 ghost use Rattle.mdns_capture.specs.Text.{moment_text};
-ghost use Rattle.mdns_browse.specs.LifeText.{life_words};
+ghost use Rattle.mdns_cache.specs.LentRecords.{live_record_lent};
+ghost use Rattle.mdns_browse.specs.{LifeText.{life_words}, RecordText.{record_line}};
 
 use crate::data_words::{Word, WordSink, push_text_words, push_words};
 use crate::format::push_resource;
-use crate::host::Host;
-use crate::host_forms::push_host_line;
 use crate::life_text::end_word;
 use crate::sheet::{InstancePointer, Sheet};
 use crate::short_text::ShortText;
@@ -47,6 +46,15 @@ fn prepend_hearing(text: &mut ShortText, ttl: u32, heard: Moment, until: u64)
     text.prepend(" ttl ");
 }
 
+/// Appends the line of a live record.
+#[tactic(auto, unfolding(crate::specs::RecordText::record_line))]
+pub(crate) fn push_record_line(to: &mut String, row: &LiveRecord<'_>) -> Result<(), Want>
+    ensures { OnOk result (string_bytes to.new ≡ string_bytes to.old ++ record_line (live_record_lent row.now)) }
+{
+    push_resource(to, &row.last.resource.borrowed())?;
+    push_live(to, row)
+}
+
 fn push_live(to: &mut String, row: &LiveRecord<'_>) -> Result<(), Want>
     ensures { OnOk result (string_bytes to.new ≡ string_bytes to.old
         ++ (codes " ttl " ++ decimal row.now.last.ttl ++ codes " heard " ++ moment_text row.now.last.moment.nanos
@@ -78,21 +86,6 @@ impl Sheet for String {
     ghost use Rattle.mdns_browse.specs.laws.Sheet.{writes-laws};
 
     ghost takes = { writes piece_lines };
-
-    #[tactic(auto, unfolding(crate::specs::RecordText::record_line))]
-    fn live_record(&mut self, row: &LiveRecord<'_>) -> Result<(), Want> {
-        push_resource(self, &row.last.resource.borrowed())?;
-        push_live(self, row)
-    }
-
-    fn service_type(&mut self, name: &Name) -> Result<(), Want> {
-        name.push_text(self)?;
-        Ok(self.push('\n')?)
-    }
-
-    fn host(&mut self, row: &Host<'_>) -> Result<(), Want> {
-        push_host_line(self, row)
-    }
 
     fn instance_begin(&mut self, _given: &InstancePointer<'_>, name: &Name) -> Result<(), Want> {
         name.push_text(self)?;

@@ -1,124 +1,15 @@
-//! The walk over live records and services, which hands what it finds to a sheet.
+//! The walk over service instances, which hands what it finds to a sheet.
 
-ghost use Rattle.std.specs.{Prelude.{◌∷◌, [], List, map, option_map, OnOk}, List.{filter, filter_map, flat_map}};
-ghost use Rattle.mdns_message.specs.{Parts.{service_of}, declared.hearing.Hearing.{Hearing}};
-ghost use Rattle.mdns_cache.specs.{Contents.{StandsFor}, Live.{NoneLater, AreLiveRecords}, LentRecords.{last_lent, live_record_lent}};
-ghost use Rattle.mdns_browse.specs.{About.{keeps_type}, Given.{given_lent}, Report.{instances_about, records_about, types_about}};
-ghost use Rattle.mdns_browse.specs.Services.{AreAscending, body_of, instance_in, instance_row_in, lasts_in, server_at, servers_in};
-ghost use Rattle.mdns_browse.specs.{Services.{texts_in}, Sheet.{AddsPieces, instance_pieces, instance_text, live_record, report_pieces}};
-ghost use Rattle.mdns_browse.specs.Sheet.{server_address, server_pieces, servers_pieces, service_type};
+ghost use Rattle.std.specs.{Prelude.{◌∷◌, [], map, option_map, OnOk}, List.{filter_map, flat_map}};
+ghost use Rattle.mdns_message.specs.Parts.{service_of};
+ghost use Rattle.mdns_cache.specs.LentRecords.{last_lent};
+ghost use Rattle.mdns_browse.specs.{Given.{given_lent}, Services.{AreAscending, body_of, instance_in, instance_row_in, server_at, servers_in}};
+ghost use Rattle.mdns_browse.specs.{Services.{texts_in}, Sheet.{instance_pieces, instance_text, server_address, server_pieces, servers_pieces}};
 
-use crate::about::{Subject, keeps_record, keeps_type};
-use crate::given_rows::given_in;
-use crate::host::walk_hosts;
 use crate::lookup::of_set;
-use crate::report::Ask;
-use crate::services::type_of;
 use crate::sheet::{InstancePointer, Sheet};
-use mdns_cache::{Cache, Last, LiveRecord, LiveWalk};
-use mdns_capture::Moment;
+use mdns_cache::Last;
 use mdns_message::{Name, RecordType, Want};
-use std::alloc::Global;
-
-/// Hands over what a report about the subjects lists.
-pub(crate) fn walk<S: Sheet>(
-    sheet: &mut S,
-    alloc: Global,
-    cache: &Cache,
-    ask: Ask,
-    about: &[Subject],
-    now: Moment,
-) -> Result<(), Want>
-    requires { NoneLater cache.now.newest now }
-    ensures { OnOk result ((heard : List Hearing) → StandsFor cache.now heard
-        → AddsPieces S.takes (AreLiveRecords heard now.nanos) (report_pieces about.now ask) sheet.old sheet.new) }
-{
-    let mut scratch = String::new(alloc);
-    let records = cache.walk_live(now);
-    match ask {
-        Ask::Records => walk_records(sheet, about, records, &mut scratch),
-        Ask::Types => walk_types(sheet, about, records, &mut scratch),
-        Ask::Instances => walk_instances(sheet, alloc, about, records),
-        Ask::Hosts => walk_hosts(sheet, alloc, about, records),
-    }
-}
-
-// Hands over each live record that is about the subjects, in order.
-fn walk_records<S: Sheet>(
-    sheet: &mut S,
-    about: &[Subject],
-    records: LiveWalk<'_>,
-    scratch: &mut String,
-) -> Result<(), Want>
-    ensures { OnOk result (S.takes sheet.old (map live_record (records_about about.now records.entry)) sheet.new) }
-{
-    for record in records {
-        walk_record(sheet, about, &record, scratch)?;
-    }
-    Ok(())
-}
-
-// Hands over a live record if it is about the subjects.
-fn walk_record<S: Sheet>(
-    sheet: &mut S,
-    about: &[Subject],
-    row: &LiveRecord<'_>,
-    scratch: &mut String,
-) -> Result<(), Want>
-    ensures { OnOk result (S.takes sheet.old (map live_record (records_about about.now (live_record_lent row.now ∷ []))) sheet.new) }
-{
-    if keeps_record(about, &row.last.resource.borrowed(), scratch)? {
-        return sheet.live_record(row);
-    }
-    Ok(())
-}
-
-// Hands over each service type that is about the subjects, in order.
-fn walk_types<S: Sheet>(
-    sheet: &mut S,
-    about: &[Subject],
-    records: LiveWalk<'_>,
-    scratch: &mut String,
-) -> Result<(), Want>
-    ensures { OnOk result (S.takes sheet.old (map service_type (types_about about.now records.entry)) sheet.new) }
-{
-    for record in records {
-        let Some(name) = type_of(&record.last) else {
-            continue;
-        };
-        walk_type(sheet, about, name, scratch)?;
-    }
-    Ok(())
-}
-
-// Hands over a service type if it is about the subjects.
-fn walk_type<S: Sheet>(
-    sheet: &mut S,
-    about: &[Subject],
-    name: &Name,
-    scratch: &mut String,
-) -> Result<(), Want>
-    ensures { OnOk result (S.takes sheet.old (map service_type (filter (keeps_type about.now) (name.now ∷ []))) sheet.new) }
-{
-    if keeps_type(about, name, scratch)? {
-        return sheet.service_type(name);
-    }
-    Ok(())
-}
-
-// Hands over each service instance that is about the subjects, in order.
-fn walk_instances<S: Sheet>(
-    sheet: &mut S,
-    alloc: Global,
-    about: &[Subject],
-    records: LiveWalk<'_>,
-) -> Result<(), Want>
-    ensures { OnOk result (AreAscending (lasts_in records.entry)
-        → S.takes sheet.old (flat_map instance_pieces (instances_about about.now records.entry)) sheet.new) }
-{
-    let gathered = given_in(alloc, records, about)?;
-    walk_given(sheet, gathered.rows.as_slice(), gathered.given.as_slice())
-}
 
 /// Hands over to a sheet the instance of each of the records that give one, in order. The servers and texts are looked up in
 /// `rows`, last hearings of records, each record once, in key order.
@@ -191,8 +82,8 @@ fn walk_server<S: Sheet>(sheet: &mut S, rows: &[Last<'_>], row: &Last<'_>) -> Re
     sheet.server_end()
 }
 
-/// Hands over the address of each row.
-pub(crate) fn walk_addresses<S: Sheet>(sheet: &mut S, rows: &[Last<'_>]) -> Result<(), Want>
+// Hands over the address of each row.
+fn walk_addresses<S: Sheet>(sheet: &mut S, rows: &[Last<'_>]) -> Result<(), Want>
     ensures { OnOk result (S.takes sheet.old (map server_address (map body_of (map last_lent rows.now))) sheet.new) }
 {
     for row in rows {

@@ -1,12 +1,10 @@
-//! The pieces of a report, as a walk over the live records hands them to a form.
+//! The pieces of service instances, as a walk over the live records hands them to a form.
 
 ghost use Rattle.std.specs.Prelude.{List, [], ◌∷◌, OnOk};
 ghost use Rattle.mdns_message.specs.Borrowed.{body_lent};
-ghost use Rattle.mdns_cache.specs.LentRecords.{live_record_lent};
-ghost use Rattle.mdns_browse.specs.{Given.{given_lent}, Sheet.{Piece, TakeLaws, live_record, service_type, instance_begin, server_begin}};
-ghost use Rattle.mdns_browse.specs.{Hosts.{host_lent}, Sheet.{host, server_address, server_end, servers_end, instance_text, instance_end}};
+ghost use Rattle.mdns_browse.specs.{Given.{given_lent}, Sheet.{Piece, TakeLaws, instance_begin, instance_end, instance_text}};
+ghost use Rattle.mdns_browse.specs.Sheet.{server_address, server_begin, server_end, servers_end};
 
-use crate::host::Host;
 pub use crate::report_walk::walk_given;
 use mdns_cache::LiveRecord;
 use mdns_capture::Moment;
@@ -21,22 +19,10 @@ pub struct InstancePointer<'a> {
     pub since: Option<Moment>,
 }
 
-/// Takes the pieces of a report, and writes each in its form. After `Want` the contents of a sheet are not specified.
+/// Takes the pieces of service instances, and writes each in its form. After `Want` the contents of a sheet are not specified.
 pub trait Sheet {
     /// What holds of a sheet before some pieces and after all of them.
     ghost takes: { Self → List Piece → Self → Type 0 };
-
-    /// Takes a live record with its end.
-    fn live_record(&mut self, row: &LiveRecord<'_>) -> Result<(), Want>
-        ensures { OnOk result (takes self.old (live_record (live_record_lent row.now) ∷ []) self.new) };
-
-    /// Takes the name of a service type.
-    fn service_type(&mut self, name: &Name) -> Result<(), Want>
-        ensures { OnOk result (takes self.old (service_type name.now ∷ []) self.new) };
-
-    /// Takes a host.
-    fn host(&mut self, row: &Host<'_>) -> Result<(), Want>
-        ensures { OnOk result (takes self.old (host (host_lent row.now) ∷ []) self.new) };
 
     /// Takes the record that gives an instance, and the instance's name; its servers and texts follow.
     fn instance_begin(&mut self, given: &InstancePointer<'_>, name: &Name) -> Result<(), Want>

@@ -2,7 +2,7 @@
 use Rattle.std.specs.Prelude.{◌≡◌, ℕ, if◌then◌else◌, Bool, true, false, List, [], ◌∷◌, ◌++◌, codes, string_bytes}
 use Rattle.mdns_message.specs.Resource.{Body}
 use Rattle.people_text.specs.Shown.{name_shown}
-use Rattle.mdns_browse.specs.{RecordShown.{shown_instance}, Sheet.{Piece, host, live_record, service_type, instance_begin, server_begin}}
+use Rattle.mdns_browse.specs.{RecordShown.{shown_instance}, Sheet.{Piece, instance_begin, server_begin}}
 use Rattle.mdns_browse.specs.Sheet.{server_address, server_end, servers_end, instance_text, instance_end}
 use Rattle.mdns_page.specs.{declared.axis.Axis.{Axis}, declared.live_sheet.LiveSheet.{LiveSheet}, Html.{isolated}}
 use Rattle.mdns_page.specs.LiveSection.{address_html, given_words, server_line, text_html}
@@ -18,9 +18,6 @@ lines first (word ∷ words) = (if first then [] else 10 ∷ []) ++ word ++ line
 
 -- the text of a piece; `first` tells whether an address is the first of its server
 abbrev pub piece_html : (List ℕ → List ℕ) → Axis → Bool → Piece → List ℕ
-piece_html say axis first (live_record row) = []
-piece_html say axis first (service_type name) = []
-piece_html say axis first (host row) = []
 piece_html say axis first (instance_begin given name) =
     codes "<li><div>" ++ (say (shown_instance name) ++ given_words axis given) ++ codes "</div>" ++ codes "<div>"
 piece_html say axis first (server_begin priority weight port target) = server_line say priority weight port target

@@ -7,9 +7,8 @@ use crate::axis::Axis;
 use crate::group::push_group_begin;
 use crate::html::push_isolated;
 use crate::live_words::{push_address, push_given, push_server, push_text, push_unresolved_if};
+use mdns_browse::push_shown_instance;
 use mdns_browse::sheet::{InstancePointer, Sheet};
-use mdns_browse::{Host, push_shown_instance};
-use mdns_cache::LiveRecord;
 use mdns_message::{BorrowedBody, Bytes, Name, Want};
 use people_text::shown_names::push_shown_name;
 
@@ -59,20 +58,6 @@ impl Sheet for LiveSheet {
     ghost use Rattle.mdns_page.specs.laws.LiveSheet.{grows-laws};
 
     ghost takes = { Grows };
-
-    // Only instances have rows.
-    fn live_record(&mut self, _row: &LiveRecord<'_>) -> Result<(), Want> {
-        Ok(())
-    }
-
-    // `begin_type` begins a group.
-    fn service_type(&mut self, _name: &Name) -> Result<(), Want> {
-        Ok(())
-    }
-
-    fn host(&mut self, _row: &Host<'_>) -> Result<(), Want> {
-        Ok(())
-    }
 
     fn instance_begin(&mut self, given: &InstancePointer<'_>, name: &Name) -> Result<(), Want> {
         self.text.push_str("<li><div>")?;

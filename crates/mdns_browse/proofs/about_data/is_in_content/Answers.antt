@@ -1,3 +1,5 @@
+use Rattle.std.proofs.lemmas.Grind.{common_steps}
+use Rattle.std.proofs.Common.{arith}
 use Rattle.std.proofs.{Common.{sym, ◌∙◌, ap}, lemmas.Result.{IfOk-weaker}}
 use Rattle.std.specs.List.{list_any}
 use Rattle.mdns_message.specs.Parts.{content_lent}
@@ -12,8 +14,4 @@ returns-in-Address c =
 
 pub returns-in-Name : goal.returns-in-Name
 unfolding is_in_content
-returns-in-Name c =
-    IfOk-weaker c.matches_name.result _ _
-    (λ is same.
-    same ∙ ap (λ said. list_any (λ subject. is_in_content subject (content_lent said)) c.args.about.now) (sym c.in-Name.is))
-    c.matches_name.ensures
+returns-in-Name c = grind (arith, common_steps, IfOk-weaker)

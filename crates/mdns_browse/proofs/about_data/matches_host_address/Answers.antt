@@ -1,3 +1,5 @@
+use Rattle.std.proofs.lemmas.Grind.{common_steps}
+use Rattle.std.proofs.Common.{arith}
 use Rattle.std.proofs.Common.{◌≡◌, sym, ◌∙◌, ap, subst}
 use Rattle.std.specs.List.{list_any}
 use Rattle.mdns_message.specs.declared.parts.Content.TheVariants as content
@@ -12,7 +14,4 @@ returns-in-V4 c =
 
 pub returns-in-V6 : goal.returns-in-V6
 unfolding is_in_content
-returns-in-V6 c =
-    subst (λ address. c.matches_address-in-V6.result ≡ list_any (λ subject. is_in_content subject (content.Address address)) c.args.about.now) (sym c.in-V6.is)
-    (c.matches_address-in-V6.ensures
-    ∙ ap (λ octets. list_any (λ subject. matches_address subject.address octets) c.args.about.now) c.as_slice-in-V6.ensures)
+returns-in-V6 c = grind (arith, common_steps)

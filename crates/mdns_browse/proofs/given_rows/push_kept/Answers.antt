@@ -1,4 +1,6 @@
-use Rattle.std.proofs.Common.{rules, ◌≡◌, sym, ◌∙◌, ap, true, false, map, ◌++◌, [], ◌∷◌}
+use Rattle.std.proofs.lemmas.Grind.{common_steps}
+use Rattle.std.proofs.Common.{arith}
+use Rattle.std.proofs.Common.{sym, ◌∙◌, ap, map, ◌++◌}
 use Rattle.mdns_cache.specs.LentRecords.{last_lent}
 use Rattle.mdns_browse.specs.Given.{given_lent}
 use Rattle.std.proofs.lemmas.List.{append-nil, map-append}
@@ -12,19 +14,7 @@ returns-in_default c ascending =
     ∙ append-nil (map given_lent c.args.to.now.items))
 
 pub returns-in_ok-push : goal.returns-in_ok-push
-returns-in_ok-push c ascending =
-    let passes : c.in_ok-keeps_heard_instance.field-0 ≡ true = search rules in
-    let rows = map last_lent c.args.rows.now in
-    let keeps = sym passes ∙ c.in_ok-keeps_heard_instance.ensures ascending in
-    ap (map given_lent) c.in_ok-push.ensures.items ∙ map-append given_lent c.args.to.now.items (c.args.given ∷ [])
-    ∙ ap (λ more. map given_lent c.args.to.now.items ++ more)
-    (sym (kept-one rows c.args.about.now (given_lent c.args.given) c.in-Some.name.now true c.in-Some.ensures (sym keeps)))
+returns-in_ok-push c ascending = grind (arith, common_steps, map-append, kept-one)
 
 pub returns-else-branch : goal.returns-else-branch
-returns-else-branch c ascending =
-    let fails : c.in_ok-keeps_heard_instance.field-0 ≡ false = search rules in
-    let rows = map last_lent c.args.rows.now in
-    let keeps = sym fails ∙ c.in_ok-keeps_heard_instance.ensures ascending in
-    sym (ap (λ more. map given_lent c.args.to.now.items ++ more)
-    (kept-one rows c.args.about.now (given_lent c.args.given) c.in-Some.name.now false c.in-Some.ensures (sym keeps))
-    ∙ append-nil (map given_lent c.args.to.now.items))
+returns-else-branch c ascending = grind (arith, common_steps, kept-one, append-nil)

@@ -1,4 +1,5 @@
-use Rattle.std.proofs.Common.{sym, ◌∙◌, ap, arith}
+use Rattle.std.proofs.lemmas.Grind.{common_steps}
+use Rattle.std.proofs.Common.{sym, ◌∙◌, arith}
 use Rattle.mdns_join.specs.declared.latest.Latest.{Latest}
 use Rattle.mdns_cache.specs.{LentRecords.{last_lent}, declared.cache.Last.{Last}}
 use Rattle.mdns_browse.specs.About.{keeps_record}
@@ -6,14 +7,7 @@ use Rattle.mdns_browse.proofs.{AboutLemmas.{any-map}, AboutServiceLemmas.{any-fo
 use Rattle.mdns_browse.proofs.host.keeps_one.Goals as goal
 
 pub returns-then-branch : goal.returns-then-branch
-returns-then-branch c =
-    let about = c.args.about.now in
-    let rows = c.args.rows.now in
-    let test = λ (row : Latest). keeps_record about row.resource in
-    let is = c.in_ok-keeps_record.ensures ∙ ap (keeps_record about) c.borrowed.ensures in
-    any-found (λ (row : Last). test (last_lent row)) rows c.loop-row.row-index c.row-item.result (omega arith) c.row-item.is
-    (sym is ∙ c.if-branch.true)
-    ∙ sym (any-map test last_lent rows)
+returns-then-branch c = grind (arith, common_steps, any-found, any-map)
 
 pub loop-row-preserved : goal.loop-row-preserved
 loop-row-preserved c = grind (arith, none-more)

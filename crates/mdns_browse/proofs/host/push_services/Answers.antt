@@ -1,4 +1,5 @@
-use Rattle.std.proofs.{lemmas.List.{append-nil, map-append, take_all}, Common.{◌∙◌, ap, sym, ◌++◌, [], ◌∷◌, arith, map, option_map}}
+use Rattle.std.proofs.lemmas.Grind.{common_steps}
+use Rattle.std.proofs.{lemmas.List.{append-nil, map-append, take_all}, Common.{◌∙◌, ap, sym, ◌++◌, [], arith, map, option_map}}
 use Rattle.std.specs.List.{cons_option}
 use Rattle.mdns_cache.specs.LentRecords.{last_lent}
 use Rattle.mdns_browse.specs.{Hosts.{service_at, served_lent}, Services.{instance_in, server_at}}
@@ -11,34 +12,22 @@ loop-row-init c ascending = sym (append-nil (map served_lent c.args.to.now.items
 pub loop-row-preserved-in_default : goal.loop-row-preserved-in_default
 loop-row-preserved-in_default c ascending =
     let rows = map last_lent c.args.rows.now in
-    let about = c.args.about.now in
     let name = c.args.name.now in
     let held = map served_lent c.loop-row.to.items in
-    added_more (served_by about rows name) (served-append about rows name) last_lent c.of_set-row-items.result.now c.loop-row.row-index
+    added_more (served_by rows name) (served-append rows name) last_lent c.of_set-row-items.result.now c.loop-row.row-index
     c.row-item.result (map served_lent c.args.to.now.items) (omega arith) c.row-item.is (c.loop-row.invariant ascending)
     (sym (append-nil held)
-    ∙ ap (λ o. held ++ map (service_at about (instance_in rows name)) (cons_option (option_map (server_at rows) o) [])) c.in_default.ensures)
+    ∙ ap (λ o. held ++ map (service_at (instance_in rows name)) (cons_option (option_map (server_at rows) o) [])) c.in_default.ensures)
 
 pub loop-row-preserved : goal.loop-row-preserved
 loop-row-preserved c ascending =
     let rows = map last_lent c.args.rows.now in
-    let about = c.args.about.now in
     let name = c.args.name.now in
     let held = map served_lent c.loop-row.to.items in
-    added_more (served_by about rows name) (served-append about rows name) last_lent c.of_set-row-items.result.now c.loop-row.row-index
+    added_more (served_by rows name) (served-append rows name) last_lent c.of_set-row-items.result.now c.loop-row.row-index
     c.row-item.result (map served_lent c.args.to.now.items) (omega arith) c.row-item.is (c.loop-row.invariant ascending)
     (ap (map served_lent) c.in_ok-push.ensures.items ∙ map-append served_lent c.loop-row.to.items _
-    ∙ ap (λ kept. held ++ (record {
-      instance = name;
-      target = c.in-Some.service.target.now;
-      port = c.in-Some.service.port;
-      kept = kept;
-    }) ∷ []) (c.in_ok-kept.ensures ascending)
-    ∙ ap (λ o. held ++ map (service_at about (instance_in rows name)) (cons_option (option_map (server_at rows) o) [])) c.in-Some.ensures)
+    ∙ ap (λ o. held ++ map (service_at (instance_in rows name)) (cons_option (option_map (server_at rows) o) [])) c.in-Some.ensures)
 
 pub returns : goal.returns
-returns c ascending =
-    let rows = map last_lent c.args.rows.now in
-    c.loop-row.invariant ascending
-    ∙ ap (λ found. map served_lent c.args.to.now.items ++ served_by c.args.about.now rows c.args.name.now found)
-    (ap (map last_lent) (take_all c.loop-row.row-index c.of_set-row-items.result.now (omega arith)) ∙ c.of_set-row-items.ensures ascending)
+returns c ascending = grind (arith, common_steps, served_by, take_all)

@@ -8,4 +8,4 @@ abbrev pub invariant-loop-row : goal.invariant-loop-row
 invariant-loop-row l =
     AreAscending (map last_lent l.rows)
     → map served_lent l.to.items ≡ map served_lent l.initial.to.items
-    ++ served_by l.about (map last_lent l.rows) l.name (map last_lent (take l.row-index l.row-items))
+    ++ served_by (map last_lent l.rows) l.name (map last_lent (take l.row-index l.row-items))

@@ -7,4 +7,4 @@ use Rattle.mdns_browse.proofs.host.services_of.Given as goal
 abbrev pub invariant-loop-row : goal.invariant-loop-row
 invariant-loop-row l =
     AreAscending (map last_lent l.rows)
-    → map served_lent l.services.items ≡ services_given l.about (map last_lent l.rows) (map given_lent (take l.row-index l.given))
+    → map served_lent l.services.items ≡ services_given (map last_lent l.rows) (map given_lent (take l.row-index l.given))

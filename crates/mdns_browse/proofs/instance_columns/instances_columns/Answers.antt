@@ -1,11 +1,10 @@
-use Rattle.std.proofs.{Common.{sym, ◌∙◌, ap, subst, map, max, length, [], ◌++◌}, lemmas.List.{length-map}}
-use Rattle.std.specs.{List.{filter, flat_map}, String.{string_bytes}}
+use Rattle.std.proofs.{Common.{◌≡◌, sym, ◌∙◌, ap, subst, map, max, length, [], ◌++◌}, lemmas.List.{length-map}}
+use Rattle.std.specs.String.{string_bytes}
 use Rattle.mdns_capture.specs.declared.moment.Moment.{Moment}
 use Rattle.mdns_cache.specs.LentRecords.{last_lent, live_record_lent}
-use Rattle.mdns_browse.specs.{About.{keeps_instance}, Given.{given_lent}, ColumnPieces.{piece_columns, rows_pieces}}
-use Rattle.mdns_browse.specs.{Columns.{instances_pretty, time_left_text, widest}, Report.{instances_about, records_about}}
-use Rattle.mdns_browse.specs.Services.{AreAscending, InstanceRow, given_of, gives_instance, lasts_in, others_in}
-use Rattle.mdns_browse.proofs.{InstanceLemmas.{shown-again, shown_in}, InstanceColumnLemmas.{columns_by_parts, given_left}}
+use Rattle.mdns_browse.specs.{Columns.{instances_pretty, rows_by_type, time_left_text, widest}, Given.{given_lent}}
+use Rattle.mdns_browse.specs.{Report.{instances_about, records_about}, Services.{AreAscending, others_in}}
+use Rattle.mdns_browse.proofs.{InstanceColumnLemmas.{columns_by_parts, given_left}, InstanceLemmas.{shown_in}}
 use Rattle.mdns_browse.proofs.RowLemmas.{ascending_lasts, one_records}
 use Rattle.mdns_browse.proofs.instance_columns.instances_columns.Goals as goal
 
@@ -15,7 +14,6 @@ returns c heard stands =
     let about = c.args.about.now in
     let records = c.walk_live.result in
     let are = c.walk_live.ensures heard stands in
-    let lasts = lasts_in records in
     let ascending = ascending_lasts heard now records are in
     let rows = ap (map last_lent) c.as_slice-2.ensures.value ∙ c.in_ok-gathered.ensures.rows in
     let listed = c.as_slice-listed.result.now in
@@ -25,8 +23,8 @@ returns c heard stands =
     let found = ap (map live_record_lent) c.as_slice-3.ensures.value ∙ c.in_ok-others.ensures
     ∙ ap (λ rows. records_about about (others_in rows))
     (one_records heard now c.walk_live-2.result records (c.walk_live-2.ensures heard stands) are) in
-    let shown = ap (λ all. shown_in all (map given_lent listed)) rows ∙ ap (shown_in lasts) given
-    ∙ shown-again lasts (λ (row : InstanceRow). keeps_instance about row.instance) (filter gives_instance (map given_of records)) in
+    let shown : shown_in (map last_lent c.as_slice-2.result.now) (map given_lent listed) ≡ instances_about about records
+    = cc (c.in_ok-gathered.ensures.shown ascending) in
     let pushed = c.in_ok-push_instances.ensures (subst AreAscending (sym rows) ascending) in
     let begun = string_bytes c.push_heading.new.to in
     record {
@@ -41,11 +39,11 @@ returns c heard stands =
           same)
           c.in_ok-push_heading.ensures
           (pushed.written
-          ∙ ap (λ (at : Moment). begun ++ flat_map (piece_columns c.new-sheet.result.width at.nanos)
-          (rows_pieces [] (shown_in (map last_lent c.as_slice-2.result.now) (map given_lent listed)))) c.new-sheet.ensures.now
-          ∙ ap (λ width. begun ++ flat_map (piece_columns width now)
-          (rows_pieces [] (shown_in (map last_lent c.as_slice-2.result.now) (map given_lent listed)))) c.new-sheet.ensures.width
-          ∙ ap (λ rows. begun ++ flat_map (piece_columns c.in_ok-width.width now) (rows_pieces [] rows)) shown)
+          ∙ ap (λ (at : Moment). begun ++ rows_by_type c.new-sheet.result.width at.nanos [] (shown_in (map last_lent c.as_slice-2.result.now)
+          (map given_lent listed))) c.new-sheet.ensures.now
+          ∙ ap (λ width. begun ++ rows_by_type width now [] (shown_in (map last_lent c.as_slice-2.result.now) (map given_lent listed)))
+          c.new-sheet.ensures.width
+          ∙ ap (λ rows. begun ++ rows_by_type c.in_ok-width.width now [] rows) shown)
           c.in_ok-push_others.ensures
           ∙ ap (instances_pretty now (instances_about about records)) found;
     }

@@ -1,7 +1,7 @@
 use Rattle.mdns_browse.proofs.{InstanceColumnLemmas.{Shows, shows-more, shows-start}, InstanceLemmas.{row_named, shown-one, shown_in}}
 use Rattle.mdns_browse.proofs.ListLemmas.{made_all, made_more, made_same}
 use Rattle.std.proofs.lemmas.{Grind.{common_steps}, List.Elements.{filter_map-append}}
-use Rattle.std.proofs.Common.{None, Some, refl, sym, ap, subst, ◌++◌, map, take, arith}
+use Rattle.std.proofs.Common.{Some, refl, sym, ap, ◌++◌, map, take, arith}
 use Rattle.mdns_cache.specs.LentRecords.{last_lent}
 use Rattle.mdns_browse.specs.{Given.{given_lent}, Services.{instance_row_in}}
 use Rattle.mdns_browse.proofs.instance_columns.push_instances.Goals as goal
@@ -10,13 +10,7 @@ pub loop-row-init : goal.loop-row-init
 loop-row-init c ascending = shows-start c.args.sheet.now
 
 pub loop-row-preserved-in_default : goal.loop-row-preserved-in_default
-loop-row-preserved-in_default c ascending =
-    let rows = map last_lent c.args.rows.now in
-    let row = c.row-item.result in
-    subst (λ shown. Shows shown c.loop-row.before.now c.args.sheet.now c.loop-row.sheet)
-    (made_same (shown_in rows) (filter_map-append (instance_row_in rows)) given_lent c.args.given.now c.loop-row.row-index row (omega arith)
-    c.row-item.is refl (shown-one rows (given_lent row) None c.in_default.ensures))
-    (c.loop-row.invariant ascending)
+loop-row-preserved-in_default c ascending = grind (arith, common_steps, Shows, made_same, shown_in, filter_map-append, shown-one)
 
 pub loop-row-preserved : goal.loop-row-preserved
 loop-row-preserved c ascending =

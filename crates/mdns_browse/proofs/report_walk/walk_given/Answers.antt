@@ -1,7 +1,6 @@
-use Rattle.mdns_cache.specs.LentRecords.{last_lent}
-use Rattle.mdns_browse.specs.{Given.{given_lent}, Services.{GivenRow, instance_row_in}, Sheet.{Piece, instance_pieces}}
+use Rattle.mdns_browse.specs.{Services.{GivenRow, instance_row_in}, Sheet.{Piece, instance_pieces}}
 use Rattle.std.proofs.lemmas.{Grind.{common_steps, flat_map-append}, List.{append-nil}, List.Elements.{filter_map-append}}
-use Rattle.std.proofs.Common.{None, Some, ◌≡◌, sym, ◌∙◌, ap, subst, List, map, ◌++◌, arith}
+use Rattle.std.proofs.Common.{◌≡◌, List, ◌++◌, arith}
 use Rattle.std.specs.List.{flat_map}
 use Rattle.mdns_join.specs.declared.latest.Latest.{Latest}
 use Rattle.mdns_browse.proofs.InstanceLemmas.{row_named, shown-one, shown_in}
@@ -19,22 +18,10 @@ pub loop-row-init : goal.loop-row-init
 loop-row-init g c ascending = g.met.S.Sheet.laws.nothing _
 
 pub loop-row-preserved-in_default : goal.loop-row-preserved-in_default
-loop-row-preserved-in_default g c ascending =
-    let rows = map last_lent c.args.rows.now in
-    let row = c.row-item.result in
-    takes_same (pieces rows) (append rows) g.met.S.Sheet.laws given_lent c.args.given.now c.loop-row.row-index row (omega arith)
-    c.row-item.is (c.loop-row.invariant ascending) (ap (flat_map instance_pieces) (shown-one rows (given_lent row) None c.in_default.ensures))
+loop-row-preserved-in_default g c ascending = grind (arith, common_steps, takes_same, shown-one, append)
 
 pub loop-row-preserved : goal.loop-row-preserved
-loop-row-preserved g c ascending =
-    let rows = map last_lent c.args.rows.now in
-    let row = c.row-item.result in
-    takes_more (pieces rows) (append rows) g.met.S.Sheet.laws given_lent c.args.given.now c.loop-row.row-index row (omega arith)
-    c.row-item.is (c.loop-row.invariant ascending)
-    (subst (λ ps. g.S.Sheet.takes c.loop-row.sheet ps c.walk_instance.new.sheet)
-    (sym (append-nil (instance_pieces (row_named rows (given_lent row) c.in-Some.name.now)))
-    ∙ ap (flat_map instance_pieces) (sym (shown-one rows (given_lent row) (Some c.in-Some.name.now) c.in-Some.ensures)))
-    (c.in_ok-walk_instance.ensures ascending))
+loop-row-preserved g c ascending = grind (arith, common_steps, takes_more, append-nil, row_named, shown-one, append)
 
 pub returns : goal.returns
 returns g c ascending = grind (arith, common_steps, takes_all, append)

@@ -1,4 +1,4 @@
-use Rattle.std.proofs.Common.{sym, ap, subst, [], ◌≡◌, List, map, ◌++◌, arith}
+use Rattle.std.proofs.Common.{sym, ap, [], ◌≡◌, List, map, ◌++◌, arith}
 use Rattle.std.specs.List.{cons_option}
 use Rattle.std.proofs.lemmas.{Grind.{common_steps}, List.{map-append}}
 use Rattle.mdns_join.specs.declared.latest.Latest.{Latest}
@@ -22,11 +22,7 @@ loop-row-preserved-in_default g c =
     c.row-item.is c.loop-row.invariant (ap (λ o. map instance_text (cons_option o [])) (sym c.in_default.ensures))
 
 pub loop-row-preserved : goal.loop-row-preserved
-loop-row-preserved g c =
-    takes_more pieces append g.met.S.Sheet.laws last_lent c.of_set-row-items.result.now c.loop-row.row-index c.row-item.result (omega arith)
-    c.row-item.is c.loop-row.invariant
-    (subst (λ o. g.S.Sheet.takes c.loop-row.sheet (map instance_text (cons_option o [])) c.instance_text.new.self)
-    c.in-Some.ensures c.in_ok-instance_text.ensures)
+loop-row-preserved g c = grind (arith, common_steps, takes_more, append)
 
 pub returns : goal.returns
 returns g c ascending = grind (arith, common_steps, takes_all, append)
