@@ -211,6 +211,14 @@ def formed(asked, text, other):
     return pretty_text(asked.ask, text) if asked.form else text
 
 
+def missed_text(program, asked, files):
+    """The line that nothing heard is about the words; none where there are no words, or a hearing that counts has a record about one."""
+    heard = map(heard_in, traced_text("hearings", files).splitlines()) if asked.about else ()
+    counted = (line for line in heard if asked.before is None or line.heard < asked.before)
+    found = not asked.about or any(is_about(is_record_about, asked.about, line) for line in counted)
+    return "" if found else f"{program}: nothing heard is about {', '.join(asked.about)}\n"
+
+
 def answer_to(program, words, files):
     """The answer of a program to words without the names of files, over files, each a name and its bytes. The text of a page is None.
     What is wrong with a damaged message isn't known here: a line of `packets` ends with `refused`. `files` is known of whole files."""
@@ -237,4 +245,5 @@ def answer_to(program, words, files):
     basis = Basis(asked, files)
     if asked.at is not None and asked.at < basis.newest:
         return Answer(2, "", f"{program}: the moment is earlier than the newest hearing, {moment_text(basis.newest)}\n")
-    return Answer(status, None if asked.ask == "page" else report_text(basis), endings)
+    missed = missed_text(program, asked, files)
+    return Answer(1 if missed else status, None if asked.ask == "page" else report_text(basis), endings + missed)

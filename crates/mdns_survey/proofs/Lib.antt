@@ -8,6 +8,7 @@ pub mod ListenedLemmas
 pub mod LivesLawLemmas
 pub mod LivesLemmas
 pub mod LossLemmas
+pub mod MissedLemmas
 pub mod OneSurveyLemmas
 pub mod OutcomeLemmas
 pub mod QuestionLemmas

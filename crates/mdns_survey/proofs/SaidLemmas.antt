@@ -70,21 +70,64 @@ module _ (program : List ℕ) where
       grind (arith, Appends-trans old mid new far.done text far.appended appended, append_assoc, said-append)
 
   -- after a line that wasn't written whole, no other is written
-  pub so_far-ends : (all first others : List (List ℕ)) (mid : Option (List ℕ)) (err : Writing)
-      → SaidSoFar all (first ++ others) err.old mid → SaysPrefix program first mid err.new → OneMoreFailed err.failures err.new_failures
-      → (IsTrue err.steady → ⊥) → Says program all err
-  so_far-ends all first others mid err far (text, said, prefix) failed fails = grind (
-    arith,
-    said-append first others text (plain others) said (plain-said others),
-    plain-said others,
-    prefix-after err.old mid err.new far.done (text ++ plain others) far.appended (prefix-of-more mid err.new text (plain others) prefix),
-    prefix-of-more mid err.new text (plain others) prefix,
+  pub so_far-ends : (all first others : List (List ℕ)) (old mid new : Option (List ℕ)) → SaidSoFar all (first ++ others) old mid
+      → SaysPrefix program first mid new → SaysPrefix program all old new
+  so_far-ends all first others old mid new far (text, said, prefix) = (
+    far.done ++ (text ++ plain others),
+    far.leads (text ++ plain others) (said-append first others text (plain others) said (plain-said others)),
+    prefix-after old mid new far.done (text ++ plain others) far.appended (prefix-of-more mid new text (plain others) prefix),
   )
 
   -- no line is left to write
-  pub so_far-all : (all left : List (List ℕ)) (err : Writing) → SaidSoFar all left err.old err.new → err.new_failures ≡ err.failures
-      → left ≡ [] → Says program all err
-  so_far-all all left err far unfailed none = grind (arith, append-nil far.done)
+  pub so_far-all : (all left : List (List ℕ)) (old new : Option (List ℕ)) → SaidSoFar all left old new → left ≡ []
+      → SaysAll program all old new
+  so_far-all all left old new far none = grind (arith, append-nil far.done)
+
+  -- lines that were written whole, or in part
+  pub says-lines : (b : Bool) (lines : List (List ℕ)) (err : Writing) → OnTrue b (SaysAll program lines err.old err.new)
+      → OnFalse b (SaysPrefix program lines err.old err.new) → OnTrue b (err.new_failures ≡ err.failures)
+      → OnFalse b (OneMoreFailed err.failures err.new_failures) → (IsTrue err.steady → IsTrue b) → Says program lines err
+  says-lines true lines err whole prefix unfailed failed goes = record {
+    text = whole.0;
+    said = whole.1;
+    ends = inl (unfailed, whole.2);
+    whole = λ s. (unfailed, whole.2);
+  }
+  says-lines false lines err whole prefix unfailed failed goes = record {
+    text = prefix.0;
+    said = prefix.1;
+    ends = inr (failed, prefix.2);
+    whole = λ s. absurd (false≢true (goes s));
+  }
+
+  -- lines of which not all were written, and others after them
+  pub says-fewer : (lines others : List (List ℕ)) (err : Writing) → SaysPrefix program lines err.old err.new
+      → OneMoreFailed err.failures err.new_failures → (IsTrue err.steady → ⊥) → Says program (lines ++ others) err
+  says-fewer lines others err (text, said, prefix) failed fails = record {
+    text = text ++ plain others;
+    said = said-append lines others text (plain others) said (plain-said others);
+    ends = inr (failed, prefix-of-more err.old err.new text (plain others) prefix);
+    whole = λ s. absurd (fails s);
+  }
+
+  -- lines that were written whole, and then one more, whole or not
+  pub says-more : (b : Bool) (lines : List (List ℕ)) (line said : List ℕ) (mid : Option (List ℕ)) (err : Writing)
+      → SaysAll program lines err.old mid → IsSaid line said → OnTrue b (Appends mid err.new (said ++ 10 ∷ []))
+      → OnFalse b (AppendsPrefix mid err.new (said ++ 10 ∷ [])) → OnTrue b (err.new_failures ≡ err.failures)
+      → OnFalse b (OneMoreFailed err.failures err.new_failures) → (IsTrue err.steady → IsTrue b)
+      → Says program (lines ++ line ∷ []) err
+  says-more true lines line said mid err (text, are, first) is whole prefix unfailed failed goes =
+      says-lines true (lines ++ line ∷ []) err (
+        text ++ (said ++ 10 ∷ []),
+        said-append lines (line ∷ []) text (said ++ 10 ∷ []) are (said, ([], is, refl, refl)),
+        Appends-trans err.old mid err.new text (said ++ 10 ∷ []) first whole,
+      ) tt unfailed tt goes
+  says-more false lines line said mid err (text, are, first) is whole prefix unfailed failed goes =
+      says-lines false (lines ++ line ∷ []) err tt (
+        text ++ (said ++ 10 ∷ []),
+        said-append lines (line ∷ []) text (said ++ 10 ∷ []) are (said, ([], is, refl, refl)),
+        prefix-after err.old mid err.new text (said ++ 10 ∷ []) first prefix,
+      ) tt failed goes
 
   pub says-prefix-of-one : (line said : List ℕ) (old new : Option (List ℕ)) → IsSaid line said
       → AppendsPrefix old new (said ++ 10 ∷ []) → SaysPrefix program (line ∷ []) old new

@@ -10,15 +10,17 @@ use Rattle.mdns_capture.specs.{declared.moment.Moment.{Moment}, Savefile.{Packet
 use Rattle.mdns_cache.specs.{Contents.{Contents, StandsFor}, Live.{IsNewest}}
 use Rattle.mdns_browse.specs.declared.report.ReportFault.{ReportFault}
 use Rattle.mdns_browse.specs.declared.report.ReportFault.TheVariants.{Early as ReportEarly, Memory as ReportMemory}
+use Rattle.mdns_browse.specs.declared.about.Subject.{Subject}
 use Rattle.mdns_browse.specs.{Report.{IfEarly, IsReport, IsReportIn}, declared.report.Ask.{Ask}, declared.report.Form.TheVariants.{Lines}}
 use Rattle.mdns_survey.specs.declared.survey.{SurveyFault.{SurveyFault}, SurveyFault.TheVariants.{File, Early, Memory, Write}}
 use Rattle.mdns_survey.specs.{declared.reading.Reading.{Reading}, declared.summary.Summary.{Summary}, Outcomes.{AllRead, Outcome}}
 use Rattle.mdns_survey.specs.{Listen.{IsNoReadFault}, declared.listen.ListenFault.{ListenFault}, declared.request.AsOf.{AsOf}}
 use Rattle.mdns_survey.specs.declared.request.{AsOf.TheVariants.{Newest, At, Before}, ReportRequest.{ReportRequest}}
-use Rattle.mdns_survey.specs.{Head.{Heads}, Question.{HearsReaders, IsAnswer, IsTooEarly, Refuses, asked_report}, Filter.{counted}}
+use Rattle.mdns_survey.specs.{Head.{Heads}, Question.{HearsReaders, IsAnswer, IsTooEarly, MissesIn, Refuses, asked_report}, Filter.{counted}}
 use Rattle.mdns_survey.specs.{Filter.{filter_of}, Request.{IsEarly, at_or_newest, moment_of, plain_request}, Readings.{summaries_of}}
 use Rattle.mdns_survey.specs.Surveys.{all_hearings, IsAsOf, ReportsRequest, SurveysBy, SurveysReport, SurveysRequest}
 use Rattle.mdns_survey.specs.Refusals.{RefusesBy, RefusesReaders, RefusesReader, BlamesReaders}
+use Rattle.mdns_survey.specs.Missed.{Misses}
 use Rattle.mdns_survey.proofs.{ListenedLemmas.{known-head, known-read}, SelectedLemmas.{counted-at, is-earlier}}
 
 -- the file header of these bytes has no fault, where they are known
@@ -134,6 +136,18 @@ module _ {Heard : List (List PacketAt) → List (List Outcome) → Type 0} (left
   pub read-heard : (captures : List (List ℕ)) → lefts ≡ map (λ x. Some x) captures
       → AllRead captures hears.packets hears.outcomes (summaries_of readings)
   read-heard captures known = known-read lefts captures hears.packets hears.outcomes readings known hears.read
+
+  -- what is missed by the hearings that count
+  pub misses-heard : (about : List Subject) (as_of : AsOf) (missed : Option (List ℕ))
+      → Misses about (counted (filter_of as_of) hears.outcomes) missed → (captures : List (List ℕ))
+      → lefts ≡ map (λ x. Some x) captures → MissesIn about as_of captures missed
+  misses-heard about as_of missed misses captures known = record {
+    packets = hears.packets;
+    outcomes = hears.outcomes;
+    summaries = summaries_of readings;
+    read = read-heard captures known;
+    misses = misses;
+  }
 
   -- a moment that was asked for, and is earlier than the newest of the hearings that count
   pub too-early : (as_of : AsOf) (newest : Moment) → IsSomeAnd (moment_of as_of) (λ m. m.nanos < newest.nanos)

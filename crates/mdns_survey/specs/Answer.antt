@@ -1,33 +1,41 @@
 -- The program's output, and its exit status.
-use Rattle.std.specs.Prelude.{◌≡◌, ℕ, Bool, true, false, MatchBool, if◌then◌else◌, List, [], ◌∷◌, codes, map}
+use Rattle.std.specs.Prelude.{◌≡◌, ℕ, Bool, true, false, MatchBool, if◌then◌else◌, List, [], ◌∷◌, ◌++◌, codes, map, Option, None, Some}
 use Rattle.std.specs.{List.{list_all}, Io.KnownBytes.{Appends}}
 use Rattle.mdns_capture.specs.{declared.stream.Source.{Ghosts}, Output.{Writing}}
 use Rattle.mdns_survey.specs.declared.{request.Request.{Request}, request.Request.TheVariants.{Check}, summary.Summary.{Summary}}
 use Rattle.mdns_survey.specs.{declared.survey.SurveyFault.{SurveyFault}, ProgramLines.{fault_line_text, is_whole}, Question.{Asked}}
-use Rattle.mdns_survey.specs.{Question.{Refuses, asked_of}, Refusals.{BlamesReaders, BlamesWriter, Leaves}, Said.{Says, ending_lines}}
+use Rattle.mdns_survey.specs.{Question.{MissesIn, Refuses, asked_of}, Refusals.{BlamesReaders, BlamesWriter, Leaves}}
+use Rattle.mdns_survey.specs.Said.{Says, ending_lines, missed_lines}
 
 -- 0 where every capture is whole, else 1
 abbrev pub status_of : List Summary → ℕ
 status_of summaries = if list_all (λ summary. is_whole summary.ending) summaries then 0 else 1
 
--- A text that answers over the captures was written, the program's error line for each capture that isn't whole where these are
--- to be said, and else none, and this is the status.
-pub record Reports (Surveys : List (List ℕ) → List Summary → List ℕ → Type 0) (says : Bool) (program : List ℕ)
-    (names captures : List (List ℕ)) (out err : Writing) (status : ℕ) : Type 0 where
+-- and 1 where something is missed
+abbrev pub status_with : List Summary → Option (List ℕ) → ℕ
+status_with summaries None = status_of summaries
+status_with summaries (Some words) = 1
+
+-- A text that answers over the captures was written, the program's error lines where these are to be said, and else none: one for
+-- each capture that isn't whole, and then one of what is missed. And this is the status.
+pub record Reports (asked : Asked) (says : Bool) (program : List ℕ) (names captures : List (List ℕ)) (out err : Writing)
+    (status : ℕ) : Type 0 where
   pub summaries : List Summary
   pub text : List ℕ
-  pub surveys : Surveys captures summaries text
+  pub surveys : asked.Answers captures summaries text
   pub written : Appends out.old out.new text
-  pub says_endings : MatchBool says (Says program (ending_lines program names summaries) err)
+  pub missed : Option (List ℕ)
+  pub misses : MissesIn asked.about asked.as_of captures missed
+  pub says_lines : MatchBool says (Says program (ending_lines program names summaries ++ missed_lines program missed) err)
       ((err.new ≡ err.old) × (err.new_failures ≡ err.failures))
-  pub is_status : status ≡ status_of summaries
+  pub is_status : status ≡ status_with summaries missed
 
 -- the report, the lives or the check was written, and nothing else; beside a check no error lines
 abbrev pub Answers : Request → List (List ℕ) → List (List ℕ) → Writing → Writing → ℕ → Type 0
 Answers Check names captures out err status =
-    Reports (asked_of Check names).Answers false (codes "mdnsmerge") names captures out err status
+    Reports (asked_of Check names) false (codes "mdnsmerge") names captures out err status
 Answers request names captures out err status =
-    Reports (asked_of request names).Answers true (codes "mdnsmerge") names captures out err status
+    Reports (asked_of request names) true (codes "mdnsmerge") names captures out err status
 
 -- What was asked was refused for some fault, which blames no reader and no writer wrongly, and the program's error line of it was
 -- written. Nothing else was, unless a write failed, or an allocation where the answer isn't written at once.

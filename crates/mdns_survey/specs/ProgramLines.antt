@@ -29,6 +29,10 @@ check_text name s = name <> codes ": " <> tally_text s.tally <> codes " " <> end
 abbrev pub ending_line_text : List ℕ → List ℕ → Ending → List ℕ
 ending_line_text program name ending = program <> codes ": " <> name <> codes ": " <> ending_text ending
 
+-- the error line of a program where nothing heard is about the words
+abbrev pub missed_line_text : List ℕ → List ℕ → List ℕ
+missed_line_text program words = program <> codes ": nothing heard is about " <> words
+
 -- the error line for a file that can't be opened
 abbrev pub open_line_text : List ℕ → List ℕ → List ℕ
 open_line_text program name = program <> codes ": " <> name <> codes ": cannot be opened"

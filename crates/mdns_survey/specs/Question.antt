@@ -1,27 +1,29 @@
 -- A question on captures: what answers it, and why it is refused.
-use Rattle.std.specs.Prelude.{◌≡◌, ◌⊎◌, ℕ, Bool, true, false, List, ◌++◌, Option, Some, map, option_map}
+use Rattle.std.specs.Prelude.{◌≡◌, ◌⊎◌, ℕ, Bool, true, false, List, [], ◌++◌, Option, Some, map, option_map}
 use Rattle.std.specs.Io.KnownBytes.{Appends}
 use Rattle.mdns_capture.specs.{declared.moment.Moment.{Moment}, Output.{AppendsPrefix, Writing}, Savefile.{PacketAt}}
 use Rattle.mdns_survey.specs.declared.{reading.Reading.{Reading}, request.AsOf.{AsOf}, request.AsOf.TheVariants.{Newest}}
 use Rattle.mdns_survey.specs.declared.request.{LivesRequest.{LivesRequest}, ReportRequest.{ReportRequest}, Request.{Request}}
 use Rattle.mdns_survey.specs.declared.{request.Request.TheVariants.{Report, Lives, Check}, summary.Summary.{Summary}}
 use Rattle.mdns_survey.specs.declared.survey.{SurveyFault.{SurveyFault}, SurveyFault.TheVariants.{File, Early, Memory, Write}}
-use Rattle.mdns_survey.specs.{Outcomes.{AllRead, Outcome}, ProgramLines.{check_lines_text}}
+use Rattle.mdns_browse.specs.declared.about.Subject.{Subject}
+use Rattle.mdns_survey.specs.{Filter.{counted, filter_of}, Missed.{Misses}, Outcomes.{AllRead, Outcome}, ProgramLines.{check_lines_text}}
 use Rattle.mdns_survey.specs.{LivesAnswer.{SurveysLivesWithHead, WritesFirstRecords}, Refusals.{FirstFails, HasNewest}, Request.{IsEarly}}
 use Rattle.mdns_survey.specs.Surveys.{AllLeft, SurveysRequest}
 
--- What is asked of captures: which text answers it over captures with these summaries; as of when; whether nothing is written
--- before the text is complete; and else what may have been written when an allocation failed.
+-- What is asked of captures: which text answers it over captures with these summaries; as of when; about what, or about everything;
+-- whether nothing is written before the text is complete; and else what may have been written when an allocation failed.
 pub record Asked : Type 1 where
   pub Answers : List (List ℕ) → List Summary → List ℕ → Type 0
   pub as_of : AsOf
+  pub about : List Subject
   pub at_once : Bool
   pub Stops : List (List ℕ) → Writing → Type 0
 
--- what is written at once, as of that moment
-abbrev pub asked_at_once : (List (List ℕ) → List Summary → List ℕ → Type 0) → AsOf → Asked
-asked_at_once Answers as_of =
-    record { Answers = Answers; as_of = as_of; at_once = true; Stops = λ captures out. ⊥ }
+-- what is written at once, as of that moment, about these subjects
+abbrev pub asked_at_once : (List (List ℕ) → List Summary → List ℕ → Type 0) → AsOf → List Subject → Asked
+asked_at_once Answers as_of about =
+    record { Answers = Answers; as_of = as_of; about = about; at_once = true; Stops = λ captures out. ⊥ }
 
 -- the captures were read, and the text has a line for each
 pub record IsCheck (names captures : List (List ℕ)) (summaries : List Summary) (text : List ℕ) : Type 0 where
@@ -32,12 +34,17 @@ pub record IsCheck (names captures : List (List ℕ)) (summaries : List Summary)
 
 -- a report
 abbrev pub asked_report : ReportRequest → Asked
-asked_report request = asked_at_once (λ captures. SurveysRequest captures request) request.as_of
+asked_report request = asked_at_once (λ captures. SurveysRequest captures request) request.as_of request.about
 
 -- lives of records
 abbrev pub asked_lives : LivesRequest → Asked
-asked_lives request =
-    record { Answers = SurveysLivesWithHead request; as_of = request.as_of; at_once = false; Stops = WritesFirstRecords request }
+asked_lives request = record {
+  Answers = SurveysLivesWithHead request;
+  as_of = request.as_of;
+  about = request.about;
+  at_once = false;
+  Stops = WritesFirstRecords request;
+}
 
 -- a writer, once a text was appended
 abbrev pub past : List ℕ → Writing → Writing
@@ -55,6 +62,7 @@ asked_after preface asked = record {
   Answers = λ captures summaries text.
       (rest : List ℕ) × (text ≡ preface ++ rest) × asked.Answers captures summaries rest;
   as_of = asked.as_of;
+  about = asked.about;
   at_once = asked.at_once;
   Stops = λ captures out. asked.Stops captures (past preface out);
 }
@@ -63,7 +71,7 @@ asked_after preface asked = record {
 abbrev pub asked_of : Request → List (List ℕ) → Asked
 asked_of (Report request) names = asked_report request
 asked_of (Lives request) names = asked_lives request
-asked_of Check names = asked_at_once (λ captures. IsCheck names captures) Newest
+asked_of Check names = asked_at_once (λ captures. IsCheck names captures) Newest []
 
 -- THE ANSWER
 
@@ -86,6 +94,18 @@ abbrev pub WritesAnswer : Asked → List (Option (List ℕ)) → List Summary �
 WritesAnswer asked lefts summaries out =
     (captures : List (List ℕ)) → lefts ≡ map Some captures
     → (text : List ℕ) × asked.Answers captures summaries text × Appends out.old out.new text
+
+-- What is missed over the captures, by those hearings that count.
+pub record MissesIn (about : List Subject) (as_of : AsOf) (captures : List (List ℕ)) (missed : Option (List ℕ)) : Type 0 where
+  pub packets : List (List PacketAt)
+  pub outcomes : List (List Outcome)
+  pub summaries : List Summary
+  pub read : AllRead captures packets outcomes summaries
+  pub misses : Misses about (counted (filter_of as_of) outcomes) missed
+
+-- and where the bytes of the readers are known
+abbrev pub MissesOf : Asked → List (Option (List ℕ)) → Option (List ℕ) → Type 0
+MissesOf asked lefts missed = (captures : List (List ℕ)) → lefts ≡ map Some captures → MissesIn asked.about asked.as_of captures missed
 
 -- WHY THERE IS NONE
 

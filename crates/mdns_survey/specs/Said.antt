@@ -1,8 +1,8 @@
 -- The lines that the program writes to its error writer.
-use Rattle.std.specs.Prelude.{◌≡◌, ◌⊎◌, ℕ, IsTrue, if◌then◌else◌, List, [], ◌∷◌, ◌++◌, Option, codes}
+use Rattle.std.specs.Prelude.{◌≡◌, ◌⊎◌, ℕ, IsTrue, if◌then◌else◌, List, [], ◌∷◌, ◌++◌, Option, None, Some, codes}
 use Rattle.std.specs.Io.KnownBytes.{Appends}
 use Rattle.mdns_capture.specs.{Stream.{OneMoreFailed}, Output.{AppendsPrefix, Writing}}
-use Rattle.mdns_survey.specs.{declared.summary.Summary.{Summary}, ProgramLines.{ending_line_text, is_whole}}
+use Rattle.mdns_survey.specs.{declared.summary.Summary.{Summary}, ProgramLines.{ending_line_text, is_whole, missed_line_text}}
 
 -- the text is these lines as a program writes them, each with its line feed; `out of memory` is said of one whose allocation failed
 abbrev pub AreSaid : List ℕ → List (List ℕ) → List ℕ → Type 0
@@ -37,3 +37,8 @@ ending_lines program (name ∷ names) (summary ∷ summaries) =
     if is_whole summary.ending then ending_lines program names summaries
     else ending_line_text program name summary.ending ∷ ending_lines program names summaries
 ending_lines program _ _ = []
+
+-- the error line of what is missed; none where nothing is
+abbrev pub missed_lines : List ℕ → Option (List ℕ) → List (List ℕ)
+missed_lines program None = []
+missed_lines program (Some words) = missed_line_text program words ∷ []

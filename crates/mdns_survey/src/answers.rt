@@ -5,13 +5,13 @@ ghost use Rattle.mdns_capture.specs.Output.{writing};
 ghost use Rattle.mdns_survey.specs.{Answer.{Answers, IsRefused, IsRefusedOf, Reports}, ProgramLines.{check_lines_text}};
 ghost use Rattle.mdns_survey.specs.{Readings.{summaries_of}, Request.{request_of}};
 
-use crate::error_lines::{refuse, say_endings};
+use crate::error_lines::{refuse, say_lines};
 use crate::hearer::Forgetful;
 use crate::program_lines::check_line;
-use crate::question::{Answer, Question, TextAnswer, survey_with};
+use crate::question::{Answer, AnswerText, Question, TextAnswer, survey_with};
 use crate::reading::Reading;
 use crate::request::{Request, What};
-use crate::status::{REFUSED, status_of};
+use crate::status::{REFUSED, status_with};
 use mdns_browse::report::ReportFault;
 use mdns_capture::{Sink, Source};
 use mdns_message::Want;
@@ -86,7 +86,8 @@ pub struct NamedProgram<'a> {
 }
 
 /// Answers a question as `answer` does, with the error lines of `named.program` about the captures `named.files`. Where `says`
-/// is `true` it writes an error line for each capture that isn't whole.
+/// is `true` it writes an error line for each capture that isn't whole, and then one where nothing that was heard is about what is
+/// asked about.
 pub fn answer_with<R: Source + Drop, Q: Answer + Drop, O: Sink, E: Sink>(
     question: Q,
     says: bool,
@@ -100,7 +101,7 @@ pub fn answer_with<R: Source + Drop, Q: Answer + Drop, O: Sink, E: Sink>(
     ensures status { result ≤ 2 }
     ensures answers { result ≢ REFUSED → (captures : List (List ℕ))
         → map R.remaining readers.items ≡ map Some captures
-        → Reports (Q.asked question).Answers says named.entry.program.now (map string_bytes named.entry.files.now) captures
+        → Reports (Q.asked question) says named.entry.program.now (map string_bytes named.entry.files.now) captures
         (writing O.Sink out.old out.new) (writing E.Sink err.old err.new) result }
     ensures refused { result ≡ REFUSED → IsRefusedOf R.Source (Q.asked question) named.entry.program.now
         (map string_bytes named.entry.files.now) readers.items
@@ -110,11 +111,11 @@ pub fn answer_with<R: Source + Drop, Q: Answer + Drop, O: Sink, E: Sink>(
     let alloc = *readers.allocator();
     let NamedProgram { program, files } = named;
     match survey_with(alloc, readers, question, out) {
-        Ok(summaries) => {
+        Ok(surveyed) => {
             if says {
-                say_endings(alloc, program, files, summaries.as_slice(), err);
+                say_lines(alloc, program, files, &surveyed, err);
             }
-            status_of(summaries.as_slice())
+            status_with(&surveyed)
         }
         Err(fault) => refuse(alloc, program, files, &fault, err),
     }
@@ -150,10 +151,10 @@ impl<'a> TextAnswer for Check<'a> {
         alloc: Global,
         collector: Forgetful,
         readings: &[Reading],
-    ) -> Result<String, ReportFault> {
+    ) -> Result<AnswerText, ReportFault> {
         drop(collector);
         match check_lines(alloc, self.names, readings) {
-            Ok(text) => Ok(text),
+            Ok(text) => Ok(AnswerText { text, missed: None }),
             Err(Want) => Err(ReportFault::Memory),
         }
     }

@@ -1,11 +1,13 @@
 //! The error lines that a program writes.
 
-ghost use Rattle.std.specs.Prelude.{◌≡◌, ◌<◌, ◌∷◌, ◌++◌, [], List, codes, is_ok, length, map, string_bytes, OnOk, OnErr};
+ghost use Rattle.std.specs.Prelude.{◌≡◌, ◌<◌, ◌∷◌, ◌++◌, [], List, codes, is_ok, length, map, option_map, string_bytes, OnOk, OnErr};
 ghost use Rattle.std.specs.{Bool.{OnTrue, OnFalse}, Io.KnownBytes.{Appends}};
 ghost use Rattle.mdns_capture.specs.{Calls.{WritesWell}, Output.{AppendsPrefix, writing}};
-ghost use Rattle.mdns_survey.specs.{ProgramLines.{fault_line_text, said_text, IfFile}, Said.{Says, SaysAll, SaysPrefix, ending_lines}};
+ghost use Rattle.mdns_survey.specs.{ProgramLines.{fault_line_text, said_text, IfFile}, Said.{Says, SaysAll, SaysPrefix}};
+ghost use Rattle.mdns_survey.specs.Said.{ending_lines, missed_lines};
 
-use crate::program_lines::{ending_line_of, fault_line_of};
+use crate::program_lines::{ending_line_of, fault_line_of, missed_line_of};
+use crate::question::Surveyed;
 use crate::status::{REFUSED, is_whole};
 use crate::summary::Summary;
 use crate::survey::SurveyFault;
@@ -41,18 +43,55 @@ pub fn say_endings<E: Sink>(
     ensures { Says program.now (ending_lines program.now (map string_bytes names.now) summaries.now)
         (writing E.Sink err.old err.new) }
 {
+    say_each_ending(alloc, program, names, summaries, err);
+}
+
+/// Writes the lines of a survey as `say_endings` does, and then the error line of what it misses.
+pub(crate) fn say_lines<E: Sink>(
+    alloc: Global,
+    program: &str,
+    names: &[String],
+    surveyed: &Surveyed,
+    err: &mut E,
+)
+    ensures { Says program.now (ending_lines program.now (map string_bytes names.now) surveyed.now.summaries.items
+        ++ missed_lines program.now (option_map string_bytes surveyed.now.missed)) (writing E.Sink err.old err.new) }
+{
+    if !say_each_ending(alloc, program, names, surveyed.summaries.as_slice(), err) {
+        return;
+    }
+    if let Some(words) = &surveyed.missed {
+        say(err, program, missed_line_of(alloc, program, words.as_str()));
+    }
+}
+
+// Writes the error line of each capture that isn't whole, and returns whether all went out.
+fn say_each_ending<E: Sink>(
+    alloc: Global,
+    program: &str,
+    names: &[String],
+    summaries: &[Summary],
+    err: &mut E,
+) -> bool
+    ensures whole { OnTrue result (SaysAll program.now (ending_lines program.now (map string_bytes names.now) summaries.now)
+        (E.written err.old) (E.written err.new)) }
+    ensures prefix { OnFalse result (SaysPrefix program.now (ending_lines program.now (map string_bytes names.now) summaries.now)
+        (E.written err.old) (E.written err.new)) }
+    ensures well { WritesWell E.Sink err.old err.new result }
+{
     let mut names = names;
     let mut summaries = summaries;
     while let Some((name, more_names)) = names.split_first() {
         let Some((summary, more_summaries)) = summaries.split_first() else {
-            return;
+            return true;
         };
         if !say_ending(alloc, program, name, summary, err) {
-            return;
+            return false;
         }
         names = more_names;
         summaries = more_summaries;
     }
+    true
 }
 
 // Writes the error line of a capture that isn't whole, and returns whether it went out.

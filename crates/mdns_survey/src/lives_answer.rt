@@ -1,7 +1,7 @@
 //! The lives of all records of several captures.
 
 ghost use Rattle.std.specs.Prelude.{◌≡◌, ◌<◌, ◌≤◌, ◌++◌, ◌∷◌, [], ℕ, Contains, IfNone, IfOk, IfErr, IfSome, List, OnErr, OnOk, Option, Some};
-ghost use Rattle.std.specs.Prelude.{false, is_ok, string_bytes};
+ghost use Rattle.std.specs.Prelude.{false, is_ok, option_map, string_bytes};
 ghost use Rattle.std.specs.{List.{flat_map}, Io.KnownBytes.{Appends}};
 ghost use Rattle.mdns_capture.specs.{Calls.{WritesWell}, Output.{AppendsPrefix, writing}};
 ghost use Rattle.mdns_message.specs.declared.hearing.Hearing.{Hearing};
@@ -10,12 +10,13 @@ ghost use Rattle.mdns_cache.specs.Live.{IsNewest, NoneLater};
 ghost use Rattle.mdns_lives.specs.{Chronicle.{Chronicles}, LentLives.{row_lent}, declared.life.Life.{Life}};
 ghost use Rattle.mdns_browse.specs.LifeText.{IsLayout, lives_head, lives_text};
 ghost use Rattle.mdns_survey.specs.{Chronicling.{Chronicled, FitsForm, IsTextOut, StopsRows}, Filter.{filter_of}, Head.{Heads}};
-ghost use Rattle.mdns_survey.specs.{LivesAnswer.{kept_rows}, ProgramLines.{IfFile}, Question.{HearsReaders, Refuses, WritesAnswer}};
+ghost use Rattle.mdns_survey.specs.{LivesAnswer.{kept_rows}, ProgramLines.{IfFile}, Question.{HearsReaders, MissesOf, Refuses, WritesAnswer}};
 ghost use Rattle.mdns_survey.specs.{Question.{asked_after, asked_lives}, Readings.{summaries_of}, Refusals.{BlamesWriter, Leaves}};
 
 use crate::filter::Filtered;
 use crate::head::head_in;
 use crate::hearer::lives_of_chronicle;
+use crate::missed::missed_in_lives;
 use crate::question::{Answer, Question};
 use crate::reading::Reading;
 use crate::readings::{captures_begin, captures_end};
@@ -68,7 +69,7 @@ impl Answer for LivesRequest {
         collector: Filtered<MessageChronicle>,
         readings: &[Reading],
         out: &mut W,
-    ) -> Result<(), SurveyFault> {
+    ) -> Result<Option<String>, SurveyFault> {
         let answer = LivesAnswer {
             preface: String::new(alloc),
             request: self,
@@ -87,18 +88,21 @@ pub struct LivesAnswer {
     pub collector: Filtered<MessageChronicle>,
 }
 
-/// Writes a preface, and then the lives that are asked for, as `LivesRequest` does. After `Memory` nothing was written, or the
-/// preface, the head, the heading and all lines of some first rows.
+/// Writes a preface, and then the lives that are asked for, as `LivesRequest` does, and returns what is missed. After `Memory`
+/// nothing was written, or the preface, the head, the heading and all lines of some first rows.
 pub fn write_lives<W: Sink>(
     alloc: Global,
     answer: LivesAnswer,
     readings: &[Reading],
     out: &mut W,
-) -> Result<(), SurveyFault>
+) -> Result<Option<String>, SurveyFault>
     ensures written { OnOk result ((lefts : List (Option (List ℕ)))
         → HearsReaders (Chronicled (filter_of answer.request.as_of) answer.collector.hearer) lefts readings.now
         → WritesAnswer (asked_after (string_bytes answer.preface) (asked_lives answer.request)) lefts
         (summaries_of readings.now) (writing W.Sink out.old out.new)) }
+    ensures misses { IfOk result (λ missed. (lefts : List (Option (List ℕ)))
+        → HearsReaders (Chronicled (filter_of answer.request.as_of) answer.collector.hearer) lefts readings.now
+        → MissesOf (asked_lives answer.request) lefts (option_map string_bytes missed)) }
     ensures refused { IfErr result (λ fault. (lefts : List (Option (List ℕ)))
         → HearsReaders (Chronicled (filter_of answer.request.as_of) answer.collector.hearer) lefts readings.now
         → Refuses (asked_after (string_bytes answer.preface) (asked_lives answer.request)) lefts
@@ -123,6 +127,10 @@ pub fn write_lives<W: Sink>(
         return Err(SurveyFault::Early { newest });
     }
     let about = request.about.as_slice();
+    let missed = match missed_in_lives(alloc, about, &lives) {
+        Ok(missed) => missed,
+        Err(Want) => return Err(SurveyFault::Memory),
+    };
     let columns = lives.chosen(request.which, request.window);
     let layout = match layout_of(alloc, columns, request.form, about, end_of_captures) {
         Ok(layout) => layout,
@@ -139,7 +147,10 @@ pub fn write_lives<W: Sink>(
         width: layout.width,
         end_of_captures,
     };
-    write_rows(text, rows, lines, out)
+    match write_rows(text, rows, lines, out) {
+        Ok(()) => Ok(missed),
+        Err(fault) => Err(fault),
+    }
 }
 
 /// Returns the newest hearing's moment, where it is later than `end_of_captures`.

@@ -1,11 +1,11 @@
 //! Questions on captures, and the survey that answers each.
 
-ghost use Rattle.std.specs.Prelude.{◌≡◌, ℕ, [], length, map, IfErr, IfOk, List, OnOk, Option, string_bytes};
+ghost use Rattle.std.specs.Prelude.{◌≡◌, ℕ, [], length, map, option_map, IfErr, IfOk, List, OnOk, Option, string_bytes};
 ghost use Rattle.mdns_capture.specs.{Output.{writing}, Savefile.{PacketAt}};
 ghost use Rattle.mdns_browse.specs.Report.{IfEarly};
 ghost use Rattle.mdns_survey.specs.{Outcomes.{Outcome}, ProgramLines.{IfFile}};
-ghost use Rattle.mdns_survey.specs.{Question.{Asked, HearsReaders, IsAnswer, IsTooEarly, Refuses, WritesAnswer}, Readings.{summaries_of}};
-ghost use Rattle.mdns_survey.specs.Refusals.{BlamesReaders, BlamesWriter, Leaves};
+ghost use Rattle.mdns_survey.specs.{Question.{Asked, HearsReaders, IsAnswer, IsTooEarly, MissesOf, Refuses, WritesAnswer}};
+ghost use Rattle.mdns_survey.specs.{Readings.{summaries_of}, Refusals.{BlamesReaders, BlamesWriter, Leaves}};
 
 use crate::listen::Collector;
 use crate::reading::Reading;
@@ -40,18 +40,21 @@ pub trait Question {
 
 /// A question that is answered once all captures, of these readings, were listened to.
 pub trait Answer: Question {
-    /// Writes the answer.
+    /// Writes the answer, and returns the subjects where nothing that was heard is about one of them.
     fn write<W: Sink>(
         self,
         alloc: Global,
         collector: Self::Collector,
         readings: &[Reading],
         out: &mut W,
-    ) -> Result<(), SurveyFault>
+    ) -> Result<Option<String>, SurveyFault>
         requires { Self.Fits self (length readings.now) }
         ensures written { OnOk result ((lefts : List (Option (List ℕ)))
             → HearsReaders (Self.Heard self collector) lefts readings.now
             → WritesAnswer (Self.asked self) lefts (summaries_of readings.now) (writing W.Sink out.old out.new)) }
+        ensures misses { IfOk result (λ missed. (lefts : List (Option (List ℕ)))
+            → HearsReaders (Self.Heard self collector) lefts readings.now
+            → MissesOf (Self.asked self) lefts (option_map string_bytes missed)) }
         ensures refused { IfErr result (λ fault. (lefts : List (Option (List ℕ)))
             → HearsReaders (Self.Heard self collector) lefts readings.now
             → Refuses (Self.asked self) lefts (writing W.Sink out.old out.new) fault) }
@@ -59,6 +62,14 @@ pub trait Answer: Question {
         ensures untouched { IfErr result (Leaves (Self.asked self).at_once out.old out.new) }
         ensures writer { IfErr result (BlamesWriter (writing W.Sink out.old out.new)) }
         ensures unfailed { OnOk result (W.failures out.new ≡ W.failures out.old) };
+}
+
+/// An answer as a text, and what it misses.
+#[derive(Drop)]
+pub struct AnswerText {
+    pub text: String,
+    /// The subjects, with a comma between two, where nothing that was heard is about one of them.
+    pub missed: Option<String>,
 }
 
 /// A question whose answer is a text that is complete before it is written.
@@ -69,11 +80,14 @@ pub trait TextAnswer: Question {
         alloc: Global,
         collector: Self::Collector,
         readings: &[Reading],
-    ) -> Result<String, ReportFault>
+    ) -> Result<AnswerText, ReportFault>
         requires { Self.Fits self (length readings.now) }
-        ensures right { IfOk result (λ text. (lefts : List (Option (List ℕ)))
+        ensures right { IfOk result (λ answer. (lefts : List (Option (List ℕ)))
             → HearsReaders (Self.Heard self collector) lefts readings.now
-            → IsAnswer (Self.asked self) lefts (summaries_of readings.now) (string_bytes text)) }
+            → IsAnswer (Self.asked self) lefts (summaries_of readings.now) (string_bytes answer.text)) }
+        ensures misses { IfOk result (λ answer. (lefts : List (Option (List ℕ)))
+            → HearsReaders (Self.Heard self collector) lefts readings.now
+            → MissesOf (Self.asked self) lefts (option_map string_bytes answer.missed)) }
         ensures early { IfErr result (λ fault. IfEarly fault (λ newest. (lefts : List (Option (List ℕ)))
             → HearsReaders (Self.Heard self collector) lefts readings.now
             → IsTooEarly (Self.asked self).as_of lefts newest)) };
@@ -86,20 +100,29 @@ impl<Q: TextAnswer> Answer for Q {
         collector: Q::Collector,
         readings: &[Reading],
         out: &mut W,
-    ) -> Result<(), SurveyFault> {
-        let text = match self.text(alloc, collector, readings) {
-            Ok(text) => text,
+    ) -> Result<Option<String>, SurveyFault> {
+        let answer = match self.text(alloc, collector, readings) {
+            Ok(answer) => answer,
             Err(ReportFault::Early { newest }) => return Err(SurveyFault::Early { newest }),
             Err(ReportFault::Memory) => return Err(SurveyFault::Memory),
         };
-        match write_whole(out, text.as_bytes()) {
-            Ok(()) => Ok(()),
+        match write_whole(out, answer.text.as_bytes()) {
+            Ok(()) => Ok(answer.missed),
             Err(Broken) => Err(SurveyFault::Write),
         }
     }
 }
 
-/// Listens to each reader in order, and writes the answer to `out`. Returns one summary for each reader, in order.
+/// What a survey found.
+#[derive(Drop)]
+pub struct Surveyed {
+    /// One for each reader, in order.
+    pub summaries: Vec<Summary>,
+    /// The subjects, with a comma between two, where nothing that was heard is about one of them.
+    pub missed: Option<String>,
+}
+
+/// Listens to each reader in order, and writes the answer to `out`.
 ///
 /// # Errors
 ///
@@ -110,11 +133,13 @@ pub fn survey_with<R: Source + Drop, Q: Answer + Drop, W: Sink>(
     readers: Vec<R>,
     question: Q,
     out: &mut W,
-) -> Result<Vec<Summary>, SurveyFault>
+) -> Result<Surveyed, SurveyFault>
     requires { Q.Fits question (length readers.items) }
     // Over readers whose bytes are known, an answer over all of them was written, and nothing else.
-    ensures written { IfOk result (λ summaries. WritesAnswer (Q.asked question) (map R.remaining readers.items)
-        summaries.items (writing W.Sink out.old out.new)) }
+    ensures written { IfOk result (λ surveyed. WritesAnswer (Q.asked question) (map R.remaining readers.items)
+        surveyed.summaries.items (writing W.Sink out.old out.new)) }
+    ensures misses { IfOk result (λ surveyed. MissesOf (Q.asked question) (map R.remaining readers.items)
+        (option_map string_bytes surveyed.missed)) }
     ensures refused { IfErr result (Refuses (Q.asked question) (map R.remaining readers.items)
         (writing W.Sink out.old out.new)) }
     ensures untouched { IfErr result (Leaves (Q.asked question).at_once out.old out.new) }
@@ -136,7 +161,7 @@ pub fn survey_with<R: Source + Drop, Q: Answer + Drop, W: Sink>(
         Err(Want) => return Err(SurveyFault::Memory),
     };
     match question.write(alloc, collector, readings.as_slice(), out) {
-        Ok(()) => Ok(summaries),
+        Ok(missed) => Ok(Surveyed { summaries, missed }),
         Err(fault) => Err(fault),
     }
 }

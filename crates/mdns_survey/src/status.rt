@@ -1,15 +1,16 @@
 //! The exit status, which the endings of the captures decide.
 
-ghost use Rattle.std.specs.{Prelude.{◌≡◌, ◌≤◌}, List.{list_all}};
-ghost use Rattle.mdns_survey.specs.{ProgramLines.{is_whole}, Answer.{status_of}};
+ghost use Rattle.std.specs.{Prelude.{◌≡◌, ◌≤◌, option_map, string_bytes}, List.{list_all}};
+ghost use Rattle.mdns_survey.specs.{ProgramLines.{is_whole}, Answer.{status_of, status_with}};
 
+use crate::question::Surveyed;
 use crate::summary::Summary;
 use mdns_capture::Ending;
 
 /// The status where all was printed and every capture was whole.
 pub const WHOLE: u8 = 0;
 
-/// The status where all was printed, and some capture wasn't whole.
+/// The status where all was printed, and some capture wasn't whole, or nothing that was heard is about what is asked about.
 pub const DAMAGED: u8 = 1;
 
 /// The status after an error: nothing was printed, a write failed, or what is printed as it is found (`lives`, `changes`,
@@ -22,6 +23,17 @@ pub fn status_of(summaries: &[Summary]) -> u8
     ensures low { result ≤ 1 }
 {
     if are_whole(summaries) { WHOLE } else { DAMAGED }
+}
+
+/// Returns the exit status of a survey.
+pub(crate) fn status_with(surveyed: &Surveyed) -> u8
+    ensures value { result ≡ status_with surveyed.now.summaries.items (option_map string_bytes surveyed.now.missed) }
+    ensures low { result ≤ 1 }
+{
+    match surveyed.missed {
+        None => status_of(surveyed.summaries.as_slice()),
+        Some(_) => DAMAGED,
+    }
 }
 
 // Checks that every capture is whole.

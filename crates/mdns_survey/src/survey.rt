@@ -11,7 +11,8 @@ ghost use Rattle.mdns_survey.specs.{Surveys.{Listened}, Refusals.{BlamesReaders,
 use crate::filter::Filtered;
 use crate::head::headed;
 use crate::listen::{Collector, ListenFault};
-use crate::question::{Question, TextAnswer, survey_with};
+use crate::missed::missed_in_cache;
+use crate::question::{AnswerText, Question, TextAnswer, survey_with};
 use crate::reading::Reading;
 use crate::request::ReportRequest;
 use crate::summary::Summary;
@@ -94,7 +95,10 @@ pub fn survey_request<R: Source + Drop, W: Sink>(
     ensures writer { IfErr result (BlamesWriter (writing W.Sink out.old out.new)) }
     ensures unfailed { OnOk result (W.failures out.new ≡ W.failures out.old) }
 {
-    survey_with(alloc, readers, request, out)
+    match survey_with(alloc, readers, request, out) {
+        Ok(surveyed) => Ok(surveyed.summaries),
+        Err(fault) => Err(fault),
+    }
 }
 
 /// A cache of the hearings that count answers a request for a report.
@@ -126,7 +130,7 @@ impl TextAnswer for ReportRequest {
         alloc: Global,
         collector: Filtered<MessageGathering>,
         readings: &[Reading],
-    ) -> Result<String, ReportFault> {
+    ) -> Result<AnswerText, ReportFault> {
         let cache = match collector.hearer.finish() {
             Ok(cache) => cache,
             Err(Want) => return Err(ReportFault::Memory),
@@ -138,8 +142,12 @@ impl TextAnswer for ReportRequest {
             // The clauses name this very fault, and `?` would convert it.
             Err(fault) => return Err(fault),
         };
+        let missed = match missed_in_cache(alloc, about, &cache) {
+            Ok(missed) => missed,
+            Err(Want) => return Err(ReportFault::Memory),
+        };
         match headed(alloc, self.form, readings, report) {
-            Ok(text) => Ok(text),
+            Ok(text) => Ok(AnswerText { text, missed }),
             Err(Want) => Err(ReportFault::Memory),
         }
     }

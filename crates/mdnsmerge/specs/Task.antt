@@ -36,7 +36,7 @@ says_endings task = true
 -- what is asked for was written, and nothing else
 abbrev pub AnswersTask : Task → List (List ℕ) → List (List ℕ) → Writing → Writing → ℕ → Type 0
 AnswersTask task names captures out err status =
-    Reports (asked_by task names).Answers (says_endings task) (codes "mdnsmerge") names captures out err status
+    Reports (asked_by task names) (says_endings task) (codes "mdnsmerge") names captures out err status
 
 -- it was refused for some fault
 abbrev pub IsTaskRefused : {R : Type 0} → Ghosts R → Task → List (List ℕ) → List R → Writing → Writing → Type 0

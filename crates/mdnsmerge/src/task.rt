@@ -3,7 +3,6 @@
 ghost use Rattle.std.specs.Prelude.{◌≡◌, ◌≢◌, ◌≤◌, ℕ, [], List, codes, length, map, string_bytes, true, Some};
 ghost use Rattle.mdns_capture.specs.Output.{writing};
 ghost use Rattle.mdns_survey.specs.Answer.{IsRefusedOf, Reports};
-ghost use Rattle.mdns_listeners.specs.{Groups.{grouped}, WarnedLives.{asked_warned}};
 ghost use Rattle.mdnsmerge.specs.Task.{AnswersTask, IsTaskRefused, asked_lives_of, is_warned};
 
 use command_line::Task;
@@ -87,17 +86,25 @@ fn answer_lives<R: Source + Drop, O: Sink, E: Sink>(
     ensures status { result ≤ 2 }
     ensures answers { result ≢ REFUSED → (captures : List (List ℕ))
         → map R.remaining readers.items ≡ map Some captures
-        → Reports (asked_lives_of lives (map string_bytes names.now)).Answers true (codes "mdnsmerge")
+        → Reports (asked_lives_of lives (map string_bytes names.now)) true (codes "mdnsmerge")
         (map string_bytes names.now) captures (writing O.Sink out.old out.new) (writing E.Sink err.old err.new) result }
     ensures refused { result ≡ REFUSED → IsRefusedOf R.Source (asked_lives_of lives (map string_bytes names.now))
         (codes "mdnsmerge") (map string_bytes names.now) readers.items
         (writing O.Sink out.old out.new) (writing E.Sink err.old err.new) }
     ensures unfailed { result ≢ REFUSED → O.failures out.new ≡ O.failures out.old }
 {
-    if is_warned(lives.form, names.len()) {
-        warn_and_answer(alloc, lives, names, readers, out, err)
-    } else {
-        answer_with(lives, true, named(names), readers, out, err)
+    if !is_warned(lives.form, names.len()) {
+        return answer_with(lives, true, named(names), readers, out, err);
+    }
+    match Groups::new(alloc, names, &[]) {
+        Ok(groups) => {
+            let warned = WarnedLives {
+                lives,
+                groups: &groups,
+            };
+            answer_with(warned, true, named(names), readers, out, err)
+        }
+        Err(Want) => error_lines::refuse(alloc, "mdnsmerge", names, &SurveyFault::Memory, err),
     }
 }
 
@@ -108,38 +115,6 @@ fn is_warned(form: Form, count: usize) -> bool
     match form {
         Form::Pretty => are_compared(count),
         Form::Lines | Form::Json | Form::Csv => false,
-    }
-}
-
-// Answers a request for lives after warnings.
-fn warn_and_answer<R: Source + Drop, O: Sink, E: Sink>(
-    alloc: Global,
-    lives: LivesRequest,
-    names: &[String],
-    readers: Vec<R>,
-    out: &mut O,
-    err: &mut E,
-) -> u8
-    requires { length names.now ≡ length readers.items }
-    ensures status { result ≤ 2 }
-    ensures answers { result ≢ REFUSED → (captures : List (List ℕ))
-        → map R.remaining readers.items ≡ map Some captures
-        → Reports (asked_warned (grouped [] (map string_bytes names.now)) lives).Answers true (codes "mdnsmerge")
-        (map string_bytes names.now) captures (writing O.Sink out.old out.new) (writing E.Sink err.old err.new) result }
-    ensures refused { result ≡ REFUSED → IsRefusedOf R.Source (asked_warned (grouped [] (map string_bytes names.now)) lives)
-        (codes "mdnsmerge") (map string_bytes names.now) readers.items
-        (writing O.Sink out.old out.new) (writing E.Sink err.old err.new) }
-    ensures unfailed { result ≢ REFUSED → O.failures out.new ≡ O.failures out.old }
-{
-    match Groups::new(alloc, names, &[]) {
-        Ok(groups) => {
-            let warned = WarnedLives {
-                lives,
-                groups: &groups,
-            };
-            answer_with(warned, true, named(names), readers, out, err)
-        }
-        Err(Want) => error_lines::refuse(alloc, "mdnsmerge", names, &SurveyFault::Memory, err),
     }
 }
 

@@ -8,7 +8,7 @@ ghost use Rattle.mdns_capture.specs.Output.{writing};
 ghost use Rattle.mdns_message.specs.declared.hearing.Hearing.{Hearing};
 ghost use Rattle.mdns_survey.specs.Answer.{Reports};
 ghost use Rattle.mdns_listeners.specs.{Clock.{is_one_clock}, Groups.{grouped}, Heard.{AreHeardIn, HasWholeAddress, HeardRow, Told}};
-ghost use Rattle.mdns_listeners.specs.{Heard.{times_of}, Listeners.{AreListeners}, Names.{AreNames, ListsNames}, Numbers.{is_of}};
+ghost use Rattle.mdns_listeners.specs.{Heard.{times_of}, Listeners.{AreListeners, asked_listeners}, Names.{AreNames, ListsNames}, Numbers.{is_of}};
 ghost use Rattle.mdns_listeners.specs.{Numbers.{listener_rows}, Pairs.{pair_rows}, Parts.{joined_rows}, Senders.{sender_rows}};
 
 use mdns_browse::Form;
@@ -51,8 +51,8 @@ pub fn listeners_of<R: Source + Drop>(
         groups: &groups,
         form: Form::Lines,
     };
-    let summaries = survey_with(alloc, captures, question, &mut text)?;
-    Ok((summaries, text.0))
+    let surveyed = survey_with(alloc, captures, question, &mut text)?;
+    Ok((surveyed.summaries, text.0))
 }
 
 /// Writes what the listeners of the files heard to `out` for people, and error lines to `err`, and returns the exit status.
@@ -66,7 +66,7 @@ pub fn compare<R: Source + Drop, O: Sink, E: Sink>(
     requires named { length names.now ≡ length readers.items }
     requires grouped { length groups.now.of ≡ length readers.items }
     ensures { result ≢ REFUSED → (captures : List (List ℕ)) → map R.remaining readers.items ≡ map Some captures
-        → Reports (AreListeners groups.now Form.Pretty) true (codes "mdnswhy") (map string_bytes names.now) captures
+        → Reports (asked_listeners groups.now Form.Pretty) true (codes "mdnswhy") (map string_bytes names.now) captures
         (writing O.Sink out.old out.new) (writing E.Sink err.old err.new) result }
 {
     let question = ListenersRequest {

@@ -35,6 +35,6 @@ pub fn page_of<R: Source + Drop>(
         window,
         about: Subjects::new(Vec::new(alloc)),
     };
-    let summaries = survey_with(alloc, captures, page, &mut text)?;
-    Ok((summaries, text.0))
+    let surveyed = survey_with(alloc, captures, page, &mut text)?;
+    Ok((surveyed.summaries, text.0))
 }

@@ -4,8 +4,8 @@ ghost use Rattle.std.specs.Prelude.{◌≡◌, ◌≢◌, ◌∷◌, [], ℕ, Li
 ghost use Rattle.std.specs.Io.KnownBytes.{Appends};
 ghost use Rattle.mdns_capture.specs.{declared.savefile.Ending.{Ending as ending}, Output.{writing}};
 ghost use Rattle.mdns_survey.specs.{Answer.{Reports}, Outcomes.{Outcome, CaptureTells, hearings_in}, Laws.{SameCaptures}};
-ghost use Rattle.mdns_survey.specs.{Listen.{HasListenFault}, Question.{IsCheck}, Refusals.{IsNoSurveyRead}, Request.{at_or_newest}};
-ghost use Rattle.mdns_survey.specs.{Surveys.{SurveysBy}, declared.request.AsOf.TheVariants.{Newest}};
+ghost use Rattle.mdns_survey.specs.{Listen.{HasListenFault}, Question.{asked_of}, Refusals.{IsNoSurveyRead}, Request.{at_or_newest}};
+ghost use Rattle.mdns_survey.specs.{Surveys.{SurveysBy}, declared.request.{AsOf.TheVariants.{Newest}, Request.TheVariants.{Check}}};
 ghost use Rattle.mdns_browse.specs.Report.{IsReport};
 
 use mdns_browse::Ask;
@@ -92,7 +92,7 @@ pub fn check<R: Source + Drop, O: Sink, E: Sink>(
 ) -> u8
     requires { length names.now ≡ length readers.items }
     ensures { result ≢ REFUSED → (captures : List (List ℕ)) → map R.remaining readers.items ≡ map Some captures
-        → Reports (IsCheck (map string_bytes names.now)) false (codes "mdnsmerge") (map string_bytes names.now) captures
+        → Reports (asked_of Check (map string_bytes names.now)) false (codes "mdnsmerge") (map string_bytes names.now) captures
         (writing O.Sink out.old out.new) (writing E.Sink err.old err.new) result }
 {
     answer(alloc, What::Check, names, readers, out, err)

@@ -10,6 +10,10 @@ returns-in-Ok-write-clause-written g c = grind (
   hears-readers g.Q.Collector.Collector.HeardAll (g.Q.Question.Heard c.args.question) _ c.in-Ok.collector c.collect_all.new.collector _ _ c.in-Ok.ensures.nothing c.in-Ok.ensures.heard c.as_slice-2.ensures.value c.in-Ok-collect_all.ensures.listened,
 )
 
+pub returns-in-Ok-write-clause-misses : goal.returns-in-Ok-write-clause-misses
+returns-in-Ok-write-clause-misses g c =
+    c.in-Ok-write.ensures.misses _ (hears-readers g.Q.Collector.Collector.HeardAll (g.Q.Question.Heard c.args.question) _ c.in-Ok.collector c.collect_all.new.collector _ _ c.in-Ok.ensures.nothing c.in-Ok.ensures.heard c.as_slice-2.ensures.value c.in-Ok-collect_all.ensures.listened)
+
 pub returns-clause-refused : goal.returns-clause-refused
 returns-clause-refused g c = grind (arith, hears-readers)
 

@@ -1,4 +1,6 @@
-use Rattle.mdns_survey.proofs.SurveyLemmas.{read-heard}
+use Rattle.std.proofs.Common.{[], None, inl, refl}
+use Rattle.mdns_survey.specs.declared.request.AsOf.TheVariants.{Newest}
+use Rattle.mdns_survey.proofs.SurveyLemmas.{misses-heard, read-heard}
 use Rattle.mdns_survey.proofs.answers.CheckTextAnswer.text.Goals as goal
 
 pub returns-in-Ok-clause-right : goal.returns-in-Ok-clause-right
@@ -8,3 +10,6 @@ returns-in-Ok-clause-right c = λ lefts hears captures known. record {
   read = read-heard lefts c.args.readings.now hears captures known;
   lines = c.in-Ok.ensures;
 }
+
+pub returns-in-Ok-clause-misses : goal.returns-in-Ok-clause-misses
+returns-in-Ok-clause-misses c = λ lefts hears. misses-heard lefts c.args.readings.now hears [] Newest None (inl refl)

@@ -7,11 +7,11 @@ pub returns-in-Err-Early-clause-refused : goal.returns-in-Err-Early-clause-refus
 returns-in-Err-Early-clause-refused g c = λ lefts hears.
     let early = rw c.in-Err-Early.field-0-is at c.in-Err-Early.ensures.early in early lefts hears
 
-pub returns-clause-refused : goal.returns-clause-refused
-returns-clause-refused g c = λ lefts hears captures known. (
+pub returns-in-Err-clause-refused : goal.returns-in-Err-clause-refused
+returns-in-Err-clause-refused g c = λ lefts hears captures known. (
   summaries_of c.args.readings.now,
   (
-    string_bytes c.in-Ok.text,
+    string_bytes c.in-Ok.answer.text,
     c.in-Ok.ensures.right lefts hears captures known,
     subst (AppendsPrefix (g.W.Sink.written c.args.out.now) (g.W.Sink.written c.write_whole.new.out)) c.as_bytes.ensures.value
         c.in-Err.ensures.prefix,

@@ -1,6 +1,6 @@
 use Rattle.std.proofs.Common.{refl}
 use Rattle.mdnsmerge.proofs.RefusedLemmas.{memory-refused}
-use Rattle.mdnsmerge.proofs.task.warn_and_answer.Goals as goal
+use Rattle.mdnsmerge.proofs.task.answer_lives.Goals as goal
 
 -- without memory for the groups nothing was read or written
 pub returns-in-Err-clause-refused : goal.returns-in-Err-clause-refused

@@ -1,7 +1,7 @@
 use Rattle.std.proofs.Common.{◌≡◌, IsTrue, map, length, string_bytes}
 use Rattle.mdns_survey.specs.Said.{ending_lines}
 use Rattle.mdns_survey.proofs.SaidLemmas.{SaidSoFar}
-use Rattle.mdns_survey.proofs.error_lines.say_endings.Given as goal
+use Rattle.mdns_survey.proofs.error_lines.say_each_ending.Given as goal
 
 -- the lines written so far and those that are left are all lines
 abbrev pub invariant-loop-name : goal.invariant-loop-name
