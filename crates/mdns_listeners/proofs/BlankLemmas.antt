@@ -43,8 +43,7 @@ sorted-recursion kept s =
 -- what the last row is read as
 pub last_read : (rows : List HeardRow) (last : HeardRow) → 0 < length rows → last ≡ get_or rows (length rows - 1) last
     → last_message rows ≡ last.message
-last_read rows last some is =
-    get_or-map (λ (r : HeardRow). r.message) rows (length rows - 1) last [] (omega arith) ∙ ap (λ r. r.message) (sym is)
+last_read rows last some is = grind (arith, get_or-map)
 
 last-push : (rows : List HeardRow) (row : HeardRow) → last_message (rows ++ row ∷ []) ≡ row.message
 last-push rows row = grind (arith, nat_tests, get_or_push, length-map, length_push, map_push)
@@ -75,8 +74,7 @@ ascend-push rows row s h =
 
 blank-push : (rows : List HeardRow) (m : List ℕ) → map (filled []) rows ≡ rows
     → map (filled []) (rows ++ record { message = m; times = [] } ∷ []) ≡ rows ++ record { message = m; times = [] } ∷ []
-blank-push rows m h =
-    map_push (filled []) rows (record { message = m; times = [] }) ∙ ap (λ rs. rs ++ record { message = m; times = [] } ∷ []) h
+blank-push rows m h = grind (arith, map_push)
 
 -- what holds of the rows, as far as the messages were made rows
 pub record BlankRows (kept done rest : List KeptMessage) (rows : List HeardRow) (numbers : List ℕ) : Type 0 where
@@ -93,15 +91,7 @@ none-ascend = tt
 
 pub blank-none : (kept rest : List KeptMessage) (rows : List HeardRow) (numbers : List ℕ) → AreSorted kept → rest ≡ kept → rows ≡ []
     → BlankRows kept [] rest rows numbers
-blank-none kept rest rows numbers s all none =
-    subst (λ rs. BlankRows kept [] rest rs numbers) (sym none) (record {
-      left = sym all;
-      ascending = none-ascend;
-      blank = refl;
-      above = λ l. absurd (omega arith);
-      sorted = subst Sorted (sym all) (sorted-recursion kept s);
-      numbered = All-nil (IsNumbered [] numbers);
-    })
+blank-none kept rest rows numbers s all none = grind (arith, none-ascend, sorted-recursion, All-nil)
 
 -- rows after one was added for a message, or none
 record Added (rows more : List HeardRow) (m : List ℕ) : Type 0 where
@@ -114,15 +104,7 @@ record Added (rows more : List HeardRow) (m : List ℕ) : Type 0 where
 
 added : (rows more : List HeardRow) (m : List ℕ) → Ascend rows → map (filled []) rows ≡ rows
     → (0 < length rows → is_lt (slice_cmp nat_cmp m (last_message rows)) ≡ false) → AddsRow rows m more → Added rows more m
-added rows more m s blank above (inl same) =
-    subst (λ rs. Added rows rs m) (sym same.0) (record {
-      some = same.1;
-      last = same.2;
-      ascending = s;
-      blank = blank;
-      longer = omega arith;
-      keeps = λ n l. refl;
-    })
+added rows more m s blank above (inl same) = grind arith
 added rows more m s blank above (inr new) =
     let row : HeardRow = record { message = m; times = [] } in
     subst (λ rs. Added rows rs m) (sym new.1) (record {
@@ -139,36 +121,12 @@ numbered-kept : (rows more : List HeardRow) (numbers : List ℕ) (messages : Lis
     → Added rows more one.message → number + 1 ≡ length more → one.place < length numbers
     → get_or messages one.place [] ≡ one.message → get_or messages other.place [] ≡ other.message → IsNumbered rows numbers other
     → IsNumbered more (set numbers one.place number) other
-numbered-kept rows more numbers messages one other number new last room is its old = elim (cases_eq other.place one.place) [
-  | inl same ↦
-      let here : get_or (set numbers one.place number) other.place 0 ≡ number =
-      ap (λ p. get_or (set numbers one.place number) p 0) same ∙ get_or-set_same numbers one.place number 0 room in
-      record {
-        within = omega (arith, here);
-        own = ap (λ n. get_or (messages_of more) n []) (here ∙ at-last) ∙ new.last ∙ sym is
-            ∙ ap (λ p. get_or messages p []) (sym same) ∙ its;
-      }
-  | inr differ ↦
-      let here : get_or (set numbers one.place number) other.place 0 ≡ get_or numbers other.place 0 =
-      get_or-set_other numbers one.place other.place number 0 differ in
-      record {
-        within = omega (arith, here, old.within, new.longer);
-        own = ap (λ n. get_or (messages_of more) n []) here ∙ new.keeps (get_or numbers other.place 0) old.within ∙ old.own;
-      }
-]
-  where
-    at-last : number ≡ length more - 1
-    at-last = omega arith
+numbered-kept rows more numbers messages one other number new last room is its old =
+    grind (arith, cases_eq, get_or-set_same, get_or-set_other)
 
 numbered-own : (rows more : List HeardRow) (numbers : List ℕ) (one : KeptMessage) (number : ℕ) → Added rows more one.message
     → number + 1 ≡ length more → one.place < length numbers → IsNumbered more (set numbers one.place number) one
-numbered-own rows more numbers one number new last room =
-    let here : get_or (set numbers one.place number) one.place 0 ≡ number = get_or-set_same numbers one.place number 0 room in
-    let at-last : number ≡ length more - 1 = omega arith in
-    record {
-      within = omega (arith, here);
-      own = ap (λ n. get_or (messages_of more) n []) (here ∙ at-last) ∙ new.last;
-    }
+numbered-own rows more numbers one number new last room = grind (arith, get_or-set_same)
 
 pub placed-next : (kept done rest new : List KeptMessage) (one : KeptMessage) (messages : List (List ℕ)) → ArePlaced messages kept
     → kept ≡ done ++ rest → rest ≡ one ∷ new → one.place < length kept

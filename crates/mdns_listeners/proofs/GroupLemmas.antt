@@ -58,15 +58,13 @@ any-more test (y ∷ xs) x = grind (arith, any-more test xs x)
 names-more : (prefixes earlier files more : List (List ℕ))
     → names_after prefixes earlier (files ++ more) ≡ names_after prefixes earlier files ++ names_after prefixes (earlier ++ files) more
 names-more prefixes earlier [] more = rw (append-nil earlier) refl
-names-more prefixes earlier (file ∷ files) more =
-    grind (arith, names-more prefixes (earlier ++ file ∷ []) files more, append_assoc)
+names-more prefixes earlier (file ∷ files) more = grind (arith, append_assoc, names-more prefixes (earlier ++ file ∷ []) files more)
 
 positions-more : (prefixes earlier files more : List (List ℕ))
     → positions_after prefixes earlier (files ++ more)
     ≡ positions_after prefixes earlier files ++ positions_after prefixes (earlier ++ files) more
 positions-more prefixes earlier [] more = rw (append-nil earlier) refl
-positions-more prefixes earlier (file ∷ files) more =
-    grind (arith, positions-more prefixes (earlier ++ file ∷ []) files more, append_assoc)
+positions-more prefixes earlier (file ∷ files) more = grind (arith, append_assoc, positions-more prefixes (earlier ++ file ∷ []) files more)
 
 positions-each : (prefixes earlier files : List (List ℕ)) → length (positions_after prefixes earlier files) ≡ length files
 positions-each prefixes earlier [] = refl
@@ -116,12 +114,7 @@ place-none len test xs is = grind (arith, nat_tests)
 
 -- before any file
 pub nothing_begun : (prefixes : List (List ℕ)) → HasBegun prefixes [] [] (replicate (length prefixes) None)
-nothing_begun prefixes = record {
-  named = refl;
-  many = length-replicate (length prefixes) None;
-  each = λ at inside. get_or-replicate (length prefixes) at None None inside;
-  inside = λ at listener inside is. absurd (none-some listener (sym (get_or-replicate (length prefixes) at None None inside) ∙ is));
-}
+nothing_begun prefixes = grind (arith, length-replicate, get_or-replicate, none-some)
 
 module _ (prefixes earlier : List (List ℕ)) (file : List ℕ) (names : List (List ℕ)) (begun : List (Option ℕ))
     (has : HasBegun prefixes earlier names begun) where

@@ -1,9 +1,8 @@
 -- Rows of heard messages as entries of a map from messages to times.
 use Rattle.std.proofs.lemmas.{Bool.Decides.{nat_tests}, List.{map-append}, List.Elements.{filter-append, All-head, All-tail}}
-use Rattle.std.proofs.lemmas.Map.Lookups.{exact_bytes}
+use Rattle.std.proofs.{lemmas.Map.Lookups.{exact_bytes}, Common.{Some, refl, sym, ap, ◌∙◌, subst, arith}}
 use Rattle.std.proofs.Common.{◌≡◌, ℕ, zero, suc, ◌<◌, ◌⊎◌, inl, inr, Bool, true, false, cond, List, [], ◌∷◌, ◌++◌, length, map, get_or}
-use Rattle.std.proofs.Common.{Some, None, refl, sym, ap, ◌∙◌, subst, arith}
-use Rattle.std.specs.{Cmp.{unsigned_ties}, Cmp.Lexicographic.{slice_cmp, lists_ties, bytes_decides, nat_list_cmp_total}, List.{All, filter}}
+use Rattle.std.specs.{Cmp.{unsigned_ties}, Cmp.Lexicographic.{slice_cmp, lists_ties, bytes_decides, nat_list_cmp_total}, List.{All}}
 use Rattle.std.specs.{List.Sorted.{IsStrictlySortedBy}, Map.{keys_of}, Ordering.{nat_cmp, is_eq}}
 use Rattle.join_map.specs.{Entries.{value_at, joined_at}, laws.Entries.{same_entries}}
 use Rattle.mdns_listeners.specs.declared.heard.HeardAt.{HeardAt}
@@ -38,8 +37,7 @@ some_times-append (x ∷ xs) (y ∷ ys) = refl
 whole-step : (m : List ℕ) (told : Told) (all : List Told) → HasWholeAddress told.message → (times_of m all ≡ []) ⊎ HasWholeAddress m
     → (b : Bool) → is_same m told.message ≡ b → (times_of m (told ∷ all) ≡ []) ⊎ HasWholeAddress m
 whole-step m told all whole rest true e = inr (subst HasWholeAddress (sym (same-is m told.message e)) whole)
-whole-step m told all whole (inl none) false e =
-    inl (ap (λ b. map (λ t. t.at) (cond b (told ∷ filter (λ t. is_same m t.message) all) (filter (λ t. is_same m t.message) all))) e ∙ none)
+whole-step m told all whole (inl none) false e = grind arith
 whole-step m told all whole (inr is) false e = inr is
 
 -- a message that was told at some time has a whole address, where all that were told have
@@ -47,8 +45,7 @@ whole_or_none : (m : List ℕ) (all : List Told) → All (λ told. HasWholeAddre
     → (times_of m all ≡ []) ⊎ HasWholeAddress m
 whole_or_none m [] h = inl refl
 whole_or_none m (told ∷ all) h =
-    whole-step m told all (All-head (λ t. HasWholeAddress t.message) told all h)
-    (whole_or_none m all (All-tail (λ t. HasWholeAddress t.message) told all h)) (is_same m told.message) refl
+    grind (arith, whole-step, All-head, All-tail, whole_or_none m all (All-tail (λ t. HasWholeAddress t.message) told all h))
 
 -- each row is found by its message
 row-found : (rows : List HeardRow) (k : ℕ) (d : HeardRow) → k < length rows
@@ -66,16 +63,7 @@ row-found (row ∷ rows) (suc k) d l =
 
 pub heard-whole : (all : List Told) (rows : List HeardRow) → AreHeardIn all rows → All (λ told. HasWholeAddress told.message) all
     → All (λ row. HasWholeAddress row.message) rows
-heard-whole all rows heard whole k d l =
-    let found = row-found rows k d l in
-    let m = (get_or rows k d).message in
-    elim (whole_or_none m all whole) [
-      | inl none ↦ no (sym found.1 ∙ heard.right m ∙ ap some_times none)
-      | inr is ↦ is
-    ]
-  where
-    no : {A : Type 0} {times : List HeardAt} → Some times ≡ None → A
-    no e = absurd (cc)
+heard-whole all rows heard whole k d l = grind (arith, row-found rows k d l, whole_or_none ((get_or rows k d).message) all whole)
 
 -- ---- entries
 

@@ -6,19 +6,18 @@ use Rattle.std.proofs.lemmas.List.Elements.{Contains-append_left, Contains-appen
 use Rattle.std.proofs.lemmas.List.Elements.{Contains-push_cases, Contains-get_or, All-head, All-tail, filter_map-append}
 use Rattle.std.proofs.lemmas.List.{Kept.{IsStrictlySortedBy-dedup, Contains-from_dedup}, Sorted.{IsPermutation-sym, Contains-permutation}}
 use Rattle.std.proofs.{lemmas.List.Sorted.{sorted_far, ranks_by}, Common.{◌≡◌, ◌≢◌, ℕ, suc, ◌<◌, ◌≤◌, ◌⊎◌}}
-use Rattle.std.proofs.Common.{⊎_elim, Bool, true, false, cond, List, [], ◌∷◌, ◌++◌, length, get_or, set, Contains, Some, None}
-use Rattle.std.proofs.Common.{append-nil, append_assoc, refl, sym, ap, subst, ◌∙◌, arith, if◌then◌else◌}
-use Rattle.std.specs.{List.{All, dedup, dedup_from, cons_option}, Option.{option_map}}
+use Rattle.std.proofs.Common.{⊎_elim, Bool, true, false, cond, List, [], ◌∷◌, ◌++◌, length, get_or, set, Contains, None}
+use Rattle.std.proofs.Common.{append-nil, append_assoc, refl, sym, ap, subst, ◌∙◌, arith}
+use Rattle.std.specs.{List.{All, dedup, dedup_from}, declared.cmp.Ordering.TheVariants.{Less, Equal, Greater}}
 use Rattle.std.specs.{List.Sorted.{IsPermutation, IsSorted, IsStrictlySortedBy}, Cmp.{IsTotalOrder}, Cmp.Lexicographic.{slice_cmp}}
 use Rattle.std.specs.{Ordering.{nat_cmp, is_lt, is_gt, is_eq, ordering_then, ordering_reverse}, declared.cmp.Ordering.{Ordering}}
-use Rattle.std.specs.declared.cmp.Ordering.TheVariants.{Less, Equal, Greater}
 use Rattle.mdns_capture.specs.declared.source_address.{SourceAddress.{SourceAddress}, SourceAddress.TheVariants.{V4, V6}}
 use Rattle.dns_name.specs.Name.{folded}
 use Rattle.mdns_message.specs.{declared.hearing.Hearing.{Hearing}, laws.Resource.{bytes_cmp-exact, both_tie}}
 use Rattle.mdns_browse.proofs.SearchLemmas.{eq_is}
 use Rattle.mdns_cache.proofs.StandsPartLemmas.{not_greater as never_greater, Contains-nil, Contains-head, Contains-later, Contains-cases}
 use Rattle.mdns_listeners.specs.declared.names.SenderAddressName.{SenderAddressName}
-use Rattle.mdns_listeners.specs.Names.{AddsNames, Covers, HoldsNames, IsAtMost, SufficeFor, named, named_in, told_in, respelled, address_in}
+use Rattle.mdns_listeners.specs.Names.{AddsNames, Covers, HoldsNames, IsAtMost, SufficeFor, named, told_in, respelled, address_in}
 use Rattle.mdns_listeners.specs.Names.{address_bytes, address_cmp, by_name, by_spelling}
 
 -- ---- orders
@@ -27,8 +26,7 @@ pub address_cmp-total : IsTotalOrder address_cmp
 address_cmp-total = on_total address_bytes nat_list_cmp_total
 
 pub by_name-total : IsTotalOrder by_name
-by_name-total = then_total (on_total (λ (one : SenderAddressName). one.source) address_cmp-total)
-    (on_total (λ (one : SenderAddressName). one.folded) nat_list_cmp_total)
+by_name-total = search (arith, then_total, on_total, address_cmp-total, nat_list_cmp_total)
 
 pub by_spelling-total : IsTotalOrder by_spelling
 by_spelling-total = then_total by_name-total (on_total (λ (one : SenderAddressName). one.name) nat_list_cmp_total)
@@ -54,18 +52,10 @@ pub bytes_upto : (a b c : List ℕ) → slice_cmp nat_cmp a b ≢ Greater → sl
 bytes_upto a b c p q = never_greater _ (upto nat_list_cmp_total a b c (not_greater _ p) (not_greater _ q))
 
 pub IsAtMost-itself : (one : SenderAddressName) → IsAtMost one one
-IsAtMost-itself one = record {
-  source = refl;
-  folded = refl;
-  name = never_greater _ (ap is_gt (tied_itself nat_list_cmp_total one.name));
-}
+IsAtMost-itself one = grind (arith, tied_itself, nat_list_cmp_total)
 
 pub IsAtMost-onward : (a b c : SenderAddressName) → IsAtMost a b → IsAtMost b c → IsAtMost a c
-IsAtMost-onward a b c p q = record {
-  source = p.source ∙ q.source;
-  folded = p.folded ∙ q.folded;
-  name = bytes_upto a.name b.name c.name p.name q.name;
-}
+IsAtMost-onward a b c p q = grind (arith, bytes_upto)
 
 -- ---- one more name
 
@@ -123,29 +113,7 @@ pub Covers-respelled : (held told : List SenderAddressName) (place : ℕ) (d : S
     → (get_or held place d).source ≡ source → (get_or held place d).folded ≡ folded owner → Covers held told
     → Covers (set held place (respelled (get_or held place d) owner)) (told ++ named source owner ∷ [])
 Covers-respelled held told place d source owner within same_source same_folded covers =
-    let old = get_or held place d in
-    elim (is_lt (slice_cmp nat_cmp owner old.name)) as (λ b. is_lt (slice_cmp nat_cmp owner old.name) ≡ b
-    → Covers (set held place (if b then record { source = old.source; folded = old.folded; name = owner } else old))
-    (told ++ named source owner ∷ [])) [
-      | true ↦ λ less. subst (λ one. Covers (set held place one) (told ++ named source owner ∷ []))
-          (λ i. record { source = sym same_source i; folded = sym same_folded i; name = owner })
-          (less_spelling held told place d (named source owner) within (record {
-            source = sym same_source;
-            folded = sym same_folded;
-            name = never_greater _ (lt-not_gt _ less);
-          }) covers)
-      | false ↦ λ not. subst (λ xs. Covers xs (told ++ named source owner ∷ [])) (sym (set-get_or held place d))
-          (kept_spelling held told place d (named source owner) within (record {
-            source = same_source;
-            folded = same_folded;
-            name = not_less owner old.name not;
-          }) covers)
-    ] refl
-  where
-    lt-not_gt : (o : Ordering) → is_lt o ≡ true → is_gt o ≡ false
-    lt-not_gt Less e = refl
-    lt-not_gt Equal e = refl
-    lt-not_gt Greater e = absurd (false≢true e)
+    grind (arith, less_spelling, set-get_or, kept_spelling, not_less)
 
 -- ---- sorted names, of which the first of each is kept
 
@@ -169,16 +137,11 @@ later_spelling : (x k : SenderAddressName) → same_name x k ≡ true → is_lt 
 later_spelling x k same not =
     let equal = eq_is (by_name x k) same in
     let parts = both_tie _ _ equal in
-    record {
-      source = sym (address_cmp-exact x.source k.source parts.0);
-      folded = sym (bytes_cmp-exact x.folded k.folded parts.1);
-      name = not_less x.name k.name (subst (λ o. is_lt (ordering_then o (slice_cmp nat_cmp x.name k.name)) ≡ false) equal not);
-    }
+    grind (arith, address_cmp-exact x.source k.source parts.0, bytes_cmp-exact x.folded k.folded parts.1, not_less)
 
 kept_first : (xs : List SenderAddressName) (k : SenderAddressName) → Ascend (k ∷ xs) → (e : SenderAddressName) → Contains (k ∷ xs) e
     → (f : SenderAddressName) × Contains (dedup_from same_name k xs) f × IsAtMost f e
-kept_first [] k up e m = ⊎_elim (λ same. (k, Contains-head k [], subst (IsAtMost k) same (IsAtMost-itself k)))
-    (λ none. absurd (Contains-nil e none)) (Contains-cases k [] e m)
+kept_first [] k up e m = grind (arith, Contains-head, IsAtMost-itself, Contains-nil, Contains-cases)
 kept_first (x ∷ xs) k up e m =
     elim (same_name x k) as (λ b. same_name x k ≡ b
     → (f : SenderAddressName) × Contains (cond b (dedup_from same_name k xs) (k ∷ dedup_from same_name x xs)) f × IsAtMost f e) [
@@ -225,8 +188,7 @@ module _ (names sorted kept : List SenderAddressName) (moved : IsPermutation nam
   weaker Greater p e = refl
 
   pub kept_ascend : IsStrictlySortedBy by_name kept
-  kept_ascend = subst (IsStrictlySortedBy by_name) (sym are)
-      (IsStrictlySortedBy-dedup by_name-total (λ x y. refl) sorted (λ k d low high. weaker _ _ (up k d low high)))
+  kept_ascend = grind (arith, IsStrictlySortedBy-dedup, by_name-total, weaker)
 
 -- ---- hearings
 
@@ -237,14 +199,8 @@ adds-none : (held : List SenderAddressName) → AddsNames held held []
 adds-none held told covers = subst (Covers held) (sym (append-nil told)) covers
 
 -- the name that a hearing tells, if any
-pub adds-told : (old new : List SenderAddressName) (h : Hearing) (source : SourceAddress) → address_in h.heard.body ≡ Some source
-    → AddsNames old new (named source h.heard.owner ∷ []) → AddsNames old new (told_in (h ∷ []))
-adds-told old new h source is =
-    subst (AddsNames old new) (ap (λ o. cons_option (option_map (λ s. named s h.heard.owner) o) []) (sym is))
-
 pub adds-untold : (held : List SenderAddressName) (h : Hearing) → address_in h.heard.body ≡ None → AddsNames held held (told_in (h ∷ []))
-adds-untold held h none =
-    subst (AddsNames held held) (ap (λ o. cons_option (option_map (λ s. named s h.heard.owner) o) []) (sym none)) (adds-none held)
+adds-untold held h none = grind (arith, adds-none)
 
 pub adds_next : (a b c : List SenderAddressName) (heard : List Hearing) (h : Hearing) → AddsNames a b (told_in heard)
     → AddsNames b c (told_in (h ∷ [])) → AddsNames a c (told_in (heard ++ h ∷ []))
@@ -268,9 +224,7 @@ suffice-adds held more suffice told covers = record {
 
 pub HoldsNames-more : (old new : List SenderAddressName) (heard more : List Hearing) → AddsNames old new (told_in more) → HoldsNames old heard
     → HoldsNames new (heard ++ more)
-HoldsNames-more old new heard more adds holds = record {
-  covers = subst (Covers new) (sym (filter_map-append named_in heard more)) (adds (told_in heard) holds.covers);
-}
+HoldsNames-more old new heard more adds holds = grind (arith, filter_map-append)
 
 pub HoldsNames-kept : (kept held : List SenderAddressName) (heard : List Hearing) → Covers kept held → HoldsNames held heard → HoldsNames kept heard
 HoldsNames-kept kept held heard covers holds = record { covers = Covers-onward kept held (told_in heard) covers holds.covers }

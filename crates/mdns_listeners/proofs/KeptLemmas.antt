@@ -3,8 +3,8 @@ use Rattle.std.proofs.{lemmas.Bool.Decides.{nat_tests}, Math.Seq.{drop-append_se
 use Rattle.std.proofs.lemmas.List.{get_or_append_left, get_or-map, get_or_push, length-map, length_push, map_push, take-map}
 use Rattle.std.proofs.lemmas.List.Elements.{All-map, All-push, All-take, Contains-get_or}
 use Rattle.std.proofs.lemmas.List.Sorted.{All-permutation as all_permuted, Contains-permutation, length_permutation}
-use Rattle.std.proofs.Common.{◌≡◌, ℕ, ◌<◌, ◌-◌, ◌==◌, if◌then◌else◌, inl, inr, List, [], ◌∷◌, ◌++◌, drop, length, get_or, map, take, Result, Ok}
-use Rattle.std.proofs.Common.{Err, OnOk, OnErr, refl, sym, ap, ◌∙◌, subst, arith, length-append}
+use Rattle.std.proofs.Common.{◌≡◌, ℕ, ◌<◌, ◌-◌, ◌==◌, if◌then◌else◌, List, [], ◌∷◌, ◌++◌, length, get_or, map, take, Result, Ok}
+use Rattle.std.proofs.Common.{Err, OnOk, refl, sym, ap, ◌∙◌, subst, arith, length-append}
 use Rattle.std.specs.{List.{All, cons_option}, List.Sorted.{IsPermutation}}
 use Rattle.mdns_capture.specs.declared.moment.Moment.{Moment}
 use Rattle.mdns_message.specs.{declared.hearing.Hearing.{Hearing}, Message.{MessageReads, hearing_of}, RecordAt.{HeardRecord}}
@@ -20,27 +20,20 @@ use Rattle.mdns_listeners.proofs.{HeldNameLemmas.{suffice-onward}, RowLemmas.{ma
 
 pub whole_v4 : {E : Type 0} (r : Result (Unit {0}) E) (octets payload message : List ℕ) → OnOk r (message ≡ 4 ∷ octets ++ payload)
     → length octets ≡ 4 → OnOk r (HasWholeAddress message)
-whole_v4 (Ok x) octets payload message is size =
-    subst HasWholeAddress (sym is) (inl (refl, omega (arith, length-append octets payload)))
+whole_v4 (Ok x) octets payload message is size = grind (arith, length-append)
 whole_v4 (Err e) octets payload message is size = tt
 
 pub whole_v6 : {E : Type 0} (r : Result (Unit {0}) E) (octets payload message : List ℕ) → OnOk r (message ≡ 6 ∷ octets ++ payload)
     → length octets ≡ 16 → OnOk r (HasWholeAddress message)
-whole_v6 (Ok x) octets payload message is size =
-    subst HasWholeAddress (sym is) (inr (refl, omega (arith, length-append octets payload)))
+whole_v6 (Ok x) octets payload message is size = grind (arith, length-append)
 whole_v6 (Err e) octets payload message is size = tt
-
-pub on-err : {T E P : Type 0} (r : Result T E) → P → OnErr r P
-on-err (Ok x) p = tt
-on-err (Err e) p = p
 
 -- ---- payloads
 
 pub payload_after : {E : Type 0} (r : Result (Unit {0}) E) (version : ℕ) (octets payload message : List ℕ)
     → OnOk r (message ≡ version ∷ octets ++ payload) → length octets ≡ (if version == 4 then 4 else 16)
     → OnOk r (payload_in message ≡ payload)
-payload_after (Ok x) version octets payload message is size =
-    ap payload_in is ∙ ap (λ n. drop n (octets ++ payload)) (sym size) ∙ drop-append_seam octets payload
+payload_after (Ok x) version octets payload message is size = grind (arith, drop-append_seam)
 payload_after (Err e) version octets payload message is size = tt
 
 -- ---- messages that were read
@@ -73,13 +66,7 @@ module _ (names : List SenderAddressName) (one : KeptMessage) (payload : List �
   known-reads = subst (λ m. ReadsAs t m one.hearings) is (read.reads t)
 
   pub known-some : (hs : List Hearing) → MessageReads t payload hs → hs ≡ [] → ⊥
-  known-some hs reads none =
-      omega (
-        arith,
-        read.some,
-        known-reads.counted,
-        ap length (one_hearing_list t payload known-reads.hearings hs known-reads.reads reads ∙ none),
-      )
+  known-some hs reads none = grind (arith, one_hearing_list t payload known-reads.hearings hs known-reads.reads reads)
 
   pub known-named : (hs : List Hearing) → MessageReads t payload hs → SufficeFor names (told_in hs)
   known-named hs reads = read.named t hs (subst (λ m. MessageReads t m hs) (sym is) reads)
@@ -89,12 +76,7 @@ module _ (names : List SenderAddressName) (one : KeptMessage) (payload : List �
 -- one time less
 pub kept-less : (kept : List KeptMessage) (times less : List Noted) (names : List SenderAddressName) (n : ℕ) → AreKept kept times names
     → less ≡ take n times → AreKept kept less names
-kept-less kept times less names n are is = subst (λ (ts : List Noted). AreKept kept ts names) (sym is) (record {
-  placed = are.placed;
-  addressed = are.addressed;
-  read = are.read;
-  within = All-take (λ (noted : Noted). noted.place < length kept) n times are.within;
-})
+kept-less kept times less names n are is = grind (arith, All-take (λ (noted : Noted). noted.place < length kept) n times are.within)
 
 pub told-less : (messages : List (List ℕ)) (times less : List Noted) → less ≡ take (length times - 1) times
     → told_by messages less ≡ take (length (told_by messages times) - 1) (told_by messages times)
@@ -120,12 +102,7 @@ placed-push kept one is placed k d l = grind (arith, nat_tests, cases_lt, get_or
 
 kept-push : (kept : List KeptMessage) (times : List Noted) (names : List SenderAddressName) (one : KeptMessage) → AreKept kept times names
     → one.place ≡ length kept → HasWholeAddress one.message → IsRead names one → AreKept (kept ++ one ∷ []) times names
-kept-push kept times names one are last whole read = record {
-  placed = placed-push kept one last are.placed;
-  addressed = All-push (λ o. HasWholeAddress o.message) kept one are.addressed whole;
-  read = All-push (IsRead names) kept one are.read read;
-  within = λ i d l. omega (arith, are.within i d l, length_push kept one);
-}
+kept-push kept times names one are last whole read = search (arith, placed-push, All-push, length_push)
 
 -- a message that was read is kept, and names suffice for its hearings
 pub kept-more : (kept new : List KeptMessage) (times : List Noted) (old names : List SenderAddressName) (payload message bytes : List ℕ) (t : Moment)
@@ -141,12 +118,7 @@ kept-more kept new times old names payload message bytes t hs count are keeps su
 
 pub kept-noted : (kept : List KeptMessage) (times : List Noted) (names : List SenderAddressName) (noted : Noted) → AreKept kept times names
     → noted.place < length kept → AreKept kept (times ++ noted ∷ []) names
-kept-noted kept times names noted are within = record {
-  placed = are.placed;
-  addressed = are.addressed;
-  read = are.read;
-  within = All-push (λ n. n.place < length kept) times noted are.within within;
-}
+kept-noted kept times names noted are within = grind (arith, All-push (λ n. n.place < length kept) times noted are.within within)
 
 -- what was told before stays so
 pub told-push : (kept : List KeptMessage) (times : List Noted) (names : List SenderAddressName) (one : KeptMessage) → AreKept kept times names
@@ -164,8 +136,7 @@ told-push kept times names one are =
 pub told-noted : (messages : List (List ℕ)) (times : List Noted) (noted : Noted) (message : List ℕ)
     → get_or messages noted.place [] ≡ message
     → told_by messages (times ++ noted ∷ []) ≡ told_by messages times ++ record { message = message; at = noted.at } ∷ []
-told-noted messages times noted message is =
-    map_push _ times noted ∙ ap (λ m. told_by messages times ++ record { message = m; at = noted.at } ∷ []) is
+told-noted messages times noted message is = grind (arith, map_push)
 
 pub message-push : (kept : List KeptMessage) (one : KeptMessage)
     → get_or (kept_messages (kept ++ one ∷ [])) (length kept) [] ≡ one.message

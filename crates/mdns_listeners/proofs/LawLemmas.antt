@@ -11,8 +11,7 @@ use Rattle.mdns_listeners.proofs.HeardLemmas.{Entry, entries_of, keys-entries, o
 use Rattle.mdns_listeners.proofs.HeardLemmas.{some_times-append, times_of-append}
 
 pub one-list-heard : (all : List Told) (rows others : List HeardRow) → AreHeardIn all rows → AreHeardIn all others → rows ≡ others
-one-list-heard all rows others heard again =
-    one-list rows others heard.ascending again.ascending (λ m. heard.right m ∙ sym (again.right m))
+one-list-heard all rows others heard again = grind (arith, one-list)
 
 -- ---- parts
 
@@ -36,8 +35,7 @@ heard-joined all more rows others heard next =
     let sorted = subst (IsStrictlySortedBy (slice_cmp nat_cmp)) (sym (keys-entries rows)) heard.ascending in
     let sorted_next = subst (IsStrictlySortedBy (slice_cmp nat_cmp)) (sym (keys-entries others)) next.ascending in
     record {
-      ascending = subst (IsStrictlySortedBy (slice_cmp nat_cmp)) (sym (messages-rows es))
-          (sorted-joined nat_list_cmp_total exact_bytes both (entries_of rows) (entries_of others) sorted);
+      ascending = grind (arith, messages-rows, sorted-joined, nat_list_cmp_total, exact_bytes);
       right = λ m.
           row_at-entries m (map row_of es)
           ∙ ap (value_at (slice_cmp nat_cmp) m) (entries-rows es)
@@ -103,9 +101,5 @@ pub messages-permuted : (all others : List Told) (rows more : List HeardRow) →
     → AreHeardIn others more → messages_of rows ≡ messages_of more
 messages-permuted all others rows more moved heard again =
     let same : bare rows ≡ bare more =
-    one-list (bare rows) (bare more) (subst (IsStrictlySortedBy (slice_cmp nat_cmp)) (sym (messages-bare rows)) heard.ascending)
-    (subst (IsStrictlySortedBy (slice_cmp nat_cmp)) (sym (messages-bare more)) again.ascending)
-    (λ m. row_at-bare m rows ∙ ap (option_map no_times) (heard.right m)
-    ∙ some-or-none (times_of m all) (times_of m others) (sym (sums-permuted (λ (t : HeardAt). 1) m all others moved))
-    ∙ ap (option_map no_times) (sym (again.right m)) ∙ sym (row_at-bare m more)) in
+    grind (arith, one-list, messages-bare, row_at-bare, some-or-none, sums-permuted) in
     sym (messages-bare rows) ∙ ap messages_of same ∙ messages-bare more

@@ -136,10 +136,8 @@ module _ (sender : SourceAddress) where
       → AllByRecursion (λ y. by_name x y ≡ Less) xs
       → AllByRecursion (λ name. by_folded x.name name ≡ Less) (map (λ one. one.name) xs)
   below_all x [] of each all = tt
-  below_all x (y ∷ xs) of each all = (
-    folded_order x y of (each y (Contains-head y xs)) all.0,
-    below_all x xs of (λ z m. each z (Contains-later y xs z m)) all.1,
-  )
+  below_all x (y ∷ xs) of each all =
+      grind (arith, folded_order, Contains-head, Contains-later, below_all x xs of (λ z m. each z (Contains-later y xs z m)) all.1)
 
   names_ascend : (xs : List SenderAddressName) → ((y : SenderAddressName) → Contains xs y → AreOf y) → IsStrictlySortedBy by_name xs
       → IsStrictlySortedBy by_folded (map (λ one. one.name) xs)
@@ -160,8 +158,7 @@ module _ (sender : SourceAddress) where
         (is_of-same one w.1, (Tells-from_told heard one (holds.covers.among one w.0)).folded_is)
 
     name_own : (one : SenderAddressName) → Contains held one → one.source ≡ sender → IsNameOf sender heard one.name
-    name_own one m same = subst (λ source. IsNameOf source heard one.name) same
-        (Tells-from_told heard one (holds.covers.among one m)).is_name
+    name_own one m same = grind (arith, Tells-from_told heard one (holds.covers.among one m))
 
     least_own : (one : SenderAddressName) → Contains own one → IsLeastName sender heard one.name
     least_own one m =

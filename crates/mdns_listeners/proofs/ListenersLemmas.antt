@@ -1,16 +1,14 @@
 -- What captures tell, one packet and one capture more at a time.
 use Rattle.std.proofs.lemmas.{Bool.Decides.{nat_tests}, Grind.{flat_map-append}, List.{get_or_past, map-append, take_all, take_more}}
-use Rattle.std.proofs.lemmas.List.Elements.{All-append, All-cons, All-nil}
+use Rattle.std.proofs.{lemmas.List.Elements.{All-append, All-cons, All-nil}, Common.{◌<◌, ◌≤◌, ◌-◌, get_or, map, take, Option}}
 use Rattle.std.proofs.Common.{◌≡◌, ◌∙◌, ℕ, ◌+◌, suc, refl, sym, ap, subst, List, [], ◌∷◌, ◌++◌, length, append_assoc, append-nil, arith}
-use Rattle.std.proofs.Common.{◌<◌, ◌≤◌, ◌-◌, get_or, map, take, Option}
 use Rattle.std.specs.Prelude.{min}
 use Rattle.mdns_capture.specs.{declared.source_address.SourceAddress.{SourceAddress}, Frame.{FrameCarries}, Savefile.{PacketAt}}
 use Rattle.mdns_capture.specs.Source.{IsSourceOf}
 use Rattle.mdns_message.specs.declared.hearing.Hearing.{Hearing}
 use Rattle.mdns_browse.specs.declared.report.Form.{Form}
 use Rattle.mdns_survey.proofs.ListenedLemmas.{all_hearings-more}
-use Rattle.mdns_survey.specs.{Outcomes.{Outcome, heard, hearings_in, hearings_of_outcome}, Surveys.{all_hearings}}
-use Rattle.mdns_survey.specs.declared.reading.Span.{Span}
+use Rattle.mdns_survey.specs.{Outcomes.{Outcome, heard, hearings_in, hearings_of_outcome}, declared.reading.Span.{Span}}
 use Rattle.mdns_listeners.specs.declared.{listeners.MessageCollector.{MessageCollector}, senders.SenderRow.{SenderRow}}
 use Rattle.mdns_listeners.specs.{declared.heard.HeardAt.{HeardAt}, Heard.{HeardRow, Told, message_bytes}}
 use Rattle.mdns_listeners.specs.{Numbers.{FileSpans, spans_of_listeners}, Kept.{HeardSoFar, HearsMessage}}
@@ -33,34 +31,18 @@ at-min of n = grind (arith, get_or_past)
 pub tell-more : (listener : ℕ) (packets : List PacketAt) (outcomes : List Outcome) (packet : PacketAt) (outcome : Outcome)
     (told one : List Told) → TellAll listener packets outcomes told → Tells listener packet outcome one
     → TellAll listener (packets ++ packet ∷ []) (outcomes ++ outcome ∷ []) (told ++ one)
-tell-more l [] [] packet outcome told one tell more =
-    (one, ([], ap (λ ts. ts ++ one) tell ∙ sym (append-nil one), more, refl))
+tell-more l [] [] packet outcome told one tell more = search (arith, append-nil)
 tell-more l [] (o ∷ os) packet outcome told one tell more = absurd tell
 tell-more l (p ∷ ps) [] packet outcome told one tell more = absurd tell
-tell-more l (p ∷ ps) (o ∷ os) packet outcome told one (first, (rest, is, here, after)) more = (
-  first,
-  (
-    rest ++ one,
-    ap (λ ts. ts ++ one) is ∙ append_assoc first rest one,
-    here,
-    tell-more l ps os packet outcome rest one after more,
-  ),
-)
+tell-more l (p ∷ ps) (o ∷ os) packet outcome told one (first, (rest, is, here, after)) more =
+    grind (arith, append_assoc, tell-more l ps os packet outcome rest one after more)
 
 -- one capture more
 pub captures-more : (of : List ℕ) (place : ℕ) (packets : List (List PacketAt)) (outcomes : List (List Outcome))
     (next : List PacketAt) (come : List Outcome) (told one : List Told) → CapturesTell of place packets outcomes told
     → TellAll (listener_at of (place + length packets)) next come one
     → CapturesTell of place (packets ++ next ∷ []) (outcomes ++ come ∷ []) (told ++ one)
-captures-more of place [] [] next come told one tell more = (
-  one,
-  (
-    [],
-    ap (λ ts. ts ++ one) tell ∙ sym (append-nil one),
-    subst (λ n. TellAll (listener_at of n) next come one) (omega arith) more,
-    refl,
-  ),
-)
+captures-more of place [] [] next come told one tell more = grind (arith, append-nil one)
 captures-more of place [] (o ∷ os) next come told one tell more = absurd tell
 captures-more of place (p ∷ ps) [] next come told one tell more = absurd tell
 captures-more of place (p ∷ ps) (o ∷ os) next come told one (first, (rest, is, here, after)) more = (
@@ -78,8 +60,7 @@ captures-more of place (p ∷ ps) (o ∷ os) next come told one (first, (rest, i
 
 pub hearings-more : (outcomes : List Outcome) (outcome : Outcome)
     → hearings_in (outcomes ++ outcome ∷ []) ≡ hearings_in outcomes ++ hearings_of_outcome outcome
-hearings-more outcomes outcome = flat_map-append hearings_of_outcome outcomes (outcome ∷ [])
-    ∙ ap (λ l. hearings_in outcomes ++ l) (append-nil (hearings_of_outcome outcome))
+hearings-more outcomes outcome = grind (arith, flat_map-append, append-nil)
 
 -- a message that was heard
 abbrev told_by : SourceAddress → List ℕ → HeardAt → List Told
@@ -102,11 +83,8 @@ gathers-told begun old new packets outcomes packet source payload (hearing ∷ h
       of = of ∙ took.of;
       place = place ∙ took.place;
       told = took.told ++ one;
-      tell = tell-more listener packets outcomes packet (heard (hearing ∷ hearings)) took.told one took.tell
-          (source, (payload, sent, carries, refl));
-      messages = hears.told
-          ∙ ap (λ l. old.messages.told ++ told_by source payload (record { listener = l; moment = packet.moment })) same
-          ∙ ap (λ ts. ts ++ one) took.messages ∙ append_assoc begun.messages.told took.told one;
+      tell = grind (arith, tell-more);
+      messages = grind (arith, append_assoc);
       names = λ earlier held. subst (HoldsNames new.messages.names)
           (append_assoc earlier (hearings_in outcomes) (hearing ∷ hearings)
           ∙ ap (λ l. earlier ++ l) (sym (hearings-more outcomes (heard (hearing ∷ hearings)))))
@@ -118,18 +96,7 @@ pub gathers-nothing : (begun now : MessageCollector) (packets : List PacketAt) (
     (outcome : Outcome) → Gathers begun now packets outcomes → Tells (listener_at begun.of.items begun.place) packet outcome []
     → hearings_of_outcome outcome ≡ [] → Gathers begun now (packets ++ packet ∷ []) (outcomes ++ outcome ∷ [])
 gathers-nothing begun now packets outcomes packet outcome took tells none =
-    let listener = listener_at begun.of.items begun.place in
-    let same : hearings_in (outcomes ++ outcome ∷ []) ≡ hearings_in outcomes =
-    hearings-more outcomes outcome ∙ ap (λ l. hearings_in outcomes ++ l) none ∙ append-nil (hearings_in outcomes) in
-    record {
-      of = took.of;
-      place = took.place;
-      told = took.told;
-      tell = subst (TellAll listener (packets ++ packet ∷ []) (outcomes ++ outcome ∷ [])) (append-nil took.told)
-          (tell-more listener packets outcomes packet outcome took.told [] took.tell tells);
-      messages = took.messages;
-      names = λ earlier held. subst (λ hs. HoldsNames now.messages.names (earlier ++ hs)) (sym same) (took.names earlier held);
-    }
+    grind (arith, hearings-more outcomes outcome, append-nil (hearings_in outcomes), append-nil took.told, tell-more)
 
 pub gathers-untold : (begun now : MessageCollector) (packets : List PacketAt) (outcomes : List Outcome) (packet : PacketAt)
     (outcome none : Outcome) → Gathers begun now packets outcomes → outcome ≡ none
@@ -139,14 +106,7 @@ gathers-untold begun now packets outcomes packet outcome none took is tells unto
 
 -- a collector that took nothing
 pub gathers-none : (now : MessageCollector) → Gathers now now [] []
-gathers-none now = record {
-  of = refl;
-  place = refl;
-  told = [];
-  tell = refl;
-  messages = sym (append-nil now.messages.told);
-  names = λ earlier held. subst (HoldsNames now.messages.names) (sym (append-nil earlier)) held;
-}
+gathers-none now = grind (arith, append-nil)
 
 -- the time that was noted last is forgotten
 front : {X : Type 0} (xs : List X) (x : X) → take (length xs) (xs ++ x ∷ []) ≡ xs
@@ -154,22 +114,12 @@ front [] x = refl
 front (y ∷ ys) x = ap (λ l. y ∷ l) (front ys x)
 
 without-last : {X : Type 0} (xs : List X) (x : X) → take (length (xs ++ x ∷ []) - 1) (xs ++ x ∷ []) ≡ xs
-without-last xs x =
-    let size : length (xs ++ x ∷ []) - 1 ≡ length xs = omega (arith, length-snoc xs x) in
-    ap (λ n. take n (xs ++ x ∷ [])) size ∙ front xs x
+without-last xs x = grind (arith, length-snoc xs x, front xs x)
 
 pub forgets : (earlier old : MessageCollector) (messages : HeardSoFar) → NotesTime earlier old
     → messages.told ≡ take (length old.messages.told - 1) old.messages.told → messages.names ≡ old.messages.names
     → record { of = old.of; place = old.place; messages = messages } ≡ earlier
-forgets earlier old messages notes told names =
-    let all : messages.told ≡ earlier.messages.told = told ∙ ap (λ (ts : List Told). take (length ts - 1) ts) notes.told
-    ∙ without-last earlier.messages.told notes.one in
-    let same : messages.names ≡ earlier.messages.names = names ∙ notes.names in
-    λ i. record {
-      of = notes.of i;
-      place = notes.place i;
-      messages = record { told = all i; names = same i };
-    }
+forgets earlier old messages notes told names = grind (arith, without-last)
 
 -- one capture more was read
 pub gathered-more : (of : List ℕ) (old now new : MessageCollector) (packets : List (List PacketAt)) (outcomes : List (List Outcome))
@@ -177,23 +127,7 @@ pub gathered-more : (of : List ℕ) (old now new : MessageCollector) (packets : 
     → new.of.items ≡ now.of.items → new.place ≡ min (suc now.place) (length now.of.items) → new.messages ≡ now.messages
     → Gathered of new (packets ++ next ∷ []) (outcomes ++ come ∷ [])
 gathered-more of old now new packets outcomes next come gathered took same_of counted same_messages =
-    let plus_zero : length packets ≡ 0 + length packets = omega arith in
-    let at : listener_at old.of.items old.place ≡ listener_at of (0 + length packets) =
-    ap (λ l. listener_at l old.place) gathered.listeners ∙ ap (listener_at of) gathered.place ∙ at-min of (length packets)
-    ∙ ap (listener_at of) plus_zero in
-    let listeners : now.of.items ≡ of = took.of ∙ gathered.listeners in
-    let reached : now.place ≡ min (length packets) (length of) = took.place ∙ gathered.place in
-    record {
-      listeners = same_of ∙ listeners;
-      place = counted ∙ ap (λ of_now. min (suc now.place) (length of_now)) listeners
-          ∙ ap (λ n. min (suc n) (length of)) reached ∙ min-suc (length packets) (length of)
-          ∙ ap (λ n. min n (length of)) (sym (length-snoc packets next));
-      tell = subst (CapturesTell of 0 (packets ++ next ∷ []) (outcomes ++ come ∷ [])) (sym (ap (λ m. m.told) same_messages ∙ took.messages))
-          (captures-more of 0 packets outcomes next come old.messages.told took.told gathered.tell
-          (subst (λ l. TellAll l next come took.told) at took.tell));
-      names = subst (λ (m : HeardSoFar). HoldsNames m.names (all_hearings (outcomes ++ come ∷ []))) (sym same_messages)
-          (subst (HoldsNames now.messages.names) (all_hearings-more outcomes come) (took.names (all_hearings outcomes) gathered.names));
-    }
+    grind (arith, at-min, min, min-suc, length-snoc, captures-more, all_hearings-more)
 
 -- THE NAMES OF ROWS
 
@@ -220,9 +154,7 @@ named-next hearings rows i row lent old new within is pushed same named are =
     let all : map sender_lent new ≡ map sender_lent old ++ record { row = row; names = lent.names.now } ∷ [] =
     ap (map sender_lent) pushed ∙ map-append sender_lent old (lent ∷ [])
     ∙ ap (λ (r : SenderRow). map sender_lent old ++ record { row = r; names = lent.names.now } ∷ []) same in
-    subst (λ (rs : List SenderRow). AreNamed hearings rs (map sender_lent new)) (sym first)
-    (subst (λ (ss : List NamedSender). AreNamed hearings (take i rows ++ row ∷ []) ss) (sym all)
-    (named-more hearings (take i rows) (map sender_lent old) row lent.names.now named are))
+    grind (arith, named-more hearings (take i rows) (map sender_lent old) row lent.names.now named are)
 
 pub named-all : (hearings : List Hearing) (rows : List SenderRow) (i : ℕ) (senders : List NamedSender) → length rows ≤ i
     → AreNamed hearings (take i rows) senders → AreNamed hearings rows senders

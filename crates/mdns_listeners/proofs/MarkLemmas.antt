@@ -1,13 +1,11 @@
 -- Marks tell what the messages tell.
-use Rattle.std.proofs.Common.{◌≡◌, ℕ, ◌+◌, Bool, true, false, ◌&&◌, ◌||◌, cond, List, [], ◌∷◌, ◌++◌, map, drop, get_or}
+use Rattle.std.proofs.Common.{◌≡◌, ℕ, ◌+◌, Bool, true, false, ◌&&◌, cond, List, [], ◌∷◌, ◌++◌, map, drop, get_or}
 use Rattle.std.proofs.Common.{Option, Some, None, ℤ, arith, refl, ap, sym, ◌∙◌}
 use Rattle.std.proofs.lemmas.{List.{get_or-drop, drop-drop}, List.Sums.{sum_by-append, sum_by-cons}, List.Elements.{filter_map-append}}
 use Rattle.std.specs.List.{count_by, cons_option, filter, filter_map, list_any}
-use Rattle.mdns_capture.specs.declared.moment.Moment.{Moment}
 use Rattle.mdns_listeners.specs.{Heard.{HeardRow}, Marks.{is_seen, mark_at, marks_by, marks_from, only_of, seen_by, seen_of}}
 use Rattle.mdns_listeners.specs.{Numbers.{has, is_of}, Pairs.{common, difference, differences, nanos_ahead, once, only_moment}}
-use Rattle.mdns_listeners.specs.declared.{heard.HeardAt.{HeardAt}, marks.Mark.{Mark}, marks.Seen.{Seen}}
-use Rattle.mdns_listeners.specs.declared.marks.Seen.TheVariants.{Never, Once, Often}
+use Rattle.mdns_listeners.specs.declared.{heard.HeardAt.{HeardAt}, marks.{Mark.{Mark}, Seen.{Seen}, Seen.TheVariants.{Never, Once, Often}}}
 
 -- ---- how often a message was heard
 
@@ -17,11 +15,7 @@ some-seen at (b ∷ ats) = refl
 
 any-seen : (p : HeardAt → Bool) (ats : List HeardAt) → list_any p ats ≡ is_seen (seen_of (filter p ats))
 any-seen p [] = refl
-any-seen p (a ∷ ats) =
-    elim (p a) as (λ b. (b || list_any p ats) ≡ is_seen (seen_of (cond b (a ∷ filter p ats) (filter p ats)))) [
-      | true ↦ some-seen a (filter p ats)
-      | false ↦ any-seen p ats
-    ]
+any-seen p (a ∷ ats) = grind (arith, some-seen, any-seen p ats)
 
 pub has-seen : (listener : ℕ) (row : HeardRow) → has listener row ≡ is_seen (seen_by listener row)
 has-seen listener row = any-seen (is_of listener) row.times
@@ -46,14 +40,6 @@ count-mark p n (Once m) false e = ap (λ (c : Bool). 0 + cond c 1 0) (e (Once m)
 count-mark p n Often true e = ap (λ (c : Bool). 0 + cond c 1 0) (e Often)
 count-mark p n Often false e = ap (λ (c : Bool). 0 + cond c 1 0) (e Often)
 
-difference-mark : (h : Mark → Option ℤ) (n : ℕ) (s : Seen) (o : Option Moment)
-    → ((q : Seen) → h (record { position = n; seen = q }) ≡ nanos_ahead o (only_of q))
-    → filter_map h (mark_at n s) ≡ cons_option (nanos_ahead o (only_of s)) []
-difference-mark h n Never None e = refl
-difference-mark h n Never (Some m) e = refl
-difference-mark h n (Once t) o e = ap (λ (c : Option ℤ). cons_option c []) (e (Once t))
-difference-mark h n Often o e = ap (λ (c : Option ℤ). cons_option c []) (e Often)
-
 front-option : (o : Option ℤ) (xs : List ℤ) → cons_option o [] ++ xs ≡ cons_option o xs
 front-option None xs = refl
 front-option (Some x) xs = refl
@@ -61,10 +47,7 @@ front-option (Some x) xs = refl
 -- the first of what is left of a table, and the rest
 here-is : (one : ℕ) (table : List Seen) (n : ℕ) (row : HeardRow) (rows : List HeardRow)
     → drop n table ≡ map (seen_by one) (row ∷ rows) → get_or table n Never ≡ seen_by one row
-here-is one table n row rows e =
-    let at : get_or (drop n table) 0 Never ≡ get_or table (n + 0) Never = get_or-drop n table 0 Never in
-    let same : n + 0 ≡ n = omega arith in
-    sym (ap (λ (k : ℕ). get_or table k Never) same) ∙ (sym at ∙ ap (λ (xs : List Seen). get_or xs 0 Never) e)
+here-is one table n row rows e = grind (arith, get_or-drop n table 0 Never)
 
 rest-is : (one : ℕ) (table : List Seen) (n : ℕ) (row : HeardRow) (rows : List HeardRow)
     → drop n table ≡ map (seen_by one) (row ∷ rows) → drop (n + 1) table ≡ map (seen_by one) rows
@@ -80,8 +63,7 @@ common-from one other table n (row ∷ rows) e =
     let here : is_seen (get_or table n Never) ≡ has one row =
     ap is_seen (here-is one table n row rows e) ∙ sym (has-seen one row) in
     let first : count_by p (mark_at n (seen_by other row)) ≡ cond (both row) 1 0 =
-    count-mark p n (seen_by other row) (has one row) (λ q. here)
-    ∙ ap (λ (b : Bool). cond (has one row && b) 1 0) (sym (has-seen other row)) in
+    grind (arith, count-mark, has-seen) in
     let rest = common-from one other table (n + 1) rows (rest-is one table n row rows e) in
     let split : count_by p (mark_at n (seen_by other row) ++ marks_from (n + 1) (map (seen_by other) rows))
     ≡ count_by p (mark_at n (seen_by other row)) + count_by p (marks_from (n + 1) (map (seen_by other) rows)) =
@@ -100,8 +82,7 @@ differences-from one other table n (row ∷ rows) e =
     let here : only_of (get_or table n Never) ≡ once one row =
     ap only_of (here-is one table n row rows e) ∙ sym (once-seen one row) in
     let first : filter_map h (mark_at n (seen_by other row)) ≡ cons_option (difference one other row) [] =
-    difference-mark h n (seen_by other row) (once one row) (λ q. ap (λ (o : Option Moment). nanos_ahead o (only_of q)) here)
-    ∙ ap (λ (o : Option Moment). cons_option (nanos_ahead (once one row) o) []) (sym (once-seen other row)) in
+    grind (arith, once-seen) in
     let rest = differences-from one other table (n + 1) rows (rest-is one table n row rows e) in
     let split = filter_map-append h (mark_at n (seen_by other row)) (marks_from (n + 1) (map (seen_by other) rows)) in
     split ∙ ((λ i. first i ++ rest i) ∙ front-option (difference one other row) (differences one other rows))
@@ -109,14 +90,10 @@ differences-from one other table n (row ∷ rows) e =
 pub common-marks : (one other : ℕ) (rows : List HeardRow) (table : List Seen) (marked : List Mark)
     → table ≡ map (seen_by one) rows → marked ≡ marks_by rows other
     → count_by (λ (mark : Mark). is_seen (get_or table mark.position Never)) marked ≡ common one other rows
-common-marks one other rows table marked t m =
-    ap (λ (ms : List Mark). count_by (λ (mark : Mark). is_seen (get_or table mark.position Never)) ms) m
-    ∙ common-from one other table 0 rows t
+common-marks one other rows table marked t m = grind (arith, common-from one other table 0 rows t)
 
 pub differences-marks : (one other : ℕ) (rows : List HeardRow) (table : List Seen) (marked : List Mark)
     → table ≡ map (seen_by one) rows → marked ≡ marks_by rows other
     → filter_map (λ (mark : Mark). nanos_ahead (only_of (get_or table mark.position Never)) (only_of mark.seen)) marked
     ≡ differences one other rows
-differences-marks one other rows table marked t m =
-    ap (filter_map (λ (mark : Mark). nanos_ahead (only_of (get_or table mark.position Never)) (only_of mark.seen))) m
-    ∙ differences-from one other table 0 rows t
+differences-marks one other rows table marked t m = grind (arith, differences-from)

@@ -1,7 +1,6 @@
 -- Values of an array and members of an object, one after another.
-use Rattle.std.proofs.Common.{arith, ◌≡◌, sym, ap, ◌∙◌, ℕ, ◌+◌, ◌<◌, ◌≤◌, Bool, true, false, List, []}
+use Rattle.std.proofs.{Common.{arith, ◌≡◌, ℕ, ◌+◌, ◌<◌, ◌≤◌, Bool, true, false, List, []}, lemmas.List.{at_drop_more, drop_all}}
 use Rattle.std.proofs.{Common.{◌∷◌, ◌++◌, length, drop, get_or, append_assoc, append-nil}, lemmas.Bool.Decides.{nat_tests}}
-use Rattle.std.proofs.lemmas.List.{at_drop_more, drop_all}
 use Rattle.mdns_browse.specs.Json.{comma_unless, json_object, parted}
 
 -- the end of an object, and of its line
@@ -16,13 +15,7 @@ module _ {X : Type 0} (value : X → List ℕ) (values : List X → List (List �
       → new ++ parted false (values (drop (i + 1) xs)) ≡ total
   unfolding parted
   parted_more xs i x first old new total within is written left =
-      let rest = drop (i + 1) xs in
-      ap (λ (all : List ℕ). all ++ parted false (values rest)) written
-      ∙ append_assoc old (comma_unless first ++ value x) (parted false (values rest))
-      ∙ ap (λ (vs : List (List ℕ)). old ++ parted first vs) (sym (cons x rest))
-      ∙ ap (λ (y : X). old ++ parted first (values (y ∷ rest))) is
-      ∙ ap (λ (all : List ℕ). old ++ all) (sym (at_drop_more (λ (ys : List X). parted first (values ys)) xs i x within))
-      ∙ left
+      grind (arith, append_assoc, at_drop_more (λ (ys : List X). parted first (values ys)) xs i x within)
 
   pub parted_end : (xs : List X) (i : ℕ) (first : Bool) (old total : List ℕ) → length xs ≤ i
       → old ++ parted first (values (drop i xs)) ≡ total → old ≡ total

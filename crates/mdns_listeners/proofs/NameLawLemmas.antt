@@ -1,7 +1,6 @@
 -- A sender has one list of names, whatever the order and the repeats of hearings.
-use Rattle.std.proofs.Common.{◌≡◌, ℕ, List, Contains, map, subst, sym}
+use Rattle.std.proofs.{Common.{◌≡◌, ℕ, List, Contains, map, subst, sym, arith}, lemmas.{Cmp.{nat_list_cmp_total, on_total}, List.{map-id}}}
 use Rattle.std.specs.{List.Sorted.{IsStrictlySortedBy}, Cmp.{IsTotalOrder}}
-use Rattle.std.proofs.lemmas.{Cmp.{nat_list_cmp_total, on_total}, List.{map-id}}
 use Rattle.mdns_capture.specs.declared.source_address.SourceAddress.{SourceAddress}
 use Rattle.dns_name.specs.Name.{folded}
 use Rattle.mdns_message.specs.declared.hearing.Hearing.{Hearing}
@@ -15,8 +14,7 @@ by_folded-total = on_total folded nat_list_cmp_total
 
 IsNameOf-among : (sender : SourceAddress) (heard others : List Hearing) (name : List ℕ)
     → ((h : Hearing) → Contains heard h → Contains others h) → IsNameOf sender heard name → IsNameOf sender others name
-IsNameOf-among sender heard others name into is =
-    record { hearing = is.hearing; among = into is.hearing is.among; address = is.address; owner = is.owner }
+IsNameOf-among sender heard others name into is = search arith
 
 IsLeastName-same : (sender : SourceAddress) (heard others : List Hearing) (name : List ℕ) → SameHearings heard others
     → IsLeastName sender heard name → IsLeastName sender others name

@@ -1,7 +1,7 @@
 -- Counting the times of a listener tells whether it heard a message, and whether another did.
 use Rattle.std.proofs.Common.{◌≡◌, ℕ, ◌+◌, ◌<◌, Bool, true, false, not, ◌&&◌, cond, eqb, ltb, List, [], ◌∷◌}
 use Rattle.std.proofs.Common.{◌++◌, length, drop, get_or, zero, suc, append-nil, append_assoc, Option, Some, None, arith, refl, ap, sym}
-use Rattle.std.proofs.{Common.{◌∙◌, ◌||◌}, lemmas.Bool.Decides.{nat_tests}, lemmas.List.{drop_all, get_or_past}}
+use Rattle.std.proofs.{Common.{◌∙◌}, lemmas.Bool.Decides.{nat_tests}, lemmas.List.{drop_all, get_or_past}}
 use Rattle.std.proofs.lemmas.List.Sums.{fold_push, sum_by-cons, count_by-le-length}
 use Rattle.std.specs.{List.{count_by, list_any}, Option.{option_to_list}}
 use Rattle.mdns_survey.specs.{declared.reading.Span.{Span}, Span.{joined_spans}}
@@ -16,43 +16,27 @@ count-cons p x xs = sum_by-cons (λ y. cond (p y) 1 0) x xs
 
 pub any-count : {X : Type 0} (p : X → Bool) (xs : List X) → list_any p xs ≡ ltb 0 (count_by p xs)
 any-count p [] = refl
-any-count p (x ∷ xs) =
-    elim (p x) as (λ b. (b || list_any p xs) ≡ ltb 0 (cond b 1 0 + count_by p xs)) [
-      | true ↦ grind (arith, nat_tests)
-      | false ↦ grind (arith, nat_tests, any-count p xs)
-    ] ∙ ap (ltb 0) (sym (count-cons p x xs))
+any-count p (x ∷ xs) = grind (arith, nat_tests, count-cons, any-count p xs)
 
 pub other-count : {X : Type 0} (p : X → Bool) (xs : List X) → list_any (λ x. not (p x)) xs ≡ ltb (count_by p xs) (length xs)
 other-count p [] = refl
-other-count p (x ∷ xs) =
-    let few = count_by-le-length p xs in
-    elim (p x) as (λ b. (not b || list_any (λ y. not (p y)) xs) ≡ ltb (cond b 1 0 + count_by p xs) (length (x ∷ xs))) [
-      | true ↦ grind (arith, nat_tests, other-count p xs)
-      | false ↦ grind (arith, nat_tests, few)
-    ] ∙ ap (λ n. ltb n (length (x ∷ xs))) (sym (count-cons p x xs))
+other-count p (x ∷ xs) = grind (arith, count_by-le-length, nat_tests, count-cons, other-count p xs)
 
 pub alone_by_count : (listener : ℕ) (row : HeardRow)
     → is_alone listener row ≡ (ltb 0 (times_heard listener row) && eqb (times_heard listener row) (length row.times))
 alone_by_count listener row =
-    let few = count_by-le-length (is_of listener) row.times in
-    let here = any-count (is_of listener) row.times in
-    let another = other-count (is_of listener) row.times in
-    grind (arith, nat_tests)
+    grind (arith, count_by-le-length, any-count (is_of listener) row.times, other-count (is_of listener) row.times, nat_tests)
 
 pub missed_by_count : (listener : ℕ) (spans : List Span) (row : HeardRow)
     → is_missed listener spans row
     ≡ (eqb (times_heard listener row) 0 && list_any (λ at. listened spans at.moment) row.times)
-missed_by_count listener spans row =
-    let here = any-count (is_of listener) row.times in
-    grind (arith, nat_tests)
+missed_by_count listener spans row = grind (arith, any-count, nat_tests)
 
 -- ---- the time spans of files
 
 pub same_spans : (all : FileSpans) (of : List ℕ) (files : List (Option Span)) (listener : ℕ)
     → all.spans ≡ file_spans listener of files → all.whole ≡ whole_span all.spans → all ≡ spans_of_listener of files listener
-same_spans all of files listener spans whole =
-    let joined : all.whole ≡ whole_span (file_spans listener of files) = whole ∙ ap whole_span spans in
-    λ i. record { spans = spans i; whole = joined i }
+same_spans all of files listener spans whole = grind arith
 
 pub no-files : (listener : ℕ) (of : List ℕ) (files : List (Option Span)) → files ≡ [] → file_spans listener of files ≡ []
 no-files listener [] files e = refl
@@ -68,11 +52,7 @@ pub file_more : (listener : ℕ) (of : List ℕ) (files : List (Option Span)) (i
 file_more listener [] files i l = absurd (omega arith)
 file_more listener (o ∷ of) [] i l = grind (arith, nat_tests, drop_all, get_or_past, no-files, no-span)
 file_more listener (o ∷ of) (file ∷ files) zero l = refl
-file_more listener (o ∷ of) (file ∷ files) (suc i) l =
-    let next : suc (i + 1) ≡ suc i + 1 = omega arith in
-    file_more listener of files i (omega (arith, l))
-    ∙ ap (λ k. span_of_file listener (get_or of i 0, get_or files i None)
-    ++ file_spans listener (drop k (o ∷ of)) (drop k (file ∷ files))) next
+file_more listener (o ∷ of) (file ∷ files) (suc i) l = search (arith, file_more listener of files i (omega (arith, l)))
 
 -- the spans so far, and those of the files behind
 pub spans_more : (listener : ℕ) (of : List ℕ) (files : List (Option Span)) (i : ℕ) (o : Option Span) (spans next total : List Span)

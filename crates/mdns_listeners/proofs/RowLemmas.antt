@@ -29,14 +29,7 @@ not-same-below m n h = by (is_same m n) refl
         differ e = cc
 
 pub not-same-above : (m n : List ℕ) → slice_cmp nat_cmp n m ≡ Less → is_same m n ≡ false
-not-same-above m n h = by (is_same m n) refl
-  where
-    by : (b : Bool) → is_same m n ≡ b → is_same m n ≡ false
-    by false e = e
-    by true e = absurd (differ (sym (tied_itself nat_list_cmp_total m) ∙ subst (λ k. slice_cmp nat_cmp k m ≡ Less) (sym (same-is m n e)) h))
-      where
-        differ : Equal ≡ Less → ⊥
-        differ e = cc
+not-same-above m n h = grind (arith, tied_itself, nat_list_cmp_total, same-is)
 
 -- ---- lists
 
@@ -44,8 +37,7 @@ pub all-front : {X : Type 0} (P : X → Type 0) (xs ys : List X) → All P (xs +
 all-front P xs ys h k d l = subst P (get_or_append_left xs ys d k l) (h k d (omega (arith, length-append xs ys)))
 
 pub all-middle : {X : Type 0} (P : X → Type 0) (xs ys : List X) (x : X) → All P (xs ++ x ∷ ys) → P x
-all-middle P xs ys x h =
-    subst P (get_or_at xs x ys x (length xs) refl) (h (length xs) x (omega (arith, length-append xs (x ∷ ys))))
+all-middle P xs ys x h = grind (arith, get_or_at xs x ys x (length xs) refl, length-append xs (x ∷ ys))
 
 pub map-agree : {X Y : Type 0} (f g : X → Y) (xs : List X) → All (λ x. f x ≡ g x) xs → map f xs ≡ map g xs
 map-agree f g [] h = refl
@@ -58,8 +50,7 @@ times-other m told t e = grind (arith, nat_tests, append-nil, times_of-append)
 
 times-own : (m : List ℕ) (told : List Told) (t : Told) → is_same m t.message ≡ true
     → times_of m (told ++ t ∷ []) ≡ times_of m told ++ t.at ∷ []
-times-own m told t e =
-    times_of-append m told (t ∷ []) ∙ ap (λ b. times_of m told ++ map (λ u. u.at) (cond b (t ∷ []) [])) e
+times-own m told t e = grind (arith, times_of-append)
 
 abbrev row_with : List ℕ → List HeardAt → HeardRow
 row_with m times = record { message = m; times = times }
@@ -72,8 +63,7 @@ filled-others : (rows : List HeardRow) (told : List Told) (t : Told)
     → AllByRecursion (λ m. slice_cmp nat_cmp t.message m ≡ Less) (messages_of rows)
     → map (filled (told ++ t ∷ [])) rows ≡ map (filled told) rows
 filled-others [] told t h = refl
-filled-others (row ∷ rows) told t h =
-    λ i. filled-other told t row (not-same-above row.message t.message h.0) i ∷ filled-others rows told t h.1 i
+filled-others (row ∷ rows) told t h = grind (arith, filled-other, not-same-above, filled-others rows told t h.1)
 
 -- a time added to the row of its message
 fill-step : (rows : List HeardRow) (told : List Told) (t : Told) (r : ℕ) (x : HeardRow) → r < length rows → Ascend rows
@@ -82,9 +72,7 @@ fill-step : (rows : List HeardRow) (told : List Told) (t : Told) (r : ℕ) (x : 
 fill-step [] told t r x l s own is = absurd (omega arith)
 fill-step (row ∷ rows) told t zero x l s own is =
     let head : row_with x.message (x.times ++ t.at ∷ []) ≡ filled (told ++ t ∷ []) row =
-    ap (λ y. row_with y.message (y.times ++ t.at ∷ [])) is
-    ∙ ap (row_with row.message)
-    (sym (times-own row.message told t (subst (λ m. is_same row.message m ≡ true) own (same-itself row.message)))) in
+    grind (arith, times-own, same-itself) in
     let above = subst (λ k. AllByRecursion (λ m. slice_cmp nat_cmp k m ≡ Less) (messages_of rows)) own
     (sorted_head (slice_cmp nat_cmp) row.message (messages_of rows) s) in
     λ i. head i ∷ sym (filled-others rows told t above) i
@@ -108,9 +96,7 @@ fill-more first rows numbers times i noted r x y l is number within s so_far rea
     let more : told_of_rows first numbers (take (i + 1) times) ≡ told ++ teller noted ∷ [] =
     map_more teller times i noted l ∙ ap (λ n. told ++ teller n ∷ []) (sym is) in
     let here : x ≡ get_or (map (filled told) first) r x = read ∙ ap (λ rs. get_or rs r x) so_far in
-    (λ k. set (so_far k) r (added k))
-    ∙ fill-step first told (teller noted) r x within s (ap (λ n. get_or (messages_of first) n []) number) here
-    ∙ ap (λ ts. map (filled ts) first) (sym more)
+    grind (arith, fill-step first told (teller noted) r x within s (ap (λ n. get_or (messages_of first) n []) number) here)
 
 -- ---- rows that have times
 
@@ -121,9 +107,7 @@ messages-filled told (row ∷ rows) = ap (λ ms. row.message ∷ ms) (messages-f
 above-heard : (m : List ℕ) (rows : List HeardRow) → AllByRecursion (λ n. slice_cmp nat_cmp m n ≡ Less) (messages_of rows)
     → AllByRecursion (λ n. slice_cmp nat_cmp m n ≡ Less) (messages_of (filter has_times rows))
 above-heard m [] h = tt
-above-heard m (row ∷ rows) h =
-    cond_both (has_times row) _ _ (λ rs. AllByRecursion (λ n. slice_cmp nat_cmp m n ≡ Less) (messages_of rs))
-    (λ _. (h.0, above-heard m rows h.1)) (λ _. above-heard m rows h.1)
+above-heard m (row ∷ rows) h = grind (arith, cond_both, above-heard m rows h.1)
 
 ascend-cons : (row : HeardRow) (rows : List HeardRow) → AllByRecursion (λ n. slice_cmp nat_cmp row.message n ≡ Less) (messages_of rows)
     → Ascend rows → Ascend (row ∷ rows)
@@ -164,8 +148,7 @@ row-step : (m : List ℕ) (told : List Told) (row : HeardRow) (rows : List Heard
     → row_at m others ≡ some_times (cond (is_row m rows) (times_of m told) []) → (b : Bool) → is_same m row.message ≡ b
     → cond b (or_times (times_of row.message told) (row_at m others)) (row_at m others)
     ≡ some_times (cond (b || is_row m rows) (times_of m told) [])
-row-step m told row rows others rest true e =
-    (λ i. or_times (times_of (sym (same-is m row.message e) i) told) (rest i)) ∙ or_times-some (times_of m told) (is_row m rows)
+row-step m told row rows others rest true e = grind (arith, same-is m row.message e, or_times-some (times_of m told) (is_row m rows))
 row-step m told row rows others rest false e = rest
 
 row_at-heard : (m : List ℕ) (told : List Told) (rows : List HeardRow)
@@ -177,26 +160,17 @@ told-step : (m : List ℕ) (t : Told) (told : List Told) (rows : List HeardRow) 
     → times_of m told ≡ [] → (b : Bool) → is_same m t.message ≡ b → times_of m (t ∷ told) ≡ []
 told-step m t told rows is not-row rest true e =
     absurd (true≢false (sym is ∙ ap (λ k. is_row k rows) (sym (same-is m t.message e)) ∙ not-row))
-told-step m t told rows is not-row rest false e =
-    ap (λ b. map (λ u. u.at) (cond b (t ∷ filter (λ u. is_same m u.message) told) (filter (λ u. is_same m u.message) told))) e ∙ rest
+told-step m t told rows is not-row rest false e = grind arith
 
 not-told : (m : List ℕ) (told : List Told) (rows : List HeardRow) → All (λ t. is_row t.message rows ≡ true) told
     → is_row m rows ≡ false → times_of m told ≡ []
 not-told m [] rows h not-row = refl
 not-told m (t ∷ told) rows h not-row =
-    told-step m t told rows (All-head (λ u. is_row u.message rows ≡ true) t told h) not-row
-    (not-told m told rows (All-tail (λ u. is_row u.message rows ≡ true) t told h) not-row) (is_same m t.message) refl
+    grind (arith, told-step, All-head, All-tail, not-told m told rows (All-tail (λ u. is_row u.message rows ≡ true) t told h) not-row)
 
 heard-filled : (told : List Told) (rows : List HeardRow) → Ascend rows → All (λ t. is_row t.message rows ≡ true) told
     → AreHeardIn told (filter has_times (map (filled told) rows))
-heard-filled told rows s all = record {
-  ascending = ascend-heard (map (filled told) rows) (subst (IsStrictlySortedBy (slice_cmp nat_cmp)) (sym (messages-filled told rows)) s);
-  right = λ m. row_at-heard m told rows ∙ ap some_times (by m (is_row m rows) refl);
-}
-  where
-    by : (m : List ℕ) (b : Bool) → is_row m rows ≡ b → cond b (times_of m told) [] ≡ times_of m told
-    by m true e = refl
-    by m false e = sym (not-told m told rows all e)
+heard-filled told rows s all = grind (arith, ascend-heard, messages-filled, row_at-heard, not-told)
 
 -- ---- rows by the places of messages
 
@@ -204,11 +178,7 @@ pub placed-row : (messages : List (List ℕ)) (kept : List KeptMessage) (rows : 
     → ArePlaced messages kept → All (IsNumbered rows numbers) kept → place < length messages
     → (get_or numbers place 0 < length rows) × (get_or (messages_of rows) (get_or numbers place 0) [] ≡ get_or messages place [])
 placed-row messages kept rows numbers place placed numbered l =
-    let one = placed.each place l in
-    let is = All-contains (IsNumbered rows numbers) kept one.0 numbered one.1 in
-    let same = All-contains (λ o. get_or messages o.place [] ≡ o.message) kept one.0 placed.same one.1 in
-    subst (λ p. (get_or numbers p 0 < length rows) × (get_or (messages_of rows) (get_or numbers p 0) [] ≡ get_or messages p []))
-    one.2 (is.within, is.own ∙ sym same)
+    grind (arith, All-contains (IsNumbered rows numbers) kept (placed.each place l).0 numbered (placed.each place l).1, All-contains)
 
 pub numbered-times : (messages : List (List ℕ)) (kept : List KeptMessage) (rows : List HeardRow) (numbers : List ℕ) (times : List Noted)
     → ArePlaced messages kept → All (IsNumbered rows numbers) kept → All (λ noted. noted.place < length kept) times
@@ -233,5 +203,4 @@ rows-heard messages kept rows numbers times s placed numbered within =
     (omega (arith, (row k d l).0, length-map rows (λ y. y.message)))
     (ap (is_same (get_or messages (get_or times k d).place [])) (row k d l).1
     ∙ same-itself (get_or messages (get_or times k d).place []))) in
-    subst (λ told. AreHeardIn (told_by messages times) (filter has_times (map (filled told) rows))) (sym same)
-    (heard-filled (told_by messages times) rows s found)
+    grind (arith, heard-filled (told_by messages times) rows s found)

@@ -1,7 +1,7 @@
 -- The messages of a sender stand together where messages ascend.
 use Rattle.std.proofs.Common.{◌≡◌, ℕ, suc, zero, ◌+◌, ◌<◌, ◌≤◌, Bool, true, false, not}
 use Rattle.std.proofs.Common.{cond, eqb, List, [], ◌∷◌, ◌++◌, length, take, drop, get_or}
-use Rattle.std.proofs.Common.{◌-◌, Less, arith, refl, ap, sym, ◌∙◌, subst, inl, inr, append_assoc}
+use Rattle.std.proofs.Common.{Less, arith, refl, ap, sym, ◌∙◌, subst, inl, inr, append_assoc}
 use Rattle.std.proofs.lemmas.{Bool.Decides.{nat_tests}, List.{length-drop, length-take-le, take-append-drop}, Slice.Eq.{bytes_eq-Decides}}
 use Rattle.std.specs.{Cmp.Lexicographic.{slice_cmp}, List.{All, AllByRecursion, filter, flat_map, prefix_len}}
 use Rattle.std.specs.{List.Sorted.{IsStrictlySortedBy}, Ordering.{nat_cmp}, Str.{bytes_eq}}
@@ -63,21 +63,15 @@ all-weaker P Q weaker (x ∷ xs) all = (weaker x all.0, all-weaker P Q weaker xs
 
 all-filter : {X : Type 0} (P : X → Type 0) (p : X → Bool) (xs : List X) → AllByRecursion P xs → AllByRecursion P (filter p xs)
 all-filter P p [] all = tt
-all-filter P p (x ∷ xs) all =
-    elim (p x) as (λ b. AllByRecursion P (cond b (x ∷ filter p xs) (filter p xs))) [
-      | true ↦ (all.0, all-filter P p xs all.1)
-      | false ↦ all-filter P p xs all.1
-    ]
+all-filter P p (x ∷ xs) all = grind (arith, all-filter P p xs all.1)
 
 filter-none : {X : Type 0} (p : X → Bool) (xs : List X) → AllByRecursion (λ x. p x ≡ false) xs → filter p xs ≡ []
 filter-none p [] none = refl
-filter-none p (x ∷ xs) none =
-    ap (λ b. cond b (x ∷ filter p xs) (filter p xs)) none.0 ∙ filter-none p xs none.1
+filter-none p (x ∷ xs) none = grind (arith, filter-none p xs none.1)
 
 filter-all : {X : Type 0} (p : X → Bool) (xs : List X) → AllByRecursion (λ x. p x ≡ true) xs → filter p xs ≡ xs
 filter-all p [] all = refl
-filter-all p (x ∷ xs) all =
-    ap (λ b. cond b (x ∷ filter p xs) (filter p xs)) all.0 ∙ ap (λ ys. x ∷ ys) (filter-all p xs all.1)
+filter-all p (x ∷ xs) all = grind (arith, filter-all p xs all.1)
 
 flat_map-same : {X A : Type 0} (f g : X → List A) (xs : List X) → AllByRecursion (λ x. f x ≡ g x) xs → flat_map f xs ≡ flat_map g xs
 flat_map-same f g [] same = refl
@@ -102,8 +96,7 @@ none_later : (sender : List ℕ) (a b : HeardRow) (rows : List HeardRow) → sen
     → AllByRecursion (λ m. slice_cmp nat_cmp b.message m ≡ Less) (messages_of rows)
     → AllByRecursion (λ row. is_from sender row ≡ false) rows
 none_later sender a b [] own other below up = tt
-none_later sender a b (c ∷ rows) own other below up =
-    (no_other sender a b c own other below up.0, none_later sender a b rows own other below up.1)
+none_later sender a b (c ∷ rows) own other below up = grind (arith, no_other, none_later sender a b rows own other below up.1)
 
 -- the messages at the front are all that the sender has
 record IsCut (sender : List ℕ) (rows : List HeardRow) (n : ℕ) : Type 0 where
@@ -113,11 +106,7 @@ record IsCut (sender : List ℕ) (rows : List HeardRow) (n : ℕ) : Type 0 where
 
 cut-more : (sender : List ℕ) (row : HeardRow) (rows : List HeardRow) (n : ℕ) → is_from sender row ≡ true → IsCut sender rows n
     → IsCut sender (row ∷ rows) (suc n)
-cut-more sender row rows n e cut = record {
-  own = ap (λ (b : Bool). cond b (row ∷ rows_from sender rows) (rows_from sender rows)) e ∙ ap (λ (rs : List HeardRow). row ∷ rs) cut.own;
-  from = (e, cut.from);
-  others = cut.others;
-}
+cut-more sender row rows n e cut = grind arith
 
 cut-end : (sender : List ℕ) (rows : List HeardRow) → AllByRecursion (λ row. is_from sender row ≡ false) rows → IsCut sender rows 0
 cut-end sender rows none = record { own = filter-none (is_from sender) rows none; from = tt; others = none }
@@ -170,13 +159,7 @@ senders-group : (sender : List ℕ) (row : HeardRow) (own others : List HeardRow
     → senders (row ∷ own ++ others) ≡ sender ∷ senders others
 senders-group sender row [] others e from none = senders-with sender row others others e (kept-senders sender others none)
 senders-group sender row (next ∷ own) others e from none =
-    let rest = senders-group sender next own others from.0 from.1 none in
-    let itself : bytes_eq sender sender ≡ true = (bytes_eq-Decides sender sender).1 refl in
-    let kept = λ (ss : List (List ℕ)). filter (λ other. not (bytes_eq other sender)) ss in
-    senders-with sender row (next ∷ own ++ others) others e
-    (ap kept rest
-    ∙ (ap (λ (b : Bool). cond (not b) (sender ∷ kept (senders others)) (kept (senders others))) itself
-    ∙ kept-senders sender others none))
+    grind (arith, bytes_eq-Decides, senders-with, kept-senders, senders-group sender next own others from.0 from.1 none)
 
 -- ---- the rows
 
@@ -188,9 +171,7 @@ rows_from-others : (sender other : List ℕ) (own others : List HeardRow) → by
     → AllByRecursion (λ row. is_from sender row ≡ true) own → rows_from other (own ++ others) ≡ rows_from other others
 rows_from-others sender other [] others differ from = refl
 rows_from-others sender other (row ∷ own) others differ from =
-    ap (λ (b : Bool). cond b (row ∷ rows_from other (own ++ others)) (rows_from other (own ++ others)))
-    (not_from sender other row differ from.0)
-    ∙ rows_from-others sender other own others differ from.1
+    grind (arith, not_from, rows_from-others sender other own others differ from.1)
 
 group_rows : (spans : List FileSpans) (sender : List ℕ) (rows own others : List HeardRow) → rows ≡ own ++ others
     → senders rows ≡ sender ∷ senders others → rows_from sender rows ≡ own
@@ -204,8 +185,7 @@ group_rows spans sender rows own others split named only from none =
     (λ s differ. ap (rows_of_sender spans s)
     (ap (rows_from s) split ∙ rows_from-others sender s own others differ from))
     (senders others) (all-senders sender others none) in
-    ap (flat_map of_all) named
-    ∙ (λ i. rows_of_sender spans sender (only i) ++ flat_map-same of_all of_others (senders others) same i)
+    grind (arith, flat_map-same)
 
 step-at : (spans : List FileSpans) (row : HeardRow) (rows : List HeardRow)
     → IsStrictlySortedBy (slice_cmp nat_cmp) (messages_of (row ∷ rows)) → (m : ℕ)
@@ -231,11 +211,7 @@ unfolding IsStrictlySortedBy
 sender_step spans row rows up =
     let sender = sender_in row.message in
     let m = prefix_len (is_from sender) rows in
-    subst
-    (λ k. sender_rows (row ∷ rows) spans
-    ≡ rows_of_sender spans sender (take k (row ∷ rows)) ++ sender_rows (drop k (row ∷ rows)) spans)
-    (sym (own_count-is row rows))
-    (step-at spans row rows up m (cut-behind sender row rows refl up.0 up.1))
+    grind (arith, own_count-is row rows, step-at spans row rows up m (cut-behind sender row rows refl up.0 up.1))
 
 pub own_count-some : (row : HeardRow) (rows : List HeardRow) → 0 < own_count row rows
 own_count-some row rows = let e = own_count-is row rows in omega arith
@@ -267,8 +243,7 @@ rest_step spans (row ∷ rows) first sender n some is named count up =
     let all : n ≡ own_count row rows = count ∙ ap (λ (s : List ℕ). prefix_len (is_from s) (row ∷ rows)) own in
     let own' = sym own in
     let all' = sym all in
-    sender_step spans row rows up
-    ∙ (λ k. rows_of_sender spans (own' k) (take (all' k) (row ∷ rows)) ++ sender_rows (drop (all' k) (row ∷ rows)) spans)
+    grind (arith, sender_step)
 
 pub rest_some : (rest : List HeardRow) (first : HeardRow) (sender : List ℕ) (n : ℕ) → 0 < length rest
     → first ≡ get_or rest 0 first → sender ≡ sender_in first.message → n ≡ prefix_len (is_from sender) rest → 0 < n
@@ -277,16 +252,13 @@ rest_some [] first sender n some is named count = absurd (omega arith)
 rest_some (row ∷ rows) first sender n some is named count = grind (arith, nat_tests, own_count, own_count-some)
 
 pub rest_shorter : (rest back : List HeardRow) (n : ℕ) → 0 < length rest → 0 < n → back ≡ drop n rest → length back < length rest
-rest_shorter rest back n some own split =
-    let count : length back ≡ length rest - n = ap length split ∙ length-drop n rest in omega (arith, count, some, own)
+rest_shorter rest back n some own split = grind (arith, length-drop)
 
 pub first_whole : (rest : List HeardRow) (first : HeardRow) (sender : List ℕ) → 0 < length rest
     → first ≡ get_or rest 0 first → sender ≡ sender_in first.message
     → All (λ (row : HeardRow). HasWholeAddress row.message) rest → HasWholeAddress sender
 first_whole [] first sender some is named all = absurd (omega arith)
-first_whole (row ∷ rows) first sender some is named all =
-    let own : sender ≡ sender_in row.message = named ∙ ap (λ (r : HeardRow). sender_in r.message) is in
-    subst HasWholeAddress (sym own) (whole-sender row.message (all 0 row (omega arith)))
+first_whole (row ∷ rows) first sender some is named all = grind (arith, whole-sender row.message (all 0 row (omega arith)))
 
 -- the rows so far, and those of the senders behind
 pub sender_more : (spans : List FileSpans) (rest front back : List HeardRow) (first : HeardRow) (sender : List ℕ) (n : ℕ)

@@ -1,5 +1,5 @@
 -- A sheet after rows.
-use Rattle.std.proofs.Common.{arith, ◌≡◌, refl, sym, ap, ◌∙◌, ℕ, ◌+◌, ◌<◌, Bool, true, false, List, [], ◌∷◌}
+use Rattle.std.proofs.Common.{arith, ◌≡◌, refl, sym, ap, ℕ, ◌+◌, ◌<◌, Bool, true, false, List, [], ◌∷◌}
 use Rattle.std.proofs.{Common.{◌++◌, length, map, drop, get_or, append_assoc, append-nil}, lemmas.Bool.Decides.{nat_tests}}
 use Rattle.std.proofs.lemmas.{Grind.{flat_map-append}, List.{at_drop_more, get_or_default}}
 use Rattle.std.specs.List.{flat_map, fold}
@@ -14,12 +14,7 @@ pub taken_more : {X : Type 0} (row : Form → X → List Field) (rows : Form →
     → new ≡ taken old (row old.form x) → fold taken old (rows old.form (drop i xs)) ≡ total
     → fold taken new (rows new.form (drop (i + 1) xs)) ≡ total
 taken_more {X} row rows cons xs i x old new total within is written left =
-    let rest = drop (i + 1) xs in
-    ap (λ (s : SheetNow). fold taken s (rows s.form rest)) written
-    ∙ ap (fold taken old) (sym (cons old.form x rest))
-    ∙ ap (λ (y : X). fold taken old (rows old.form (y ∷ rest))) is
-    ∙ sym (at_drop_more (λ (ys : List X). fold taken old (rows old.form ys)) xs i x within)
-    ∙ left
+    grind (arith, at_drop_more (λ (ys : List X). fold taken old (rows old.form ys)) xs i x within)
 
 -- the same where the row is copied
 pub taken_at : {X : Type 0} (row : Form → X → List Field) (rows : Form → List X → List (List Field))
@@ -42,9 +37,7 @@ written : (form : Form) (widths text : List ℕ) (rows : List (List Field))
     → fold taken (sheet_at form false widths text) rows
     ≡ sheet_at form false widths (text ++ flat_map (row_text form widths) rows)
 written form widths text [] = ap (sheet_at form false widths) (sym (append-nil text))
-written form widths text (row ∷ rows) =
-    written form widths (text ++ row_text form widths row) rows
-    ∙ ap (sheet_at form false widths) (append_assoc text (row_text form widths row) (flat_map (row_text form widths) rows))
+written form widths text (row ∷ rows) = grind (arith, append_assoc, written form widths (text ++ row_text form widths row) rows)
 
 -- three runs of rows, one after another
 pub all_written : (first second third : Form → List (List Field)) (old one two new : SheetNow) → old.measures ≡ false
@@ -59,10 +52,4 @@ pub table_taken : (rows : Form → List (List Field)) (old one two three new : S
     → three ≡ sheet_at two.form false two.widths two.text → new ≡ fold taken three (rows three.form)
     → new ≡ sheet_at Pretty false (fold widened [] (map cells_of (rows Pretty))) (old.text ++ table_text (map cells_of (rows Pretty)))
 table_taken rows old one two three new pretty a b c d =
-    let widths = fold widened [] (map cells_of (rows Pretty)) in
-    let go = λ (s : SheetNow). fold taken s (rows s.form) in
-    let one_is : one ≡ sheet_at Pretty true [] old.text = a ∙ ap (λ (form : Form). sheet_at form true [] old.text) pretty in
-    let two_is = b ∙ ap go one_is ∙ measured Pretty [] old.text (rows Pretty) in
-    let three_is = c ∙ ap (λ (s : SheetNow). sheet_at s.form false s.widths s.text) two_is in
-    d ∙ ap go three_is ∙ written Pretty widths old.text (rows Pretty)
-    ∙ ap (λ (text : List ℕ). sheet_at Pretty false widths (old.text ++ text)) (table_written (rows Pretty))
+    grind (arith, measured Pretty [] old.text (rows Pretty), written, table_written (rows Pretty))

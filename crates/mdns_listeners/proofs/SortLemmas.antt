@@ -55,8 +55,7 @@ count-cons p x xs = sum_by-cons (λ y. cond (p y) 1 0) x xs
 
 count-none : (p : ℤ → Bool) (xs : List ℤ) → AllByRecursion (λ x. p x ≡ false) xs → count_by p xs ≡ 0
 count-none p [] none = refl
-count-none p (x ∷ xs) none =
-    count-cons p x xs ∙ ((λ i. cond (none.0 i) 1 0 + count_by p xs) ∙ (let e = count-none p xs none.1 in omega arith))
+count-none p (x ∷ xs) none = grind (arith, count-cons, count-none p xs none.1)
 
 -- two lists that have each number as often
 SameCounts : List ℤ → List ℤ → Type 0
@@ -96,11 +95,7 @@ one_order (x ∷ xs) (y ∷ ys) up vp same =
 
 all-with : (P : ℤ → Type 0) (x : ℤ) (xs : List ℤ) → P x → AllByRecursion P xs → AllByRecursion P (with_number x xs)
 all-with P x [] here rest = (here, tt)
-all-with P x (y ∷ ys) here rest =
-    elim (int_lt y x) as (λ b. AllByRecursion P (cond b (y ∷ with_number x ys) (x ∷ y ∷ ys))) [
-      | true ↦ (rest.0, all-with P x ys here rest.1)
-      | false ↦ (here, rest)
-    ]
+all-with P x (y ∷ ys) here rest = grind (arith, all-with P x ys here rest.1)
 
 all-weaker : (P Q : ℤ → Type 0) → ((x : ℤ) → P x → Q x) → (xs : List ℤ) → AllByRecursion P xs → AllByRecursion Q xs
 all-weaker P Q weaker [] all = tt
@@ -109,11 +104,7 @@ all-weaker P Q weaker (x ∷ xs) all = (weaker x all.0, all-weaker P Q weaker xs
 IsUp-with : (x : ℤ) (xs : List ℤ) → IsUp xs → IsUp (with_number x xs)
 unfolding IsUp
 IsUp-with x [] up = (tt, tt)
-IsUp-with x (y ∷ ys) up =
-    elim (int_lt y x) as (λ b. int_lt y x ≡ b → IsUp (cond b (y ∷ with_number x ys) (x ∷ y ∷ ys))) [
-      | true ↦ λ e. (all-with (λ z. int_lt z y ≡ false) x ys (not_above x y e) up.0, IsUp-with x ys up.1)
-      | false ↦ λ e. ((e, all-weaker (λ z. int_lt z y ≡ false) (λ z. int_lt z x ≡ false) (λ z. not_below x y z e) ys up.0), up)
-    ] refl
+IsUp-with x (y ∷ ys) up = search (arith, all-with, not_above, all-weaker, not_below, IsUp-with x ys up.1)
 
 IsUp-ascending : (xs : List ℤ) → IsUp (ascending_of xs)
 unfolding IsUp
@@ -122,27 +113,16 @@ IsUp-ascending (x ∷ xs) = IsUp-with x (ascending_of xs) (IsUp-ascending xs)
 
 count-with : (p : ℤ → Bool) (x : ℤ) (xs : List ℤ) → count_by p (with_number x xs) ≡ cond (p x) 1 0 + count_by p xs
 count-with p x [] = count-cons p x []
-count-with p x (y ∷ ys) =
-    elim (int_lt y x) as (λ b. count_by p (cond b (y ∷ with_number x ys) (x ∷ y ∷ ys)) ≡ cond (p x) 1 0 + count_by p (y ∷ ys)) [
-      | true ↦ (
-          let behind = count-with p x ys in
-          let first = count-cons p y (with_number x ys) in
-          let split = count-cons p y ys in
-          omega arith)
-      | false ↦ count-cons p x (y ∷ ys)
-    ]
+count-with p x (y ∷ ys) = grind (arith, count-with p x ys, count-cons p y (with_number x ys), count-cons p y ys, count-cons p x (y ∷ ys))
 
 count-ascending : (p : ℤ → Bool) (xs : List ℤ) → count_by p (ascending_of xs) ≡ count_by p xs
 count-ascending p [] = refl
-count-ascending p (x ∷ xs) =
-    count-with p x (ascending_of xs) ∙ (ap (λ n. cond (p x) 1 0 + n) (count-ascending p xs) ∙ sym (count-cons p x xs))
+count-ascending p (x ∷ xs) = grind (arith, count-with, count-cons, count-ascending p xs)
 
 -- what a sort leaves
 pub ascending-is : (xs ys : List ℤ) → IsPermutation xs ys → IsSorted int_cmp ys → ys ≡ ascending_of xs
 unfolding SameCounts
-ascending-is xs ys moved up =
-    one_order ys (ascending_of xs) (IsUp-from_sorted ys up) (IsUp-ascending xs)
-    (λ p. sum_by-IsPermutation (λ x. cond (p x) 1 0) xs ys moved ∙ sym (count-ascending p xs))
+ascending-is xs ys moved up = grind (arith, one_order, IsUp-from_sorted, IsUp-ascending, sum_by-IsPermutation, count-ascending)
 
 length-with : (x : ℤ) (xs : List ℤ) → length (with_number x xs) ≡ suc (length xs)
 length-with x [] = refl
@@ -174,16 +154,10 @@ unfolding IsUp
 IsSorted-from_up [] up k d low high = absurd (omega arith)
 IsSorted-from_up (x ∷ []) up k d low high = absurd (omega arith)
 IsSorted-from_up (x ∷ y ∷ ys) up zero d low high = is_lt-int y x ∙ up.0.0
-IsSorted-from_up (x ∷ y ∷ ys) up (suc k) d low high =
-    let next : suc (k + 1) ≡ suc k + 1 = omega arith in
-    subst (λ n. is_lt (int_cmp (get_or (x ∷ y ∷ ys) n d) (get_or (y ∷ ys) k d)) ≡ false) next
-    (IsSorted-from_up (y ∷ ys) up.1 k d (omega arith) (omega (arith, high)))
+IsSorted-from_up (x ∷ y ∷ ys) up (suc k) d low high = grind (arith, IsSorted-from_up (y ∷ ys) up.1 k d (omega arith) (omega (arith, high)))
 
 pub ascending-up : (xs : List ℤ) → IsSorted int_cmp (ascending_of xs)
 ascending-up xs = IsSorted-from_up (ascending_of xs) (IsUp-ascending xs)
 
 pub ahead-are : (one other : ℕ) (rows : List HeardRow) → AreAhead one other rows (ascending_of (differences one other rows))
-ahead-are one other rows = record {
-  same = ascending-same (differences one other rows);
-  ascending = ascending-up (differences one other rows);
-}
+ahead-are one other rows = grind (arith, ascending-same, ascending-up)

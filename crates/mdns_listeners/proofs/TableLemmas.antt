@@ -34,10 +34,8 @@ column_step : (width : ℕ → ℕ) (i count : ℕ) (x : LentField) (rest : List
     ≡ cells_from width i (lent_cells (x ∷ rest))
 unfolding cells_from
 column_step width i count x [] true long is = append-nil (lent_cell x)
-column_step width i count x [] false long is =
-    let none : 0 ≡ count - (i + 1) = long in let more = leb-false count (i + 1) (sym is) in absurd (omega (arith, none, more))
-column_step width i count x (y ∷ rest) true long is =
-    let some : suc (length rest) ≡ count - (i + 1) = long in let none = leb-true count (i + 1) (sym is) in absurd (omega (arith, some, none))
+column_step width i count x [] false long is = grind (arith, leb-false)
+column_step width i count x (y ∷ rest) true long is = grind (arith, leb-true)
 column_step width i count x (y ∷ rest) false long is = refl
 
 pub columns_more : (width : ℕ → ℕ) (fields : List LentField) (i : ℕ) (x : LentField) (old new total : List ℕ) → i < length fields
@@ -75,10 +73,7 @@ get_or-fold : (widths : List ℕ) (rows : List (List (List ℕ))) (column : ℕ)
     → get_or (fold widened widths rows) column 0 ≡ max (get_or widths column 0) (column_width rows column)
 unfolding widest
 get_or-fold widths [] column = omega arith
-get_or-fold widths (row ∷ rows) column =
-    let rest = get_or-fold (widened widths row) rows column in
-    let first = get_or-widened widths row column in
-    omega (arith, rest, first)
+get_or-fold widths (row ∷ rows) column = grind (arith, get_or-widened, get_or-fold (widened widths row) rows column)
 
 width_is : (rows : List (List (List ℕ))) (column : ℕ) → get_or (fold widened [] rows) column 0 ≡ column_width rows column
 width_is rows column = let all = get_or-fold [] rows column in omega (arith, all)
@@ -93,6 +88,4 @@ lines_of width (fields ∷ rows) = ap (λ (text : List ℕ). (cells_from width 0
 pub table_written : (rows : List (List Field))
     → flat_map (columns_text (fold widened [] (map cells_of rows))) rows ≡ table_text (map cells_of rows)
 unfolding table_text columns_text
-table_written rows =
-    lines_of (λ column. get_or (fold widened [] (map cells_of rows)) column 0) rows
-    ∙ (λ i. flat_map (λ (row : List (List ℕ)). cells_from (λ column. width_is (map cells_of rows) column i) 0 row ++ 10 ∷ []) (map cells_of rows))
+table_written rows = grind (arith, lines_of (λ column. get_or (fold widened [] (map cells_of rows)) column 0) rows, width_is)

@@ -1,5 +1,5 @@
 -- Lives after warnings, over the readers listened to.
-use Rattle.std.proofs.Common.{◌≡◌, ℕ, List, Option, Some, inl, inr, map}
+use Rattle.std.proofs.Common.{◌≡◌, ℕ, List, Option, Some, inl, inr, map, arith}
 use Rattle.mdns_capture.specs.{Output.{Writing}, Savefile.{PacketAt}}
 use Rattle.mdns_survey.specs.declared.{reading.Reading.{Reading}, request.LivesRequest.{LivesRequest}, survey.SurveyFault.{SurveyFault}}
 use Rattle.mdns_survey.specs.{declared.survey.SurveyFault.TheVariants.{File, Early, Memory, Write}, Outcomes.{Outcome}}
@@ -11,19 +11,11 @@ module _ {Heard : List (List PacketAt) → List (List Outcome) → Type 0} (grou
     (lefts : List (Option (List ℕ))) (readings : List Reading) (hears : HearsReaders Heard lefts readings) (warnings : List ℕ)
     (warns : WarnsOf groups hears.packets hears.outcomes warnings) (out : Writing) where
   are-warnings : (captures : List (List ℕ)) → lefts ≡ map (λ x. Some x) captures → AreWarnings groups captures warnings
-  are-warnings captures known = record {
-    packets = hears.packets;
-    outcomes = hears.outcomes;
-    summaries = summaries_of readings;
-    read = known-read lefts captures hears.packets hears.outcomes readings known hears.read;
-    warns = warns;
-  }
+  are-warnings captures known = grind (arith, known-read lefts captures hears.packets hears.outcomes readings known hears.read)
 
   pub warned-written : WritesAnswer (asked_after warnings (asked_lives lives)) lefts (summaries_of readings) out
       → WritesAnswer (asked_warned groups lives) lefts (summaries_of readings) out
-  warned-written written = λ captures known.
-      let (text, answers, appends) = written captures known in
-      (text, (warnings, are-warnings captures known, answers), appends)
+  warned-written written = grind (arith, are-warnings)
 
   pub warned-refused : (fault : SurveyFault) → Refuses (asked_after warnings (asked_lives lives)) lefts out fault
       → Refuses (asked_warned groups lives) lefts out fault
@@ -31,6 +23,4 @@ module _ {Heard : List (List PacketAt) → List (List Outcome) → Type 0} (grou
   warned-refused (Early newest) why = why
   warned-refused Memory (inl untouched) = inl untouched
   warned-refused Memory (inr stops) = inr (λ captures known. (warnings, are-warnings captures known, stops captures known))
-  warned-refused Write why = λ captures known.
-      let (summaries, (text, answers, prefix)) = why captures known in
-      (summaries, (text, (warnings, are-warnings captures known, answers), prefix))
+  warned-refused Write why = grind (arith, are-warnings)

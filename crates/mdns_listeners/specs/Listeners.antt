@@ -98,7 +98,7 @@ pub record AreListeners (groups : Grouped) (form : Form) (captures : List (List 
 
 -- what the listeners heard is asked, of all captures
 abbrev pub asked_listeners : Grouped → Form → Asked
-asked_listeners groups form = asked_at_once (λ captures. AreListeners groups form captures) Newest
+asked_listeners groups form = asked_at_once (λ captures. AreListeners groups form captures) Newest []
 
 -- ---- while captures are read
 

@@ -27,6 +27,7 @@ asked_warned groups lives = record {
   Answers = λ captures summaries text. (warnings : List ℕ) × AreWarnings groups captures warnings
       × (asked_after warnings (asked_lives lives)).Answers captures summaries text;
   as_of = lives.as_of;
+  about = lives.about;
   at_once = false;
   Stops = λ captures out. (warnings : List ℕ) × AreWarnings groups captures warnings
       × (asked_after warnings (asked_lives lives)).Stops captures out;

@@ -24,7 +24,7 @@ use mdns_capture::{Moment, Packet, Source, payload_and_source};
 use mdns_message::Want;
 use mdns_survey::listen::{Collector, ListenFault, listen_with};
 use mdns_survey::outcome::PacketOutcome;
-use mdns_survey::question::{Question, TextAnswer};
+use mdns_survey::question::{AnswerText, Question, TextAnswer};
 use mdns_survey::reading::{Consumer, Reading, Span};
 use std::alloc::Global;
 
@@ -191,9 +191,9 @@ impl<'a> TextAnswer for ListenersRequest<'a> {
         alloc: Global,
         collector: MessageCollector,
         readings: &[Reading],
-    ) -> Result<String, ReportFault> {
+    ) -> Result<AnswerText, ReportFault> {
         match text_of(alloc, self.groups, self.form, collector, readings) {
-            Ok(text) => Ok(text),
+            Ok(text) => Ok(AnswerText { text, missed: None }),
             Err(Want) => Err(ReportFault::Memory),
         }
     }

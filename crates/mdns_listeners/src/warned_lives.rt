@@ -61,7 +61,7 @@ impl<'a> Answer for WarnedLives<'a> {
         collector: Beside<Filtered<MessageChronicle>>,
         readings: &[Reading],
         out: &mut W,
-    ) -> Result<(), SurveyFault> {
+    ) -> Result<Option<String>, SurveyFault> {
         let Beside { hearer, messages } = collector;
         let warnings = match warnings_of(alloc, self.groups, messages, readings) {
             Ok(warnings) => warnings,

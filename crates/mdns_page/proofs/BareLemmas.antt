@@ -1,28 +1,26 @@
 -- Pages on which names aren't written are equal where they agree but for names.
 use Rattle.std.proofs.Common.{◌≡◌, refl, sym, ◌∙◌, ap, ℕ, ◌+◌, ◌==◌, nat_le, Bool, true, false, if◌then◌else◌, Option, None, Some}
 use Rattle.std.proofs.Common.{List, [], ◌∷◌, ◌++◌, ◌-◌, codes, length, map, arith}
-use Rattle.std.specs.Prelude.{nat_lt, not, option_map, slice_get, string_bytes, unwrap_or}
-use Rattle.std.specs.List.{filter_map, find, flat_map, join_by}
-use Rattle.mdns_message.specs.{Resource.{Body}, TextData.{strings_of}, Parts.{address_of, content_of}, declared.parts.Address.{Address}}
+use Rattle.std.specs.{Prelude.{nat_lt, not, option_map}, List.{flat_map, join_by}}
+use Rattle.mdns_message.specs.{Resource.{Body}, Parts.{address_of, content_of}, declared.parts.Address.{Address}}
 use Rattle.mdns_message.specs.declared.body.RecordData.TheVariants as body
 use Rattle.mdns_capture.specs.declared.savefile.Ending.{Ending}
 use Rattle.mdns_survey.specs.declared.reading.Span.{Span}
 use Rattle.mdns_lives.specs.declared.life.Life.{Life}
 use Rattle.mdns_browse.specs.declared.{about.Subject.{Subject}, instance.Server.{Server}}
-use Rattle.mdns_browse.specs.{Services.{GivenRow, InstanceRow, instance_row_in}, RecordShown.{shown_address, shown_string, shown_strings}}
+use Rattle.mdns_browse.specs.{Services.{GivenRow, InstanceRow}, RecordShown.{shown_address, shown_string, shown_strings}}
 use Rattle.mdns_listeners.specs.declared.pairs.PairRow.{PairRow}
 use Rattle.mdns_join.specs.declared.latest.Latest.{Latest}
 use Rattle.people_text.specs.{MomentText.{duration_text}, Shown.{shown}}
-use Rattle.mdns_page.specs.{declared.axis.Axis.{Axis}, declared.captures.CaptureCounts.{CaptureCounts}, Bare.{BareLive, BareRow}}
+use Rattle.mdns_page.specs.{declared.axis.Axis.{Axis}, declared.captures.CaptureCounts.{CaptureCounts}, Bare.{BareRow}}
 use Rattle.mdns_page.specs.Bare.{bare_capture, bare_end, bare_file, bare_group, bare_groups, bare_instances, bare_live, bare_row}
-use Rattle.mdns_page.specs.{Bare.{bare_server, bare_text, is_some_filled, unsaid}, Captures.{Comparison, Facts, alone_text, capture_text}}
-use Rattle.mdns_page.specs.{Captures.{captures_text, clock_text, compared_text, each_from, is_shared_by}, Axis.{drawn_if, short_text}}
-use Rattle.mdns_page.specs.{Group.{grouped, item}, OtherRows.{is_large}, Lanes.{base_line, base_text, bases_text, lane_top}, Lead.{Ended}}
+use Rattle.mdns_page.specs.{Bare.{bare_server, bare_text, is_some_filled, unsaid}, Captures.{Comparison, Facts, capture_text}}
+use Rattle.mdns_page.specs.{Captures.{captures_text, clock_text, compared_text, each_from}, Ticks.{symbols_text}, declared.look.Look.{Look}}
+use Rattle.mdns_page.specs.{OtherRows.{is_large}, Lanes.{bases_text}, Lead.{Ended}}
 use Rattle.mdns_page.specs.{Lead.{about_line, ending_warning, pair_warning}, Picture.{goes_on}, LiveSection.{address_html, live_group}}
-use Rattle.mdns_page.specs.{LiveSection.{live_row, live_text, server_html, text_html, type_of}, Document.{Shown, head, page}}
-use Rattle.mdns_page.specs.Timeline.{Row, content_name, count_last, group_text, is_last, is_open, lives_in, owner_of, row_text, timeline}
+use Rattle.mdns_page.specs.{LiveSection.{live_row, live_text, server_html, text_html}, Document.{Shown, head, page}}
+use Rattle.mdns_page.specs.Timeline.{Row, content_name, count_last, group_text, is_open, lives_in, owner_of, row_text, timeline}
 use Rattle.mdns_page.specs.declared.kept_records.{TimelinePart.{TimelinePart}, TimelinePart.TheVariants.{Addresses, Instances, Names}}
-use Rattle.mdns_page.specs.{Ticks.{symbols_text}, declared.look.Look.{Look}}
 use Rattle.mdns_page.proofs.{GroupLemmas.{grouped-all}, LiveWordLemmas.{some-items}}
 use Rattle.mdns_page.proofs.SameLists.{append-same, count-same, flat_map-alike, flat_map-same, groups-same, length-same}
 
@@ -39,22 +37,13 @@ clock-same captures files many pair = rw many refl
 compared-same : (captures files : List Facts) (comparison : Comparison) (index : ℕ) → length captures ≡ length files
     → compared_text unsaid captures comparison index ≡ compared_text unsaid files comparison index
 unfolding compared_text
-compared-same captures files comparison index many =
-    λ i. unwrap_or (option_map alone_text (slice_get comparison.listeners index)) []
-    ++ unwrap_or (option_map (λ (pair : PairRow). clock-same captures files many pair i) (find (is_shared_by index) comparison.pairs)) []
+compared-same captures files comparison index many = grind (arith, option_map, clock-same)
 
 capture-same : (axis : Axis) (captures files : List Facts) (comparison : Comparison) → length captures ≡ length files → (index : ℕ)
     (capture file : Facts) → bare_capture capture ≡ bare_capture file
     → capture_text unsaid axis captures comparison index capture ≡ capture_text unsaid axis files comparison index file
 unfolding capture_text
-capture-same axis captures files comparison many index capture file same =
-    rw (
-      many,
-      compared-same captures files comparison index many,
-      ap (λ (bare : CaptureCounts × Ending × Option Span). bare.0) same,
-      ap (λ (bare : CaptureCounts × Ending × Option Span). bare.1) same,
-      span-same capture file same,
-    ) refl
+capture-same axis captures files comparison many index capture file same = grind (arith, compared-same, span-same)
 
 each-same : (text other : ℕ → Facts → List ℕ)
     → ((index : ℕ) (capture file : Facts) → bare_capture capture ≡ bare_capture file → text index capture ≡ other index file)
@@ -64,33 +53,20 @@ each-same text other each index [] [] same = refl
 each-same text other each index [] (file ∷ files) same = cc
 each-same text other each index (capture ∷ captures) [] same = cc
 each-same text other each index (capture ∷ captures) (file ∷ files) same =
-    let first : bare_capture capture ≡ bare_capture file = cc in
-    let rest : map bare_capture captures ≡ map bare_capture files = cc in
-    let here = each index capture file first in
-    let others = each-same text other each (index + 1) captures files rest in cc
+    grind (arith, each-same text other each (index + 1) captures files cc)
 
 captures-same : (axis : Axis) (captures files : List Facts) (comparison : Comparison)
     → map bare_capture captures ≡ map bare_capture files
     → captures_text unsaid axis captures comparison ≡ captures_text unsaid axis files comparison
 unfolding captures_text
-captures-same axis captures files comparison same =
-    let many = length-same bare_capture captures files same in
-    rw (
-      many,
-      each-same (capture_text unsaid axis captures comparison) (capture_text unsaid axis files comparison)
-          (capture-same axis captures files comparison many) 0 captures files same,
-    ) refl
+captures-same axis captures files comparison same = grind (arith, length-same, each-same, capture-same)
 
 -- ---- the head
 
 bases-same : (axis : Axis) (lanes : ℕ) (captures files : List Facts) → map bare_capture captures ≡ map bare_capture files
     → bases_text axis lanes captures ≡ bases_text axis lanes files
 unfolding bases_text
-bases-same axis lanes captures files same =
-    ap (λ (lines : List ℕ). if lanes == 0 then [] else codes "<path class=\"n\" d=\"" ++ lines ++ codes "\"/>")
-    (each-same (base_text axis lanes) (base_text axis lanes)
-    (λ index capture file same. ap (drawn_if axis (base_line axis (lane_top lanes index))) (span-same capture file same)) 0 captures files
-    same)
+bases-same axis lanes captures files same = grind (arith, each-same)
 
 head-same : (axis : Axis) (lanes : ℕ) (captures files : List Facts) → map bare_capture captures ≡ map bare_capture files
     → head axis lanes captures ≡ head axis lanes files
@@ -101,17 +77,13 @@ head-same axis lanes captures files same = rw (bases-same axis lanes captures fi
 
 count_last-same : (is : Life → Bool) (rows others : List Row) → map bare_row rows ≡ map bare_row others
     → count_last is rows ≡ count_last is others
-count_last-same is =
-    count-same bare_row (λ row. is_last is row.lives) (λ row other bare. ap (λ (b : BareRow). is_last is b.1) bare)
+count_last-same is = grind (arith, count-same)
 
 about-same : (about others : List Subject) → length about ≡ length others → about_line unsaid about ≡ about_line unsaid others
 about-same [] [] same = refl
 about-same [] (other ∷ others) same = absurd (omega (arith, same))
 about-same (subject ∷ about) [] same = absurd (omega (arith, same))
-about-same (subject ∷ about) (other ∷ others) same =
-    let rest : length about ≡ length others = omega (arith, same) in
-    ap (λ (text : List ℕ). codes "<p class=\"note\">Only what is about " ++ text ++ codes ".</p>\n")
-    (flat_map-alike (λ (subject : Subject). codes ", " ++ unsaid (shown (string_bytes subject.text))) (λ first second. refl) about others rest)
+about-same (subject ∷ about) (other ∷ others) same = grind (arith, flat_map-alike)
 
 warning-same : (file other : Ended) → bare_file file ≡ bare_file other → ending_warning unsaid file ≡ ending_warning unsaid other
 unfolding ending_warning
@@ -152,9 +124,7 @@ lives-same : (row other : Row) → bare_row row ≡ bare_row other → lives_in 
 lives-same row other same = ap (λ (bare : BareRow). bare.1 ++ flat_map (λ (lives : List Life). lives) bare.2) same
 
 rows-same : (rows drawn : List Row) → bare_groups rows ≡ bare_groups drawn → map bare_row rows ≡ map bare_row drawn
-rows-same rows drawn same =
-    ap (map bare_row) (sym (grouped-all owner_of rows)) ∙ groups-same bare_row (grouped owner_of rows) (grouped owner_of drawn) same
-    ∙ ap (map bare_row) (grouped-all owner_of drawn)
+rows-same rows drawn same = grind (arith, grouped-all owner_of rows, groups-same, grouped-all owner_of drawn)
 
 -- ---- the timeline
 
@@ -162,11 +132,7 @@ group-same : (look : Look) (opened : Bool) (part : TimelinePart) (rows others : 
     → group_text unsaid look opened part rows ≡ group_text unsaid look opened part others
 unfolding group_text
 group-same look opened part rows others same =
-    rw (
-      length-same bare_row rows others same,
-      count_last-same (goes_on look.axis) rows others same,
-      flat_map-same bare_row (row_text unsaid part look) (row-same part look) rows others same,
-    ) refl
+    grind (arith, length-same bare_row rows others same, count_last-same (goes_on look.axis) rows others same, flat_map-same, row-same)
 
 timeline-same : (axis : Axis) (lanes : ℕ) (rows drawn addresses hosts names apart : List Row) → bare_groups rows ≡ bare_groups drawn
     → map bare_row addresses ≡ map bare_row hosts → map bare_row names ≡ map bare_row apart
@@ -177,21 +143,11 @@ timeline-same axis lanes rows drawn addresses hosts names apart same_groups same
     (append-same bare_row rows drawn addresses hosts same_rows same_addresses) same_names in
     let titled-same : nat_le (length (flat_map lives_in (rows ++ addresses ++ names))) 1000
     ≡ nat_le (length (flat_map lives_in (drawn ++ hosts ++ apart))) 1000 =
-    ap (λ (lives : List Life). nat_le (length lives) 1000)
-    (flat_map-same bare_row lives_in lives-same (rows ++ addresses ++ names) (drawn ++ hosts ++ apart) all_same) in
+    grind (arith, flat_map-same, lives-same) in
     let look : Look =
     record { axis = axis; titled = nat_le (length (flat_map lives_in (drawn ++ hosts ++ apart))) 1000; lanes = lanes } in
     let opened = is_open (length drawn + length hosts + length apart) in
-    rw (
-      titled-same,
-      length-same bare_row rows drawn same_rows,
-      length-same bare_row addresses hosts same_addresses,
-      length-same bare_row names apart same_names,
-      flat_map-same (map bare_row) (group_text unsaid look opened Instances) (group-same look opened Instances) (grouped owner_of rows)
-          (grouped owner_of drawn) same_groups,
-      group-same look opened Addresses addresses hosts same_addresses,
-      group-same look opened Names names apart same_names,
-    ) refl
+    grind (arith, length-same, flat_map-same, group-same)
 
 -- ---- instances
 
@@ -202,43 +158,22 @@ left_words now given = if given.last.ttl == 0 then codes "said goodbye" else dur
 left-same_by : (now : ℕ) (given other : GivenRow) (is was : Bool) → (given.last.ttl == 0) ≡ is → (other.last.ttl == 0) ≡ was
     → bare_end given ≡ bare_end other → left_words now given ≡ left_words now other
 left-same_by now given other true true said said_too same = rw (said, said_too) refl
-left-same_by now given other true false said not same =
-    let ends = rw (said, not) at same in cc
-left-same_by now given other false true not said same =
-    let ends = rw (not, said) at same in cc
-left-same_by now given other false false not not_either same =
-    let ends = rw (not, not_either) at same in
-    let end : given.end ≡ other.end = cc in
-    rw (not, not_either, end) refl
+left-same_by now given other true false said not same = grind arith
+left-same_by now given other false true not said same = grind arith
+left-same_by now given other false false not not_either same = grind arith
 
 left-same : (now : ℕ) (given other : GivenRow) → bare_end given ≡ bare_end other → left_words now given ≡ left_words now other
 left-same now given other same = left-same_by now given other (given.last.ttl == 0) (other.last.ttl == 0) refl refl same
-
--- an address by what is said of it
-abbrev address_by : Option Address → List ℕ
-address_by found = codes "<code>" ++ unwrap_or (option_map shown_address found) [] ++ codes "</code>"
 
 addresses-same : (addresses others : List Body) → map address_of addresses ≡ map address_of others
     → join_by address_html (32 ∷ []) addresses ≡ join_by address_html (32 ∷ []) others
 addresses-same [] [] same = refl
 addresses-same [] (other ∷ others) same = cc
 addresses-same (address ∷ addresses) [] same = cc
-addresses-same (address ∷ addresses) (other ∷ others) same =
-    let here : address_of address ≡ address_of other = cc in
-    let rest : map address_of addresses ≡ map address_of others = cc in
-    let after : flat_map (λ address. (32 ∷ []) ++ address_html address) addresses
-    ≡ flat_map (λ address. (32 ∷ []) ++ address_html address) others =
-    flat_map-same (λ (b : Body). address_of b) (λ (b : Body). (32 ∷ []) ++ address_html b)
-    (λ a b same. ap (λ (found : Option Address). (32 ∷ []) ++ address_by found) same) addresses others rest in
-    λ i. address_by (here i) ++ after i
+addresses-same (address ∷ addresses) (other ∷ others) same = grind (arith, flat_map-same)
 
 server-same : (server other : Server) → bare_server server ≡ bare_server other → server_html unsaid server ≡ server_html unsaid other
-server-same server other same =
-    let priority : server.priority ≡ other.priority = ap (λ (bare : ℕ × ℕ × ℕ × List (Option Address)). bare.0) same in
-    let weight : server.weight ≡ other.weight = ap (λ (bare : ℕ × ℕ × ℕ × List (Option Address)). bare.1) same in
-    let port : server.port ≡ other.port = ap (λ (bare : ℕ × ℕ × ℕ × List (Option Address)). bare.2) same in
-    let addresses = addresses-same server.addresses other.addresses (ap (λ (bare : ℕ × ℕ × ℕ × List (Option Address)). bare.3) same) in
-    rw (priority, weight, port, addresses) refl
+server-same server other same = grind (arith, addresses-same)
 
 none-filled : (strings : List (List ℕ)) → (length (flat_map shown_string strings) == 0) ≡ not (is_some_filled strings)
 none-filled [] = refl
@@ -247,34 +182,18 @@ none-filled ((byte ∷ bytes) ∷ strings) = some-items (shown (byte ∷ bytes))
 
 text-same : (text other : List ℕ) → bare_text text ≡ bare_text other → text_html unsaid text ≡ text_html unsaid other
 unfolding shown_strings
-text-same text other same =
-    let none = none-filled (strings_of text) ∙ ap not same ∙ sym (none-filled (strings_of other)) in
-    λ i. if none i then [] else codes "<p>" ++ [] ++ codes "</p>"
+text-same text other same = grind (arith, none-filled, not)
 
 live_row-same : (axis : Axis) (row other : InstanceRow) → bare_live row ≡ bare_live other
     → live_row unsaid axis row ≡ live_row unsaid axis other
 unfolding live_row
-live_row-same axis row other same =
-    let since : row.given.since ≡ other.given.since = ap (λ (bare : BareLive). bare.0) same in
-    let left = left-same axis.now.nanos row.given other.given (ap (λ (bare : BareLive). bare.1) same) in
-    let bare_servers : map bare_server row.instance.servers ≡ map bare_server other.instance.servers =
-    ap (λ (bare : BareLive). bare.2) same in
-    let count = length-same bare_server row.instance.servers other.instance.servers bare_servers in
-    let servers =
-    flat_map-same bare_server (server_html unsaid) server-same row.instance.servers other.instance.servers bare_servers in
-    let texts = flat_map-same bare_text (text_html unsaid) text-same row.instance.texts other.instance.texts
-    (ap (λ (bare : BareLive). bare.3) same) in
-    λ i. item (codes "<small>" ++ unwrap_or (option_map (λ from. codes "since " ++ short_text axis.dates from ++ codes ", ") (since i)) []
-    ++ left i ++ codes "</small>")
-    (codes "<div>" ++ (if count i == 0 then codes "<p>unresolved</p>" else servers i) ++ codes "</div>") (texts i)
+live_row-same axis row other same = grind (arith, left-same, length-same, flat_map-same, server-same, text-same, option_map)
 
 live_group-same : (axis : Axis) (opened : Bool) (lasts others : List Latest) (given more : List GivenRow)
     → bare_group lasts given ≡ bare_group others more
     → live_group unsaid axis opened lasts given ≡ live_group unsaid axis opened others more
 unfolding live_group
-live_group-same axis opened lasts others given more same =
-    rw (flat_map-same bare_live (live_row unsaid axis) (live_row-same axis) (filter_map (instance_row_in lasts) given)
-    (filter_map (instance_row_in others) more) same) refl
+live_group-same axis opened lasts others given more same = grind (arith, flat_map-same, live_row-same)
 
 live_groups-same : (axis : Axis) (opened : Bool) (lasts others : List Latest) (groups more : List (List GivenRow))
     → map (bare_group lasts) groups ≡ map (bare_group others) more
@@ -283,16 +202,12 @@ live_groups-same axis opened lasts others [] [] same = refl
 live_groups-same axis opened lasts others [] (group ∷ more) same = cc
 live_groups-same axis opened lasts others (group ∷ groups) [] same = cc
 live_groups-same axis opened lasts others (group ∷ groups) (other ∷ more) same =
-    let first : bare_group lasts group ≡ bare_group others other = cc in
-    let rest : map (bare_group lasts) groups ≡ map (bare_group others) more = cc in
-    let here = live_group-same axis opened lasts others group other first in
-    let after = live_groups-same axis opened lasts others groups more rest in cc
+    grind (arith, live_group-same, live_groups-same axis opened lasts others groups more cc)
 
 live-same : (axis : Axis) (opened : Bool) (lasts others : List Latest) (given more : List GivenRow)
     → bare_instances lasts given ≡ bare_instances others more
     → live_text unsaid axis opened lasts given ≡ live_text unsaid axis opened others more
-live-same axis opened lasts others given more same =
-    rw (live_groups-same axis opened lasts others (grouped type_of given) (grouped type_of more) same) refl
+live-same axis opened lasts others given more same = grind (arith, live_groups-same)
 
 -- ---- the whole
 

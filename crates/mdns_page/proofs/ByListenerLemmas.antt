@@ -24,28 +24,18 @@ module _ {X : Type 0} (of : List ℕ) (listener : ℕ) where
 
   files-more : (place : ℕ) (xs : List X) (x : X) → files_of of place listener (xs ++ x ∷ [])
       ≡ files_of of place listener xs ++ (if listener_at of (place + length xs) == listener then x ∷ [] else [])
-  files-more place [] x =
-      let at : place ≡ place + 0 = omega arith in
-      ap (λ (n : ℕ). if listener_at of n == listener then x ∷ [] else []) at
-  files-more place (y ∷ xs) x =
-      let at : suc place + length xs ≡ place + suc (length xs) = omega arith in
-      keeps (listener_at of place == listener) y (files_of of (suc place) listener xs) _ _
-      (files-more (suc place) xs x
-      ∙ ap (λ (n : ℕ). files_of of (suc place) listener xs ++ (if listener_at of n == listener then x ∷ [] else [])) at)
+  files-more place [] x = grind arith
+  files-more place (y ∷ xs) x = grind (arith, keeps, files-more (suc place) xs x)
 
 -- where all files are of the first listener
 single : {X : Type 0} (of : List ℕ) → ((place : ℕ) → listener_at of place ≡ 0) → (place : ℕ) (xs : List X) → files_of of place 0 xs ≡ xs
 single of first place [] = refl
-single of first place (x ∷ xs) =
-    ap (λ (n : ℕ). if n == 0 then x ∷ files_of of (suc place) 0 xs else files_of of (suc place) 0 xs) (first place)
-    ∙ ap (λ ys. x ∷ ys) (single of first (suc place) xs)
+single of first place (x ∷ xs) = grind (arith, single of first (suc place) xs)
 
 first-listener : (of : List ℕ) → All (λ listener. listener < 1) of → (place : ℕ) → listener_at of place ≡ 0
 first-listener [] within place = refl
-first-listener (listener ∷ of) within zero =
-    let least : listener < 1 = All-head (λ (l : ℕ). l < 1) listener of within in omega (arith, least)
-first-listener (listener ∷ of) within (suc place) =
-    first-listener of (All-tail (λ (l : ℕ). l < 1) listener of within) place
+first-listener (listener ∷ of) within zero = grind (arith, All-head)
+first-listener (listener ∷ of) within (suc place) = grind (arith, first-listener of (All-tail (λ (l : ℕ). l < 1) listener of within) place)
 
 -- a place past the end has the same listener as the end
 at-min : (of : List ℕ) (n : ℕ) → listener_at of (min n (length of)) ≡ listener_at of n
@@ -61,19 +51,12 @@ flat-if true heard = append-nil heard
 flat-if false heard = refl
 
 flat-more : (each : List (List Hearing)) (heard : List Hearing) → flat (each ++ heard ∷ []) ≡ flat each ++ heard
-flat-more each heard =
-    flat_map-append (λ (hearings : List Hearing). hearings) each (heard ∷ []) ∙ ap (λ hs. flat each ++ hs) (append-nil heard)
+flat-more each heard = grind (arith, flat_map-append, append-nil)
 
 hearings-more : (of : List ℕ) (each : List (List Hearing)) (heard : List Hearing) (listener : ℕ)
     → hearings_of of (each ++ heard ∷ []) listener
     ≡ hearings_of of each listener ++ (if listener_at of (length each) == listener then heard else [])
-hearings-more of each heard listener =
-    let own = listener_at of (length each) == listener in
-    let at : 0 + length each ≡ length each = omega arith in
-    ap flat (files-more of listener 0 each heard
-    ∙ ap (λ (n : ℕ). files_of of 0 listener each ++ (if listener_at of n == listener then heard ∷ [] else [])) at)
-    ∙ flat_map-append (λ (hearings : List Hearing). hearings) (files_of of 0 listener each) (if own then heard ∷ [] else [])
-    ∙ ap (λ hs. hearings_of of each listener ++ hs) (flat-if own heard)
+hearings-more of each heard listener = grind (arith, files-more, flat_map-append, flat-if)
 
 module _ {X Y : Type 0} (Is : X → Y → Type 0) where
   each-points : (xs : List X) (ys : List Y) → length xs ≡ length ys
@@ -96,27 +79,22 @@ module _ (of : List ℕ) (each : List (List Hearing)) (heard : List Hearing) (fi
     (old new : List Accounts) (adds : AddsAt (listener_at of (length each)) old file new) (count : ℕ)
     (are : AreEach Chronicles old (map (hearings_of of each) (range_with_len 0 count))) where
   count-old : length old ≡ count
-  count-old =
-      each-count Chronicles old (map (hearings_of of each) (range_with_len 0 count)) are
-      ∙ length-map-range_with_len (hearings_of of each) 0 count
+  count-old = grind (arith, each-count, length-map-range_with_len)
 
   was : (i : ℕ) (d : Accounts) → i < length old → Chronicles (get_or old i d) (hearings_of of each i)
   was i d within =
       let short : i < count = omega (arith, within, count-old) in
-      subst (Chronicles (get_or old i d)) (get_or-map-range_with_len (hearings_of of each) 0 count i i [] short (omega arith))
-      (each-at Chronicles old (map (hearings_of of each) (range_with_len 0 count)) are i d [] within)
+      grind (arith, get_or-map-range_with_len (hearings_of of each) 0 count i i [] short (omega arith), each-at)
 
   now : (i : ℕ) (d : Accounts) → i < length old → (b : Bool) → (listener_at of (length each) == i) ≡ b
       → Chronicles (get_or new i d) (hearings_of of each i ++ (if b then heard else []))
   now i d within true same =
       let is : listener_at of (length each) ≡ i = grind (arith, nat_tests, same) in
       let here : listener_at of (length each) < length old = omega (arith, within, is) in
-      subst (λ (n : ℕ). Chronicles (get_or new n d) (hearings_of of each n ++ heard)) is
-      (adds.own d here (hearings_of of each (listener_at of (length each))) heard (was (listener_at of (length each)) d here) told)
+      grind (arith, was (listener_at of (length each)) d here)
   now i d within false differs =
       let other : i ≢ listener_at of (length each) = λ (e : i ≡ listener_at of (length each)). grind (arith, nat_tests, differs, e) in
-      subst (Chronicles (get_or new i d)) (sym (append-nil (hearings_of of each i)))
-      (subst (λ (c : Accounts). Chronicles c (hearings_of of each i)) (sym (adds.others i d other)) (was i d within))
+      grind (arith, append-nil (hearings_of of each i), was i d within)
 
   captures-more : AreEach Chronicles new (map (hearings_of of (each ++ heard ∷ [])) (range_with_len 0 count))
   captures-more =
@@ -137,8 +115,7 @@ all-in : (captures : List Accounts) (joined : Accounts) (of : List ℕ) (each : 
     → AreEach Chronicles captures (map (hearings_of of each) (range_with_len 0 (length captures)))
     → (length captures ≢ 1 → Chronicles joined (flat each)) → Chronicles (all_in captures joined) (flat each)
 all-in [] joined of each within are many = many (λ (e : 0 ≡ 1). omega (arith, e))
-all-in (capture ∷ []) joined of each within are many =
-    subst (λ (files : List (List Hearing)). Chronicles capture (flat files)) (single of (first-listener of within) 0 each) are.0
+all-in (capture ∷ []) joined of each within are many = grind (arith, single, first-listener)
 all-in (first ∷ second ∷ captures) joined of each within are many = many (λ e. omega (arith, e))
 
 joined-in : (captures : List Accounts) (joined : Accounts) → length captures ≢ 1 → all_in captures joined ≡ joined
@@ -190,8 +167,7 @@ holds-nothing captures joined of within are nothing = all-in captures joined of 
 -- the hearings that count are those of all files
 pub counted-in : (which : Filter) (before : List (List Outcome)) → counted which before ≡ flat (counted_each which before)
 counted-in which [] = refl
-counted-in which (outcomes ∷ before) =
-    ap (λ (hs : List Hearing). selected which (hearings_in outcomes) ++ hs) (counted-in which before)
+counted-in which (outcomes ∷ before) = grind (arith, counted-in which before)
 
 pub hears-more : (which : Filter) (begun old new : ListenerLives) (earlier : List (List PacketAt)) (before : List (List Outcome))
     (packets : List PacketAt) (outcomes : List Outcome) → AddsFile (selected which (hearings_in outcomes)) old new

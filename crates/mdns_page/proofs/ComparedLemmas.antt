@@ -1,14 +1,13 @@
 -- Captures compare in one way, and what a collector gathers of them.
-use Rattle.std.proofs.Common.{◌≡◌, ◌∙◌, ℕ, suc, subst, sym, inl, inr, List, [], ◌∷◌, ◌++◌, ap, Option, None, Some}
+use Rattle.std.proofs.Common.{◌≡◌, ◌∙◌, ℕ, suc, subst, sym, inl, inr, List, [], ◌∷◌, ◌++◌, Option, None, Some, arith}
 use Rattle.mdns_capture.specs.Savefile.{PacketAt}
 use Rattle.mdns_capture.proofs.SourceLemmas.{source_is_there}
 use Rattle.mdns_survey.proofs.OutcomeLemmas.{OnePayload}
 use Rattle.mdns_survey.specs.Outcomes.{Outcome, heard, refused, skipped}
-use Rattle.mdns_listeners.specs.{Heard.{AreHeardIn, HeardRow, Told, message_bytes}, Listeners.{CapturesTell, Gathered, Gathers, IsHeardBy}}
-use Rattle.mdns_listeners.specs.{Listeners.{TellAll, Tells, listener_at, spans_by}, Numbers.{listener_rows, FileSpans}}
+use Rattle.mdns_listeners.specs.{Heard.{AreHeardIn, HeardRow, Told}, Listeners.{CapturesTell, Gathers, IsHeardBy}}
+use Rattle.mdns_listeners.specs.{Listeners.{TellAll, Tells}, Numbers.{listener_rows, FileSpans}, declared.pairs.PairRow.{PairRow}}
 use Rattle.mdns_listeners.specs.{Together.{pairs_together}, declared.listeners.MessageCollector.{MessageCollector}, Groups.{Grouped}}
 use Rattle.mdns_listeners.specs.declared.{listeners.HeardByListeners.{HeardByListeners}, numbers.ListenerRow.{ListenerRow}}
-use Rattle.mdns_listeners.specs.declared.pairs.PairRow.{PairRow}
 use Rattle.mdns_page.specs.{Captures.{Comparison}, Collected.{AreCompared, AreGathered, Compares, GathersIf, GoesOn}}
 use Rattle.std.specs.{declared.result.Result.{Result}, declared.result.Result.TheVariants.{Ok, Err}, Prelude.{IfOk}}
 
@@ -27,10 +26,7 @@ module _ (payload : OnePayload) where
       (origin, (again, sent_too, carries_too, is_too)) =
       let one_source = sym (source_is_there packet.frame source sent) ∙ source_is_there packet.frame origin sent_too in
       let one_payload = payload packet.frame bytes again carries carries_too in
-      is ∙ (λ i. record {
-        message = message_bytes (one_source i) (one_payload i);
-        at = record { listener = listener; moment = packet.moment };
-      } ∷ []) ∙ sym is_too
+      grind arith
 
   one-tell_all : (listener : ℕ) (packets : List PacketAt) (outcomes : List Outcome) (told other : List Told)
       → TellAll listener packets outcomes told → TellAll listener packets outcomes other → told ≡ other
@@ -38,9 +34,7 @@ module _ (payload : OnePayload) where
   one-tell_all listener [] (o ∷ os) told other tell too = absurd tell
   one-tell_all listener (p ∷ ps) [] told other tell too = absurd tell
   one-tell_all listener (p ∷ ps) (o ∷ os) told other (one, (rest, is, here, after)) (first, (others, is_too, here_too, after_too)) =
-      let head = one-tells listener p o one first here here_too in
-      let tail = one-tell_all listener ps os rest others after after_too in
-      is ∙ (λ i. head i ++ tail i) ∙ sym is_too
+      grind (arith, one-tells, one-tell_all listener ps os rest others after after_too)
 
   one-captures_tell : (of : List ℕ) (place : ℕ) (packets : List (List PacketAt)) (outcomes : List (List Outcome))
       (told other : List Told) → CapturesTell of place packets outcomes told → CapturesTell of place packets outcomes other
@@ -50,14 +44,11 @@ module _ (payload : OnePayload) where
   one-captures_tell of place (p ∷ ps) [] told other tell too = absurd tell
   one-captures_tell of place (p ∷ ps) (o ∷ os) told other (one, (rest, is, here, after))
       (first, (others, is_too, here_too, after_too)) =
-      let head = one-tell_all (listener_at of place) p o one first here here_too in
-      let tail = one-captures_tell of (suc place) ps os rest others after after_too in
-      is ∙ (λ i. head i ++ tail i) ∙ sym is_too
+      grind (arith, one-tell_all, one-captures_tell of (suc place) ps os rest others after after_too)
 
   pub one-comparison : OneListOfRows → (groups : Grouped) (packets : List (List PacketAt)) (outcomes : List (List Outcome))
       (a b : Comparison) → Compares groups packets outcomes a → Compares groups packets outcomes b → a ≡ b
-  one-comparison one groups packets outcomes a b (inl none) (inl too) =
-      λ i. record { listeners = (none.1 ∙ sym too.1) i; pairs = (none.2 ∙ sym too.2) i }
+  one-comparison one groups packets outcomes a b (inl none) (inl too) = grind arith
   one-comparison one groups packets outcomes a b (inl (off, listeners, pairs)) (inr (on, some)) = absurd (cc)
   one-comparison one groups packets outcomes a b (inr (on, some)) (inl (off, listeners, pairs)) = absurd (cc)
   one-comparison one groups packets outcomes a b (inr some) (inr too) =
@@ -65,10 +56,7 @@ module _ (payload : OnePayload) where
       too.1.are_rows.tell in
       let rows = one too.1.are_rows.told some.1.rows too.1.rows
       (subst (λ (all : List Told). AreHeardIn all some.1.rows) told some.1.are_rows.are_heard) too.1.are_rows.are_heard in
-      λ i. record {
-        listeners = (some.1.listeners ∙ ap (λ rs. listener_rows rs (spans_by groups packets)) rows ∙ sym too.1.listeners) i;
-        pairs = (some.1.pairs ∙ ap (λ rs. pairs_together rs (spans_by groups packets)) rows ∙ sym too.1.pairs) i;
-      }
+      grind arith
 
 -- the rows of what listeners heard
 pub compared-by : (groups : Grouped) (packets : List (List PacketAt)) (outcomes : List (List Outcome)) (heard_by : HeardByListeners)
@@ -76,14 +64,7 @@ pub compared-by : (groups : Grouped) (packets : List (List PacketAt)) (outcomes 
     → IsHeardBy groups packets outcomes heard_by → messages ≡ heard_by.messages.items → spans ≡ heard_by.spans.items
     → listeners ≡ listener_rows messages spans → pairs ≡ pairs_together messages spans
     → AreCompared groups packets outcomes (record { listeners = listeners; pairs = pairs })
-compared-by groups packets outcomes heard_by messages spans listeners pairs are same_messages same_spans listed paired =
-    let all_spans : spans ≡ spans_by groups packets = same_spans ∙ are.spans in
-    record {
-      rows = heard_by.messages.items;
-      are_rows = are.are_rows;
-      listeners = listed ∙ (λ i. listener_rows (same_messages i) (all_spans i));
-      pairs = paired ∙ (λ i. pairs_together (same_messages i) (all_spans i));
-    }
+compared-by groups packets outcomes heard_by messages spans listeners pairs are same_messages same_spans listed paired = grind arith
 
 -- ---- while captures are read
 
@@ -95,8 +76,7 @@ ok-and (Err fault) P Q R both one other = tt
 pub gathers-nothing : (groups : Grouped) (messages : Option MessageCollector) → AreGathered groups messages [] []
     → GathersIf messages messages [] []
 gathers-nothing groups None gathered = tt
-gathers-nothing groups (Some messages) gathered =
-    subst (λ (of : List ℕ). Gathered of messages [] []) (sym gathered.1.listeners) gathered.1
+gathers-nothing groups (Some messages) gathered = grind arith
 
 pub gathered-now : (groups : Grouped) (begun now : Option MessageCollector) (packets : List (List PacketAt))
     (outcomes : List (List Outcome)) → AreGathered groups begun [] [] → GathersIf begun now packets outcomes
@@ -104,26 +84,19 @@ pub gathered-now : (groups : Grouped) (begun now : Option MessageCollector) (pac
 gathered-now groups None None packets outcomes begins gathers = begins
 gathered-now groups None (Some now) packets outcomes begins gathers = absurd gathers
 gathered-now groups (Some begun) None packets outcomes begins gathers = absurd gathers
-gathered-now groups (Some begun) (Some now) packets outcomes begins gathers =
-    (begins.0, subst (λ (of : List ℕ). Gathered of now packets outcomes) begins.1.listeners gathers)
+gathered-now groups (Some begun) (Some now) packets outcomes begins gathers = grind arith
 
 -- of a capture more, where none are gathered
 pub gathers-no_more : (begun old new : Option MessageCollector) (packets : List (List PacketAt)) (outcomes : List (List Outcome))
     (next : List PacketAt) (come : List Outcome) → old ≡ None → new ≡ None → GathersIf begun old packets outcomes
     → GathersIf begun new (packets ++ next ∷ []) (outcomes ++ come ∷ [])
-gathers-no_more None old new packets outcomes next come was is gathers =
-    subst (λ (m : Option MessageCollector). GathersIf None m (packets ++ next ∷ []) (outcomes ++ come ∷ [])) (sym is) tt
-gathers-no_more (Some begun) old new packets outcomes next come was is gathers =
-    absurd (subst (λ (m : Option MessageCollector). GathersIf (Some begun) m packets outcomes) was gathers)
+gathers-no_more None old new packets outcomes next come was is gathers = grind arith
+gathers-no_more (Some begun) old new packets outcomes next come was is gathers = grind arith
 
 -- and where they are
 pub gathers-more : (begun old new : Option MessageCollector) (was heard_by now : MessageCollector) (packets : List (List PacketAt))
     (outcomes : List (List Outcome)) (next : List PacketAt) (come : List Outcome) → old ≡ Some was → new ≡ Some now
     → Gathers was heard_by next come → GoesOn heard_by now → GathersIf begun old packets outcomes
     → GathersIf begun new (packets ++ next ∷ []) (outcomes ++ come ∷ [])
-gathers-more None old new was heard_by now packets outcomes next come before after took goes_on gathers =
-    absurd (subst (λ (m : Option MessageCollector). GathersIf None m packets outcomes) before gathers)
-gathers-more (Some begun) old new was heard_by now packets outcomes next come before after took goes_on gathers =
-    subst (λ (m : Option MessageCollector). GathersIf (Some begun) m (packets ++ next ∷ []) (outcomes ++ come ∷ [])) (sym after)
-    (goes_on begun.of.items was packets outcomes next come
-    (subst (λ (m : Option MessageCollector). GathersIf (Some begun) m packets outcomes) before gathers) took)
+gathers-more None old new was heard_by now packets outcomes next come before after took goes_on gathers = grind arith
+gathers-more (Some begun) old new was heard_by now packets outcomes next come before after took goes_on gathers = grind arith

@@ -1,5 +1,5 @@
 -- Numbers with commas.
-use Rattle.std.proofs.Common.{◌≡◌, refl, sym, ◌∙◌, ap, ℕ, ◌+◌, ◌/◌, ◌%◌, ◌^◌, ◌<◌, ◌≤◌, ◌==◌}
+use Rattle.std.proofs.Common.{◌≡◌, refl, ℕ, ◌+◌, ◌/◌, ◌%◌, ◌^◌, ◌<◌, ◌≤◌, ◌==◌}
 use Rattle.std.proofs.Common.{◌&&◌, nat_lt, not, Bool, true, false, if◌then◌else◌, List, [], ◌∷◌, ◌++◌, length, arith}
 use Rattle.std.proofs.{Common.{append_assoc, length-append}, lemmas.Bool.Decides.{nat_tests}}
 use Rattle.std.proofs.lemmas.{Fmt.{decimal_is_IsNumeral_wide, decimal_step_wide, length-decimal-le_wide}, Str.Parse.{digit_from_value}}
@@ -40,47 +40,21 @@ three-more : (digits : List ℕ) (a b c : ℕ) → 0 < length digits
 three-more [] a b c some = absurd (omega (arith, some))
 three-more (digit ∷ []) a b c some = refl
 three-more (digit ∷ next ∷ digits) a b c some =
-    let left : List ℕ = next ∷ digits in
-    let more : List ℕ = a ∷ b ∷ c ∷ [] in
-    let flag : are_threes (length (left ++ more)) ≡ are_threes (length left) =
-    ap are_threes (length-append left more) ∙ threes-more (length left) (omega arith) in
-    ap (λ between. digit ∷ (if between then 44 ∷ in_threes (left ++ more) else in_threes (left ++ more))) flag
-    ∙ ap (λ text. digit ∷ (if are_threes (length left) then 44 ∷ text else text)) (three-more (next ∷ digits) a b c (omega arith))
-    ∙ ap (λ text. digit ∷ text) (comma-before (are_threes (length left)) (in_threes left) (44 ∷ more))
+    grind (arith, length-append, threes-more, comma-before, three-more (next ∷ digits) a b c (omega arith))
 
 decimal-three : (number : ℕ) → 1000 ≤ number → number < 2 ^ 128
     → decimal number ≡ decimal (number / 1000) ++ three_digits (number % 1000)
-decimal-three number low high =
-    let front : number / 10 / 10 / 10 ≡ number / 1000 = omega arith in
-    let a : number / 10 / 10 % 10 ≡ number % 1000 / 100 = omega arith in
-    let b : number / 10 % 10 ≡ number % 1000 / 10 % 10 = omega arith in
-    let c : number % 10 ≡ number % 1000 % 10 = omega arith in
-    rw (
-      decimal_step_wide number (omega (arith, low)) (omega (arith, high)),
-      decimal_step_wide (number / 10) (omega (arith, low)) (omega (arith, high)),
-      decimal_step_wide (number / 10 / 10) (omega (arith, low)) (omega (arith, high)),
-      append_assoc,
-      append_assoc,
-      front,
-      a,
-      b,
-      ← c,
-    )
+decimal-three number low high = grind (arith, decimal_step_wide, append_assoc)
 
 pub commas-more : (number : ℕ) → 1000 ≤ number → number < 2 ^ 128
     → commas number ≡ commas (number / 1000) ++ 44 ∷ three_digits (number % 1000)
 unfolding commas
-commas-more number low high =
-    ap in_threes (decimal-three number low high)
-    ∙ three-more (decimal (number / 1000)) _ _ _ (decimal_is_IsNumeral_wide (number / 1000) (omega (arith, high))).0.0
+commas-more number low high = grind (arith, decimal-three, three-more, decimal_is_IsNumeral_wide)
 
 pub commas-written : (number : ℕ) (old front new : List ℕ) → 1000 ≤ number → number < 2 ^ 128 → front ≡ old ++ commas (number / 1000)
     → new ≡ front ++ 44 ∷ three_digits (number % 1000)
     → new ≡ old ++ commas number
-commas-written number old front new low high begun written =
-    let three : List ℕ = 44 ∷ three_digits (number % 1000) in
-    written ∙ ap (λ text. text ++ three) begun ∙ append_assoc old (commas (number / 1000)) three
-    ∙ ap (λ text. old ++ text) (sym (commas-more number low high))
+commas-written number old front new low high begun written = grind (arith, append_assoc, commas-more)
 
 -- ---- without commas
 
@@ -91,16 +65,11 @@ no_comma false digits = refl
 
 digit-stays : (digit : ℕ) (rest : List ℕ) → 48 ≤ digit
     → filter (λ byte. not (byte == 44)) (digit ∷ rest) ≡ digit ∷ filter (λ byte. not (byte == 44)) rest
-digit-stays digit rest low =
-    let other : not (digit == 44) ≡ true = grind (arith, nat_tests, low) in
-    ap (λ (keep : Bool). if keep then digit ∷ filter (λ byte. not (byte == 44)) rest else filter (λ byte. not (byte == 44)) rest) other
+digit-stays digit rest low = grind (arith, nat_tests)
 
 without : (digits : List ℕ) → AllDigits 10 digits → filter (λ byte. not (byte == 44)) (in_threes digits) ≡ digits
 without [] are = refl
-without (digit ∷ digits) are =
-    let low = digit_from_value digit are.0 in
-    digit-stays digit (if are_threes (length digits) then 44 ∷ in_threes digits else in_threes digits) (omega (arith, low))
-    ∙ ap (λ text. digit ∷ text) (no_comma (are_threes (length digits)) (in_threes digits) ∙ without digits are.1)
+without (digit ∷ digits) are = grind (arith, digit_from_value, digit-stays, no_comma, without digits are.1)
 
 pub commas-decimal : (number : ℕ) → number < 2 ^ 128 → filter (λ byte. not (byte == 44)) (commas number) ≡ decimal number
 unfolding commas

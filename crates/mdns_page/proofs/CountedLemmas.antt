@@ -1,5 +1,5 @@
 -- In which seconds captures heard a record.
-use Rattle.std.proofs.Common.{◌≡◌, refl, sym, ap, ◌∙◌, subst, ℕ, ◌+◌, ◌<◌, Bool, true, false, if◌then◌else◌}
+use Rattle.std.proofs.Common.{◌≡◌, refl, sym, ap, ◌∙◌, subst, ℕ, ◌+◌, ◌<◌, Bool, true, false, if◌then◌else◌, arith}
 use Rattle.std.proofs.{Common.{List, [], ◌∷◌, ◌++◌, get_or, length, map, take}, lemmas.List.{map-append, take_more}}
 use Rattle.std.proofs.lemmas.List.Elements.{All-append, All-cons, All-nil, All-same, filter-append}
 use Rattle.std.specs.{Prelude.{nat_lt}, List.{All, filter}}
@@ -61,9 +61,7 @@ heard-more many key chronicles i chronicle shown seconds more within at so_far l
     let before = so_far pairs.before pairs.are in
     record {
       all = before.all ++ seconds ∷ [];
-      are = subst (λ (es : List (List Hearing)). AreEach (λ hearings seconds. AreSecondsHeard hearings key seconds) es (before.all ++ seconds ∷ [])) (sym pairs.parts)
-          (each-more (λ (heard : List Hearing) (found : List SecondHeard). AreSecondsHeard heard key found) pairs.before before.all
-          pairs.last seconds before.are (last pairs.last pairs.is));
+      are = grind (arith, each-more);
       shown = pushed ∙ ap (λ (all : List (List SecondHeard)). all ++ shown_seconds many (seconds ∷ [])) before.shown
           ∙ sym (shown-more many before.all seconds);
     }

@@ -28,16 +28,13 @@ module _ {R : Type 0} (owner : R → List ℕ) where
       → grouped owner (row ∷ rows) ≡ (row ∷ take (after_row row rows) rows) ∷ grouped owner (drop (after_row row rows) rows)
   unfolding grouped
   grouped-row row [] = refl
-  grouped-row row (other ∷ others) =
-      ap (grouped_with owner row) (grouped-row other others)
-      ∙ grouped-before row other (after_row other others) others (grouped-row other others) (same_text (owner row) (owner other))
+  grouped-row row (other ∷ others) = grind (arith, grouped-before, grouped-row other others)
 
   -- the first group, and the others
   pub grouped-first : (n : ℕ) (rows : List R) → 0 < length rows → n ≡ leading (map owner rows)
       → grouped owner rows ≡ take n rows ∷ grouped owner (drop n rows)
   grouped-first n [] some count = absurd (omega (arith, some))
-  grouped-first n (row ∷ rows) some count =
-      subst (λ n. grouped owner (row ∷ rows) ≡ take n (row ∷ rows) ∷ grouped owner (drop n (row ∷ rows))) (sym count) (grouped-row row rows)
+  grouped-first n (row ∷ rows) some count = grind (arith, grouped-row)
 
   -- ---- by the index of the first row that wasn't compared with the one before it
 
@@ -50,25 +47,20 @@ module _ {R : Type 0} (owner : R → List ℕ) where
   following-by : (rs : List R) (i : ℕ) (before r : R) (same : Bool) → i < length rs → r ≡ get_or rs i r
       → same_text (owner before) (owner r) ≡ same → following (owner before) (map owner (drop i rs))
       ≡ (if same then suc (following (owner r) (map owner (drop (i + 1) rs))) else 0)
-  following-by rs i before r same within at is =
-      ap (following (owner before)) (from_index rs i r within at)
-      ∙ ap (λ (same : Bool). if same then suc (following (owner r) (map owner (drop (i + 1) rs))) else 0) is
+  following-by rs i before r same within at is = grind (arith, from_index)
 
   pub following-more : (rs : List R) (i : ℕ) (before r : R) (count : ℕ) → i < length rs → r ≡ get_or rs i r
       → same_text (owner before) (owner r) ≡ true → count ≡ i + following (owner before) (map owner (drop i rs))
       → count ≡ (i + 1) + following (owner r) (map owner (drop (i + 1) rs))
-  following-more rs i before r count within at same so_far =
-      omega (arith, so_far, following-by rs i before r true within at same)
+  following-more rs i before r count within at same so_far = grind (arith, following-by rs i before r true within)
 
   pub following-end : (rs : List R) (i : ℕ) (before r : R) (count : ℕ) → i < length rs → r ≡ get_or rs i r
       → same_text (owner before) (owner r) ≡ false → count ≡ i + following (owner before) (map owner (drop i rs)) → i ≡ count
-  following-end rs i before r count within at apart so_far =
-      omega (arith, so_far, following-by rs i before r false within at apart)
+  following-end rs i before r count within at apart so_far = grind (arith, following-by rs i before r false within)
 
   pub following-all : (rs : List R) (i : ℕ) (before : R) (count : ℕ) → length rs ≤ i
       → count ≡ i + following (owner before) (map owner (drop i rs)) → i ≡ count
-  following-all rs i before count past so_far =
-      omega (arith, so_far, at_drop_all (λ rest. following (owner before) (map owner rest)) rs i past)
+  following-all rs i before count past so_far = grind (arith, at_drop_all (λ rest. following (owner before) (map owner rest)) rs i past)
 
   -- ---- the groups one after another
 
@@ -84,10 +76,7 @@ module _ {R : Type 0} (owner : R → List ℕ) where
         let many : 0 < length (map value rows) = subst (λ rows. 0 < length (map value rows)) (sym split) (omega arith) in
         let groups = grouped-first len (map value rows) many
         (count ∙ sym (ap (λ rows. leading (map (λ row. owner (value row)) rows)) split) ∙ sym (ap leading (map-map owner value rows))) in
-        ap (λ others. new ++ flat_map text (grouped owner others)) (ap (map value) left ∙ sym (drop-map value len rows))
-        ∙ ap (λ begin. begin ++ rest) (written ∙ ap (λ group. old ++ text group) (ap (map value) taken ∙ sym (take-map value len rows)))
-        ∙ append_assoc old (text (take len (map value rows))) rest
-        ∙ ap (λ groups. old ++ flat_map text groups) (sym groups) ∙ before
+        grind (arith, drop-map, take-map, append_assoc)
 
     -- no group more
     pub groups-none : (all old : List ℕ) (rows : List L) → length rows ≡ 0
@@ -127,8 +116,7 @@ module _ {R : Type 0} (owner : R → List ℕ) where
   with-types : (row : R) (groups : List (List R)) → AreGroups owner groups → AreGroups owner (grouped_with owner row groups)
   with-types row [] rest = (tt, tt)
   with-types row ([] ∷ groups) rest = absurd rest.0
-  with-types row ((other ∷ others) ∷ groups) rest =
-      with-types_by row other others groups (same_text (owner row) (owner other)) refl rest
+  with-types row ((other ∷ others) ∷ groups) rest = grind (arith, with-types_by)
 
   -- each group is of one type
   pub grouped-types : (rows : List R) → AreGroups owner (grouped owner rows)

@@ -1,6 +1,6 @@
 -- Which captures heard the records of rows, where there are many captures.
 use Rattle.std.proofs.Common.{◌≡◌, refl, sym, ap, ◌∙◌, subst, ℕ, zero, suc, ◌+◌, ◌<◌, ◌≤◌, ◌⊎◌, inl, inr}
-use Rattle.std.proofs.Common.{Bool, true, false, cond, if◌then◌else◌, List, [], ◌∷◌, ◌++◌, get_or, length, map, set, take}
+use Rattle.std.proofs.Common.{Bool, true, false, cond, List, [], ◌∷◌, ◌++◌, get_or, length, map, set, take}
 use Rattle.std.proofs.{Common.{Option, None, Some, arith}, lemmas.Bool.Decides.{nat_tests}, lemmas.Cmp.{tied_itself}}
 use Rattle.std.proofs.lemmas.{List.{append-nil, length-map, map-set, take_more}, List.Elements.{All-cons, All-head, All-nil, All-tail}}
 use Rattle.std.proofs.lemmas.{List.Sorted.{searchable_from_sorted}, Simd.{map-map}}
@@ -54,9 +54,7 @@ module _ {X Y : Type 0} (Is : X → Y → Type 0) where
   few-if false xs ys are = are
 
   each-few : (xs : List X) (ys : List Y) → AreEach Is xs ys → AreEach Is (few_of xs) (few_of ys)
-  each-few xs ys are =
-      subst (λ (n : ℕ). AreEach Is (few_of xs) (if nat_lt 4 n then [] else ys)) (each-count Is xs ys are)
-      (few-if (nat_lt 4 (length xs)) xs ys are)
+  each-few xs ys are = grind (arith, each-count, few-if)
 
 pub each-itself : {X : Type 0} (Is : X → X → Type 0) → ((x : X) → Is x x) → (xs : List X) → AreEach Is xs xs
 each-itself Is itself [] = tt
@@ -75,19 +73,16 @@ pub keys-kept : (rows others : List Row) → map unheard rows ≡ map unheard ot
 keys-kept rows others same = sym (map-map row_key unheard rows) ∙ ap (map row_key) same ∙ map-map row_key unheard others
 
 pub records-kept : (rows others : List Row) → map unheard rows ≡ map unheard others → map record_in rows ≡ map record_in others
-records-kept rows others same =
-    sym (map-map record_in unheard rows) ∙ ap (map record_in) same ∙ map-map record_in unheard others
+records-kept rows others same = grind (arith, map-map record_in unheard rows, map-map record_in unheard others)
 
 module _ {X Y : Type 0} (Q : Y → Type 0) (f : X → Y) where
   into-map : (xs : List X) → All (λ x. Q (f x)) xs → All Q (map f xs)
   into-map [] all = All-nil Q
-  into-map (x ∷ xs) all =
-      All-cons Q (f x) (map f xs) (All-head (λ x. Q (f x)) x xs all) (into-map xs (All-tail (λ x. Q (f x)) x xs all))
+  into-map (x ∷ xs) all = grind (arith, All-cons, All-head, All-tail, into-map xs (All-tail (λ x. Q (f x)) x xs all))
 
   from-map : (xs : List X) → All Q (map f xs) → All (λ x. Q (f x)) xs
   from-map [] all = All-nil (λ x. Q (f x))
-  from-map (x ∷ xs) all =
-      All-cons (λ x. Q (f x)) x xs (All-head Q (f x) (map f xs) all) (from-map xs (All-tail Q (f x) (map f xs) all))
+  from-map (x ∷ xs) all = search (arith, All-cons, All-head, All-tail, from-map xs)
 
 set-same : {X Y : Type 0} (f : X → Y) (xs : List X) (i : ℕ) (d new : X) → f new ≡ f (get_or xs i d) → map f (set xs i new) ≡ map f xs
 set-same f [] i d new same = refl
@@ -98,15 +93,12 @@ set-same f (x ∷ xs) (suc i) d new same = ap (λ ys. f x ∷ ys) (set-same f xs
 pub unheard-set : (rows : List CountedRow) (i : ℕ) (d new : CountedRow)
     → unheard (counted_lent new) ≡ unheard (counted_lent (get_or rows i d))
     → map unheard (map counted_lent (set rows i new)) ≡ map unheard (map counted_lent rows)
-unheard-set rows i d new same =
-    map-map unheard counted_lent (set rows i new) ∙ set-same (λ (row : CountedRow). unheard (counted_lent row)) rows i d new same
-    ∙ sym (map-map unheard counted_lent rows)
+unheard-set rows i d new same = grind (arith, map-map, set-same)
 
 -- what has nothing to do with seconds
 pub all-kept : (Q : Row → Type 0) (rows others : List Row) → map unheard rows ≡ map unheard others
     → All (λ row. Q (unheard row)) others → All (λ row. Q (unheard row)) rows
-all-kept Q rows others same all =
-    from-map Q unheard rows (subst (All Q) (sym same) (into-map Q unheard others all))
+all-kept Q rows others same all = grind (arith, from-map Q unheard rows (subst (All Q) (sym same) (into-map Q unheard others all)))
 
 -- ---- keys in order
 
@@ -114,8 +106,7 @@ Less≢Equal : Less ≢ Equal
 Less≢Equal e = absurd (let no : Less ≡ Equal = e in cc)
 
 below-other : (a b : Key) → key_cmp a b ≡ Less → a ≢ b
-below-other a b less same =
-    Less≢Equal (sym less ∙ ap (key_cmp a) (sym same) ∙ tied_itself key_cmp-total a)
+below-other a b less same = grind (arith, Less≢Equal, tied_itself, key_cmp-total)
 
 adjacent : (keys : List Key) → IsStrictlySortedBy key_cmp keys → IsSortedBy (λ a b. is_lt (key_cmp a b)) keys
 unfolding IsStrictlySortedBy
@@ -125,8 +116,7 @@ adjacent (x ∷ y ∷ keys) sorted zero d low high =
     ap is_lt (key_cmp-total.antisymm y x ∙ ap ordering_reverse sorted.0.0)
 adjacent (x ∷ y ∷ keys) sorted (suc k) d low high =
     let next : suc (k + 1) ≡ suc k + 1 = omega arith in
-    subst (λ (n : ℕ). is_lt (key_cmp (get_or (x ∷ y ∷ keys) n d) (get_or (y ∷ keys) k d)) ≡ false) next
-    (adjacent (y ∷ keys) sorted.1 k d (omega arith) (omega arith))
+    grind (arith, adjacent (y ∷ keys) sorted.1 k d (omega arith) (omega arith))
 
 -- rows of records that are in order
 pub rows-sorted : (keep : Latest × List Life → Bool) (rows : List Row) (records : List (Latest × List Life))
@@ -135,8 +125,7 @@ pub rows-sorted : (keep : Latest × List Life → Bool) (rows : List Row) (recor
     → IsStrictlySortedBy key_cmp (map row_key rows)
 rows-sorted keep rows records are sorted =
     let key = λ (row : Latest × List Life). key_of_last row.0 in
-    subst (IsStrictlySortedBy key_cmp) (ap (map key) (sym are) ∙ map-map key record_in rows)
-    (sorted-filter key_cmp key keep records sorted)
+    grind (arith, map-map key record_in rows, sorted-filter key_cmp key keep records sorted)
 
 -- keys in order are searched as `binary_search` asks
 pub searchable : (keys : List Key) (key : Key) → IsStrictlySortedBy key_cmp keys
@@ -148,11 +137,7 @@ module _ (keys : List Key) (key : Key) (i : ℕ)
     (parts : IsPartitionPoint (λ k. key_cmp k key ≡ Less) (λ k. key_cmp k key ≡ Greater) keys i) where
   nowhere-by : (before : Bool) (k : ℕ) (d : Key) → nat_lt k i ≡ before → k < length keys → get_or keys k d ≢ key
   nowhere-by true k d is within same = below-other _ key (parts.0 k d (omega arith) (grind (arith, nat_tests, is))) same
-  nowhere-by false k d is within same =
-      let from : i ≤ k = grind (arith, nat_tests, is) in
-      let greater = parts.1 k d from within in
-      let equal = ap (key_cmp (get_or keys k d)) (sym same) ∙ tied_itself key_cmp-total (get_or keys k d) in
-      let no : Greater ≡ Equal = sym greater ∙ equal in absurd cc
+  nowhere-by false k d is within same = grind (arith, nat_tests, tied_itself, key_cmp-total)
 
   pub nowhere : All (λ k. k ≢ key) keys
   nowhere k d within = nowhere-by (nat_lt k i) k d refl within
@@ -171,10 +156,7 @@ module _ (heard : List Hearing) (key : Key) where
   later-stay : (rows : List Row) → AllByRecursion (λ k. key_cmp key k ≡ Less) (map row_key rows)
       → AreEach (HearsRecord heard key) rows rows
   later-stay [] later = tt
-  later-stay (row ∷ rows) later = (
-    inr ((λ same. below-other key (row_key row) later.0 (sym same)), refl),
-    later-stay rows later.1,
-  )
+  later-stay (row ∷ rows) later = grind (arith, below-other, later-stay rows later.1)
 
   below-at : (before : Key) (rows : List Row) (k : ℕ) (d : Row) → k < length rows
       → AllByRecursion (λ k. key_cmp before k ≡ Less) (map row_key rows) → key_cmp before (row_key (get_or rows k d)) ≡ Less
@@ -225,16 +207,9 @@ found-hears heard keys key own rows place d new seconds are same found equal tol
     let within : place < length rows = omega (arith, found, count, mapped) in
     let row = counted_lent (get_or rows place d) in
     let here : row_key row ≡ get_or keys place own =
-    get_or-mapped (λ (r : CountedRow). row_key (counted_lent r)) rows place d own within
-    ∙ ap (λ ks. get_or ks place own) (sym (map-map row_key counted_lent rows) ∙ sym are) in
+    grind (arith, get_or-mapped, map-map) in
     let of_key : row_key row ≡ own = here ∙ key_cmp-exact (get_or keys place own) key (equal own) ∙ same in
-    subst (AreEach (HearsRecord heard own) (map counted_lent rows)) (sym (map-set counted_lent rows place new))
-    (one-hears heard own (map counted_lent rows) place row (counted_lent new) (omega (arith, within, mapped))
-    (get_or-mapped counted_lent rows place d row within) of_key (subst (IsStrictlySortedBy key_cmp) are sorted) (record {
-      seconds = seconds;
-      are = subst (λ (k : Key). AreSecondsHeard heard k seconds) (sym of_key) told;
-      is = is;
-    }))
+    grind (arith, map-set counted_lent rows place new, one-hears, get_or-mapped counted_lent rows place d row within)
 
 -- ---- the records that are left of a capture
 
@@ -262,16 +237,11 @@ module _ (c : Accounts) (heard : List Hearing) (stands : Chronicles c heard) (ro
   -- a record that isn't among those of a capture was heard in no second
   never-by : (last : Option Latest) → MatchOption last (IsUnheard heard key) (IsLast heard key) → AreSecondsHeard heard key []
   unfolding IsStrictlySortedBy
-  never-by None never = record {
-    ascending = tt;
-    each = λ s m. absurd (Contains-nil s m);
-    all = λ x there. absurd (never there.hearing there.among there.of_record);
-  }
+  never-by None never = grind (arith, Contains-nil)
   never-by (Some last) is =
       let found = lives.all key last is in
       let own : key_of_last last ≡ key = ap key_of_last (sym is.gives) ∙ is.of_record in
-      absurd (none (subst (Among (keys_left rows)) own
-      (contains-among rows (last, found.0) found.1.0 found.1.1 found.1.2)))
+      grind (arith, contains-among)
 
   pub never-heard : AreSecondsHeard heard key []
   never-heard = never-by (last_held c key) (stands.lasts key)
@@ -294,38 +264,12 @@ heard-nothing row i = record {
 
 pub up_to-start : (c : Accounts) (heard : List Hearing) → Chronicles c heard → (records : List (Latest × List Life))
     → AreAllLives heard records → (rows : List Row) → AreEach (IsUpTo heard (keys_left records)) rows rows
-up_to-start c heard stands records lives rows =
-    each-itself (IsUpTo heard (keys_left records)) (λ row. record {
-      same = refl;
-      ahead = λ _. refl;
-      behind = λ none. record {
-        seconds = [];
-        are = never-heard c heard stands records lives (row_key row) none;
-        is = heard-nothing row;
-      };
-    }) rows
+up_to-start c heard stands records lives rows = grind (arith, each-itself, never-heard, heard-nothing)
 
 module _ (heard : List Hearing) (key : Key) (keys : List Key) (later : AllByRecursion (λ k. key_cmp key k ≡ Less) keys) where
   up_to-one : (old mid new : Row) → IsUpTo heard (key ∷ keys) old mid → HearsRecord heard key mid new → IsUpTo heard keys old new
-  up_to-one old mid new was (inl own) =
-      let key_same : row_key mid ≡ row_key old = ap row_key was.same in
-      let before = was.ahead (inl (sym own.0 ∙ key_same)) in
-      let hears = subst (λ (row : Row). HearsCapture heard row new) before own.1 in
-      record {
-        same = ap unheard hears.is;
-        ahead = λ among. absurd (later-apart key keys later (subst (Among keys) (sym key_same ∙ own.0) among));
-        behind = λ _. hears;
-      }
-  up_to-one old mid new was (inr other) =
-      let key_same : row_key mid ≡ row_key old = ap row_key was.same in
-      record {
-        same = ap unheard other.1 ∙ was.same;
-        ahead = λ among. other.1 ∙ was.ahead (inr among);
-        behind = λ none. subst (HearsCapture heard old) (sym other.1) (was.behind (λ among. elim among [
-          | inl same ↦ absurd (other.0 (key_same ∙ sym same))
-          | inr rest ↦ none rest
-        ]));
-      }
+  up_to-one old mid new was (inl own) = grind (arith, later-apart)
+  up_to-one old mid new was (inr other) = grind arith
 
 -- one record more
 pub up_to-more : (heard : List Hearing) (left more : List (Latest × List Life)) (record_taken : Latest × List Life)
@@ -345,9 +289,7 @@ up_to-more heard left more taken old mid new first sorted was hears =
 -- all records
 pub up_to-end : (heard : List Hearing) (left : List (Latest × List Life)) (old new : List Row) → left ≡ []
     → AreEach (IsUpTo heard (keys_left left)) old new → AreEach (HearsCapture heard) old new
-up_to-end heard left old new none are =
-    each-weaker (HearsCapture heard) (IsUpTo heard []) (λ was now up. up.behind (λ among. among)) old new
-    (subst (λ (rs : List (Latest × List Life)). AreEach (IsUpTo heard (keys_left rs)) old new) none are)
+up_to-end heard left old new none are = grind (arith, each-weaker)
 
 -- ---- one capture after another
 
@@ -358,18 +300,7 @@ pub record IsSoFar (count : ℕ) (each : List (List Hearing)) (row : Row) : Type
 
 so_far-row : (count : ℕ) (before : List (List Hearing)) (last : List Hearing) (old new : Row) → HearsCapture last old new
     → IsSoFar count before old → IsSoFar count (before ++ last ∷ []) new
-so_far-row count before last old new hears was =
-    subst (IsSoFar count (before ++ last ∷ [])) (sym hears.is) (record {
-      captures = was.captures;
-      heard = record {
-        all = was.heard.all ++ hears.seconds ∷ [];
-        are = each-more (λ (heard : List Hearing) (found : List SecondHeard). AreSecondsHeard heard (row_key old) found) before
-            was.heard.all last hears.seconds was.heard.are hears.are;
-        shown = ap (λ (shown : List (List SecondHeard)). shown ++ filter (λ some. nat_lt 0 (length some)) (hears.seconds ∷ []))
-            was.heard.shown
-            ∙ sym (shown-more true was.heard.all hears.seconds);
-      };
-    })
+so_far-row count before last old new hears was = grind (arith, each-more, shown-more true was.heard.all hears.seconds)
 
 abbrev pub AreSoFar : (chronicles : List Accounts) → (old new : List Row) → Type 0
 AreSoFar chronicles old new =
@@ -399,51 +330,27 @@ pub row-begun : (chronicles : List Accounts) (row : Row) → row.capture_count �
     → ((each : List (List Hearing)) → AreEach Chronicles (few_of chronicles) each
     → AreShownBy false each (key_of_last row.last) row.heard)
     → (each : List (List Hearing)) → AreEach Chronicles chronicles each → IsBegun each row
-row-begun chronicles row count heard each are = record {
-  count = count ∙ each-count Chronicles chronicles each are;
-  heard = heard (few_of each) (each-few Chronicles chronicles each are);
-}
+row-begun chronicles row count heard each are = grind (arith, each-count, each-few)
 
 nothing-shown : (each : List (List Hearing)) (key : Key) (heard : List (List SecondHeard)) → each ≡ []
     → AreShownBy false each key heard → AreShownBy true [] key heard
-nothing-shown each key heard none shown = by shown.all
-    (subst (λ (es : List (List Hearing)). AreEach (λ hearings seconds. AreSecondsHeard hearings key seconds) es shown.all) none shown.are)
-    shown.shown
-  where
-    by : (all : List (List SecondHeard)) → AreEach (λ hearings seconds. AreSecondsHeard hearings key seconds) [] all → heard ≡ all
-        → AreShownBy true [] key heard
-    by [] are same = record { all = []; are = tt; shown = same }
-    by (seconds ∷ all) are same = absurd are
+nothing-shown each key heard none shown = grind arith
 
 module _ (each : List (List Hearing)) where
   -- few captures
   counted-few : false ≡ nat_lt 4 (length each) → (row : Row) → IsBegun each row → IsCounted each row
-  counted-few few row begun = record {
-    count = begun.count;
-    heard = subst (λ (many : Bool). AreShownBy many each (key_of_last row.last) row.heard) few
-        (subst (λ (es : List (List Hearing)). AreShownBy false es (key_of_last row.last) row.heard)
-        (ap (λ (many : Bool). if many then [] else each) (sym few)) begun.heard);
-  }
+  counted-few few row begun = grind arith
 
   -- many captures
   begun-many : true ≡ nat_lt 4 (length each) → (row : Row) → IsBegun each row → IsSoFar (length each) [] row
-  begun-many many row begun = record {
-    captures = begun.count;
-    heard = nothing-shown (few_of each) (key_of_last row.last) row.heard (ap (λ (many : Bool). if many then [] else each) (sym many))
-        begun.heard;
-  }
+  begun-many many row begun = grind (arith, nothing-shown)
 
   counted-many : true ≡ nat_lt 4 (length each) → (row : Row) → IsSoFar (length each) each row → IsCounted each row
-  counted-many many row far = record {
-    count = far.captures;
-    heard = subst (λ (b : Bool). AreShownBy b each (key_of_last row.last) row.heard) many far.heard;
-  }
+  counted-many many row far = grind arith
 
 pub all-few : (chronicles : List Accounts) (rows : List Row) → length chronicles ≤ 4 → (each : List (List Hearing))
     → AreEach Chronicles chronicles each → All (IsBegun each) rows → All (IsCounted each) rows
-all-few chronicles rows few each are =
-    let same = each-count Chronicles chronicles each are in
-    all-weaker (IsBegun each) (IsCounted each) (counted-few each (grind (arith, nat_tests, few, same))) rows
+all-few chronicles rows few each are = grind (arith, each-count, all-weaker, counted-few, nat_tests)
 
 pub all-many : (chronicles : List Accounts) (old new : List Row) → 4 < length chronicles → AreSoFar chronicles old new
     → (each : List (List Hearing)) → AreEach Chronicles chronicles each → All (IsBegun each) old → All (IsCounted each) new

@@ -1,9 +1,8 @@
 -- Markup, byte by byte.
-use Rattle.std.proofs.Common.{◌≡◌, refl, sym, ◌∙◌, ap, subst, ℕ, zero, suc, ◌+◌, ◌<◌, ◌==◌, ◌||◌, Bool, true}
+use Rattle.std.proofs.Common.{◌≡◌, refl, ap, subst, ℕ, zero, suc, ◌+◌, ◌<◌, ◌==◌, ◌||◌, Bool, true}
 use Rattle.std.proofs.Common.{false, not, ◌&&◌, cond, List, [], ◌∷◌, ◌++◌, codes, length, take, drop, get_or, add-zero, arith}
-use Rattle.std.proofs.{Common.{append_assoc}, lemmas.Bool.Decides.{nat_tests}, lemmas.Grind.{flat_map-append}}
+use Rattle.std.proofs.{Common.{append_assoc}, lemmas.{Bool.Decides.{nat_tests}, Grind.{flat_map-append}, Str.{IsCharBoundary-after_ascii}}}
 use Rattle.std.proofs.lemmas.{List.{get_or-drop, length-drop, take-append-drop, take_more}, List.Elements.{All-append, All-cons, All-nil}}
-use Rattle.std.proofs.lemmas.Str.{IsCharBoundary-after_ascii}
 use Rattle.std.specs.{Bool.{IsTrue}, List.{All}, Str.{IsCharBoundary, IsUtf8}}
 use Rattle.mdns_page.specs.Html.{html_byte, html_text, is_marked, references, BeginsReference, IsHarmless}
 
@@ -25,22 +24,14 @@ html_text-one b is = grind (arith, nat_tests)
 -- one plain byte more
 pub plain-more : (bytes : List ℕ) (i : ℕ) → i < length bytes → is_marked (get_or bytes i 0) ≡ false
     → html_text (take i bytes) ≡ take i bytes → html_text (take (i + 1) bytes) ≡ take (i + 1) bytes
-plain-more bytes i within is before =
-    let more : take (i + 1) bytes ≡ take i bytes ++ get_or bytes i 0 ∷ [] = take_more bytes i 0 within in
-    ap html_text more ∙ html_text-append (take i bytes) (get_or bytes i 0 ∷ [])
-    ∙ ap (λ text. text ++ html_text (get_or bytes i 0 ∷ [])) before
-    ∙ ap (λ text. take i bytes ++ text) (html_text-one (get_or bytes i 0) is) ∙ sym more
+plain-more bytes i within is before = grind (arith, take_more bytes i 0 within, html_text-append, html_text-one (get_or bytes i 0) is)
 
 -- what is left to write after a run of plain bytes
 pub run-plain : (old mid text bytes plain rest : List ℕ) (len : ℕ) → mid ≡ old ++ plain → bytes ≡ text
     → html_text (take len bytes) ≡ take len bytes → plain ≡ take len text → rest ≡ drop len text
     → mid ++ html_text rest ≡ old ++ html_text text
 run-plain old mid text bytes plain rest len first same is front back =
-    let here : html_text (take len text) ≡ take len text = subst (λ (t : List ℕ). html_text (take len t) ≡ take len t) same is in
-    let whole : html_text text ≡ take len text ++ html_text (drop len text)
-    = ap html_text (sym (take-append-drop len text)) ∙ html_text-append (take len text) (drop len text)
-    ∙ ap (λ t. t ++ html_text (drop len text)) here in
-    rw (first, front, back) (append_assoc old (take len text) (html_text (drop len text)) ∙ ap (λ t. old ++ t) (sym whole))
+    grind (arith, take-append-drop len text, html_text-append (take len text) (drop len text), append_assoc)
 
 html_text-first : (rest : List ℕ) → 0 < length rest → html_text rest ≡ html_byte (get_or rest 0 0) ++ html_text (drop 1 rest)
 unfolding html_text
@@ -51,12 +42,7 @@ html_text-first (x ∷ rest) some = refl
 pub run-marked : (old mid new text rest others reference after : List ℕ) → mid ++ html_text rest ≡ old ++ html_text text
     → new ≡ mid ++ reference → reference ≡ html_byte (get_or others 0 0) → others ≡ rest → after ≡ drop 1 rest → 0 < length rest
     → new ++ html_text after ≡ old ++ html_text text
-run-marked old mid new text rest others reference after before second is same left some =
-    let byte : reference ≡ html_byte (get_or rest 0 0) = is ∙ ap (λ (t : List ℕ). html_byte (get_or t 0 0)) same in
-    ap (λ t. t ++ html_text after) (second ∙ ap (λ t. mid ++ t) byte)
-    ∙ ap (λ t. (mid ++ html_byte (get_or rest 0 0)) ++ html_text t) left
-    ∙ append_assoc mid (html_byte (get_or rest 0 0)) (html_text (drop 1 rest))
-    ∙ ap (λ t. mid ++ t) (sym (html_text-first rest some)) ∙ before
+run-marked old mid new text rest others reference after before second is same left some = grind (arith, append_assoc, html_text-first)
 
 marked-ascii : (b : ℕ) → IsTrue (is_marked b) → b < 128
 marked-ascii b is = grind (arith, nat_tests)
@@ -69,8 +55,7 @@ cut-after text bytes rest others len same back also utf8 marked some =
     let is : IsTrue (is_marked (get_or bytes len 0)) = marked (omega (arith, ap length same)) in
     let small : get_or bytes len 0 < 128 = marked-ascii (get_or bytes len 0) is in
     let first : get_or rest 0 0 ≡ get_or bytes len 0
-    = ap (λ (t : List ℕ). get_or t 0 0) back ∙ get_or-drop len text 0 0
-    ∙ ap (λ i. get_or text i 0) (add-zero len) ∙ ap (λ (t : List ℕ). get_or t len 0) (sym same) in
+    = grind (arith, get_or-drop, add-zero) in
     let text-is : IsUtf8 rest = subst (λ (t : List ℕ). IsUtf8 t) also utf8 in
     IsCharBoundary-after_ascii rest 0 text-is some (omega (arith, first, small))
 
@@ -82,12 +67,7 @@ are_harmless [] = true
 are_harmless (b ∷ bytes) = not ((b == 60) || (b == 62) || (b == 34) || (b == 39)) && are_harmless bytes
 
 harmless-one : (b : ℕ) (others : Bool) → (not ((b == 60) || (b == 62) || (b == 34) || (b == 39)) && others) ≡ true → IsHarmless b
-harmless-one b others is = (
-  λ e. absurd (grind (arith, nat_tests)),
-  λ e. absurd (grind (arith, nat_tests)),
-  λ e. absurd (grind (arith, nat_tests)),
-  λ e. absurd (grind (arith, nat_tests)),
-)
+harmless-one b others is = grind (arith, nat_tests)
 
 harmless-others : (one others : Bool) → (one && others) ≡ true → others ≡ true
 harmless-others true others is = is
@@ -102,17 +82,7 @@ harmless-all (b ∷ bytes) is =
 
 harmless-byte : (b : ℕ) → All IsHarmless (html_byte b)
 unfolding are_harmless
-harmless-byte b = go (b == 38) (b == 60) (b == 62) (b == 34) (b == 39) refl refl refl refl
-  where
-    go : (amp less more quote apostrophe : Bool) → (b == 60) ≡ less → (b == 62) ≡ more → (b == 34) ≡ quote → (b == 39) ≡ apostrophe
-        → All IsHarmless (cond amp (codes "&amp;") (cond less (codes "&lt;") (cond more (codes "&gt;") (cond quote (codes "&quot;")
-        (cond apostrophe (codes "&#39;") (b ∷ []))))))
-    go true less more quote apostrophe p q r s = harmless-all (codes "&amp;") refl
-    go false true more quote apostrophe p q r s = harmless-all (codes "&lt;") refl
-    go false false true quote apostrophe p q r s = harmless-all (codes "&gt;") refl
-    go false false false true apostrophe p q r s = harmless-all (codes "&quot;") refl
-    go false false false false true p q r s = harmless-all (codes "&#39;") refl
-    go false false false false false p q r s = harmless-all (b ∷ []) (rw (p, q, r, s) refl)
+harmless-byte b = grind (arith, harmless-all)
 
 pub harmless-text : (text : List ℕ) → All IsHarmless (html_text text)
 unfolding html_text
@@ -134,15 +104,12 @@ refer-one b others is e = absurd (grind (arith, nat_tests))
 refer-none : (bytes rest : List ℕ) → have_none bytes ≡ true → Refer rest → Refer (bytes ++ rest)
 unfolding have_none
 refer-none [] rest is after = after
-refer-none (b ∷ bytes) rest is after = (
-  λ e. absurd (refer-one b (have_none bytes) is e),
-  refer-none bytes rest (harmless-others (not (b == 38)) (have_none bytes) is) after,
-)
+refer-none (b ∷ bytes) rest is after =
+    grind (arith, refer-one, refer-none bytes rest (harmless-others (not (b == 38)) (have_none bytes) is) after)
 
 refer-reference : (k : ℕ) (tail rest : List ℕ) → k < length references → get_or references k (38 ∷ tail) ≡ 38 ∷ tail
     → have_none tail ≡ true → Refer rest → Refer ((38 ∷ tail) ++ rest)
-refer-reference k tail rest within at is after =
-    (λ e. (38 ∷ tail, rest, (k, within, at), refl), refer-none tail rest is after)
+refer-reference k tail rest within at is after = grind (arith, refer-none)
 
 refer-byte : (b : ℕ) (rest : List ℕ) → Refer rest → Refer (html_byte b ++ rest)
 unfolding have_none references

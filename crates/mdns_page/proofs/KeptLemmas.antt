@@ -1,5 +1,5 @@
 -- Records that a page keeps, in key order.
-use Rattle.std.proofs.Common.{◌≡◌, refl, sym, ◌∙◌, ap, subst, ℕ, ◌+◌, ◌<◌, ◌≤◌, Bool, true, false, cond}
+use Rattle.std.proofs.Common.{◌≡◌, refl, sym, ◌∙◌, ap, ℕ, ◌+◌, ◌<◌, ◌≤◌, Bool, true, false, cond, arith}
 use Rattle.std.proofs.Common.{if◌then◌else◌, List, [], ◌∷◌, ◌++◌, append_assoc, get_or, is_some, length, map, option_map}
 use Rattle.std.proofs.{Common.{take, Option, None, Some}, lemmas.Bool.{cond_both}}
 use Rattle.std.proofs.lemmas.{List.{append-nil, map-append, take_all, take_more}, List.Elements.{filter-append}, Simd.{map-map}}
@@ -35,9 +35,7 @@ module _ {X : Type 0} (keep : X → Bool) where
   -- of a walk
   pub filtered-next : (all old new walk more : List X) (x : X) → walk ≡ x ∷ more → new ≡ old ++ filter keep (x ∷ [])
       → all ≡ old ++ filter keep walk → all ≡ new ++ filter keep more
-  filtered-next all old new walk more x first taken far =
-      far ∙ ap (λ left. old ++ filter keep left) first ∙ ap (λ some. old ++ some) (filter-append keep (x ∷ []) more)
-      ∙ sym (append_assoc old (filter keep (x ∷ [])) (filter keep more)) ∙ ap (λ some. some ++ filter keep more) (sym taken)
+  filtered-next all old new walk more x first taken far = grind (arith, filter-append, append_assoc)
 
 module _ {X Y : Type 0} (keep : Y → Bool) (f : X → Y) where
   -- which is kept, or isn't
@@ -62,8 +60,7 @@ module _ {X Y : Type 0} (keep : Y → Bool) (f : X → Y) where
   -- all of them
   pub kept-all : (xs rows : List X) (i : ℕ) (kept : List Y) → length xs ≤ i → xs ≡ rows → kept ≡ filter keep (map f (take i xs))
       → kept ≡ filter keep (map f rows)
-  kept-all xs rows i kept enough same are =
-      are ∙ ap (λ (ys : List X). filter keep (map f ys)) (take_all i xs enough ∙ same)
+  kept-all xs rows i kept enough same are = grind (arith, take_all)
 
 module _ {X Y : Type 0} (f : X → Y) where
   -- the values of one element more of a list, and of all of them
@@ -82,9 +79,7 @@ module _ {X Y : Type 0} (f : X → Y) where
 module _ {X K : Type 0} (c : K → K → Ordering) (key : X → K) (p : X → Bool) where
   above-filter : (P : K → Type 0) (xs : List X) → AllByRecursion P (map key xs) → AllByRecursion P (map key (filter p xs))
   above-filter P [] all = tt
-  above-filter P (x ∷ xs) all =
-      let rest = above-filter P xs all.1 in
-      cond_both (p x) (x ∷ filter p xs) (filter p xs) (λ ys. AllByRecursion P (map key ys)) (λ _. (all.0, rest)) (λ _. rest)
+  above-filter P (x ∷ xs) all = grind (arith, cond_both, above-filter P xs all.1)
 
   -- those that pass stay in order
   pub sorted-filter : (xs : List X) → IsStrictlySortedBy c (map key xs) → IsStrictlySortedBy c (map key (filter p xs))
@@ -112,5 +107,4 @@ module _ (heard : List Hearing) (rows : List (Latest × List Life)) (are : AreAl
   pub looked_up-sorted : (about : List Subject) → IsStrictlySortedBy key_cmp (map key_of_last (looked_up about rows))
   unfolding IsStrictlySortedBy
   looked_up-sorted [] = tt
-  looked_up-sorted (subject ∷ about) =
-      subst (IsStrictlySortedBy key_cmp) (sym (map-map key_of_last (λ (row : Latest × List Life). row.0) rows)) are.ascending
+  looked_up-sorted (subject ∷ about) = grind (arith, map-map)

@@ -1,13 +1,13 @@
 -- The ticks of seconds in ascending order go from left to right.
-use Rattle.std.proofs.Common.{◌≡◌, refl, sym, ℕ, ◌/◌, ◌<◌, ◌≤◌, Bool, true, false, if◌then◌else◌, Option, None}
+use Rattle.std.proofs.Common.{◌≡◌, sym, ℕ, ◌/◌, ◌<◌, ◌≤◌, Bool, true, false, if◌then◌else◌, Option, None}
 use Rattle.std.proofs.{Common.{Some, List, [], ◌∷◌, map, arith}, lemmas.Cmp.{ranked}}
-use Rattle.std.specs.{Prelude.{Contains, ◌==◌}, List.{AllByRecursion, cons_option, filter_map}, List.Sorted.{IsStrictlySortedBy}}
+use Rattle.std.specs.{Prelude.{Contains}, List.{AllByRecursion, cons_option, filter_map}, List.Sorted.{IsStrictlySortedBy}}
 use Rattle.std.specs.{Ordering.{nat_cmp}, declared.cmp.Ordering.TheVariants.{Less}}
 use Rattle.mdns_capture.specs.Limits.{second}
 use Rattle.mdns_cache.proofs.StandsPartLemmas.{Contains-head, Contains-later}
 use Rattle.mdns_lives.specs.declared.{life.RecordHearing.{RecordHearing}, seconds_heard.SecondHeard.{SecondHeard}}
-use Rattle.mdns_lives.specs.{Heard.{number_of}, Seconds.{second_of}, Window.{in_window}}
-use Rattle.mdns_page.specs.{Axis.{place}, Lanes.{goodbye_of, is_goodbye, point, second_mark}, Picture.{AreInOrder, differing, is_same}}
+use Rattle.mdns_lives.specs.{Heard.{number_of}, Seconds.{second_of}}
+use Rattle.mdns_page.specs.{Axis.{place}, Lanes.{point, second_mark}, Picture.{AreInOrder, differing}}
 use Rattle.mdns_page.specs.declared.{axis.Axis.{Axis}, picture.Mark.{Mark}, picture.Stroke.{Stroke}}
 use Rattle.mdns_page.specs.declared.picture.Stroke.TheVariants.{Bar, Server, Pin, Head, Tick, GoodbyeTick}
 use Rattle.mdns_page.proofs.MarkLemmas.{one-more, place-mono}
@@ -32,24 +32,13 @@ last-if axis n mark true is = is
 last-if axis n mark false is = tt
 
 point-in : (axis : Axis) (n : ℕ) (heard : RecordHearing) → second_of heard ≡ n → IsInIf axis n (point axis heard)
-point-in axis n heard within =
-    let at = place axis heard.moment.nanos in
-    last-if axis n (Some (record { begin = at; end = at })) (in_window axis.window heard.moment)
-    (record { moment = heard.moment.nanos; within = within; begins = refl; ends = refl })
-
-goodbye-in : (n : ℕ) (last first : RecordHearing) (b : Bool) → second_of last ≡ n → second_of first ≡ n
-    → second_of (if b then last else first) ≡ n
-goodbye-in n last first true same_last same_first = same_last
-goodbye-in n last first false same_last same_first = same_first
+point-in axis n heard within = grind (arith, last-if)
 
 -- that of a second, if it has one
 mark-in : (axis : Axis) (stroke : Stroke) (s : SecondHeard) → second_of s.last ≡ number_of s
     → IsInIf axis (number_of s) (second_mark axis stroke s)
-mark-in axis (Tick top) s same =
-    first-if axis (number_of s) (point axis s.first) (is_goodbye s) (point-in axis (number_of s) s.first refl)
-mark-in axis (GoodbyeTick top) s same =
-    last-if axis (number_of s) (point axis (goodbye_of s)) (is_goodbye s)
-    (point-in axis (number_of s) (goodbye_of s) (goodbye-in (number_of s) s.last s.first (s.last.ttl == 0) same refl))
+mark-in axis (Tick top) s same = grind (arith, first-if, point-in)
+mark-in axis (GoodbyeTick top) s same = grind (arith, last-if)
 mark-in axis Bar s same = tt
 mark-in axis Server s same = tt
 mark-in axis (Pin reason) s same = tt
@@ -64,16 +53,7 @@ with-next : (axis : Axis) (n m : ℕ) (stroke : Stroke) (before : Mark) (next : 
     → ((mark : Mark) → IsIn axis m mark → AreInOrder (mark ∷ differing (Some mark) marks))
     → AreInOrder (before ∷ differing (Some before) (cons_option next marks))
 with-next axis n m stroke before None marks is less next without rest = without
-with-next axis n m stroke before (Some mark) marks is less next without rest =
-    let was = is.within in
-    let will = next.within in
-    let moved = place-mono axis is.moment next.moment (earlier is.moment next.moment (omega (arith, was, will, less))) in
-    let begin = is.begins in
-    let end = is.ends in
-    let begins = next.begins in
-    let ends = next.ends in
-    one-more axis n stroke before mark marks (is_same before mark) refl (omega (arith, moved, begin, begins))
-    (omega (arith, moved, end, ends)) without (rest mark next)
+with-next axis n m stroke before (Some mark) marks is less next without rest = grind (arith, place-mono, one-more)
 
 -- the last hearing of each second is in it
 abbrev AreWhole : List SecondHeard → Type 0

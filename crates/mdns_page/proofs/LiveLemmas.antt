@@ -1,15 +1,15 @@
 -- Live instances: their groups, and the text of a row by its pieces.
-use Rattle.std.proofs.Common.{◌≡◌, refl, sym, ◌∙◌, ap, subst, ℕ, suc, ◌+◌, ◌==◌, Bool, true, false}
+use Rattle.std.proofs.Common.{◌≡◌, refl, sym, ◌∙◌, ap, ℕ, suc, ◌+◌, ◌==◌, Bool, true, false}
 use Rattle.std.proofs.Common.{if◌then◌else◌, List, [], ◌∷◌, ◌++◌, length, map, take, arith, codes}
 use Rattle.std.proofs.lemmas.{Bool.Decides.{nat_tests}, List.{append-nil, append_assoc}}
 use Rattle.std.specs.{List.{filter_map, flat_map, join_by}, String.{string_bytes}}
 use Rattle.mdns_message.specs.Resource.{Body}
 use Rattle.mdns_join.specs.declared.latest.Latest.{Latest}
-use Rattle.mdns_browse.specs.{RecordShown.{shown_instance}, Services.{AreEach, GivenRow, InstanceRow, instance_row_in}}
-use Rattle.mdns_browse.specs.Sheet.{Piece, server_address, server_end, servers_end, instance_text, instance_end, server_pieces}
+use Rattle.mdns_browse.specs.Services.{AreEach, GivenRow, InstanceRow, instance_row_in}
+use Rattle.mdns_browse.specs.Sheet.{Piece, server_address, servers_end, instance_text, instance_end, server_pieces}
 use Rattle.mdns_browse.specs.{Sheet.{servers_pieces, instance_pieces}, declared.instance.Server.{Server}}
 use Rattle.mdns_page.specs.{declared.axis.Axis.{Axis}, declared.live_sheet.LiveSheet.{LiveSheet}, Group.{grouped}, Html.{isolated}}
-use Rattle.mdns_page.specs.LiveSection.{end_text, live_text, address_html, given_words, live_group, live_row, server_html, server_line, text_html}
+use Rattle.mdns_page.specs.LiveSection.{end_text, live_text, address_html, live_group, live_row, server_html, text_html}
 use Rattle.mdns_page.specs.{LiveSection.{type_of}, LiveSheet.{Adds, Grows, pieces_html, pieces_next, type_begin}}
 use Rattle.mdns_page.specs.laws.LiveSheet.{pieces-append}
 
@@ -31,10 +31,7 @@ module _ (say : List ℕ → List ℕ) (axis : Axis) where
       → ((first : Bool) (x : X) → pieces_html say axis first (pieces x) ≡ text x) → (first : Bool) (xs : List X)
       → pieces_html say axis first (flat_map pieces xs) ≡ flat_map text xs
   each_html pieces text same first [] = refl
-  each_html pieces text same first (x ∷ xs) =
-      pieces-append say axis first (pieces x) (flat_map pieces xs)
-      ∙ ap (λ front. front ++ pieces_html say axis (pieces_next first (pieces x)) (flat_map pieces xs)) (same first x)
-      ∙ ap (λ rest. text x ++ rest) (each_html pieces text same (pieces_next first (pieces x)) xs)
+  each_html pieces text same first (x ∷ xs) = grind (arith, pieces-append, each_html pieces text same (pieces_next first (pieces x)) xs)
 
   further_text : (addresses : List Body)
       → pieces_html say axis false (map server_address addresses) ≡ flat_map (λ address. (32 ∷ []) ++ address_html address) addresses
@@ -47,10 +44,7 @@ module _ (say : List ℕ → List ℕ) (axis : Axis) where
   addresses_text (address ∷ addresses) = ap (λ text. address_html address ++ text) (further_text addresses)
 
   server_text : (first : Bool) (server : Server) → pieces_html say axis first (server_pieces server) ≡ server_html say server
-  server_text first server =
-      ap (λ text. server_line say server.priority server.weight server.port server.target ++ text)
-      (pieces-append say axis true (map server_address server.addresses) (server_end ∷ []) ∙ append-nil _
-      ∙ addresses_text server.addresses)
+  server_text first server = grind (arith, pieces-append, append-nil, addresses_text)
 
   servers_text : (first : Bool) (servers : List Server) → pieces_html say axis first (servers_pieces servers)
       ≡ servers_html say servers ++ (codes "</div>" ++ (codes "<div>"))
@@ -75,16 +69,7 @@ module _ (say : List ℕ → List ℕ) (axis : Axis) where
       → pieces_html say axis first (servers_pieces row.instance.servers ++ (map instance_text row.instance.texts ++ instance_end ∷ []))
       ≡ (servers_html say row.instance.servers ++ (codes "</div>" ++ (codes "<div>")))
       ++ (flat_map (text_html say) row.instance.texts ++ (codes "</div></li>\n"))
-  rest_text first row =
-      let servers = servers_pieces row.instance.servers in
-      let after : Bool = pieces_next first servers in
-      let texts = map instance_text row.instance.texts in
-      pieces-append say axis first servers (texts ++ instance_end ∷ [])
-      ∙ ap (λ text. text ++ pieces_html say axis after (texts ++ instance_end ∷ [])) (servers_text first row.instance.servers)
-      ∙ ap (λ text. (servers_html say row.instance.servers ++ (codes "</div>" ++ (codes "<div>"))) ++ text)
-      (pieces-append say axis after texts (instance_end ∷ [])
-      ∙ ap (λ text. text ++ ((codes "</div></li>\n") ++ [])) (texts_text after row.instance.texts)
-      ∙ ap (λ text. flat_map (text_html say) row.instance.texts ++ text) (append-nil (codes "</div></li>\n")))
+  rest_text first row = grind (arith, pieces-append, servers_text, texts_text, append-nil)
 
   row_parts : (begin name middle div servers close last texts end : List ℕ)
       → (begin ++ name ++ middle ++ div) ++ ((servers ++ (close ++ last)) ++ (texts ++ end))
@@ -93,10 +78,7 @@ module _ (say : List ℕ → List ℕ) (axis : Axis) where
 
   row_text : (first : Bool) (row : InstanceRow) → pieces_html say axis first (instance_pieces row) ≡ live_row say axis row
   unfolding live_row
-  row_text first row =
-      ap (λ text. ((codes "<li><div>") ++ (say (shown_instance row.instance.name) ++ given_words axis row.given) ++ (codes "</div>") ++ codes "<div>") ++ text) (rest_text first row)
-      ∙ row_parts (codes "<li><div>") (say (shown_instance row.instance.name) ++ given_words axis row.given) (codes "</div>") (codes "<div>")
-      (servers_html say row.instance.servers) (codes "</div>") (codes "<div>") (flat_map (text_html say) row.instance.texts) (codes "</div></li>\n")
+  row_text first row = simp (rest_text, row_parts)
 
   pub rows_html : (first : Bool) (rows : List InstanceRow)
       → pieces_html say axis first (flat_map instance_pieces rows) ≡ flat_map (live_row say axis) rows
@@ -115,13 +97,7 @@ pub group-at : {R : Type 0} (value : R → GivenRow) (say : List ℕ → List �
     (first : R) (others : List R) (n : ℕ) → rs ≡ first ∷ others
     → type_begin say opened (type_of (value first)) ++ flat_map (live_row say axis) (filter_map (instance_row_in lasts)
     (map value (take (1 + n) rs))) ++ (codes "</ul></details>\n") ≡ live_group say axis opened lasts (map value (take (1 + n) rs))
-group-at value say axis opened lasts rs first others n split =
-    let one : 1 + n ≡ suc n = omega arith in
-    let parts : map value (take (1 + n) rs) ≡ value first ∷ map value (take n others) =
-    ap (λ rs. map value (take (1 + n) rs)) split ∙ ap (λ k. map value (take k (first ∷ others))) one in
-    subst (λ given. type_begin say opened (type_of (value first)) ++ flat_map (live_row say axis) (filter_map (instance_row_in lasts) given)
-    ++ (codes "</ul></details>\n") ≡ live_group say axis opened lasts given) (sym parts)
-    (group-by_owner say axis opened lasts (value first) (map value (take n others)))
+group-at value say axis opened lasts rs first others n split = grind (arith, group-by_owner)
 
 regroup : (old begin rows end : List ℕ) → ((old ++ begin) ++ rows) ++ end ≡ old ++ (begin ++ rows ++ end)
 regroup old begin rows end = simp append_assoc
@@ -131,16 +107,7 @@ pub group_by_parts : (opened : Bool) (owner : List ℕ) (rows : List InstanceRow
     → Adds old (type_begin isolated opened owner) begun → Grows begun (flat_map instance_pieces rows) walked → new.axis ≡ walked.axis
     → string_bytes new.text ≡ string_bytes walked.text ++ (codes "</ul></details>\n")
     → Adds old (type_begin isolated opened owner ++ flat_map (live_row isolated old.axis) rows ++ (codes "</ul></details>\n")) new
-group_by_parts opened owner rows old begun walked new begin walk axis end = record {
-  axis = axis ∙ walk.axis ∙ begin.axis;
-  written =
-      end
-      ∙ ap (λ text. text ++ (codes "</ul></details>\n"))
-      (walk.written ∙ ap (λ text. string_bytes begun.text ++ text) (rows_html isolated begun.axis begun.first rows)
-      ∙ ap (λ text. text ++ flat_map (live_row isolated begun.axis) rows) begin.written
-      ∙ ap (λ axis. (string_bytes old.text ++ type_begin isolated opened owner) ++ flat_map (live_row isolated axis) rows) begin.axis)
-      ∙ regroup (string_bytes old.text) (type_begin isolated opened owner) (flat_map (live_row isolated old.axis) rows) (codes "</ul></details>\n");
-}
+group_by_parts opened owner rows old begun walked new begin walk axis end = grind (arith, rows_html, regroup)
 
 -- ---- the section
 
@@ -156,9 +123,4 @@ pub live_by_parts : (axis : Axis) (opened : Bool) (lasts : List Latest) (given :
     → Adds first (flat_map (live_group isolated first.axis opened lasts) (grouped type_of given)) last
     → new ≡ string_bytes last.text ++ codes "</div>\n"
     → new ≡ old ++ live_text isolated axis opened lasts given
-live_by_parts axis opened lasts given old begun new first last begin moved same groups end =
-    end
-    ∙ ap (λ text. text ++ codes "</div>\n")
-    (groups.written ∙ ap (λ text. text ++ flat_map (live_group isolated first.axis opened lasts) (grouped type_of given)) (moved ∙ begin)
-    ∙ ap (λ axis'. (old ++ live_begin axis) ++ flat_map (live_group isolated axis' opened lasts) (grouped type_of given)) same)
-    ∙ regroup old (live_begin axis) (flat_map (live_group isolated axis opened lasts) (grouped type_of given)) (codes "</div>\n")
+live_by_parts axis opened lasts given old begun new first last begin moved same groups end = grind (arith, regroup)

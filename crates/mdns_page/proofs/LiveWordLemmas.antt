@@ -1,5 +1,5 @@
 -- Strings of a text, one a line, and an address.
-use Rattle.std.proofs.Common.{◌≡◌, refl, sym, ◌∙◌, ap, arith, ℕ, ◌==◌, Bool, true, false, if◌then◌else◌, List, []}
+use Rattle.std.proofs.Common.{◌≡◌, refl, ap, arith, ℕ, ◌==◌, Bool, true, false, if◌then◌else◌, List, []}
 use Rattle.std.proofs.{Common.{◌∷◌, ◌++◌, codes, length}, lemmas.Bool.Decides.{nat_tests}, lemmas.List.{append-nil, append_assoc}}
 use Rattle.std.specs.List.{flat_map, join_by}
 use Rattle.mdns_message.specs.{Borrowed.{BorrowedBody, body_lent}, Parts.{address_of}, TextData.{strings_of}}
@@ -19,41 +19,29 @@ first_after-false (x ∷ xs) = refl
 
 lines-append : (first : Bool) (xs ys : List (List ℕ)) → lines first (xs ++ ys) ≡ lines first xs ++ lines (first_after first xs) ys
 lines-append first [] ys = refl
-lines-append first (x ∷ xs) ys =
-    ap (λ text. (if first then [] else 10 ∷ []) ++ x ++ text)
-    (lines-append false xs ys ∙ ap (λ next. lines false xs ++ lines next ys) (first_after-false xs))
-    ∙ sym (append_assoc ((if first then [] else 10 ∷ []) ++ x) (lines false xs) (lines false ys))
+lines-append first (x ∷ xs) ys = grind (arith, first_after-false, append_assoc, lines-append false xs ys)
 
 -- a string written takes its word from what is left to write
 pub lines_left-step : (old new total bytes string after : List ℕ) (first next : Bool) → strings_of bytes ≡ string ∷ strings_of after
     → new ≡ old ++ lines first (shown_string string) → next ≡ first_after first (shown_string string)
     → old ++ lines first (shown_strings bytes) ≡ total → new ++ lines next (shown_strings after) ≡ total
 lines_left-step old new total bytes string after first next split written flag left =
-    ap (λ text. text ++ lines next (shown_strings after)) written
-    ∙ append_assoc old (lines first (shown_string string)) (lines next (shown_strings after))
-    ∙ ap (λ text. old ++ text)
-    (ap (λ next. lines first (shown_string string) ++ lines next (shown_strings after)) flag
-    ∙ sym (ap (lines first) (strings-cons bytes string after split) ∙ lines-append first (shown_string string) (shown_strings after)))
-    ∙ left
+    grind (arith, append_assoc, strings-cons bytes string after split, lines-append first (shown_string string) (shown_strings after))
 
 pub first_left-step : (bytes string after : List ℕ) (first next last : Bool) → strings_of bytes ≡ string ∷ strings_of after
     → next ≡ first_after first (shown_string string) → first_after first (shown_strings bytes) ≡ last
     → first_after next (shown_strings after) ≡ last
 first_left-step bytes string after first next last split flag left =
-    ap (λ next. first_after next (shown_strings after)) flag
-    ∙ sym (ap (first_after first) (strings-cons bytes string after split) ∙ first_after-append first (shown_string string) (shown_strings after))
-    ∙ left
+    grind (arith, strings-cons bytes string after split, first_after-append first (shown_string string) (shown_strings after))
 
 -- with no bytes left nothing is left to write
 pub lines_left-end : (old total bytes : List ℕ) (first : Bool) → bytes ≡ [] → old ++ lines first (shown_strings bytes) ≡ total → old ≡ total
 unfolding shown_strings
-lines_left-end old total bytes first none left =
-    sym (append-nil old) ∙ ap (λ bytes. old ++ lines first (shown_strings bytes)) (sym none) ∙ left
+lines_left-end old total bytes first none left = grind (arith, append-nil)
 
 pub first_left-end : (bytes : List ℕ) (first last : Bool) → bytes ≡ [] → first_after first (shown_strings bytes) ≡ last → first ≡ last
 unfolding shown_strings
-first_left-end bytes first last none left =
-    ap (λ bytes. first_after first (shown_strings bytes)) (sym none) ∙ left
+first_left-end bytes first last none left = grind arith
 
 -- ---- a paragraph of words
 

@@ -1,8 +1,9 @@
 -- The marks of lives that are in order of time go from left to right.
-use Rattle.std.proofs.Common.{◌≡◌, refl, ℕ, ◌+◌, ◌-◌, ◌*◌, ◌/◌, ◌<◌, ◌≤◌, min, Bool, true, false}
+use Rattle.std.proofs.Common.{◌≡◌, refl, ℕ, ◌+◌, ◌*◌, ◌/◌, ◌<◌, ◌≤◌, Bool, true, false}
 use Rattle.std.proofs.{Common.{if◌then◌else◌, Option, None, Some, List, [], ◌∷◌, arith, div-mul-le_self}, lemmas.Nat.{le-div}}
 use Rattle.std.specs.List.{cons_option, filter_map}
-use Rattle.mdns_lives.specs.{Lives.{AreApart, AreApartAfter}, Window.{meets}, declared.life.Life.{Life}}
+use Rattle.mdns_lives.proofs.OneListLemmas.{apart-rest}
+use Rattle.mdns_lives.specs.{Lives.{AreApart, AreApartAfter}, declared.life.Life.{Life}}
 use Rattle.mdns_page.specs.{Axis.{place, place_end}, Picture.{AreInOrder, bar_mark, differing, drawn_mark, is_for, is_same, mark_of}}
 use Rattle.mdns_page.specs.{Picture.{outlasts}, declared.axis.Axis.{Axis}, declared.picture.Mark.{Mark}, declared.picture.Stroke.{Stroke}}
 use Rattle.mdns_page.specs.declared.picture.Stroke.TheVariants.{Bar, Server, Pin, Head, Tick, GoodbyeTick}
@@ -15,9 +16,7 @@ quotient-mono a b unit some low = le-div (a / unit) b unit some (let whole : a /
 
 pub place-mono : (axis : Axis) (a b : ℕ) → a ≤ b → place axis a ≤ place axis b
 unfolding place
-place-mono axis a b low =
-    let start = axis.start.nanos in let end = axis.end.nanos in
-    quotient-mono (min a end - start) (min b end - start) ((end - start) / 1000 + 1) (omega arith) (omega (arith, low))
+place-mono axis a b low = grind (arith, quotient-mono)
 
 -- where a mark of a life that ended by then begins: a pin is at its end
 abbrev BeginsBy : Axis → ℕ → Stroke → Mark → Type 0
@@ -43,10 +42,7 @@ begins-later axis by later (Tick top) mark low begins = tt
 begins-later axis by later (GoodbyeTick top) mark low begins = tt
 
 by-later : (axis : Axis) (by later : ℕ) (stroke : Stroke) (mark : Mark) → by ≤ later → IsBy axis by stroke mark → IsBy axis later stroke mark
-by-later axis by later stroke mark low is =
-    let moved = place-mono axis by later low in
-    let ends = is.ends in
-    record { begins = begins-later axis by later stroke mark low is.begins; ends = omega (arith, ends, moved) }
+by-later axis by later stroke mark low is = grind (arith, place-mono, begins-later)
 
 -- ---- the mark of the next life
 
@@ -72,27 +68,13 @@ pin-next : (axis : Axis) (low from until : ℕ) (stroke : Stroke) (before : Mark
     → IsNextIf axis until stroke before (pin_if (place_end axis from until) on this)
 pin-next axis low from until stroke before true this apart some begins ends own = tt
 pin-next axis low from until stroke before false false apart some begins ends own = tt
-pin-next axis low from until stroke before false true apart some begins ends own =
-    let moved = place-mono axis low from apart in
-    let least = end-least axis from until in (
-      omega (arith, begins, ends, moved, least),
-      omega (arith, ends, moved, least),
-      record { begins = own; ends = end-most axis from until some },
-    )
+pin-next axis low from until stroke before false true apart some begins ends own = grind (arith, place-mono, end-least, end-most)
 
 bar-next : (axis : Axis) (low : ℕ) (stroke : Stroke) (before : Mark) (life : Life) → low ≤ life.from.nanos → life.from.nanos < life.until
     → before.begin ≤ place axis low → before.end ≤ place axis low + 3
     → (place axis life.from.nanos ≤ place axis life.until → BeginsBy axis life.until stroke (bar_mark axis life))
     → IsNextIf axis life.until stroke before (Some (bar_mark axis life))
-bar-next axis low stroke before life apart some begins ends own =
-    let from = life.from.nanos in
-    let moved = place-mono axis low from apart in
-    let passed = place-mono axis from life.until (omega (arith, some)) in
-    let least = end-least axis from life.until in (
-      omega (arith, begins, moved),
-      omega (arith, ends, moved, least),
-      record { begins = own passed; ends = end-most axis from life.until (omega (arith, some)) },
-    )
+bar-next axis low stroke before life apart some begins ends own = grind (arith, place-mono, end-least, end-most)
 
 drawn-next : (axis : Axis) (low : ℕ) (stroke : Stroke) (before : Mark) (life : Life) → low ≤ life.from.nanos → life.from.nanos < life.until
     → IsBy axis low stroke before → IsNextIf axis life.until stroke before (drawn_mark axis stroke life)
@@ -116,9 +98,7 @@ if-next axis by stroke before next false is = tt
 
 mark-next : (axis : Axis) (low : ℕ) (stroke : Stroke) (before : Mark) (life : Life) → low ≤ life.from.nanos → life.from.nanos < life.until
     → IsBy axis low stroke before → IsNextIf axis life.until stroke before (mark_of axis stroke life)
-mark-next axis low stroke before life apart some is =
-    if-next axis life.until stroke before (drawn_mark axis stroke life) (meets axis.window life)
-    (drawn-next axis low stroke before life apart some is)
+mark-next axis low stroke before life apart some is = grind (arith, if-next, drawn-next)
 
 -- ---- all marks
 
@@ -133,8 +113,7 @@ with-next : (axis : Axis) (by : ℕ) (stroke : Stroke) (before : Mark) (next : O
     → IsNextIf axis by stroke before next → ((mark : Mark) → IsBy axis by stroke mark → AreInOrder (mark ∷ differing (Some mark) marks))
     → AreInOrder (before ∷ differing (Some before) (cons_option next marks))
 with-next axis by stroke before None marks is next rest = rest before is
-with-next axis by stroke before (Some mark) marks is next rest =
-    one-more axis by stroke before mark marks (is_same before mark) refl next.0 next.1 (rest before is) (rest mark next.2)
+with-next axis by stroke before (Some mark) marks is next rest = grind (arith, one-more)
 
 marks-after : (axis : Axis) (stroke : Stroke) (low : ℕ) (before : Mark) (lives : List Life) → AreApartAfter low lives
     → IsBy axis low stroke before → AreInOrder (before ∷ differing (Some before) (filter_map (mark_of axis stroke) lives))
@@ -145,10 +124,6 @@ marks-after axis stroke low before (life ∷ lives) apart is =
     with-next axis life.until stroke before (mark_of axis stroke life) (filter_map (mark_of axis stroke) lives)
     (by-later axis low life.until stroke before (omega (arith, first, some)) is) (mark-next axis low stroke before life (omega (arith, first)) some is)
     (λ mark by. marks-after axis stroke life.until mark lives apart.2 by)
-
-apart-after : (low : ℕ) (lives : List Life) → AreApartAfter low lives → AreApart lives
-apart-after low [] apart = tt
-apart-after low (life ∷ lives) apart = (apart.1, apart.2)
 
 -- a mark that is before all others
 none-before : (axis : Axis) (stroke : Stroke) → IsBy axis 0 stroke (mark 0 0)
@@ -173,4 +148,4 @@ marks-in_order axis stroke (life ∷ lives) apart =
     with-first axis life.until stroke (mark_of axis stroke life) (filter_map (mark_of axis stroke) lives)
     (mark-next axis 0 stroke (mark 0 0) life (omega arith) some (none-before axis stroke))
     (λ mark by. marks-after axis stroke life.until mark lives apart.1 by)
-    (marks-in_order axis stroke lives (apart-after life.until lives apart.1))
+    (marks-in_order axis stroke lives (apart-rest life.until lives apart.1))

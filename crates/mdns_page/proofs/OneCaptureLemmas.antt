@@ -1,19 +1,16 @@
 -- Readings of captures agree in all that a page tells.
-use Rattle.std.proofs.Common.{◌≡◌, ◌∙◌, ℕ, suc, ◌+◌, ◌==◌, if◌then◌else◌, Bool, true, false, not, ap, inl, inr, refl, subst, sym}
-use Rattle.std.proofs.Common.{List, [], ◌∷◌, ◌++◌, Option, Some, None, drop, get_or, length, map, option_map, unwrap_or}
-use Rattle.std.proofs.lemmas.List.Sums.{sum_by-cons}
-use Rattle.std.specs.{Prelude.{codes, count_by, sum_by}, List.{find, flat_map, fold, range_with_len}}
-use Rattle.mdns_capture.specs.{declared.cause.Cause.{Cause}, Savefile.{PacketAt}, declared.savefile.Ending.{Ending}}
-use Rattle.mdns_capture.specs.declared.savefile.Ending.TheVariants.{Whole}
+use Rattle.std.proofs.Common.{◌≡◌, ℕ, suc, ◌+◌, ◌==◌, if◌then◌else◌, Bool, true, false, ap, inl, inr, refl, subst, arith}
+use Rattle.std.proofs.{Common.{List, [], ◌∷◌, ◌++◌, Option, Some, None, drop, get_or, length, map}, lemmas.List.Sums.{sum_by-cons}}
+use Rattle.std.specs.{Prelude.{codes, sum_by}, List.{flat_map, range_with_len}}
+use Rattle.mdns_capture.specs.{declared.cause.Cause.{Cause}, Savefile.{PacketAt}}
 use Rattle.mdns_message.specs.Message.{IsIgnored, IsQuery}
 use Rattle.mdns_browse.specs.Services.{AreEach}
-use Rattle.mdns_survey.specs.declared.{outcome.SkipReason.{SkipReason}, reading.Reading.{Reading}, summary.Summary.{Summary}}
-use Rattle.mdns_survey.specs.{ProgramLines.{is_whole}, Span.{joined_spans}, declared.summary.Tally.{Tally}, Outcomes.{Outcome}}
-use Rattle.mdns_survey.specs.{Readings.{lost_in, refused_in, skipped_in, summaries_of}, Skips.{IsSkipOf, count_of, is_why}}
+use Rattle.mdns_survey.specs.{declared.{outcome.SkipReason.{SkipReason}, reading.Reading.{Reading}}, Outcomes.{Outcome}}
+use Rattle.mdns_survey.specs.{Readings.{lost_in, refused_in, skipped_in, summaries_of}, Skips.{IsSkipOf, count_of}}
 use Rattle.mdns_survey.specs.{Surveys.{AllLeft}, Reasons.{row_of}}
 use Rattle.mdns_survey.specs.declared.outcome.SkipReason.TheVariants as why
 use Rattle.mdns_survey.proofs.{LossLemmas.{NeverBoth, SkipsByCause, no-cause}, OutcomeLemmas.{OnePayload}}
-use Rattle.mdns_listeners.specs.{Groups.{Grouped}, Listeners.{listener_at}}
+use Rattle.mdns_listeners.specs.Groups.{Grouped}
 use Rattle.mdns_page.specs.{ByListener.{facts_by, facts_of, files_of}, Page.{endings_of}}
 use Rattle.mdns_page.specs.SkippedSection.{skipped_text, others as reasons, row_text, table_text, warnings}
 
@@ -27,9 +24,7 @@ module _ {X Y : Type 0} (Is : X → Y → Type 0) (one : (x : X) (y z : Y) → I
   one-each [] (y ∷ ys) zs each other = absurd each
   one-each (x ∷ xs) [] zs each other = absurd each
   one-each (x ∷ xs) (y ∷ ys) [] each other = absurd other
-  one-each (x ∷ xs) (y ∷ ys) (z ∷ zs) each other =
-      ap (λ (first : Y). first ∷ ys) (one x y z each.0 other.0)
-      ∙ ap (λ (rest : List Y). z ∷ rest) (one-each xs ys zs each.1 other.1)
+  one-each (x ∷ xs) (y ∷ ys) (z ∷ zs) each other = grind (arith, one-each xs ys zs each.1 other.1)
 
 -- both readings say the same of a capture
 pub record IsAlike (a b : Reading) : Type 0 where
@@ -43,17 +38,13 @@ module _ (payload : OnePayload) (never : NeverBoth) (by_cause : SkipsByCause) wh
   carries-none : (packet : PacketAt) (cause : Cause) (reason : Option SkipReason) → IsSkipOf packet (Some (why.Frame cause))
       → IsSkipOf packet reason → ((other : Cause) → reason ≡ Some (why.Frame other) → ⊥) → ⊥
   carries-none packet cause (Some (why.Frame other)) fails is not_frame = not_frame other refl
-  carries-none packet cause (Some why.Query) fails is not_frame =
-      let both : None ≡ Some cause = sym (no-cause never by_cause packet.frame is.0 is.1) ∙ fails in absurd cc
-  carries-none packet cause (Some why.Ignored) fails is not_frame =
-      let both : None ≡ Some cause = sym (no-cause never by_cause packet.frame is.0 is.1) ∙ fails in absurd cc
-  carries-none packet cause None fails is not_frame =
-      let both : None ≡ Some cause = sym (no-cause never by_cause packet.frame is.0 is.1) ∙ fails in absurd cc
+  carries-none packet cause (Some why.Query) fails is not_frame = grind (arith, no-cause never by_cause packet.frame is.0 is.1)
+  carries-none packet cause (Some why.Ignored) fails is not_frame = grind (arith, no-cause never by_cause packet.frame is.0 is.1)
+  carries-none packet cause None fails is not_frame = grind (arith, no-cause never by_cause packet.frame is.0 is.1)
 
   -- a packet is skipped for one reason
   one-why : (packet : PacketAt) (a b : Option SkipReason) → IsSkipOf packet a → IsSkipOf packet b → a ≡ b
-  one-why packet (Some (why.Frame cause)) (Some (why.Frame other)) is too =
-      ap (λ (c : Option Cause). option_map (λ (d : Cause). why.Frame d) c) (sym is ∙ too)
+  one-why packet (Some (why.Frame cause)) (Some (why.Frame other)) is too = grind arith
   one-why packet (Some (why.Frame cause)) (Some why.Query) is too =
       absurd (carries-none packet cause (Some why.Query) is too (λ other e. cc))
   one-why packet (Some (why.Frame cause)) (Some why.Ignored) is too =
@@ -85,19 +76,8 @@ module _ (payload : OnePayload) (never : NeverBoth) (by_cause : SkipsByCause) wh
       (readings others : List Reading) → AllLeft lefts packets outcomes readings → AllLeft lefts packets more others
       → summaries_of readings ≡ summaries_of others → AreEach IsAlike readings others
   are-alike [] [] [] [] [] [] read too same = tt
-  are-alike (left ∷ lefts) (packets ∷ ps) (outcomes ∷ os) (more ∷ ms) (reading ∷ rs) (other ∷ others) read too same = (
-    record {
-      summary = ap (λ (all : List Summary). get_or all 0 reading.summary) same;
-      lost = read.0.losses ∙ sym too.0.losses;
-      span = read.0.spans ∙ sym too.0.spans;
-      skips = λ reason.
-          read.0.skips.counts reason
-          ∙ ap (count_by (is_why reason))
-          (one-each IsSkipOf one-why packets read.0.skips.whys too.0.skips.whys read.0.skips.are too.0.skips.are)
-          ∙ sym (too.0.skips.counts reason);
-    },
-    are-alike lefts ps os ms rs others read.1 too.1 (ap (drop 1) same),
-  )
+  are-alike (left ∷ lefts) (packets ∷ ps) (outcomes ∷ os) (more ∷ ms) (reading ∷ rs) (other ∷ others) read too same =
+      grind (arith, one-each, one-why, are-alike lefts ps os ms rs others read.1 too.1 (ap (drop 1) same))
   are-alike [] [] [] more [] others read too same = absurd too
   are-alike (left ∷ lefts) (packets ∷ ps) (outcomes ∷ os) more (reading ∷ rs) others read too same = absurd too
   are-alike lefts packets outcomes more readings others read too same = absurd read
@@ -110,24 +90,17 @@ sums-alike : (of : Reading → ℕ) → ((a b : Reading) → IsAlike a b → of 
 sums-alike of same [] [] alike = refl
 sums-alike of same [] (y ∷ ys) alike = absurd alike
 sums-alike of same (x ∷ xs) [] alike = absurd alike
-sums-alike of same (x ∷ xs) (y ∷ ys) alike =
-    sum_by-cons of x xs ∙ ap (λ (n : ℕ). n + sum_by of xs) (same x y alike.0)
-    ∙ ap (λ (n : ℕ). of y + n) (sums-alike of same xs ys alike.1) ∙ sym (sum_by-cons of y ys)
+sums-alike of same (x ∷ xs) (y ∷ ys) alike = grind (arith, sum_by-cons, sums-alike of same xs ys alike.1)
 
 pub lost-alike : (readings others : List Reading) → AreEach IsAlike readings others → lost_in readings ≡ lost_in others
-lost-alike =
-    sums-alike (λ (r : Reading). r.lost + r.summary.tally.refused)
-    (λ a b same i. same.lost i + (same.summary i).tally.refused)
+lost-alike = grind (arith, sums-alike)
 
 maps-alike : {Y : Type 0} (of : Reading → Y) → ((a b : Reading) → IsAlike a b → of a ≡ of b) → (readings others : List Reading)
     → AreEach IsAlike readings others → map of readings ≡ map of others
 maps-alike of same [] [] alike = refl
 maps-alike of same [] (y ∷ ys) alike = absurd alike
 maps-alike of same (x ∷ xs) [] alike = absurd alike
-maps-alike of same (x ∷ xs) (y ∷ ys) alike =
-    let first = same x y alike.0 in
-    let rest = maps-alike of same xs ys alike.1 in
-    λ i. first i ∷ rest i
+maps-alike of same (x ∷ xs) (y ∷ ys) alike = grind (arith, maps-alike of same xs ys alike.1)
 
 keeps-alike : (b : Bool) (x y : Reading) (xs ys : List Reading) → IsAlike x y → AreEach IsAlike xs ys
     → AreEach IsAlike (if b then x ∷ xs else xs) (if b then y ∷ ys else ys)
@@ -139,29 +112,12 @@ files-alike : (of : List ℕ) (place listener : ℕ) (readings others : List Rea
 files-alike of place listener [] [] alike = tt
 files-alike of place listener [] (y ∷ ys) alike = absurd alike
 files-alike of place listener (x ∷ xs) [] alike = absurd alike
-files-alike of place listener (x ∷ xs) (y ∷ ys) alike =
-    keeps-alike (listener_at of place == listener) x y _ _ alike.0 (files-alike of (suc place) listener xs ys alike.1)
+files-alike of place listener (x ∷ xs) (y ∷ ys) alike = grind (arith, keeps-alike, files-alike of (suc place) listener xs ys alike.1)
 
 -- what the page tells of a listener's files
 facts-same : (name : List ℕ) (readings others : List Reading) → AreEach IsAlike readings others
     → facts_of name readings ≡ facts_of name others
-facts-same name readings others alike =
-    let sums = λ (of : Tally → ℕ). sums-alike (λ (r : Reading). of r.summary.tally) (λ a b same i. of (same.summary i).tally)
-    readings others alike in
-    let endings = maps-alike (λ (r : Reading). r.summary.ending) (λ a b same i. (same.summary i).ending) readings others alike in
-    let spans = maps-alike (λ (r : Reading). r.span) (λ a b same. same.span) readings others alike in
-    λ i. record {
-      name = name;
-      counts = record {
-        packets = sums (λ tally. tally.packets) i;
-        skipped = sums (λ tally. tally.skipped) i;
-        refused = sums (λ tally. tally.refused) i;
-        messages = sums (λ tally. tally.messages) i;
-        hearings = sums (λ tally. tally.hearings) i;
-      };
-      ending = unwrap_or (find (λ (ending : Ending). not (is_whole ending)) (endings i)) Whole;
-      span = fold joined_spans None (spans i);
-    }
+facts-same name readings others alike = grind (arith, sums-alike, maps-alike)
 
 -- and of all
 pub facts-alike : (groups : Grouped) (readings others : List Reading) → AreEach IsAlike readings others
@@ -177,27 +133,20 @@ endings-alike [] readings others alike = refl
 endings-alike (name ∷ names) [] [] alike = refl
 endings-alike (name ∷ names) [] (y ∷ ys) alike = absurd alike
 endings-alike (name ∷ names) (x ∷ xs) [] alike = absurd alike
-endings-alike (name ∷ names) (x ∷ xs) (y ∷ ys) alike =
-    let same = alike.0 in
-    let rest = endings-alike names xs ys alike.1 in
-    λ i. record { name = name; ending = (same.summary i).ending } ∷ rest i
+endings-alike (name ∷ names) (x ∷ xs) (y ∷ ys) alike = grind (arith, endings-alike names xs ys alike.1)
 
 -- ---- the table of skipped packets
 
 module _ (readings others : List Reading) (alike : AreEach IsAlike readings others) where
   skipped-alike : (reason : SkipReason) → skipped_in reason readings ≡ skipped_in reason others
-  skipped-alike reason =
-      sums-alike (λ (r : Reading). count_of reason r.skips) (λ a b same. same.skips reason) readings others alike
+  skipped-alike reason = grind (arith, sums-alike)
 
   refused-alike : refused_in readings ≡ refused_in others
-  refused-alike =
-      sums-alike (λ (r : Reading). r.summary.tally.refused) (λ a b same i. (same.summary i).tally.refused) readings others alike
+  refused-alike = grind (arith, sums-alike)
 
   untold-alike : sum_by (λ (r : Reading). r.summary.tally.skipped + r.summary.tally.refused) readings
       ≡ sum_by (λ (r : Reading). r.summary.tally.skipped + r.summary.tally.refused) others
-  untold-alike =
-      sums-alike (λ (r : Reading). r.summary.tally.skipped + r.summary.tally.refused)
-      (λ a b same i. (same.summary i).tally.skipped + (same.summary i).tally.refused) readings others alike
+  untold-alike = grind (arith, sums-alike)
 
   table-alike : table_text readings ≡ table_text others
   unfolding table_text

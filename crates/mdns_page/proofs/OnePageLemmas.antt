@@ -1,7 +1,6 @@
 -- Captures have one page.
-use Rattle.std.proofs.Common.{◌≡◌, ◌∙◌, ℕ, ◌+◌, ◌<◌, Bool, false, List, [], ◌∷◌, Some, ap, arith, inl, inr}
+use Rattle.std.proofs.{Common.{◌≡◌, ◌∙◌, ℕ, ◌+◌, ◌<◌, Bool, false, List, [], ◌∷◌, Some, ap, arith, inl, inr}, lemmas.Option.{same_Some}}
 use Rattle.std.proofs.{Common.{length, map, refl, subst, sym}, lemmas.Cmp.{ranked}, lemmas.List.Elements.{All-head, All-tail}}
-use Rattle.std.proofs.lemmas.Option.{same_Some}
 use Rattle.std.specs.{Prelude.{Contains, max, nat_lt}, List.{All, AllByRecursion}, List.Sorted.{IsStrictlySortedBy}, Ordering.{nat_cmp}}
 use Rattle.std.specs.declared.cmp.Ordering.TheVariants.{Less}
 use Rattle.mdns_capture.specs.Savefile.{PacketAt}
@@ -15,8 +14,8 @@ use Rattle.mdns_browse.specs.{declared.about.Subject.{Subject}, Services.{AreEac
 use Rattle.mdns_survey.specs.declared.{reading.Reading.{Reading}, request.AsOf.{AsOf}, summary.Summary.{Summary}}
 use Rattle.mdns_survey.specs.{Outcomes.{Outcome}, LivesAnswer.{captures_end, earliest_nanos, latest_nanos}}
 use Rattle.mdns_survey.specs.{Readings.{all_moments, summaries_of}, Filter.{counted, counted_each, filter_of}, Surveys.{AllLeft}}
-use Rattle.mdns_cache.proofs.StandsPartLemmas.{Contains-cases, Contains-head, Contains-later}
-use Rattle.mdns_survey.proofs.{ListenedLemmas.{known-read}, LivesLawLemmas.{OneLives, same_itself}, LossLemmas.{NeverBoth, SkipsByCause}}
+use Rattle.mdns_cache.proofs.StandsPartLemmas.{Contains-cases, Contains-head, Contains-later, same-itself}
+use Rattle.mdns_survey.proofs.{ListenedLemmas.{known-read}, LivesLawLemmas.{OneLives}, LossLemmas.{NeverBoth, SkipsByCause}}
 use Rattle.mdns_survey.proofs.{OneSurveyLemmas.{one-read}, OutcomeLemmas.{OnePayload, OneReading, OneTelling}}
 use Rattle.mdns_listeners.specs.Groups.{Grouped}
 use Rattle.mdns_page.specs.{Axis.{bound_or, dates_of}, ByListener.{hearings_by}, Captures.{Comparison}, Collected.{Compares}}
@@ -32,10 +31,7 @@ use Rattle.mdns_page.proofs.OneCaptureLemmas.{IsAlike, are-alike, endings-alike,
 later : (n : ℕ) (seconds : List SecondHeard) (s : SecondHeard)
     → AllByRecursion (λ m. nat_cmp n m ≡ Less) (map number_of seconds) → Contains seconds s → n < number_of s
 later n [] s all among = absurd (omega (arith, among.1))
-later n (first ∷ seconds) s all among = elim (Contains-cases first seconds s among) [
-  | inl is ↦ subst (λ (t : SecondHeard). n < number_of t) is (ranked n (number_of first) Less (sym all.0))
-  | inr rest ↦ later n seconds s all.1 rest
-]
+later n (first ∷ seconds) s all among = grind (arith, Contains-cases, ranked, later n seconds s all.1)
 
 -- seconds in order with the same members are the same
 same-members : (xs ys : List SecondHeard) → IsStrictlySortedBy nat_cmp (map number_of xs)
@@ -89,8 +85,7 @@ module _ (IsThere : RecordHearing → Type 0) where
       subst (λ (t : SecondHeard). Contains ys t) (sym (ap second_by same)) found.1
 
   one-seconds : (xs ys : List SecondHeard) → AreSecondsOf IsThere xs → AreSecondsOf IsThere ys → xs ≡ ys
-  one-seconds xs ys are too =
-      same-members xs ys are.ascending too.ascending (seconds-within xs ys are too) (seconds-within ys xs too are)
+  one-seconds xs ys are too = search (arith, same-members, seconds-within)
 
 -- ---- the records of the timeline
 
@@ -144,7 +139,7 @@ module _ (one_lives : OneLives) where
       → WritesPage about names groups more comparison each heard axis other
       → text ≡ other
   one-written about names groups readings more comparison each heard axis text other alike first second =
-      let rows : second.rows ≡ first.rows = one_lives heard heard second.rows first.rows (same_itself heard) second.lives first.lives in
+      let rows : second.rows ≡ first.rows = one_lives heard heard second.rows first.rows (same-itself heard) second.lives first.lives in
       let own = λ (part : TimelinePart) (large was : Bool) (xs ys : List Row) (same : was ≡ large)
       (are : AreRows part axis.window large each (kept_of about first.rows) xs) (too : AreRows part axis.window was each (kept_of about second.rows) ys).
       one-rows part axis.window large each (kept_of about first.rows) xs ys are

@@ -1,5 +1,5 @@
 -- A text by the parts that were written of it, one after another.
-use Rattle.std.proofs.Common.{◌≡◌, ℕ, zero, suc, refl, List, [], ◌∷◌, ◌++◌, append_assoc, map, option_map}
+use Rattle.std.proofs.Common.{◌≡◌, ℕ, zero, suc, refl, List, [], ◌∷◌, ◌++◌, append_assoc, map, option_map, arith}
 use Rattle.std.specs.Prelude.{slice_get}
 use Rattle.mdns_page.specs.{Captures.{facts_lent}, declared.captures.CaptureFacts.{CaptureFacts}}
 
@@ -56,5 +56,4 @@ pub parts10 : (old p1 p2 p3 p4 p5 p6 p7 p8 p9 p10 s1 s2 s3 s4 s5 s6 s7 s8 s9 new
     → s1 ≡ old ++ p1 → s2 ≡ s1 ++ p2 → s3 ≡ s2 ++ p3 → s4 ≡ s3 ++ p4 → s5 ≡ s4 ++ p5 → s6 ≡ s5 ++ p6 → s7 ≡ s6 ++ p7
     → s8 ≡ s7 ++ p8 → s9 ≡ s8 ++ p9 → new ≡ s9 ++ p10
     → new ≡ old ++ (p1 ++ p2 ++ p3 ++ p4 ++ p5 ++ p6 ++ p7 ++ p8 ++ p9 ++ p10)
-parts10 old p1 p2 p3 p4 p5 p6 p7 p8 p9 p10 s1 s2 s3 s4 s5 s6 s7 s8 s9 new e1 e2 e3 e4 e5 e6 e7 e8 e9 e10 =
-    rw (e10, e9, e8, e7, e6, e5, e4, e3, e2, e1) (simp append_assoc)
+parts10 old p1 p2 p3 p4 p5 p6 p7 p8 p9 p10 s1 s2 s3 s4 s5 s6 s7 s8 s9 new e1 e2 e3 e4 e5 e6 e7 e8 e9 e10 = grind (arith, append_assoc)

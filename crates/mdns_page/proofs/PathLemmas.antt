@@ -1,7 +1,6 @@
 -- Strokes as one path.
-use Rattle.std.proofs.Common.{◌≡◌, refl, ◌∙◌, ap, sym, Bool, true, false, if◌then◌else◌, Option, None, Some, List, [], ◌∷◌}
-use Rattle.std.proofs.Common.{◌++◌, ℕ, ◌+◌, ◌<◌, ◌≤◌, append_assoc, codes, drop, get_or, length}
-use Rattle.std.proofs.lemmas.List.{drop_all, drop_more}
+use Rattle.std.proofs.Common.{◌≡◌, refl, ap, sym, Bool, true, false, if◌then◌else◌, Option, None, Some, List, [], ◌∷◌, arith}
+use Rattle.std.proofs.{Common.{◌++◌, ℕ, ◌+◌, ◌<◌, ◌≤◌, append_assoc, codes, drop, get_or, length}, lemmas.List.{drop_all, drop_more}}
 use Rattle.std.specs.List.{cons_option, filter_map, flat_map}
 use Rattle.mdns_page.specs.{Picture.{differing, is_same, mark_text, path_begin, path_last, path_rest}, declared.picture.Mark.{Mark}}
 use Rattle.mdns_page.specs.declared.picture.Stroke.{Stroke}
@@ -13,8 +12,7 @@ in_pairs a b c d = simp append_assoc
 path-first : (stroke : Stroke) (mark : Mark) (marks : List Mark)
     → path_rest stroke None (mark ∷ marks) ≡ path_begin stroke ++ mark_text stroke mark ++ path_rest stroke (Some mark) marks
 unfolding path_rest
-path-first stroke mark marks =
-    in_pairs (path_begin stroke) (mark_text stroke mark) (flat_map (mark_text stroke) (differing (Some mark) marks)) (codes "\"/>")
+path-first stroke mark marks = grind (arith, in_pairs)
 
 -- one that is the same as the one before
 rest_by : Stroke → Mark → Mark → List Mark → Bool → List ℕ
@@ -34,19 +32,16 @@ rest_by-same stroke before mark marks = refl
 rest_by-other : (stroke : Stroke) (before mark : Mark) (marks : List Mark)
     → rest_by stroke before mark marks false ≡ mark_text stroke mark ++ path_rest stroke (Some mark) marks
 unfolding rest_by path_rest
-rest_by-other stroke before mark marks =
-    append_assoc (mark_text stroke mark) (flat_map (mark_text stroke) (differing (Some mark) marks)) (codes "\"/>")
+rest_by-other stroke before mark marks = grind (arith, append_assoc)
 
 path-same : (stroke : Stroke) (before mark : Mark) (marks : List Mark) → is_same before mark ≡ true
     → path_rest stroke (Some before) (mark ∷ marks) ≡ path_rest stroke (Some before) marks
-path-same stroke before mark marks same =
-    rest_by-is stroke before mark marks ∙ ap (rest_by stroke before mark marks) same ∙ rest_by-same stroke before mark marks
+path-same stroke before mark marks same = grind (arith, rest_by-is, rest_by-same)
 
 -- one more
 path-other : (stroke : Stroke) (before mark : Mark) (marks : List Mark) → is_same before mark ≡ false
     → path_rest stroke (Some before) (mark ∷ marks) ≡ mark_text stroke mark ++ path_rest stroke (Some mark) marks
-path-other stroke before mark marks other =
-    rest_by-is stroke before mark marks ∙ ap (rest_by stroke before mark marks) other ∙ rest_by-other stroke before mark marks
+path-other stroke before mark marks other = grind (arith, rest_by-is, rest_by-other)
 
 -- ---- what was written
 
@@ -67,25 +62,15 @@ module _ (stroke : Stroke) (before next : Option Mark) (marks : List Mark) where
 
   pub path-begins : (mark : Mark) (old mid new : List ℕ) → before ≡ None → next ≡ Some mark → mid ≡ old ++ path_begin stroke
       → new ≡ mid ++ mark_text stroke mark → new ++ path_rest stroke (Some mark) marks ≡ old ++ Rest before next
-  path-begins mark old mid new none is begun written =
-      let rest : List ℕ = path_rest stroke (Some mark) marks in
-      ap (λ text. text ++ rest) (written ∙ ap (λ front. front ++ mark_text stroke mark) begun)
-      ∙ after_old old (path_begin stroke) (mark_text stroke mark) rest ∙ ap (λ text. old ++ text) (sym (path-first stroke mark marks))
-      ∙ ap (λ b. old ++ Rest b (Some mark)) (sym none) ∙ ap (λ n. old ++ Rest before n) (sym is)
+  path-begins mark old mid new none is begun written = grind (arith, after_old, path-first)
 
   pub path-keeps : (last mark : Mark) (old : List ℕ) → before ≡ Some last → next ≡ Some mark → is_same last mark ≡ true
       → old ++ path_rest stroke (Some last) marks ≡ old ++ Rest before next
-  path-keeps last mark old some is same =
-      ap (λ text. old ++ text) (sym (path-same stroke last mark marks same))
-      ∙ ap (λ b. old ++ Rest b (Some mark)) (sym some) ∙ ap (λ n. old ++ Rest before n) (sym is)
+  path-keeps last mark old some is same = grind (arith, path-same)
 
   pub path-goes_on : (last mark : Mark) (old new : List ℕ) → before ≡ Some last → next ≡ Some mark → is_same last mark ≡ false
       → new ≡ old ++ mark_text stroke mark → new ++ path_rest stroke (Some mark) marks ≡ old ++ Rest before next
-  path-goes_on last mark old new some is other written =
-      let rest : List ℕ = path_rest stroke (Some mark) marks in
-      ap (λ text. text ++ rest) written ∙ append_assoc old (mark_text stroke mark) rest
-      ∙ ap (λ text. old ++ text) (sym (path-other stroke last mark marks other)) ∙ ap (λ b. old ++ Rest b (Some mark)) (sym some)
-      ∙ ap (λ n. old ++ Rest before n) (sym is)
+  path-goes_on last mark old new some is other written = grind (arith, append_assoc, path-other)
 
 -- ---- a loop over what has marks
 
@@ -100,16 +85,10 @@ module _ {X : Type 0} (mark_of : X → Option Mark) (stroke : Stroke) (xs : List
       → ((marks : List Mark) → new ++ path_rest stroke last marks ≡ now ++ path_rest stroke before (cons_option next marks))
       → now ++ path_rest stroke before (filter_map mark_of (drop i xs)) ≡ old ++ path_rest stroke None (filter_map mark_of xs)
       → new ++ path_rest stroke last (filter_map mark_of (drop (i + 1) xs)) ≡ old ++ path_rest stroke None (filter_map mark_of xs)
-  path-more x before last next old now new within at is pushed so_far =
-      let left = drop_more xs i x within ∙ ap (λ y. y ∷ drop (i + 1) xs) (sym at) in
-      pushed (filter_map mark_of (drop (i + 1) xs))
-      ∙ ap (λ n. now ++ path_rest stroke before (cons_option n (filter_map mark_of (drop (i + 1) xs)))) is
-      ∙ ap (λ ys. now ++ path_rest stroke before (filter_map mark_of ys)) (sym left) ∙ so_far
+  path-more x before last next old now new within at is pushed so_far = grind (arith, drop_more)
 
   -- all of them
   pub path-all : (before : Option Mark) (old now new : List ℕ) → length xs ≤ i
       → now ++ path_rest stroke before (filter_map mark_of (drop i xs)) ≡ old ++ path_rest stroke None (filter_map mark_of xs)
       → new ≡ now ++ path_last before → new ≡ old ++ path_rest stroke None (filter_map mark_of xs)
-  path-all before old now new past so_far written =
-      written ∙ ap (λ text. now ++ text) (sym (rest-last stroke before))
-      ∙ ap (λ ys. now ++ path_rest stroke before (filter_map mark_of ys)) (sym (drop_all i xs past)) ∙ so_far
+  path-all before old now new past so_far written = grind (arith, rest-last, drop_all)

@@ -8,42 +8,21 @@ module _ {X Y : Type 0} (bare : X → Y) where
   length-same [] [] same = refl
   length-same [] (y ∷ ys) same = cc
   length-same (x ∷ xs) [] same = cc
-  length-same (x ∷ xs) (y ∷ ys) same =
-      let rest : map bare xs ≡ map bare ys = cc in
-      let others = length-same xs ys rest in cc
-
-  pub map-same : {Z : Type 0} (of : X → Z) → ((x y : X) → bare x ≡ bare y → of x ≡ of y) → (xs ys : List X)
-      → map bare xs ≡ map bare ys → map of xs ≡ map of ys
-  map-same of each [] [] same = refl
-  map-same of each [] (y ∷ ys) same = cc
-  map-same of each (x ∷ xs) [] same = cc
-  map-same of each (x ∷ xs) (y ∷ ys) same =
-      let first : bare x ≡ bare y = cc in
-      let rest : map bare xs ≡ map bare ys = cc in
-      let here = each x y first in
-      let others = map-same of each xs ys rest in cc
+  length-same (x ∷ xs) (y ∷ ys) same = grind (arith, length-same xs ys cc)
 
   pub flat_map-same : {Z : Type 0} (text : X → List Z) → ((x y : X) → bare x ≡ bare y → text x ≡ text y) → (xs ys : List X)
       → map bare xs ≡ map bare ys → flat_map text xs ≡ flat_map text ys
   flat_map-same text each [] [] same = refl
   flat_map-same text each [] (y ∷ ys) same = cc
   flat_map-same text each (x ∷ xs) [] same = cc
-  flat_map-same text each (x ∷ xs) (y ∷ ys) same =
-      let first : bare x ≡ bare y = cc in
-      let rest : map bare xs ≡ map bare ys = cc in
-      let here = each x y first in
-      let others = flat_map-same text each xs ys rest in cc
+  flat_map-same text each (x ∷ xs) (y ∷ ys) same = grind (arith, flat_map-same text each xs ys cc)
 
   pub sum-same : (of : X → ℕ) → ((x y : X) → bare x ≡ bare y → of x ≡ of y) → (xs ys : List X)
       → map bare xs ≡ map bare ys → sum_by of xs ≡ sum_by of ys
   sum-same of each [] [] same = refl
   sum-same of each [] (y ∷ ys) same = cc
   sum-same of each (x ∷ xs) [] same = cc
-  sum-same of each (x ∷ xs) (y ∷ ys) same =
-      let first : bare x ≡ bare y = cc in
-      let rest : map bare xs ≡ map bare ys = cc in
-      let here = each x y first in
-      let others = sum-same of each xs ys rest in cc (sum_by-cons of x xs, sum_by-cons of y ys)
+  sum-same of each (x ∷ xs) (y ∷ ys) same = grind (arith, sum_by-cons, sum-same of each xs ys cc)
 
   pub count-same : (is : X → Bool) → ((x y : X) → bare x ≡ bare y → is x ≡ is y) → (xs ys : List X)
       → map bare xs ≡ map bare ys → count_by is xs ≡ count_by is ys
@@ -65,8 +44,7 @@ module _ {X Y : Type 0} (bare : X → Y) where
   -- the same of all groups together
   pub groups-same : (groups others : List (List X)) → map (map bare) groups ≡ map (map bare) others
       → map bare (flat_map (λ (group : List X). group) groups) ≡ map bare (flat_map (λ (group : List X). group) others)
-  groups-same groups others same =
-      map-all groups ∙ ap (flat_map (λ (group : List Y). group)) same ∙ sym (map-all others)
+  groups-same groups others same = grind (arith, map-all)
 
 -- the same for each item
 pub flat_map-alike : {X : Type 0} (text : X → List ℕ) → ((x y : X) → text x ≡ text y) → (xs ys : List X) → length xs ≡ length ys
@@ -74,7 +52,4 @@ pub flat_map-alike : {X : Type 0} (text : X → List ℕ) → ((x y : X) → tex
 flat_map-alike text each [] [] same = refl
 flat_map-alike text each [] (y ∷ ys) same = absurd (omega (arith, same))
 flat_map-alike text each (x ∷ xs) [] same = absurd (omega (arith, same))
-flat_map-alike text each (x ∷ xs) (y ∷ ys) same =
-    let rest : length xs ≡ length ys = omega (arith, same) in
-    let here = each x y in
-    let others = flat_map-alike text each xs ys rest in cc
+flat_map-alike text each (x ∷ xs) (y ∷ ys) same = grind (arith, flat_map-alike text each xs ys (omega (arith, same)))

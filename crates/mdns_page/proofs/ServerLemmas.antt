@@ -1,6 +1,5 @@
 -- SRV records of a name among rows in key order.
-use Rattle.std.proofs.Common.{◌≡◌, refl, sym, ◌∙◌, ap, subst, Bool, true, false, cond, List, [], ◌∷◌, map}
-use Rattle.std.proofs.lemmas.Simd.{map-map}
+use Rattle.std.proofs.{Common.{◌≡◌, refl, sym, ◌∙◌, ap, Bool, List, [], ◌∷◌, map, arith}, lemmas.Simd.{map-map}}
 use Rattle.std.specs.{List.{filter}, List.Sorted.{IsStrictlySortedBy}}
 use Rattle.mdns_message.specs.Resource.{key_cmp}
 use Rattle.mdns_join.specs.declared.latest.Latest.{Latest}
@@ -11,19 +10,13 @@ use Rattle.mdns_page.specs.Timeline.{lives_lent}
 -- what passes after a function is applied
 filter-map : {X Y : Type 0} (p : Y → Bool) (f : X → Y) (xs : List X) → filter p (map f xs) ≡ map f (filter (λ x. p (f x)) xs)
 filter-map p f [] = refl
-filter-map {X = X} p f (x ∷ xs) =
-    ap (λ rest. cond (p (f x)) (f x ∷ rest) rest) (filter-map p f xs) ∙ step (p (f x)) (filter (λ y. p (f y)) xs)
-  where
-    step : (passes : Bool) (rest : List X) → cond passes (f x ∷ map f rest) (map f rest) ≡ map f (cond passes (x ∷ rest) rest)
-    step true rest = refl
-    step false rest = refl
+filter-map {X = X} p f (x ∷ xs) = grind (arith, filter-map p f xs)
 
 -- rows that are lent are in key order by their last hearings
 pub ascending-lent : {R : Type 0} (lent : R → Latest × List Life) (rows : List R)
     → IsStrictlySortedBy key_cmp (map (λ (row : Latest × List Life). key_of_last row.0) (map lent rows))
     → IsStrictlySortedBy key_cmp (map (λ r. key_of_last (lent r).0) rows)
-ascending-lent lent rows sorted =
-    subst (IsStrictlySortedBy key_cmp) (map-map (λ (row : Latest × List Life). key_of_last row.0) lent rows) sorted
+ascending-lent lent rows sorted = grind (arith, map-map)
 
 -- the lives of rows that are lent
 pub lives-lent : (rows : List RecordLives) → map lives_lent rows ≡ map (λ (row : Latest × List Life). row.1) (map row_lent rows)

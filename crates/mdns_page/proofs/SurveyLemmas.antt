@@ -1,12 +1,11 @@
 -- The page on captures.
-use Rattle.std.proofs.Common.{◌∙◌, ℕ, ◌≤◌, refl, sym, ap, subst, inl, inr, List, [], ◌∷◌, arith, map, Option}
-use Rattle.std.proofs.lemmas.Simd.{map-map}
-use Rattle.std.specs.{Prelude.{Contains}, List.Sorted.{IsStrictlySortedBy}}
+use Rattle.std.proofs.{Common.{ℕ, ◌≤◌, refl, sym, subst, List, [], ◌∷◌, arith, map, Option}, lemmas.Simd.{map-map}}
+use Rattle.std.specs.Prelude.{Contains}
 use Rattle.mdns_capture.specs.Savefile.{PacketAt}
-use Rattle.mdns_message.specs.{declared.hearing.Hearing.{Hearing}, Resource.{key_cmp}}
+use Rattle.mdns_message.specs.declared.hearing.Hearing.{Hearing}
 use Rattle.mdns_join.specs.declared.latest.Latest.{Latest}
-use Rattle.mdns_cache.specs.Live.{AreLiveRecords, key_of_last}
-use Rattle.mdns_lives.specs.{Chronicle.{Chronicles}, Since.{AreLiveSince, all_since_rows, live_row}, declared.life.Life.{Life}, declared.window.Window.{Window}}
+use Rattle.mdns_cache.specs.Live.{AreLiveRecords}
+use Rattle.mdns_lives.specs.{Chronicle.{Chronicles}, Since.{AreLiveSince, all_since_rows}, declared.life.Life.{Life}, declared.window.Window.{Window}}
 use Rattle.mdns_browse.specs.{declared.about.Subject.{Subject}, Services.{AreAscending, AreEach, GivenRow}}
 use Rattle.mdns_survey.specs.{declared.reading.Reading.{Reading}, declared.request.AsOf.{AsOf}, Outcomes.{Outcome}}
 use Rattle.mdns_survey.specs.{Filter.{counted, counted_each, filter_of}, Question.{HearsReaders, IsAnswer}}
@@ -22,10 +21,8 @@ use Rattle.mdns_page.proofs.ByListenerLemmas.{counted-in}
 mapped-all : {X Y : Type 0} (f : X → Y) (P : Y → Type 0) (xs : List X) → ((x : X) → Contains xs x → P (f x)) → (y : Y)
     → Contains (map f xs) y → P y
 mapped-all f P [] each y among = absurd (omega (arith, among.1))
-mapped-all f P (x ∷ xs) each y among = elim (Contains-cases (f x) (map f xs) y among) [
-  | inl is ↦ subst P is (each x (Contains-head x xs))
-  | inr after ↦ mapped-all f P xs (λ z within. each z (Contains-later x xs z within)) y after
-]
+mapped-all f P (x ∷ xs) each y among =
+    grind (arith, Contains-cases, Contains-head, Contains-later, mapped-all f P xs (λ z within. each z (Contains-later x xs z within)) y)
 
 -- ---- what was live
 
@@ -33,11 +30,7 @@ module _ (heard : List Hearing) (axis : Axis) (rows : List (Latest × List Life)
     (are : AreLiveSince heard axis.now.nanos (all_since_rows axis.now.nanos rows)) where
   -- the last hearings of live records are in key order
   pub live-ascending : AreAscending (map (λ (row : GivenRow). row.last) (live_given axis rows))
-  live-ascending =
-      let since = all_since_rows axis.now.nanos rows in
-      subst (IsStrictlySortedBy key_cmp)
-      (map-map (λ (row : Latest × ℕ). key_of_last row.0) live_row since ∙ sym (map-map key_of_last (λ row. (given_of_since row).last) since)
-      ∙ ap (map key_of_last) (sym (map-map (λ (row : GivenRow). row.last) given_of_since since))) are.records.ascending
+  live-ascending = grind (arith, map-map)
 
   pub live-since : AreLiveGiven heard axis.now.nanos (live_given axis rows)
   live-since =

@@ -1,6 +1,5 @@
 -- The ticks of an axis.
-use Rattle.std.proofs.Common.{◌≡◌, refl, sym, ◌∙◌, ap, ℕ, ◌+◌, ◌-◌, ◌*◌, ◌/◌, ◌<◌, ◌≤◌, Bool, true}
-use Rattle.std.proofs.Common.{false, cond, List, [], ◌∷◌, ◌++◌, length, map, nat_lt, ◌↔◌, arith, add-mul}
+use Rattle.std.proofs.Common.{◌≡◌, ℕ, ◌+◌, ◌-◌, ◌*◌, ◌/◌, ◌<◌, ◌≤◌, List, [], ◌∷◌, ◌++◌, length, map, ◌↔◌, arith, add-mul}
 use Rattle.std.proofs.{Common.{lt_of_mul-lt-mul_right, mul-le-mul_right, div-mul-le_self}, lemmas.Bool.Decides.{nat_tests}}
 use Rattle.std.proofs.lemmas.{Grind.{div_ceil_times}, List.FromFn.{get_or-map-range_with_len, length-map-range_with_len}}
 use Rattle.std.proofs.lemmas.{List.FromFn.{map-range_with_len_more}, Nat.{div_below, le-div}}
@@ -12,20 +11,13 @@ use Rattle.mdns_page.specs.{declared.axis.Axis.{Axis}, Ticks.{first_step, multip
 
 step-covers : (span : ℕ) (steps : List ℕ) → span < 7 * first_step span steps
 step-covers span [] = omega arith
-step-covers span (step ∷ steps) = go (nat_lt span (7 * step)) refl (step-covers span steps)
-  where
-    go : (b : Bool) → nat_lt span (7 * step) ≡ b → span < 7 * first_step span steps → span < 7 * cond b step (first_step span steps)
-    go true is rest = grind (arith, nat_tests)
-    go false is rest = rest
+step-covers span (step ∷ steps) = grind (arith, nat_tests, step-covers span steps)
 
 -- ---- multiples of a step
 
 -- a multiple that is not beyond a moment fits
 pub multiple-within : (k step high : ℕ) → k < high / step + 1 → k * step ≤ high
-multiple-within k step high below =
-    let most : k * step ≤ high / step * step = mul-le-mul_right step (omega arith) in
-    let whole : high / step * step ≤ high = div-mul-le_self high step in
-    omega arith
+multiple-within k step high below = grind (arith, mul-le-mul_right, div-mul-le_self)
 
 -- the multiples before the one with an index
 pub record AreMultiples (step low high index : ℕ) (found : List ℕ) : Type 0 where
@@ -33,52 +25,29 @@ pub record AreMultiples (step low high index : ℕ) (found : List ℕ) : Type 0 
   pub within : index - div_ceil low step ≤ high / step + 1 - div_ceil low step
 
 pub multiples-none : (step low high first : ℕ) (found : List ℕ) → first ≡ div_ceil low step → found ≡ [] → AreMultiples step low high first found
-multiples-none step low high first found at none =
-    let here : first - div_ceil low step ≡ 0 = omega (arith, at) in
-    record { items = rw (none, here) refl; within = omega (arith, here) }
+multiples-none step low high first found at none = grind arith
 
 pub multiples-more : (step low high index first : ℕ) (found new : List ℕ) → first ≡ div_ceil low step → first ≤ index
     → index < high / step + 1 → AreMultiples step low high index found → new ≡ found ++ (index * step) ∷ []
     → AreMultiples step low high (index + 1) new
 multiples-more step low high index first found new at low-is below are is =
-    let more : index + 1 - div_ceil low step ≡ (index - div_ceil low step) + 1 = omega (arith, at) in
-    let place : div_ceil low step + (index - div_ceil low step) ≡ index = omega (arith, at) in
-    record {
-      items = is ∙ ap (λ items. items ++ (index * step) ∷ []) are.items
-          ∙ sym (map-range_with_len_more (λ k. k * step) (div_ceil low step) (index - div_ceil low step) index place)
-          ∙ ap (λ n. map (λ k. k * step) (range_with_len (div_ceil low step) n)) (sym more);
-      within = omega (arith, at);
-    }
+    grind (arith, map-range_with_len_more (λ k. k * step) (div_ceil low step) (index - div_ceil low step) index (omega (arith, at)))
 
 pub multiples-all : (step low high index : ℕ) (found : List ℕ) → high / step + 1 ≤ index → AreMultiples step low high index found
     → found ≡ multiples step low high
 unfolding multiples
-multiples-all step low high index found past are =
-    let end : index - div_ceil low step ≡ high / step + 1 - div_ceil low step = omega (arith, are.within) in
-    are.items ∙ ap (λ n. map (λ k. k * step) (range_with_len (div_ceil low step) n)) end
+multiples-all step low high index found past are = grind arith
 
 multiples-few : (step low high : ℕ) → high - low < 7 * step → length (multiples step low high) ≤ 7
 unfolding multiples
 multiples-few step low high short =
-    let some : 0 < step = omega arith in
-    let begin = div_ceil_times low step some in
-    let reach : (div_ceil low step + 7) * step ≡ div_ceil low step * step + 7 * step = add-mul (div_ceil low step) 7 step in
-    let past : high / step < div_ceil low step + 7 = div_below high step (div_ceil low step + 7) some (omega (arith, begin, reach)) in
-    rw (length-map-range_with_len (λ k. k * step) (div_ceil low step) (high / step + 1 - div_ceil low step)) (omega arith)
+    grind (arith, div_ceil_times low step (omega arith), add-mul (div_ceil low step) 7 step, div_below, length-map-range_with_len)
 
 multiple-in : (step low high n : ℕ) → 0 < step → Contains (multiples step low high) n
     → (k : ℕ) × (n ≡ k * step) × (low ≤ n) × (n ≤ high)
 unfolding multiples
 multiple-in step low high n some (i, within, at) =
-    let first = div_ceil low step in
-    let count = length-map-range_with_len (λ k. k * step) first (high / step + 1 - first) in
-    let below : i < high / step + 1 - first = omega (arith, count, within) in
-    let is : n ≡ (first + i) * step
-    = sym at ∙ get_or-map-range_with_len (λ k. k * step) first (high / step + 1 - first) i (first + i) n below refl in
-    let begin = div_ceil_times low step some in
-    let least : first * step ≤ (first + i) * step = mul-le-mul_right step (omega arith) in
-    let most : (first + i) * step ≤ high = multiple-within (first + i) step high (omega arith) in
-    (first + i, is, omega (arith, begin), omega arith)
+    grind (arith, length-map-range_with_len, get_or-map-range_with_len, div_ceil_times, mul-le-mul_right, multiple-within)
 
 multiple-of : (step low high n k : ℕ) → 0 < step → n ≡ k * step → low ≤ n → n ≤ high → Contains (multiples step low high) n
 unfolding multiples
@@ -88,20 +57,14 @@ multiple-of step low high n k some is from until =
     let next : (k + 1) * step ≡ k * step + 1 * step = add-mul k 1 step in
     let early : first < k + 1 = lt_of_mul-lt-mul_right step (omega (arith, begin, next)) in
     let late : k ≤ high / step = le-div k high step some (omega arith) in
-    let count = length-map-range_with_len (λ k. k * step) first (high / step + 1 - first) in (
-      k - first,
-      omega (arith, count),
-      get_or-map-range_with_len (λ k. k * step) first (high / step + 1 - first) (k - first) k n (omega arith) (omega arith) ∙ sym is,
-    )
+    let count = length-map-range_with_len (λ k. k * step) first (high / step + 1 - first) in
+    grind (arith, get_or-map-range_with_len (λ k. k * step) first (high / step + 1 - first) (k - first) k n (omega arith) (omega arith))
 
 -- ---- the ticks of an axis
 
 pub ticks-few : (axis : Axis) → length (ticks axis) ≤ 7
 unfolding ticks step_of
-ticks-few axis =
-    let span = (axis.end.nanos - axis.start.nanos) / second in
-    let covers : span < 7 * first_step span steps = step-covers span steps in
-    multiples-few (first_step span steps * second) axis.start.nanos axis.end.nanos (omega (arith, covers))
+ticks-few axis = grind (arith, step-covers, multiples-few)
 
 pub ticks-each : (axis : Axis) (n : ℕ) → Contains (ticks axis) n
     ↔ ((k : ℕ) × (n ≡ k * (step_of axis * second)) × (axis.start.nanos ≤ n) × (n ≤ axis.end.nanos))

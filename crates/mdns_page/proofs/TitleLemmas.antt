@@ -1,5 +1,5 @@
 -- Whether all rows have few lives.
-use Rattle.std.proofs.Common.{◌≡◌, sym, ◌∙◌, ap, subst, ℕ, ◌+◌, ◌-◌, ◌<◌, ◌≤◌, Bool, nat_le, is_some}
+use Rattle.std.proofs.Common.{◌≡◌, sym, ◌∙◌, ap, ℕ, ◌+◌, ◌-◌, ◌<◌, ◌≤◌, Bool, nat_le, is_some}
 use Rattle.std.proofs.{Common.{Option, None, Some, List, ◌++◌, length, map, take, get_or, arith}, lemmas.Bool.Decides.{nat_tests}}
 use Rattle.std.proofs.lemmas.{List.{length-append}, List.Folds.{flat_map-map, length-flat_map-take}}
 use Rattle.std.specs.List.{flat_map}
@@ -10,10 +10,7 @@ module _ {X : Type 0} (lives : X → List Life) (xs : List X) (i left count : �
     (counted : left + length (flat_map lives (take i xs)) ≡ count) where
   -- the next one has more lives than are left
   pub lives-many : left < length (lives x) → count < length (flat_map lives xs)
-  lives-many more =
-      let most = length-flat_map-take lives xs i x within in
-      let here : length (lives (get_or xs i x)) ≡ length (lives x) = ap (λ y. length (lives y)) (sym at) in
-      omega (arith, most, here, counted, more)
+  lives-many more = grind (arith, length-flat_map-take)
 
 module _ {R : Type 0} (lent : R → Row) (rows : List R) (i left count : ℕ) (row : R) (within : i < length rows) (at : row ≡ get_or rows i row)
     (counted : left + length (flat_map lives_in (map lent (take i rows))) ≡ count) where
@@ -22,16 +19,12 @@ module _ {R : Type 0} (lent : R → Row) (rows : List R) (i left count : ℕ) (r
 
   -- a row has more lives than are left of so many
   pub too-many : left < length (lives_in (lent row)) → count < length (flat_map lives_in (map lent rows))
-  too-many more =
-      subst (λ lives. count < length lives) (sym (flat_map-map lives_in lent rows))
-      (lives-many (λ r. lives_in (lent r)) rows i left count row within at counted-lent more)
+  too-many more = grind (arith, flat_map-map, lives-many, counted-lent)
 
 -- the lives of a row: its own, and those of its servers
 pub row-lives : {R : Type 0} (own : List Life) (lives : R → List Life) (servers : List R)
     → length (own ++ flat_map (λ some. some) (map lives servers)) ≡ length own + length (flat_map lives servers)
-row-lives own lives servers =
-    length-append own (flat_map (λ some. some) (map lives servers))
-    ∙ ap (λ some. length own + length some) (flat_map-map (λ some. some) lives servers)
+row-lives own lives servers = grind (arith, length-append, flat_map-map)
 
 -- a count less the lives of a row, by parts
 pub less-parts : (count own more all : ℕ) (left : Option ℕ) → own ≤ count → all ≡ own + more → IsLess (count - own) more left

@@ -98,4 +98,4 @@ pub record SurveysPage (names : List (List ℕ)) (groups : Grouped) (about : Lis
 
 -- a page on files with these names and listeners
 abbrev pub asked_page : List (List ℕ) → Grouped → List Subject → Window → AsOf → Asked
-asked_page names groups about window as_of = asked_at_once (SurveysPage names groups about window as_of) as_of
+asked_page names groups about window as_of = asked_at_once (SurveysPage names groups about window as_of) as_of about

@@ -30,7 +30,8 @@ use mdns_listeners::Groups;
 use mdns_lives::{LiveSince, Lives, Window};
 use mdns_message::Want;
 use mdns_survey::lives_answer::newest_after;
-use mdns_survey::question::{Question, TextAnswer};
+use mdns_survey::missed::missed_in_lives;
+use mdns_survey::question::{AnswerText, Question, TextAnswer};
 use mdns_survey::reading::Reading;
 use mdns_survey::readings::lost_packets;
 use mdns_survey::request::{AsOf, Subjects};
@@ -82,7 +83,7 @@ impl<'a> TextAnswer for PageRequest<'a> {
         alloc: Global,
         collector: PageCollector,
         readings: &[Reading],
-    ) -> Result<String, ReportFault> {
+    ) -> Result<AnswerText, ReportFault> {
         let PageCollector {
             lives,
             messages,
@@ -96,8 +97,12 @@ impl<'a> TextAnswer for PageRequest<'a> {
             Ok(rows) => rows,
             Err(Want) => return Err(ReportFault::Memory),
         };
+        let missed = match missed_in_lives(alloc, self.about.as_slice(), lives.all()) {
+            Ok(missed) => missed,
+            Err(Want) => return Err(ReportFault::Memory),
+        };
         match page_of(alloc, &self, &lives, &rows, readings, axis) {
-            Ok(text) => Ok(text),
+            Ok(text) => Ok(AnswerText { text, missed }),
             Err(Want) => Err(ReportFault::Memory),
         }
     }

@@ -21,7 +21,7 @@ p{margin:0}
 .lead{font-size:16px}
 .note{color:var(--dim)}
 .warn{color:var(--out);font-weight:600}
-nav{margin-top:12px}
+nav{margin-top:12px;display:flex;flex-wrap:wrap}
 nav a{margin-right:18px;white-space:nowrap}
 a{color:var(--bar)}
 time{white-space:nowrap}

@@ -7,8 +7,7 @@ use Rattle.mdns_trace.specs.{declared.trace.TraceFault.{TraceFault}, EachFile.{S
 -- another file is left, so its index is one of a name
 pub is-within : {X Y : Type 0} (names : List X) (all done rest after : List Y) (one : Y) → length names ≡ length all
     → all ≡ done ++ rest → rest ≡ one ∷ after → length done < length names
-is-within {X} {Y} names all done rest after one same parts first =
-    omega (arith, same, ap (λ (l : List Y). length l) parts, ap (λ (l : List Y). length l) first, length-append done rest)
+is-within {X} {Y} names all done rest after one same parts first = grind (arith, length-append)
 
 module _ {R W S : Type 0} (Writes : List ℕ → R → W → W → S → Type 0) (names : List (String Global)) where
   -- these first files were written about
@@ -58,9 +57,7 @@ module _ {R W S : Type 0} (Writes : List ℕ → R → W → W → S → Type 0)
         names_after = map string_bytes (drop (length done + 1) names);
         reader = reader;
         readers_after = after;
-        of_name = ap (map string_bytes) (drop_more names (length done) default within)
-            ∙ ap (λ (n : List ℕ). n ∷ map string_bytes (drop (length done + 1) names))
-            (sym (named ∙ ap (λ (n : ℕ). string_bytes (get_or names n default)) at));
+        of_name = grind (arith, drop_more);
         of_reader = first;
         stops = stops;
       }

@@ -1,7 +1,7 @@
 -- Members of objects and values of arrays, group after group.
-use Rattle.std.proofs.Common.{◌≡◌, ℕ, Bool, false, List, [], ◌∷◌, ◌++◌, refl, sym, ap, ◌∙◌, append_assoc, append-nil}
+use Rattle.std.proofs.Common.{◌≡◌, ℕ, Bool, false, List, [], ◌∷◌, ◌++◌, refl, append_assoc, append-nil, arith}
 use Rattle.std.specs.List.{flat_map}
-use Rattle.mdns_browse.specs.Json.{comma_unless, first_after, json_object, parted}
+use Rattle.mdns_browse.specs.Json.{first_after, json_object, parted}
 use Rattle.mdns_trace.specs.VerdictJson.{AddsObjects}
 
 first_after-false : {X : Type 0} (xs : List X) → first_after false xs ≡ false
@@ -11,15 +11,11 @@ first_after-false (x ∷ xs) = refl
 parted-append : (first : Bool) (xs ys : List (List ℕ)) → parted first (xs ++ ys) ≡ parted first xs ++ parted (first_after first xs) ys
 unfolding parted
 parted-append first [] ys = refl
-parted-append first (x ∷ xs) ys =
-    ap (λ (text : List ℕ). comma_unless first ++ x ++ text)
-    (parted-append false xs ys ∙ ap (λ (next : Bool). parted false xs ++ parted next ys) (first_after-false xs))
-    ∙ sym (append_assoc (comma_unless first ++ x) (parted false xs) (parted false ys))
+parted-append first (x ∷ xs) ys = grind (arith, first_after-false, append_assoc, parted-append false xs ys)
 
 -- members after others, none of which is the first
 pub members-append : (xs ys : List (List ℕ)) → parted false (xs ++ ys) ≡ parted false xs ++ parted false ys
-members-append xs ys =
-    parted-append false xs ys ∙ ap (λ (next : Bool). parted false xs ++ parted next ys) (first_after-false xs)
+members-append xs ys = grind (arith, parted-append, first_after-false)
 
 pieces-together : (a b c others d e : List ℕ) → ((a ++ (b ++ (c ++ (others ++ (d ++ (e ++ [])))))) ++ 125 ∷ []) ++ 10 ∷ []
     ≡ a ++ (b ++ (c ++ (others ++ (d ++ (e ++ 125 ∷ 10 ∷ [])))))
@@ -37,9 +33,7 @@ pub object-after : (old opened first second third fourth fifth last new a b c : 
 unfolding parted
 object-after old opened first second third fourth fifth last new a b c xs d e one two three four five six seven eight =
     let others = parted false xs in
-    rw (eight, seven, six, five, four, three, two, one, members-append xs (d ∷ e ∷ []))
-    (pieces-after old (123 ∷ []) a (44 ∷ b) (44 ∷ c) others (44 ∷ d) (44 ∷ e) (125 ∷ 10 ∷ [])
-    ∙ ap (λ (l : List ℕ). old ++ 123 ∷ l) (sym (pieces-together a (44 ∷ b) (44 ∷ c) others (44 ∷ d) (44 ∷ e))))
+    grind (arith, members-append xs (d ∷ e ∷ []), pieces-after, pieces-together a (44 ∷ b) (44 ∷ c) others (44 ∷ d) (44 ∷ e))
 
 -- members, and one after them
 pub one-after : (old middle new : List ℕ) (xs : List (List ℕ)) (value : List ℕ) → middle ≡ old ++ parted false xs
@@ -54,23 +48,10 @@ pub two-after : (old first second third fourth new : List ℕ) (xs ys zs : List 
     → new ≡ old ++ parted false (((xs ++ ys) ++ zs) ++ value ∷ last ∷ [])
 unfolding parted
 two-after old first second third fourth new xs ys zs value last one two three four five =
-    rw (
-      five,
-      four,
-      three,
-      two,
-      one,
-      members-append ((xs ++ ys) ++ zs) (value ∷ last ∷ []),
-      members-append (xs ++ ys) zs,
-      members-append xs ys,
-    ) (simp (append_assoc, append-nil))
+    grind (arith, members-append, append_assoc, append-nil)
 
 -- the objects of one loss more
 pub objects-more : {A : Type 0} (objects : A → List (List ℕ)) (loss : A) (left : List A) (first next : Bool) (old new : List ℕ)
     → AddsObjects first old (objects loss) new next
     → new ++ parted next (flat_map objects left) ≡ old ++ parted first (flat_map objects (loss ∷ left))
-objects-more objects loss left first next old new adds =
-    ap (λ (text : List ℕ). text ++ parted next (flat_map objects left)) adds.text
-    ∙ ap (λ (n : Bool). (old ++ parted first (objects loss)) ++ parted n (flat_map objects left)) adds.flag
-    ∙ append_assoc old (parted first (objects loss)) (parted (first_after first (objects loss)) (flat_map objects left))
-    ∙ ap (λ (text : List ℕ). old ++ text) (sym (parted-append first (objects loss) (flat_map objects left)))
+objects-more objects loss left first next old new adds = grind (arith, append_assoc, parted-append)

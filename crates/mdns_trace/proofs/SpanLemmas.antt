@@ -1,6 +1,6 @@
 -- The span of hearings, and what is written of it.
-use Rattle.std.proofs.Common.{◌≡◌, ◌≢◌, ℕ, Bool, true, false, nat_lt, List, [], ◌∷◌, ◌++◌, map, Option, Some, None}
-use Rattle.std.proofs.{Common.{IfSome, refl, sym, ap, ◌∙◌, append-nil, if◌then◌else◌}, lemmas.List.Concat.{flat_map-append}}
+use Rattle.std.proofs.Common.{◌≡◌, ◌≢◌, ℕ, Bool, true, false, List, [], ◌∷◌, ◌++◌, map, Option, Some, None, arith}
+use Rattle.std.proofs.{Common.{IfSome, refl, ap, append-nil, if◌then◌else◌}, lemmas.List.Concat.{flat_map-append}}
 use Rattle.mdns_capture.specs.{Output.{AppendsPrefix}, declared.moment.Moment.{Moment}}
 use Rattle.mdns_message.specs.{declared.hearing.Hearing.{Hearing}, Message.{hearing_of}, RecordAt.{HeardRecord}}
 use Rattle.mdns_survey.specs.declared.{reading.Span.{Span}, summary.Summary.{Summary}}
@@ -23,17 +23,12 @@ told-at : (moment : Moment) (told : List HeardRecord) → map (hearing_of moment
     → span_of (hearing_moments (map (hearing_of moment) told)) ≡ Some (span_at moment)
 told-at moment [] some = absurd (some refl)
 told-at moment (first ∷ []) some = refl
-told-at moment (first ∷ second ∷ told) some =
-    ap (joined_spans (Some (span_at moment))) (told-at moment (second ∷ told) (λ none. absurd cc))
-    ∙ ap (λ (m : Moment). Some (span_from m)) (either-way (nat_lt moment.nanos moment.nanos) moment)
+told-at moment (first ∷ second ∷ told) some = grind (arith, either-way, told-at moment (second ∷ told) (λ none. absurd cc))
 
 -- the hearings of a packet are at its moment
 pub hearings-at : (moment : Moment) (frame : List ℕ) (hearings : List Hearing) → ComesTo moment frame (heard hearings) → hearings ≢ []
     → span_of (hearing_moments hearings) ≡ Some (span_at moment)
-hearings-at moment frame hearings comes some =
-    let reads = comes.2 in
-    ap (λ (hs : List Hearing). span_of (hearing_moments hs)) reads.heard
-    ∙ told-at moment reads.told (λ none. some (reads.heard ∙ none))
+hearings-at moment frame hearings comes some = grind (arith, told-at)
 
 map-more : (hearings more : List Hearing) → hearing_moments (hearings ++ more) ≡ hearing_moments hearings ++ hearing_moments more
 map-more [] more = refl
@@ -43,15 +38,7 @@ map-more (hearing ∷ hearings) more = ap (λ (ms : List Moment). hearing.moment
 pub hearings-more : (outcomes : List Outcome) (outcome : Outcome) (old more : Option Span)
     → old ≡ span_of (hearing_moments (hearings_in outcomes)) → more ≡ span_of (hearing_moments (hearings_of_outcome outcome))
     → joined_spans old more ≡ span_of (hearing_moments (hearings_in (outcomes ++ outcome ∷ [])))
-hearings-more outcomes outcome old more so_far here =
-    let hearings : hearings_in (outcomes ++ outcome ∷ []) ≡ hearings_in outcomes ++ hearings_of_outcome outcome =
-    flat_map-append hearings_of_outcome outcomes (outcome ∷ [])
-    ∙ ap (λ (hs : List Hearing). hearings_in outcomes ++ hs) (append-nil (hearings_of_outcome outcome)) in
-    ap (λ (s : Option Span). joined_spans s more) so_far
-    ∙ ap (joined_spans (span_of (hearing_moments (hearings_in outcomes)))) here
-    ∙ sym (ap (λ (hs : List Hearing). span_of (hearing_moments hs)) hearings
-    ∙ ap span_of (map-more (hearings_in outcomes) (hearings_of_outcome outcome))
-    ∙ span-both (hearing_moments (hearings_in outcomes)) (hearing_moments (hearings_of_outcome outcome)))
+hearings-more outcomes outcome old more so_far here = grind (arith, flat_map-append, append-nil, map-more, span-both)
 
 -- THE LINE
 
@@ -60,8 +47,7 @@ pub line-made : (form : Form) (file : List ℕ) (left : Option (List ℕ)) (span
     → IsSpanned left spanned → line ≡ entry_text form file (span_entry spanned) → P line
     → IfSome left (λ bytes. (text : List ℕ) × SpansCapture form file bytes spanned.reading.summary text × P text)
 line-made form file None spanned line P is made holds = tt
-line-made form file (Some bytes) spanned line P is made holds =
-    (line, record { spanned = spanned; is = is; counts = refl; line = made }, holds)
+line-made form file (Some bytes) spanned line P is made holds = search arith
 
 -- of that line a prefix went out where the write failed
 pub line-broken : (form : Form) (file : List ℕ) (left old new : Option (List ℕ)) (spanned : Spanned) (line : List ℕ)

@@ -1,6 +1,6 @@
 -- One packet more of a capture is taken, and its lines are printed.
-use Rattle.std.proofs.Common.{◌≡◌, ℕ, List, [], ◌∷◌, ◌++◌, Option, Some, None, IfSome, IsTrue, refl, string_bytes, sym}
-use Rattle.std.proofs.{Common.{ap, ◌∙◌, subst, append_assoc, append-nil}, KnownBytes.{Appends-nil, Appends-trans}}
+use Rattle.std.proofs.Common.{◌≡◌, ℕ, List, [], ◌∷◌, ◌++◌, Option, Some, None, IfSome, IsTrue, string_bytes, arith}
+use Rattle.std.proofs.{Common.{subst, append_assoc, append-nil}, KnownBytes.{Appends-nil, Appends-trans}}
 use Rattle.std.specs.Io.KnownBytes.{Appends}
 use Rattle.mdns_browse.specs.declared.about.Subject.{Subject}
 use Rattle.mdns_capture.specs.{Capture.{IsOver}, Savefile.{PacketAt}, Stream.{OneMoreFailed}, declared.stream.Sink.{Ghosts as SinkGhosts}}
@@ -24,32 +24,19 @@ lines-more : (trace : Trace) (about : List Subject) (window : Window) (file : Li
     (packet : PacketAt) (outcome : Outcome) (lines : List ℕ)
     → AreAllLines trace about window file packets outcomes text → AreLinesIn trace about window file packet outcome lines
     → AreAllLines trace about window file (packets ++ packet ∷ []) (outcomes ++ outcome ∷ []) (text ++ lines)
-lines-more trace about window file [] [] text packet outcome lines all are =
-    (lines, ([], ap (λ (front : List ℕ). front ++ lines) all ∙ sym (append-nil lines), are, refl))
+lines-more trace about window file [] [] text packet outcome lines all are = grind (arith, append-nil)
 lines-more trace about window file [] (other ∷ outcomes) text packet outcome lines all are = absurd all
 lines-more trace about window file (first ∷ packets) [] text packet outcome lines all are = absurd all
 lines-more trace about window file (first ∷ packets) (other ∷ outcomes) text packet outcome lines all are =
-    let rest = all.1.0 in (
-      all.0,
-      (
-        rest ++ lines,
-        ap (λ (front : List ℕ). front ++ lines) all.1.1 ∙ append_assoc all.0 rest lines,
-        all.1.2,
-        lines-more trace about window file packets outcomes rest packet outcome lines all.1.3 are,
-      ),
-    )
+    grind (arith, append_assoc, lines-more trace about window file packets outcomes all.1.0 packet outcome lines all.1.3 are)
 
 -- of what waited a part was written
 pub part-on : {trace : Trace} {about : List Subject} {window : Window} {file : List ℕ} {packets : List PacketAt} {outcomes : List Outcome}
     {old now waiting : _} (next : Option (List ℕ)) (piece rest : List ℕ)
     → PrintsPart trace about window file packets outcomes old now waiting
     → waiting ≡ piece ++ rest → Appends now next piece → PrintsPart trace about window file packets outcomes old next rest
-part-on {trace} {about} {window} {file} {packets} {outcomes} next piece rest prints parts written = record {
-  printed = prints.printed ++ piece;
-  lines = subst (AreAllLines trace about window file packets outcomes)
-      (ap (λ (text : List ℕ). prints.printed ++ text) parts ∙ sym (append_assoc prints.printed piece rest)) prints.lines;
-  written = Appends-trans _ _ _ _ _ prints.written written;
-}
+part-on {trace} {about} {window} {file} {packets} {outcomes} next piece rest prints parts written =
+    grind (arith, append_assoc, Appends-trans)
 
 -- a packet's lines were added to those that wait
 pub part-more : {trace : Trace} {about : List Subject} {window : Window} {file : List ℕ} {packets : List PacketAt} {outcomes : List Outcome}
@@ -57,25 +44,14 @@ pub part-more : {trace : Trace} {about : List Subject} {window : Window} {file :
     → PrintsPart trace about window file packets outcomes old now waiting
     → AddsLines (AreLinesIn trace about window file packet outcome) waiting more
     → PrintsPart trace about window file (packets ++ packet ∷ []) (outcomes ++ outcome ∷ []) old now more
-part-more {trace} {about} {window} {file} {packets} {outcomes} {old} {now} {waiting} packet outcome more prints adds = record {
-  printed = prints.printed;
-  lines = subst (AreAllLines trace about window file (packets ++ packet ∷ []) (outcomes ++ outcome ∷ []))
-      (append_assoc prints.printed waiting adds.0 ∙ ap (λ (text : List ℕ). prints.printed ++ text) (sym adds.2))
-      (lines-more trace about window file packets outcomes (prints.printed ++ waiting) packet outcome adds.0 prints.lines adds.1);
-  written = prints.written;
-}
+part-more {trace} {about} {window} {file} {packets} {outcomes} {old} {now} {waiting} packet outcome more prints adds =
+    grind (arith, append_assoc, lines-more)
 
 -- THE ENDS
 
 -- before the first packet
 nothing-taken : {W : Type 0} (sink : SinkGhosts W) (old : Lines W) → string_bytes old.text ≡ [] → LinesTook sink old old [] []
-nothing-taken sink old empty = record {
-  wanted = refl;
-  same = refl;
-  prints = record { printed = []; lines = empty; written = Appends-nil (sink.written old.out.now) };
-  unfailed = refl;
-  stays = λ steady. steady;
-}
+nothing-taken sink old empty = grind (arith, Appends-nil)
 
 traces-front : {trace : Trace} {about : List Subject} {window : Window} {file : List ℕ} {packets : List PacketAt} {outcomes : List Outcome}
     {old new : Option (List ℕ)} (left : Option (List ℕ)) (rest : List ℕ) → AllCome packets outcomes
@@ -83,8 +59,7 @@ traces-front : {trace : Trace} {about : List Subject} {window : Window} {file : 
     → PrintsPart trace about window file packets outcomes old new rest
     → IfSome left (λ bytes. TracesFront trace about window file bytes old new)
 traces-front None rest come begins prints = tt
-traces-front {trace} {about} {window} {file} {packets} {outcomes} (Some bytes) rest come begins prints =
-    record { packets = packets; outcomes = outcomes; begins = begins; come = come; rest = rest; prints = prints }
+traces-front {trace} {about} {window} {file} {packets} {outcomes} (Some bytes) rest come begins prints = grind arith
 
 pub lines-stop : {R W : Type 0} (source : SourceGhosts R) (sink : SinkGhosts W) (reader : R) (old new : Lines W)
     (fault : ReadingFault TraceFault) → string_bytes old.text ≡ [] → HasReadFault (source.remaining reader) fault
@@ -94,64 +69,15 @@ pub lines-stop : {R W : Type 0} (source : SourceGhosts R) (sink : SinkGhosts W) 
     (LeavesLines sink old.wanted.trace old.wanted.about.now old.wanted.window old.wanted.file.now (source.remaining reader))
     reader old.out.now new.out.now
     (trace_fault fault)
-lines-stop {R} {W} source sink reader old new (OfListen (Begin fault)) empty has spares leaves = (
-  ap (λ (l : Lines W). l.out.ghost_name) leaves,
-  record {
-    has_fault = has;
-    spares_reader = spares;
-    spares_writer = λ steady write. absurd (cc);
-    counts = ap (λ (l : Lines W). sink.failures l.out.now) leaves;
-    leaves = ap (λ (l : Lines W). l.out.now) leaves;
-  },
-)
-lines-stop source sink reader old new (OfListen Read) empty has spares leaves =
-    let took = leaves.took old (nothing-taken sink old empty) in (
-      took.same,
-      record {
-        has_fault = has;
-        spares_reader = spares;
-        spares_writer = λ steady write. absurd (cc);
-        counts = took.unfailed;
-        leaves = traces-front (source.remaining reader) (string_bytes new.text) leaves.come leaves.begins took.prints;
-      },
-    )
-lines-stop source sink reader old new (OfListen Memory) empty has spares leaves =
-    let took = leaves.took old (nothing-taken sink old empty) in (
-      took.same,
-      record {
-        has_fault = has;
-        spares_reader = spares;
-        spares_writer = λ steady write. absurd (cc);
-        counts = took.unfailed;
-        leaves = traces-front (source.remaining reader) (string_bytes new.text) leaves.come leaves.begins took.prints;
-      },
-    )
+lines-stop {R} {W} source sink reader old new (OfListen (Begin fault)) empty has spares leaves = grind arith
+lines-stop source sink reader old new (OfListen Read) empty has spares leaves = grind (arith, nothing-taken sink old empty, traces-front)
+lines-stop source sink reader old new (OfListen Memory) empty has spares leaves = grind (arith, nothing-taken sink old empty, traces-front)
 lines-stop source sink reader old new (OfConsumer (Listen (Begin fault))) empty has spares leaves =
     absurd (leaves.took old (nothing-taken sink old empty)).fails
-lines-stop source sink reader old new (OfConsumer (Listen Read)) empty has spares leaves =
-    absurd (leaves.took old (nothing-taken sink old empty)).fails
+lines-stop source sink reader old new (OfConsumer (Listen Read)) empty has spares leaves = grind (arith, nothing-taken sink old empty)
 lines-stop source sink reader old new (OfConsumer (Listen Memory)) empty has spares leaves =
-    let broke = leaves.took old (nothing-taken sink old empty) in (
-      broke.same,
-      record {
-        has_fault = has;
-        spares_reader = λ steady. tt;
-        spares_writer = λ steady write. absurd (cc);
-        counts = broke.fails;
-        leaves = traces-front (source.remaining reader) broke.rest leaves.come leaves.begins broke.prints;
-      },
-    )
-lines-stop source sink reader old new (OfConsumer Write) empty has spares leaves =
-    let broke = leaves.took old (nothing-taken sink old empty) in (
-      broke.same,
-      record {
-        has_fault = has;
-        spares_reader = λ steady. tt;
-        spares_writer = λ steady write. broke.fails.0 steady;
-        counts = broke.fails.1;
-        leaves = traces-front (source.remaining reader) broke.rest leaves.come leaves.begins broke.prints;
-      },
-    )
+    grind (arith, nothing-taken sink old empty, traces-front)
+lines-stop source sink reader old new (OfConsumer Write) empty has spares leaves = grind (arith, nothing-taken sink old empty, traces-front)
 
 lines-whole : {W : Type 0} (sink : SinkGhosts W) (left : Option (List ℕ)) (old new : Lines W) (next : W) (reading : Reading)
     → string_bytes old.text ≡ [] → ReadsCapture (LinesTook sink) left old new reading
@@ -180,15 +106,7 @@ pub lines-written : {R W : Type 0} (source : SourceGhosts R) (sink : SinkGhosts 
     → (new.out.ghost_name ≡ old.out.ghost_name) × WritesLines source sink
     (TracesCapture old.wanted.trace old.wanted.about.now old.wanted.window old.wanted.file.now) reader old.out.now next reading.summary
 lines-written source sink reader old new next reading empty read over written unfailed stays =
-    let took = read.took old (nothing-taken sink old empty) in (
-      took.same,
-      record {
-        lines = lines-whole sink (source.remaining reader) old new next reading empty read written;
-        over = over;
-        unfailed = unfailed ∙ took.unfailed;
-        stays = λ steady. stays (took.stays steady);
-      },
-    )
+    grind (arith, nothing-taken sink old empty, lines-whole sink (source.remaining reader) old new next reading empty read written)
 
 -- or a prefix of it
 pub lines-cut : {R W : Type 0} (source : SourceGhosts R) (sink : SinkGhosts W) (reader : R) (old new : Lines W) (next : W)

@@ -11,10 +11,7 @@ use Rattle.mdns_trace.specs.Flaw.{head_of}
 
 take-min : (n : ℕ) (head : List ℕ) → n ≤ length head → take n head ++ take (length head - n) (drop n head) ≡ head
 take-min n head within =
-    let rest : take (length head - n) (drop n head) ≡ drop n head =
-    ap (λ (k : ℕ). take k (drop n head)) (sym (length-drop n head))
-    ∙ sym (ap (take (length (drop n head))) (append-nil (drop n head))) ∙ take-append_seam (drop n head) [] in
-    ap (λ (l : List ℕ). take n head ++ l) rest ∙ take-append-drop n head
+    grind (arith, length-drop n head, append-nil (drop n head), take-append_seam (drop n head) [], take-append-drop n head)
 
 some-bytes : (head : List ℕ) → head ≢ [] → 0 < length head
 some-bytes [] some = absurd (some refl)
@@ -31,8 +28,7 @@ head-read head to copied n known some least same =
     let long : length copied ≡ n = ap length same ∙ length-take-le n head within in
     let front : take n (copied ++ drop n to) ≡ take n head =
     ap (λ (k : ℕ). take k (copied ++ drop n to)) (sym long) ∙ take-append_seam copied (drop n to) ∙ same in
-    let never : (n ≡ 0) × (0 < length (copied ++ drop n to)) → ⊥ = λ p.
-    omega (arith, some-bytes head some, least, p.0, p.1, long, length-append copied (drop n to), length-drop n to) in
+    let never : (n ≡ 0) × (0 < length (copied ++ drop n to)) → ⊥ = grind (arith, some-bytes, length-append, length-drop) in
     let read = prepend_known-read (prepend_known head known) known head rest (take n head)
     ((n ≡ 0) × (0 < length (copied ++ drop n to))) (Keeps-refl _) (sym (take-min n head within)) (λ p. absurd (never p)) in
     (rw front read.0, λ zero room. read.1 (zero, room))
@@ -51,5 +47,4 @@ head-known (Some rest) to count room within ended =
     let least : file_header_size ≡ length head + (file_header_size - count) = omega (arith, long, room, within) in
     let none : take (file_header_size - count) rest ≡ [] =
     none-left (file_header_size - count) rest (λ some. ended (omega (arith, some, room))) in
-    ap (λ (n : ℕ). take n (head ++ rest)) least ∙ take-append-add head rest (file_header_size - count)
-    ∙ ap (λ (l : List ℕ). head ++ l) none ∙ append-nil head
+    grind (arith, take-append-add head rest (file_header_size - count), append-nil head)

@@ -1,6 +1,6 @@
-use Rattle.std.proofs.Common.{◌≡◌, ◌∙◌, ◌<◌, ◌++◌, ◌∷◌, [], arith, rules, sym, subst, get_or, length, map, set, string_bytes, ℕ, Global, List, Some, None, String}
+use Rattle.std.proofs.Common.{◌≡◌, ◌∙◌, ◌<◌, ◌++◌, ◌∷◌, [], arith, rules, sym, subst, get_or, length, map, string_bytes, ℕ, Global, Some, None, String}
 use Rattle.std.proofs.lemmas.{Grind.{common_steps}, List.{length-map}}
-use Rattle.mdns_listeners.specs.Groups.{HasBegun, prefix_of}
+use Rattle.mdns_listeners.specs.Groups.{prefix_of}
 use Rattle.mdns_listeners.proofs.GroupLemmas.{begun_again, begun_alone, begun_first, get_or-named, prefix-inside}
 use Rattle.mdns_listeners.proofs.groups.listener_of.Goals as goal
 
@@ -12,11 +12,7 @@ returns-in_default-clause-listener c earlier has =
     let none : prefix_of prefixes file ≡ None = search rules in
     let size : c.len-next.result ≡ length c.args.names.now.items = search rules in
     let named : map string_bytes c.push.new.self.items ≡ names ++ file ∷ [] = grind (arith, common_steps) in
-    let made = begun_alone prefixes earlier file names c.args.begun.now has none in (
-      size ∙ sym (length-map c.args.names.now.items string_bytes) ∙ made.0,
-      subst (λ (all : List (List ℕ)). HasBegun prefixes (earlier ++ file ∷ []) all c.args.begun.now) (sym named) made.1,
-      grind (arith, common_steps),
-    )
+    let made = begun_alone prefixes earlier file names c.args.begun.now has none in grind (arith, common_steps)
 
 pub returns-in-Some-begun-clause-listener : goal.returns-in-Some-begun-clause-listener
 returns-in-Some-begun-clause-listener c earlier has =
@@ -44,11 +40,4 @@ returns-clause-listener c earlier has =
     let item : (name : String Global) → get_or prefixes at [] ≡ string_bytes (get_or c.args.prefixes.now at name) =
     λ name. get_or-named c.args.prefixes.now at name within in
     let named : map string_bytes c.push-2.new.self.items ≡ names ++ get_or prefixes at [] ∷ [] = grind (arith, common_steps, item) in
-    let made = begun_first prefixes earlier file names c.args.begun.now has at own inside free in (
-      size ∙ made.0,
-      subst (λ (all : List (List ℕ)). HasBegun prefixes (earlier ++ file ∷ []) all (set c.args.begun.now at (Some c.len-next.result)))
-          (sym named)
-          (subst (λ (n : ℕ). HasBegun prefixes (earlier ++ file ∷ []) (names ++ get_or prefixes at [] ∷ []) (set c.args.begun.now at (Some n)))
-          (sym size) made.1),
-      grind (arith, common_steps),
-    )
+    let made = begun_first prefixes earlier file names c.args.begun.now has at own inside free in grind (arith, common_steps)

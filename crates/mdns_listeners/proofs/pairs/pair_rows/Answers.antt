@@ -1,12 +1,10 @@
-use Rattle.std.proofs.{Common.{◌∙◌, [], None, ap, length}, lemmas.List.FromFn.{length-map-range_with_len}}
-use Rattle.mdns_listeners.specs.{Marks.{marks_by}, Numbers.{FileSpans}, Pairs.{pair_rows}}
+use Rattle.std.proofs.{Common.{◌∙◌, [], None, arith}, lemmas.List.FromFn.{length-map-range_with_len}}
+use Rattle.mdns_listeners.specs.{Numbers.{FileSpans}, Pairs.{pair_rows}}
 use Rattle.mdns_listeners.proofs.PairLemmas.{listener_more}
 use Rattle.mdns_listeners.proofs.pairs.pair_rows.Goals as goal
 
 pub push_pairs-requires-clause-marks : goal.push_pairs-requires-clause-marks
-push_pairs-requires-clause-marks c =
-    ap length (c.as_slice-in-loop-one.ensures.value ∙ c.in_ok-marks.ensures)
-    ∙ length-map-range_with_len (marks_by c.args.rows.now) 0 (length c.args.spans.now)
+push_pairs-requires-clause-marks c = grind (arith, length-map-range_with_len)
 
 pub loop-one-preserved : goal.loop-one-preserved
 loop-one-preserved c =

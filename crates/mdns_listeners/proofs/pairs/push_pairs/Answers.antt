@@ -1,9 +1,8 @@
-use Rattle.std.proofs.Common.{◌≡◌, ◌∙◌, ◌<◌, ◌+◌, ◌||◌, ◌++◌, ◌∷◌, [], List, Vec}
+use Rattle.std.proofs.Common.{◌≡◌, ◌∙◌, ◌<◌, ◌+◌, ◌||◌, ◌++◌, ◌∷◌, [], Vec}
 use Rattle.std.proofs.Common.{Global, true, false, ltb, get_or, drop, length, ap, arith, sym, append-nil}
 use Rattle.std.proofs.lemmas.{List.{get_or_default}, List.FromFn.{get_or-map-range_with_len}}
 use Rattle.std.specs.List.{enumerate_from}
-use Rattle.mdns_listeners.specs.{Marks.{marks_by}, Numbers.{FileSpans}, Pairs.{is_pair, meet, pair_row, pair_rows_with}}
-use Rattle.mdns_listeners.specs.declared.{marks.Mark.{Mark}, pairs.PairRow.{PairRow}}
+use Rattle.mdns_listeners.specs.{Marks.{marks_by}, Pairs.{is_pair, meet, pair_row, pair_rows_with}, declared.pairs.PairRow.{PairRow}}
 use Rattle.mdns_listeners.proofs.{PairLemmas.{pair_more}, pairs.push_pairs.Goals.{then-is_pair+in_ok-push, else-is_pair}}
 use Rattle.mdns_listeners.proofs.pairs.push_pairs.Goals as goal
 
@@ -15,17 +14,13 @@ loop-other-preserved c = λ rows seen marks d.
     let before = c.loop-other.all.items in
     let short : other < length spans = c.loop-other-test.true in
     let marked : c.as_slice.result.now ≡ marks_by rows other =
-    c.as_slice.ensures ∙ (c.index-marks-other.is
-    ∙ (ap (λ (ms : List (List Mark)). get_or ms other c.index-marks-other.result) marks
-    ∙ get_or-map-range_with_len (marks_by rows) 0 (length spans) other other c.index-marks-other.result short (omega arith))) in
+    grind (arith, get_or-map-range_with_len) in
     let row_is : c.in_ok-row.row ≡ pair_row rows one other = c.in_ok-row.ensures rows seen marked in
     let shared = ap (λ (r : PairRow). r.common) row_is in
     let whole : c.whole.result ≡ (get_or spans one d).whole =
-    c.whole.ensures ∙ ap (λ (s : FileSpans). s.whole)
-    (c.index-spans-one.is ∙ get_or_default spans one c.index-spans-one.result d c.requires.one) in
+    grind (arith, get_or_default) in
     let other_whole : c.whole-in-loop-other.result ≡ (get_or spans other d).whole =
-    c.whole-in-loop-other.ensures ∙ ap (λ (s : FileSpans). s.whole)
-    (c.index-spans-other.is ∙ get_or_default spans other c.index-spans-other.result d short) in
+    grind (arith, get_or_default) in
     let judged : c.is_pair.result ≡ is_pair rows (one, get_or spans one d) (other, get_or spans other d) =
     c.is_pair.ensures ∙ (λ k. ltb 0 (shared k) || meet (whole k) (other_whole k)) in
     let total = c.args.all.now.items ++ pair_rows_with rows (one, get_or spans one d) (enumerate_from (one + 1) (drop (one + 1) spans)) in

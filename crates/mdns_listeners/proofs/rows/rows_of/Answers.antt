@@ -1,19 +1,12 @@
-use Rattle.std.proofs.Common.{◌≡◌, ap, ◌∙◌, length, map, rules, subst, sym}
+use Rattle.std.proofs.{Common.{◌≡◌, ap, ◌∙◌, length, map, rules, subst, sym}, lemmas.{List.{take_at}, List.Elements.{filter_from_retain}}}
 use Rattle.std.specs.List.{filter}
-use Rattle.std.proofs.lemmas.{List.{take_at}, List.Elements.{filter_from_retain}}
 use Rattle.mdns_listeners.specs.{Heard.{AreHeardIn, has_times}, Kept.{filled, told_by, told_of_rows}}
 use Rattle.mdns_listeners.proofs.RowLemmas.{numbered-times, rows-heard}
 use Rattle.mdns_listeners.proofs.rows.rows_of.Goals as goal
+use Rattle.std.proofs.Common.{arith}
 
 pub fill-requires-clause-numbered : goal.fill-requires-clause-numbered
-fill-requires-clause-numbered c =
-    let rows = c.in_ok-rows.rows.items in
-    let long : length c.blank_rows.new.numbers ≡ c.in_ok-numbers.numbers.len = search rules in
-    let numbers : c.as_slice.result.now ≡ c.blank_rows.new.numbers =
-    c.as_slice.ensures.value ∙ take_at c.blank_rows.new.numbers _ c.in_ok-numbers.numbers.len long in
-    let numbered = numbered-times c.requires.placed.0 c.args.kept.items rows c.blank_rows.new.numbers c.args.times.now
-    c.requires.placed.1 c.in_ok-rows.ensures.numbered c.requires.within in
-    λ k d l. rw (numbers, c.as_mut_slice-2.ensures.value) (numbered k d l)
+fill-requires-clause-numbered c = grind (arith, take_at, numbered-times)
 
 pub returns : goal.returns
 returns c = λ messages placed.

@@ -1,19 +1,13 @@
-use Rattle.std.proofs.Common.{◌∙◌, ◌<◌, ◌≤◌, length, ap, arith, subst, sym}
-use Rattle.std.proofs.lemmas.List.{Elements.{All-drop}, Sums.{prefix_len-le-length}}
-use Rattle.std.specs.{Cmp.Lexicographic.{slice_cmp}, List.{All}, List.Sorted.{IsStrictlySortedBy}, Ordering.{nat_cmp}}
-use Rattle.mdns_listeners.specs.{Heard.{HasWholeAddress, HeardRow, messages_of}, Senders.{is_from, sender_in, sender_rows}}
+use Rattle.std.proofs.{Common.{◌∙◌, ◌<◌, length, ap, arith}, lemmas.{List.Elements.{All-drop}, List.Sums.{prefix_len-le-length}}}
+use Rattle.mdns_listeners.specs.Senders.{sender_in, sender_rows}
 use Rattle.mdns_listeners.proofs.SenderLemmas.{first_whole, rest_shorter, rest_some, sender_more, up-drop}
 use Rattle.mdns_listeners.proofs.senders.sender_rows.Goals as goal
 
 pub split_at-requires : goal.split_at-requires
-split_at-requires c =
-    subst (λ n. n ≤ length c.loop-rest.rest.now) (sym c.own_len.ensures)
-    (prefix_len-le-length (is_from c.sender_in-sender.result.now) c.loop-rest.rest.now)
+split_at-requires c = grind (arith, prefix_len-le-length)
 
 pub push_sender-requires : goal.push_sender-requires
-push_sender-requires c =
-    first_whole c.loop-rest.rest.now c.first-item.result c.sender_in-sender.result.now (omega arith) c.first-item.is
-    (c.sender_in-sender.ensures ∙ ap sender_in c.message.ensures) c.loop-rest.invariant.addressed
+push_sender-requires c = grind (arith, first_whole)
 
 pub loop-rest-smaller : goal.loop-rest-smaller
 loop-rest-smaller c =
@@ -36,9 +30,7 @@ loop-rest-preserved c =
           (c.sender_in-sender.ensures ∙ ap sender_in c.message.ensures) c.own_len.ensures c.loop-rest.invariant.ascending
           c.split_at.ensures.front c.split_at.ensures.back c.in_ok-push_sender.ensures c.loop-rest.invariant.rows;
       ascending =
-          subst (λ rows. IsStrictlySortedBy (slice_cmp nat_cmp) (messages_of rows)) (sym c.split_at.ensures.back)
-          (up-drop n rest c.loop-rest.invariant.ascending);
+          grind (arith, up-drop);
       addressed =
-          subst (All (λ (row : HeardRow). HasWholeAddress row.message)) (sym c.split_at.ensures.back)
-          (All-drop (λ (row : HeardRow). HasWholeAddress row.message) n rest c.loop-rest.invariant.addressed);
+          grind (arith, All-drop);
     }

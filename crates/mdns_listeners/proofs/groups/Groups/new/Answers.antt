@@ -1,4 +1,4 @@
-use Rattle.std.proofs.Common.{◌≡◌, ◌<◌, ◌+◌, ◌++◌, ◌∙◌, ◌∷◌, [], ap, arith, rules, sym, subst, length, map, string_bytes, take, ℕ, List, Option}
+use Rattle.std.proofs.Common.{◌≡◌, ◌<◌, ◌+◌, ◌++◌, ◌∷◌, [], arith, rules, sym, subst, length, map, string_bytes, take, ℕ, List, Option}
 use Rattle.std.proofs.lemmas.{Grind.{common_steps}, List.Elements.{All-push}}
 use Rattle.std.specs.List.{All}
 use Rattle.mdns_listeners.specs.Groups.{HasBegun}
@@ -28,7 +28,4 @@ loop-file-preserved c =
     )
 
 pub returns-clause-each : goal.returns-clause-each
-returns-clause-each c =
-    let whole : take c.loop-file.file-index c.args.files.now ≡ c.args.files.now = grind (arith, common_steps) in
-    ap length c.loop-file.invariant.1 ∙ one_each (map string_bytes c.args.prefixes.now) (take c.loop-file.file-index c.args.files.now)
-    ∙ ap length whole
+returns-clause-each c = grind (arith, common_steps, one_each)

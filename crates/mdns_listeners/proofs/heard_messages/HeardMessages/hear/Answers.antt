@@ -1,15 +1,13 @@
-use Rattle.std.proofs.Common.{◌≡◌, ◌<◌, ◌∙◌, List, [], ◌∷◌, ◌++◌, ap, arith, get_or, length, rules, subst, sym}
-use Rattle.std.proofs.lemmas.List.{length_push}
+use Rattle.std.proofs.{Common.{◌≡◌, ◌<◌, ◌∙◌, List, [], ◌∷◌, ◌++◌, ap, arith, get_or, length, rules, subst, sym}, lemmas.List.{length_push}}
+use Rattle.mdns_cache.proofs.BetweenLemmas.{on_err_any}
 use Rattle.mdns_listeners.specs.{declared.kept.Noted.{Noted}, Heard.{message_bytes}}
 use Rattle.mdns_listeners.specs.{Kept.{AreKept, HeardSoFar, KeptMessage, kept_messages, next_kept, told_by}, Names.{AddsNames, told_in}}
 use Rattle.mdns_listeners.proofs.HeldNameLemmas.{HoldsNames-more, adds-suffice}
-use Rattle.mdns_listeners.proofs.KeptLemmas.{kept-more, kept-names, kept-noted, message-push, on-err, told-noted, told-push}
+use Rattle.mdns_listeners.proofs.KeptLemmas.{kept-more, kept-names, kept-noted, message-push, told-noted, told-push}
 use Rattle.mdns_listeners.proofs.heard_messages.HeardMessages.hear.Goals as goal
 
 pub invariant_of-self-in_err-hear_all : goal.invariant_of-self-in_err-hear_all
-invariant_of-self-in_err-hear_all c =
-    kept-names c.self.inside.kept.items c.self.inside.times.items c.self.inside.names c.hear_all.new.self c.self.invariant
-    c.hear_all.ensures.keeps
+invariant_of-self-in_err-hear_all c = search (rules, kept-names)
 
 pub invariant_of-self-in_err-keep : goal.invariant_of-self-in_err-keep
 invariant_of-self-in_err-keep c =
@@ -30,7 +28,7 @@ pub returns-in_err-push-clause-err : goal.returns-in_err-push-clause-err
 returns-in_err-push-clause-err c =
     let kept = c.self.inside.kept.items in
     let times = c.self.inside.times.items in
-    on-err c.from_residual-in_err-push.result
+    on_err_any c.from_residual-in_err-push.result
     (ap (told_by (kept_messages c.keep.new.kept.items)) c.in_err-push.ensures.items
     ∙ ap (λ (ks : List KeptMessage). told_by (kept_messages ks) times) c.in_ok-keep.ensures.ok
     ∙ told-push kept times c.self.inside.names (next_kept kept c.as_slice-message.result.now c.len.result) c.self.invariant
@@ -43,12 +41,7 @@ invariant_of-self-2 c =
     let noted : Noted = record { place = c.len-place.result; at = c.args.at } in
     let place : c.len-place.result ≡ length kept = search rules in
     let within : c.len-place.result < length new =
-    omega (
-      arith,
-      place,
-      ap length c.in_ok-keep.ensures.ok,
-      length_push kept (next_kept kept c.as_slice-message.result.now c.len.result),
-    ) in
+    grind (arith, length_push) in
     subst (λ (ts : List Noted). AreKept new ts c.hear_all.new.self) (sym c.in_ok-push.ensures.items)
     (kept-noted new c.self.inside.times.items c.hear_all.new.self noted
     (kept-more kept new c.self.inside.times.items c.self.inside.names c.hear_all.new.self
@@ -66,8 +59,7 @@ returns-clause-ok c =
     let one = next_kept kept c.as_slice-message.result.now c.len.result in
     let place : c.len-place.result ≡ length kept = search rules in
     let own : get_or (kept_messages new) c.len-place.result [] ≡ message_bytes c.args.source.now c.args.payload.now =
-    (λ i. get_or (kept_messages (c.in_ok-keep.ensures.ok i)) (place i) []) ∙ message-push kept one
-    ∙ c.as_slice-message.ensures.value ∙ c.in_ok-write_message.ensures.ok in
+    grind (arith, message-push) in
     let before = ap (λ (ks : List KeptMessage). told_by (kept_messages ks) times) c.in_ok-keep.ensures.ok
     ∙ told-push kept times c.self.inside.names one c.self.invariant ∙ ap (λ (s : HeardSoFar). s.told) c.self.view_is in
     record {

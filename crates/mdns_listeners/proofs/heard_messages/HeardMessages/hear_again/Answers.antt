@@ -1,22 +1,11 @@
-use Rattle.std.proofs.Common.{◌≡◌, ◌<◌, ◌∙◌, [], ◌∷◌, ◌++◌, ap, get_or, length, rules, subst, sym}
-use Rattle.std.proofs.lemmas.List.{get_or-map}
-use Rattle.mdns_listeners.specs.{declared.kept.Noted.{Noted}, Heard.{message_bytes}}
-use Rattle.mdns_listeners.specs.{Kept.{HeardSoFar, KeptMessage, kept_messages, payload_in, told_again, told_by}, Names.{AddsNames, told_in}}
+use Rattle.std.proofs.{Common.{◌≡◌, ◌<◌, ◌∙◌, [], ap, get_or, length, rules, subst, sym, arith}, lemmas.List.{get_or-map}}
+use Rattle.mdns_listeners.specs.{Kept.{HeardSoFar, KeptMessage, kept_messages, payload_in}, Names.{AddsNames, told_in}}
 use Rattle.mdns_listeners.proofs.{HeldNameLemmas.{HoldsNames-more, suffice-adds}, KeptLemmas.{known-named, known-some, told-noted}}
 use Rattle.mdns_listeners.proofs.heard_messages.HeardMessages.hear_again.Goals as goal
+use Rattle.std.proofs.lemmas.Grind.{common_steps}
 
 pub returns-clause-adds : goal.returns-clause-adds
-returns-clause-adds c =
-    let kept = c.self.inside.kept.items in
-    let place = c.in_ok-place.place in
-    let noted : Noted = record { place = place; at = c.args.at } in
-    let found : get_or (kept_messages kept) place [] ≡ c.write_message.new.message.items = search rules in
-    let written : c.write_message.new.message.items ≡ message_bytes c.args.source.now c.args.payload.now = search rules in
-    let pushed : c.push.new.self.items ≡ c.self.inside.times.items ++ noted ∷ [] = search rules in
-    let told = ap (told_by (kept_messages kept)) pushed
-    ∙ told-noted (kept_messages kept) c.self.inside.times.items noted _ (found ∙ written) in
-    (λ i. record { told = told i; names = c.self.inside.names })
-    ∙ ap (told_again c.args.source.now c.args.payload.now c.args.at) c.self.view_is
+returns-clause-adds c = grind (arith, common_steps, told-noted)
 
 pub returns-clause-hears : goal.returns-clause-hears
 returns-clause-hears c hearings reads =

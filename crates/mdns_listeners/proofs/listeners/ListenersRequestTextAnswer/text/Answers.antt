@@ -1,11 +1,10 @@
-use Rattle.mdns_survey.proofs.ListenedLemmas.{have-spans, known-read}
+use Rattle.std.proofs.Common.{[], None, arith, inl, refl}
+use Rattle.mdns_survey.specs.declared.request.AsOf.TheVariants.{Newest}
+use Rattle.mdns_survey.proofs.{ListenedLemmas.{have-spans, known-read}, SurveyLemmas.{misses-heard}}
 use Rattle.mdns_listeners.proofs.listeners.ListenersRequestTextAnswer.text.Goals as goal
 
 pub returns-in-Ok-clause-right : goal.returns-in-Ok-clause-right
-returns-in-Ok-clause-right c = λ lefts hears captures known. record {
-  packets = hears.packets;
-  outcomes = hears.outcomes;
-  read = known-read lefts captures hears.packets hears.outcomes c.args.readings.now known hears.read;
-  says = c.in-Ok.ensures hears.packets hears.outcomes hears.heard
-      (have-spans lefts hears.packets hears.outcomes c.args.readings.now hears.read);
-}
+returns-in-Ok-clause-right c = grind (arith, known-read, have-spans)
+
+pub returns-in-Ok-clause-misses : goal.returns-in-Ok-clause-misses
+returns-in-Ok-clause-misses c = λ lefts hears. misses-heard lefts c.args.readings.now hears [] Newest None (inl refl)

@@ -1,24 +1,16 @@
-use Rattle.std.proofs.Common.{◌∙◌, ◌++◌, ◌∷◌, [], ap, inl, inr, refl, subst, sym}
-use Rattle.std.proofs.lemmas.{Bool.{false≢true}, Result.{on_ok_weaker}}
+use Rattle.std.proofs.{Common.{◌∙◌, ◌++◌, ◌∷◌, [], ap, refl, subst, sym, arith}, lemmas.{Bool.{false≢true}, Result.{on_ok_weaker}}}
 use Rattle.mdns_survey.specs.{declared.outcome.PacketOutcome.{PacketOutcome}, Why.{IsPayloadOf, SaysWhy}, Listen.{outcome_of}}
-use Rattle.mdns_survey.specs.Outcomes.{Outcome, ReadsTo, heard, refused, skipped}
-use Rattle.mdns_listeners.specs.declared.{heard.HeardAt.{HeardAt}, listeners.MessageCollector.{MessageCollector}}
-use Rattle.mdns_listeners.specs.{Kept.{HearsMessage}, Listeners.{Gathers}}
+use Rattle.mdns_survey.specs.Outcomes.{Outcome, heard, refused, skipped}
+use Rattle.mdns_listeners.specs.{declared.listeners.MessageCollector.{MessageCollector}, Kept.{HearsMessage}, Listeners.{Gathers}}
 use Rattle.mdns_capture.specs.Capture.{packet_lent}
-use Rattle.mdns_message.specs.Message.{MessageReads}
 use Rattle.mdns_listeners.proofs.ListenersLemmas.{gathers-told, gathers-untold}
 use Rattle.mdns_listeners.proofs.listeners.MessageCollectorConsumer.take.Goals as goal
 
 pub returns-then-is_empty-clause-took : goal.returns-then-is_empty-clause-took
-returns-then-is_empty-clause-took c = λ begun packets outcomes took.
-    gathers-untold begun c.args.self.now packets outcomes (packet_lent c.args.packet.now) (outcome_of c.args.found.now) (heard []) took
-    (ap outcome_of c.in-Heard.is ∙ ap heard (c.is_empty.ensures.0 c.if-is_empty.true)) (λ listener. refl) refl
+returns-then-is_empty-clause-took c = grind (arith, gathers-untold, heard)
 
 pub hear-requires-clause-reads : goal.hear-requires-clause-reads
-hear-requires-clause-reads c =
-    let payload = c.args.payload.now in
-    subst (λ (at : HeardAt). MessageReads at.moment payload c.in-Heard.message.now) (sym c.heard_at-at.ensures)
-    (subst (λ (found : PacketOutcome). ReadsTo c.args.packet.now.moment payload (outcome_of found)) c.in-Heard.is c.requires.reads)
+hear-requires-clause-reads c = grind arith
 
 pub hear-requires-clause-some : goal.hear-requires-clause-some
 hear-requires-clause-some c = λ none. false≢true (sym c.if-is_empty.false ∙ c.is_empty.ensures.1 none)
@@ -41,17 +33,7 @@ returns-else-is_empty-clause-took c =
     (λ none. false≢true (sym c.if-is_empty.false ∙ c.is_empty.ensures.1 none)))) c.hear.ensures.ok
 
 pub returns-in-Skipped-clause-took : goal.returns-in-Skipped-clause-took
-returns-in-Skipped-clause-took c = λ begun packets outcomes took. elim c.in-Skipped.is [
-  | inl (why, is) ↦ gathers-untold begun c.args.self.now packets outcomes (packet_lent c.args.packet.now)
-      (outcome_of c.args.found.now) skipped took (ap outcome_of is) (λ listener. refl) refl
-  | inr (damage, is) ↦ gathers-untold begun c.args.self.now packets outcomes (packet_lent c.args.packet.now)
-      (outcome_of c.args.found.now) refused took (ap outcome_of is) (λ listener. refl) refl
-]
+returns-in-Skipped-clause-took c = grind (arith, gathers-untold, skipped, refused)
 
 pub returns-in-Skipped-2-clause-took : goal.returns-in-Skipped-2-clause-took
-returns-in-Skipped-2-clause-took c = λ begun packets outcomes took. elim c.in-Skipped.is [
-  | inl (why, is) ↦ gathers-untold begun c.args.self.now packets outcomes (packet_lent c.args.packet.now)
-      (outcome_of c.args.found.now) skipped took (ap outcome_of is) (λ listener. refl) refl
-  | inr (damage, is) ↦ gathers-untold begun c.args.self.now packets outcomes (packet_lent c.args.packet.now)
-      (outcome_of c.args.found.now) refused took (ap outcome_of is) (λ listener. refl) refl
-]
+returns-in-Skipped-2-clause-took c = grind (arith, gathers-untold, skipped, refused)

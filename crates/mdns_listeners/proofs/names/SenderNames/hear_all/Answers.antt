@@ -1,5 +1,5 @@
-use Rattle.std.proofs.Common.{List, [], ◌∷◌, ◌++◌, ◌∙◌, ap, append_assoc, subst, sym}
-use Rattle.mdns_message.specs.{declared.hearing.Hearing.{Hearing}, Borrowed.{hearing_lent}}
+use Rattle.std.proofs.Common.{[], ◌∷◌, ◌++◌, append_assoc, subst, sym, arith}
+use Rattle.mdns_message.specs.Borrowed.{hearing_lent}
 use Rattle.mdns_listeners.specs.Names.{SufficeFor}
 use Rattle.mdns_listeners.proofs.HeldNameLemmas.{adds_keeps, adds_next}
 use Rattle.mdns_listeners.proofs.names.SenderNames.hear_all.Goals as goal
@@ -9,8 +9,7 @@ loop-hearing-preserved c =
     let so_far = c.loop-hearing.invariant in
     let hearing = hearing_lent c.in-Some.hearing in (
       so_far.0 ++ hearing ∷ [],
-      append_assoc so_far.0 (hearing ∷ []) c.next.new.self
-          ∙ ap (λ (hs : List Hearing). so_far.0 ++ hs) (sym c.in-Some.ensures.steps) ∙ so_far.1,
+      grind (arith, append_assoc),
       adds_next c.args.self.now c.loop-hearing.self c.hear.new.self so_far.0 hearing so_far.2 c.in_ok-hear.ensures.ok,
     )
 

@@ -1,4 +1,4 @@
-use Rattle.std.proofs.{Common.{[], ◌∷◌, ◌++◌, sym, subst}, lemmas.Result.{on_ok_weaker}}
+use Rattle.std.proofs.{Common.{[], ◌∷◌, ◌++◌, sym, subst, arith}, lemmas.Result.{on_ok_weaker}}
 use Rattle.mdns_listeners.specs.Names.{Covers, named}
 use Rattle.mdns_listeners.proofs.HeldNameLemmas.{Covers-push, Covers-respelled}
 use Rattle.mdns_listeners.proofs.names.SenderNames.put.Goals as goal
@@ -13,8 +13,4 @@ returns-in-Some-clause-ok c =
     c.respell.ensures.ok
 
 pub returns-in-None-clause-ok : goal.returns-in-None-clause-ok
-returns-in-None-clause-ok c =
-    let one = named c.args.source c.args.owner.now in
-    on_ok_weaker c.push.result
-    (λ same told covers. subst (λ xs. Covers xs (told ++ one ∷ [])) (sym same) (Covers-push c.args.self.now told one covers))
-    c.push.ensures.ok
+returns-in-None-clause-ok c = grind (arith, on_ok_weaker, Covers-push)
