@@ -83,10 +83,10 @@ class Run(NamedTuple):
 RUNS = (
     *(Run((command, *BOTH), 2, WHOLE) for command in COMMANDS),
     *(Run((ask, form, *BOTH), 2, WHOLE) for ask in ASKS for form in FORMS),
-    Run(("records", "--about", "a", "--about", "192.0.2.1", *BOTH), 2, WHOLE),
+    Run(("records", "--about", "a", "--about", "192.0.2.1", *BOTH), 2, DAMAGED),  # nothing heard is about these
     Run(("types", "--about", "_ipp", *BOTH), 2, WHOLE),
     Run(("instances", "--pretty", "--about", "_ipp._tcp", *BOTH), 2, WHOLE),
-    *(Run((ask, "--pretty", "--about", "a", *BOTH), 2, WHOLE) for ask in CHOICES),
+    *(Run((ask, "--pretty", "--about", "alder", *BOTH), 2, WHOLE) for ask in CHOICES),
     Run(("lives", "--pretty", "long.pcap"), 1, WHOLE),
     Run(("lives", "--before", "1795332450", *BOTH), 2, WHOLE),
     *(Run((ask, "--since", "1795332440", "--until", "1795332450", *BOTH), 2, WHOLE) for ask in CHOICES),
