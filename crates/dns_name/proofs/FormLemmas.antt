@@ -2,6 +2,7 @@
 use Rattle.std.proofs.Common.{◌≡◌, ℕ, zero, suc, ◌+◌, List, [], ◌∷◌, ◌++◌, length, drop, refl, sym, ap, ◌∙◌}
 use Rattle.std.proofs.{Common.{subst, arith, length-append, slice_get, Some, ◌-◌}, Math.Seq.{drop-append_seam}}
 use Rattle.dns_name.specs.Name.{IsForm, IsLabel, AreLabels, wire_of, pieces_of, labels_of}
+use Rattle.std.proofs.Common.{rules}
 
 -- the zero octet alone is a form
 pub IsForm-root : IsForm (0 ∷ [])
@@ -16,8 +17,7 @@ IsForm-more label rest is form = record {
 }
 
 pub same_back : (a b x y : List ℕ) → length a ≡ length b → a ++ x ≡ b ++ y → x ≡ y
-same_back a b x y n e =
-    sym (drop-append_seam a x) ∙ ap (drop (length a)) e ∙ ap (λ k. drop k (b ++ y)) n ∙ drop-append_seam b y
+same_back a b x y n e = grind (arith, drop-append_seam a x, drop-append_seam b y)
 
 less_of : (label rest : List ℕ) → IsLabel label → (labels : List (List ℕ)) → AreLabels labels
     → length label ∷ (label ++ rest) ≡ wire_of labels → IsForm rest
@@ -65,12 +65,12 @@ labels_back [] sized = refl
 labels_back (label ∷ labels) sized = labels_of-more label (wire_of labels) sized.0 ∙ ap (λ rest. label ∷ rest) (labels_back labels sized.1)
 
 -- the labels of a form, which spell it
-pub labels_of-form : (bytes : List ℕ) → IsForm bytes → AreLabels (labels_of bytes) × (wire_of (labels_of bytes) ≡ bytes)
-labels_of-form bytes form = grind (arith, labels_back)
+pub labels_of_form : (bytes : List ℕ) → IsForm bytes → AreLabels (labels_of bytes) × (wire_of (labels_of bytes) ≡ bytes)
+labels_of_form bytes form = grind (arith, labels_back)
 
 -- the labels of a form are those that it was made of
-pub labels_of-wire_of : (labels : List (List ℕ)) → AreLabels labels → labels_of (wire_of labels) ≡ labels
-labels_of-wire_of = labels_back
+pub labels_of_wire_of : (labels : List (List ℕ)) → AreLabels labels → labels_of (wire_of labels) ≡ labels
+labels_of_wire_of = labels_back
 
 pub labels_of-after : (label rest bytes : List ℕ) → IsLabel label × (bytes ≡ length label ∷ (label ++ rest))
     → labels_of bytes ≡ label ∷ labels_of rest

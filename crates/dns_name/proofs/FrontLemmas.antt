@@ -2,6 +2,7 @@
 use Rattle.std.proofs.Common.{◌≡◌, ℕ, List, [], ◌∷◌, ◌++◌, refl, sym, ap, ◌∙◌, append_assoc, append-nil, ◌+◌}
 use Rattle.std.proofs.Common.{◌<◌, length, drop, get_or, add-one, drop-cons}
 use Rattle.dns_name.specs.Name.{HasFront}
+use Rattle.std.proofs.Common.{rules, arith}
 
 -- the part of `text` before `rest` was appended
 pub record Reaches (old text new rest : List ℕ) : Type 0 where
@@ -27,8 +28,7 @@ Reaches-all old text new at = at.appended ∙ ap (λ xs. old ++ xs) (sym (append
 
 -- the last piece
 pub Reaches-last : (old mid new text rest : List ℕ) → Reaches old text mid rest → new ≡ mid ++ rest → new ≡ old ++ text
-Reaches-last old mid new text rest at more =
-    Reaches-all old text new (Reaches-more old mid new text rest rest [] at (sym (append-nil rest)) more)
+Reaches-last old mid new text rest at more = search (rules, Reaches-all, Reaches-more, append-nil)
 
 -- a failure within the next piece
 pub stops-at : (old mid new text all piece rest : List ℕ) → Reaches old text mid all → all ≡ piece ++ rest

@@ -7,6 +7,7 @@ use Rattle.dns_name.specs.FirstFault.{NameFailsUnder, NameFails}
 use Rattle.dns_name.specs.FirstFault.NameFailsUnder.{no_octet, label_cut, label_long, label_form, pointer_cut, pointer_target, after_label}
 use Rattle.dns_name.specs.{FirstFault.NameFailsUnder.{after_pointer}, declared.fault.NameReadFault.{NameReadFault}}
 use Rattle.dns_name.proofs.NameLemmas.{label_unique, pointer_unique, label_length, name_some}
+use Rattle.std.proofs.Common.{rules}
 
 -- reading meets at most one first fault
 pub one_first_fault : (m : List ℕ) {p s u : ℕ} {f g : NameReadFault} → NameFailsUnder m p s u f → NameFailsUnder m p s u g → f ≡ g
@@ -118,8 +119,7 @@ no_fault_in_name m (pointer t after a l d g) n (label_cut j b1 b2 b3 b4 b5 i) = 
 no_fault_in_name m (pointer t after a l d g) n (label_long j b h i) = absurd (omega arith)
 no_fault_in_name m (pointer t after a l d g) n (label_form b1 b2 b3 i) = absurd (omega arith)
 no_fault_in_name m (pointer t after a l d g) n (pointer_cut b1 b2 b3 i) = absurd (omega arith)
-no_fault_in_name m (pointer t after a l d g) n (pointer_target o b h i) =
-    let same : t ≡ o = pointer_unique m _ t o a b in absurd (omega arith)
+no_fault_in_name m (pointer t after a l d g) n (pointer_target o b h i) = grind (arith, pointer_unique)
 no_fault_in_name m (pointer t after a l d g) n (after_label j b h c) = absurd (omega arith)
 no_fault_in_name m {u = u} {f} (pointer t after a l d g) n (after_pointer o b h c) =
     let same : o ≡ t = pointer_unique m _ o t b a in
@@ -133,3 +133,7 @@ name_not_both m p n q f a b = no_fault_in_name m a.stands (omega arith) b
 -- an offset meets at most one first fault
 pub name_fault_unique : (m : List ℕ) (p : ℕ) (f g : NameReadFault) → NameFails m p f → NameFails m p g → f ≡ g
 name_fault_unique m p f g a b = one_first_fault m a b
+
+-- WHAT FUNCTIONS ARE PROVED BY
+
+pub ruleset for_one_name_outcome = (name_not_both, name_fault_unique)

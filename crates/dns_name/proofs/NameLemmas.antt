@@ -2,6 +2,7 @@
 use Rattle.std.proofs.Common.{◌≡◌, ℕ, ◌+◌, ◌<◌, ◌≤◌, List, length, refl, sym, ◌∙◌, subst, arith, length-append, length-take, length-drop}
 use Rattle.std.specs.Prelude.{slice_range}
 use Rattle.dns_name.specs.{NameAt.{NameStands, NameReads, LabelAt, PointerAt, PointerLeads}, NameAt.NameStands.{root, label, pointer}}
+use Rattle.std.proofs.Common.{rules}
 
 -- labels at one offset have one length
 pub label_unique : (m : List ℕ) (p j k : ℕ) → LabelAt m p j → LabelAt m p k → j ≡ k
@@ -18,8 +19,7 @@ label_length m p k a = simp (length-take, length-drop) (omega arith)
 -- a name has an octet at least
 pub name_some : (m : List ℕ) {p s : ℕ} {n : List ℕ} {q : ℕ} → NameStands m p s n q → 1 ≤ length n
 name_some m (root a e g) = rw e (omega arith)
-name_some m (label k rest a d e) =
-    rw e (let h : length (slice_range m _ _) ≡ k + 1 = label_length m _ k a in rw length-append (omega arith))
+name_some m (label k rest a d e) = grind (arith, label_length, length-append)
 name_some m (pointer t after a h d g) = name_some m d
 
 -- the offset after a name is greater than its own, and within the message

@@ -8,6 +8,7 @@ use Rattle.dns_name.specs.{FirstFault.{NameFailsUnder, NameFails}, FirstFault.Na
 use Rattle.dns_name.specs.FirstFault.NameFailsUnder.{pointer_cut, pointer_target, after_label, after_pointer}
 use Rattle.dns_name.specs.declared.fault.{NameReadFault.{NameReadFault}, NameReadFault.TheVariants.{Cut, Label, Pointer, LongName}}
 use Rattle.dns_name.proofs.NameLemmas.{label_length}
+use Rattle.std.proofs.Common.{rules}
 
 -- at p is a name that fits after u octets, or reading it meets a fault
 NameOutcome : List ℕ → ℕ → ℕ → ℕ → Type 0

@@ -4,6 +4,7 @@ use Rattle.std.proofs.Math.{ListN.{get_or-append}, Seq.{get_or-append_seam}}
 use Rattle.dns_name.specs.{NameAt.{NameStands, PointerLeads}, NameAt.NameStands.{pointer}, FirstFault.{NameFailsUnder}}
 use Rattle.dns_name.specs.{FirstFault.NameFailsUnder.{after_pointer}, declared.fault.NameReadFault.{NameReadFault}}
 use Rattle.dns_name.specs.{Pointer.{PointersLead, PointersEnd, EndsHold}, Pointer.PointersLead.{there, along}}
+use Rattle.std.proofs.Common.{rules}
 
 -- a chain leads to no later offset
 pub lead_before : (m : List ℕ) {p e : ℕ} → PointersLead m p e → e ≤ p

@@ -9,6 +9,7 @@ use Rattle.dns_name.specs.{NameAt.{PointerLeads}, NameAt.NameStands.{root, label
 use Rattle.dns_name.specs.{FirstFault.NameFailsUnder.{after_label, after_pointer}, declared.fault.NameReadFault.{NameReadFault}}
 use Rattle.dns_name.specs.Pointer.{PointersLead}
 use Rattle.dns_name.proofs.{NameLemmas.{label_length}, PointerLemmas.{name_along, fault_along}}
+use Rattle.std.proofs.Common.{rules}
 
 -- the octets `bytes` of the name at offset `at` were read, and reading goes on at `offset` in the run that
 -- begins at `start`; `after` is where m goes on after the first pointer, if there was one
@@ -64,10 +65,7 @@ reading_ends m at offset start bytes whole after a e r = record {
 
 -- a label with its length octet, apart
 label_apart : (m : List ℕ) (p k : ℕ) → LabelAt m p k → slice_range m p (p + 1 + k) ≡ k ∷ take k (drop (p + 1) m)
-label_apart m p k a =
-    let here : p < length m = let h : p + 1 + k ≤ length m = a.whole in omega arith in
-    let count : p + 1 + k - p ≡ suc k = omega arith in
-    rw (count, drop_more m p 0 here, a.octet) refl
+label_apart m p k a = grind (arith, drop_more)
 
 -- a label before labels
 form_more : (k : ℕ) (octets rest n : List ℕ) → length octets ≡ k → 1 ≤ k → k ≤ 63 → IsForm rest → n ≡ k ∷ octets ++ rest → IsForm n

@@ -5,6 +5,7 @@ ghost use Rattle.dns_name.specs.{declared.fault.NameReadFault.{NameReadFault}, F
 ghost use Rattle.dns_name.specs.{Name.{AreLabels, IsWire, labels_of, wire_of}, NameAt.{NameReads, NameStands}};
 
 /// The labels of a wire form are those that it spells, each of 1 to 63 bytes, and no others.
+#[tactic(auto, using(crate::proofs::FormLemmas::labels_of_form, crate::proofs::FormLemmas::labels_of_wire_of))]
 pub fn wire_labels()
     ensures spelled { (bytes : List ℕ) → IsWire bytes
         → AreLabels (labels_of bytes) × (wire_of (labels_of bytes) ≡ bytes) }
@@ -13,6 +14,7 @@ pub fn wire_labels()
 {}
 
 /// At one offset and under one bound a message has at most one name, and one offset after it.
+#[tactic(auto, using(crate::proofs::NameLemmas::one_name_stands))]
 pub fn one_name()
     ensures { (message : List ℕ) (offset bound : ℕ) (name other : List ℕ) (next more : ℕ)
         → NameStands message offset bound name next → NameStands message offset bound other more
@@ -20,6 +22,7 @@ pub fn one_name()
 {}
 
 /// At each offset of a message there is one name or one first fault, never both.
+#[tactic(auto, using(crate::proofs::NameFaultLemmas::for_one_name_outcome, crate::proofs::NameOutcomeLemmas::name_outcome))]
 pub fn one_name_outcome()
     ensures outcome { (message : List ℕ) (offset : ℕ)
         → ((name : List ℕ) × (next : ℕ) × NameReads message offset name next)

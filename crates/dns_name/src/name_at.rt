@@ -34,6 +34,7 @@ pub struct NameReader {
 /// Each pointer has to lead before the first offset of the run of labels that it ends, so reading
 /// ends. Errors: `Cut`, `Label`, `Pointer` or `LongName` for the first fault in reading order, at its
 /// offset; `Memory` where an allocation failed.
+#[tactic(auto, using(crate::proofs::ReadNameLemmas::name_wire))]
 pub fn read_name(alloc: Global, message: &[u8], at: usize) -> Result<(Name, usize), NameReadFault>
     ensures stands { IfOk result (λ read. NameReads message.now at read.0 read.1) }
     ensures fault { IfErr result (λ f. (f ≡ NameReadFault.Memory) ⊎ NameFails message.now at f) }

@@ -53,6 +53,7 @@ impl PointerEnds {
 
     /// Returns an offset to which the chain of pointers that begins at `target` leads; after the first
     /// `FREE_HOPS` hops of the message, the end of the chain.
+    #[tactic(auto, using(crate::proofs::PointerLemmas::ends_here, crate::proofs::PointerLemmas::lead_before))]
     pub(crate) fn follow(&mut self, message: &[u8], target: usize) -> Result<usize, Want>
         requires knows { EndsHold message.now self.old.ends.items }
         requires target { target < TARGETS }
@@ -78,6 +79,7 @@ impl PointerEnds {
 }
 
 // Extends `ends` to all offsets of the message that a target can name.
+#[tactic(auto, using(crate::proofs::PointerLemmas::remembered_more))]
 fn push_ends(message: &[u8], ends: &mut Vec<u16>) -> Result<(), Want>
     requires { EndsHold message.now ends.old.items }
     ensures knows { EndsHold message.now ends.new.items }
@@ -92,6 +94,7 @@ fn push_ends(message: &[u8], ends: &mut Vec<u16>) -> Result<(), Want>
 }
 
 // Returns the end of the chain of pointers that begins at `offset`. `ends` has those of all offsets before it.
+#[tactic(auto, using(crate::proofs::PointerLemmas::ends_along, crate::proofs::PointerLemmas::ends_here))]
 fn end_at(message: &[u8], offset: usize, ends: &[u16]) -> u16
     requires within { offset < length message.now }
     requires next { offset ≡ length ends.now }

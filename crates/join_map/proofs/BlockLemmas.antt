@@ -74,10 +74,10 @@ module _ {E : Type 0} where
   first_at [] s e none = sym (ap (λ es. es ++ e ∷ after [] s) (before_none s) ∙ ap (λ es. e ∷ es) (after_none s))
   first_at (b ∷ bs) s e none = absurd (omega (arith, none))
 
-  pub entries_of-first : (bs rs : List (List E)) (e : E) (block : List E) → length bs ≡ 0 → rs ≡ bs → block ≡ e ∷ []
+  pub entries_of_first : (bs rs : List (List E)) (e : E) (block : List E) → length bs ≡ 0 → rs ≡ bs → block ≡ e ∷ []
       → entries_of (rs ++ block ∷ []) ≡ e ∷ []
-  entries_of-first [] rs e block none same one = ap (λ zs. entries_of (zs ++ block ∷ [])) same ∙ ap (λ b. b ++ []) one
-  entries_of-first (b ∷ bs) rs e block none same one = absurd (omega (arith, none))
+  entries_of_first [] rs e block none same one = ap (λ zs. entries_of (zs ++ block ∷ [])) same ∙ ap (λ b. b ++ []) one
+  entries_of_first (b ∷ bs) rs e block none same one = absurd (omega (arith, none))
 
   -- ---- no block is empty
 
@@ -86,10 +86,10 @@ module _ {E : Type 0} where
   filled_at (b ∷ bs) zero f l = f.0
   filled_at (b ∷ bs) (suc n) f l = filled_at bs n f.1 (omega (arith, l))
 
-  pub filled-first : (bs rs : List (List E)) (e : E) (block : List E) → length bs ≡ 0 → rs ≡ bs → block ≡ e ∷ []
+  pub filled_first : (bs rs : List (List E)) (e : E) (block : List E) → length bs ≡ 0 → rs ≡ bs → block ≡ e ∷ []
       → AllFilled (rs ++ block ∷ [])
-  filled-first [] rs e block none same one = subst (λ zs. AllFilled (zs ++ block ∷ [])) (sym same) (omega (arith, ap length one), tt)
-  filled-first (b ∷ bs) rs e block none same one = absurd (omega (arith, none))
+  filled_first [] rs e block none same one = subst (λ zs. AllFilled (zs ++ block ∷ [])) (sym same) (omega (arith, ap length one), tt)
+  filled_first (b ∷ bs) rs e block none same one = absurd (omega (arith, none))
 
   pub filled-set : (bs : List (List E)) (n : ℕ) (y : List E) → AllFilled bs → 0 < length y → AllFilled (set bs n y)
   filled-set [] n y f l = tt
@@ -241,3 +241,11 @@ module _ {E : Type 0} where
   some-inserted xs n e ys is = omega (arith, ap length is, length-append (take n xs) (e ∷ drop n xs))
 
 -- ---- a value rewritten
+
+-- WHAT FUNCTIONS ARE PROVED BY
+
+pub ruleset for_insert_at = (entries_of-kept, entries_of-moved, first_at, none_from)
+
+pub ruleset for_insert_in = (entries_of-inserted, entries_of-same, filled-read, filled-set, some-inserted)
+
+pub ruleset for_make_room = (AreParts-from, entries_of-read, filled-parts, filled-read, moved_first, moved_second, no_room)

@@ -31,9 +31,9 @@ module _ {K V : Type 0} where
     valid-back [] ys a = a
     valid-back (x ∷ xs) ys a = valid-back xs ys a.1
 
-    pub valid-both : (xs ys : List (K × V)) → AllValid Valid xs → AllValid Valid ys → AllValid Valid (xs ++ ys)
-    valid-both [] ys a b = b
-    valid-both (x ∷ xs) ys a b = (a.0, valid-both xs ys a.1 b)
+    pub valid_both : (xs ys : List (K × V)) → AllValid Valid xs → AllValid Valid ys → AllValid Valid (xs ++ ys)
+    valid_both [] ys a b = b
+    valid_both (x ∷ xs) ys a b = (a.0, valid_both xs ys a.1 b)
 
     pub valid-set : (es : List (K × V)) (p : ℕ) (x : K × V) → AllValid Valid es → Valid x.1 → AllValid Valid (set es p x)
     valid-set [] p x a v = tt
@@ -57,18 +57,18 @@ module _ {K V : Type 0} where
     fits-push [] x a f = (f, tt)
     fits-push (e ∷ es) x a f = (a.0, fits-push es x a.1 f)
 
-    pub fits-appended : {T F : Type 0} (r : Result T F) (es fs was : List (K × V)) (k : K) (v : V) → was ≡ es
+    pub fits_appended : {T F : Type 0} (r : Result T F) (es fs was : List (K × V)) (k : K) (v : V) → was ≡ es
         → AllFit Fits es → Fits k v → OnOk r (fs ≡ was ++ one_entry k v) → OnErr r (fs ≡ was) → AllFit Fits fs
-    fits-appended (Ok x) es fs was k v same a f ok err =
+    fits_appended (Ok x) es fs was k v same a f ok err =
         subst (AllFit Fits) (sym (ok ∙ ap (λ xs. xs ++ one_entry k v) same)) (fits-push es (k, v) a f)
-    fits-appended (Err x) es fs was k v same a f ok err = subst (AllFit Fits) (sym (err ∙ same)) a
+    fits_appended (Err x) es fs was k v same a f ok err = subst (AllFit Fits) (sym (err ∙ same)) a
 
-  pub gathered-appended : {T F : Type 0} (cmp : K → K → Ordering) (join : V → V → V) (r : Result T F)
+  pub gathered_appended : {T F : Type 0} (cmp : K → K → Ordering) (join : V → V → V) (r : Result T F)
       (es fs was : List (K × V)) (k : K) (v : V) → was ≡ es → OnOk r (fs ≡ was ++ one_entry k v)
       → OnOk r (gathered cmp join fs ≡ joined cmp join (gathered cmp join es) (one_entry k v))
-  gathered-appended cmp join (Ok x) es fs was k v same ok =
+  gathered_appended cmp join (Ok x) es fs was k v same ok =
       ap (gathered cmp join) (ok ∙ ap (λ xs. xs ++ one_entry k v) same) ∙ joined-append cmp join [] es (one_entry k v)
-  gathered-appended cmp join (Err x) es fs was k v same ok = ok
+  gathered_appended cmp join (Err x) es fs was k v same ok = ok
 
 module _ {K V : Type 0} {cmp : K → K → Ordering} (order : IsTotalOrder cmp) (exact : (a b : K) → cmp a b ≡ Equal → a ≡ b)
     {Valid : V → Type 0} {join : V → V → V} (laws : JoinLaws Valid join) where
@@ -149,3 +149,7 @@ module _ {K V : Type 0} {cmp : K → K → Ordering} (order : IsTotalOrder cmp) 
   joined_at_place es p e u k w l is a h (Some (Err x)) fit own ok = tt
   joined_at_place es p e u k w l is a h (Some (Ok x)) fit own ok =
       gathered-set es p e u w l is a h ok ∙ ap (λ q. joined cmp join (gathered cmp join es) (one_entry q w)) (own fit)
+
+-- WHAT FUNCTIONS ARE PROVED BY
+
+pub ruleset for_join_at = (fits-at, fits-set, joined_at_place, valid-set)

@@ -209,3 +209,7 @@ Less-from b o is t = is_less o (sym is ∙ t)
 
 pub not_Less-from : (b : Bool) (o : Ordering) → b ≡ is_lt o → b ≡ false → o ≡ Less → ⊥
 not_Less-from b o is f less = true≢false (sym (ap is_lt less) ∙ sym is ∙ f)
+
+-- WHAT FUNCTIONS ARE PROVED BY
+
+pub ruleset for_find = (sorted_block, IsAt-offset, IsFree-offset)

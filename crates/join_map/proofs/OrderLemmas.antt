@@ -14,11 +14,12 @@ use Rattle.join_map.specs.laws.Entries.{above_trans, joined-none, sorted_above, 
 use Rattle.join_map.specs.{laws.Join.{IsAtMost-least, IsAtMost-left, IsAtMost-right, IsAtMost-trans}, declared.order.Ranked.{Ranked}}
 use Rattle.join_map.proofs.{BlockLemmas.{entries_of-append, filled-append}, GatherLemmas.{map-gathered, map-joined}}
 use Rattle.join_map.proofs.PlaceLemmas.{within-both, within-more}
+use Rattle.std.proofs.lemmas.List.{length-set}
 
 -- ---- each place once
 
-pub order-more : (n : ℕ) (ps : List ℕ) → IsOrder n ps → IsOrder (n + 1) (ps ++ n ∷ [])
-order-more n ps o = record {
+pub order_more : (n : ℕ) (ps : List ℕ) → IsOrder n ps → IsOrder (n + 1) (ps ++ n ∷ [])
+order_more n ps o = record {
   within = within-both (n + 1) ps (n ∷ []) (within-more n (n + 1) ps (omega arith) o.within) (omega arith, tt);
   all = omega (arith, o.all, length-append ps (n ∷ []));
   each = λ p l. elim (cases_lt p n) [
@@ -64,9 +65,9 @@ part-length order part a k moved =
     same_len_mid a k order part (sym (length-map part place) ∙ length_permutation (places_of (mid_of a k order)) (places_of part) moved
     ∙ length-map (mid_of a k order) place)
 
-pub ArePlaces-order : {E : Type 0} (es : List E) (ps : List ℕ) (bs : List (List ℕ)) → IsOrder (length es) ps
+pub ArePlaces_order : {E : Type 0} (es : List E) (ps : List ℕ) (bs : List (List ℕ)) → IsOrder (length es) ps
     → entries_of bs ≡ ps → AllFilled bs → ArePlaces es bs
-ArePlaces-order es ps bs o is filled = grind arith
+ArePlaces_order es ps bs o is filled = grind arith
 
 -- the places from i on
 pub place_next : (ps : List ℕ) (i p : ℕ) → i < length ps → p ≡ get_or ps i p → drop i ps ≡ p ∷ drop (i + 1) ps
@@ -217,18 +218,18 @@ module _ {K V : Type 0} {cmp : K → K → Ordering} (order : IsTotalOrder cmp) 
           each_below next es is_next v.1,
         )
 
-    pub map-picked : (es : List (K × V)) (ps : List ℕ) → AllValid Valid es → Ascend es ps → IsJoinMap cmp Valid (picked es ps)
-    map-picked es ps v s = record {
+    pub map_picked : (es : List (K × V)) (ps : List ℕ) → AllValid Valid es → Ascend es ps → IsJoinMap cmp Valid (picked es ps)
+    map_picked es ps v s = record {
       sorted = s;
       valid = each-valid Valid (picked es ps) (each-picked (λ e. Valid e.1) es ps (valid-each Valid es v));
     }
 
     -- ascending entries at all places are the map of all entries
-    pub picked-gathered : (es : List (K × V)) (ps : List ℕ) → IsOrder (length es) ps → AllValid Valid es → Ascend es ps
+    pub picked_gathered : (es : List (K × V)) (ps : List ℕ) → IsOrder (length es) ps → AllValid Valid es → Ascend es ps
         → picked es ps ≡ gathered cmp join es
-    picked-gathered es ps o v s =
+    picked_gathered es ps o v s =
         let ys = picked es ps in
-        let is_ys = map-picked es ps v s in
+        let is_ys = map_picked es ps v s in
         let w = is_ys.valid in
         let none = IsJoinMap-none order exact laws in
         let A = gathered cmp join es in
@@ -243,3 +244,7 @@ module _ {K V : Type 0} {cmp : K → K → Ordering} (order : IsTotalOrder cmp) 
         least [] B es none is_B v (empty B is_B) (each-of_picked (Below B) es ps o.each (each_below [] ys none w)) in
         sym (joined-none order exact laws ys is_ys)
         ∙ sym down ∙ Laws.commutative A B is_A is_B ∙ up
+
+-- WHAT FUNCTIONS ARE PROVED BY
+
+pub ruleset for_note_prefixes = (places_of-set, length-set)

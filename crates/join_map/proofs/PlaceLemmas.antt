@@ -61,9 +61,9 @@ module _ {E : Type 0} where
   length-picked es [] w = refl
   length-picked es (p ∷ ps) w = grind (arith, length-append, length-one, length-picked es ps w.1)
 
-  pub rows-entries : (es : List E) (bs : List (List ℕ)) → entries_of (rows es bs) ≡ picked es (entries_of bs)
-  rows-entries es [] = refl
-  rows-entries es (b ∷ bs) = ap (λ xs. picked es b ++ xs) (rows-entries es bs) ∙ sym (picked-append es b (entries_of bs))
+  pub rows_entries : (es : List E) (bs : List (List ℕ)) → entries_of (rows es bs) ≡ picked es (entries_of bs)
+  rows_entries es [] = refl
+  rows_entries es (b ∷ bs) = ap (λ xs. picked es b ++ xs) (rows_entries es bs) ∙ sym (picked-append es b (entries_of bs))
 
   pub length-rows : (es : List E) (bs : List (List ℕ)) → length (rows es bs) ≡ length bs
   length-rows es [] = refl
@@ -110,11 +110,11 @@ module _ {E : Type 0} where
 
   pub before-rows : (es : List E) (bs : List (List ℕ)) (s : Spot) → AllWithin (length es) (block_at bs s.block)
       → before (rows es bs) s ≡ picked es (before bs s)
-  before-rows es bs s w = grind (arith, rows-take, rows-at, rows-entries, picked-take, picked-append)
+  before-rows es bs s w = grind (arith, rows-take, rows-at, rows_entries, picked-take, picked-append)
 
   pub after-rows : (es : List E) (bs : List (List ℕ)) (s : Spot) → AllWithin (length es) (block_at bs s.block)
       → after (rows es bs) s ≡ picked es (after bs s)
-  after-rows es bs s w = grind (arith, rows-drop, rows-at, rows-entries, picked-drop, picked-append)
+  after-rows es bs s w = grind (arith, rows-drop, rows-at, rows_entries, picked-drop, picked-append)
 
   pub filled-rows : (es : List E) (bs : List (List ℕ)) → AllFilled bs → AllWithin (length es) (entries_of bs) → AllFilled (rows es bs)
   filled-rows es [] f w = tt
@@ -186,8 +186,8 @@ module _ {K V : Type 0} where
       → length (block_at (rows es bs) n) ≡ length (block_at bs n)
   count-rows es bs n a = ap length (rows-at es bs n) ∙ length-picked es (block_at bs n) (within-block (length es) bs n a.within)
 
-  pub length-all : (es : List (K × V)) (bs : List (List ℕ)) → ArePlaces es bs → length (entries_of (rows es bs)) ≡ length es
-  length-all es bs a = ap length (rows-entries es bs) ∙ length-picked es (entries_of bs) a.within ∙ sym a.all
+  pub length_all : (es : List (K × V)) (bs : List (List ℕ)) → ArePlaces es bs → length (entries_of (rows es bs)) ≡ length es
+  length_all es bs a = ap length (rows_entries es bs) ∙ length-picked es (entries_of bs) a.within ∙ sym a.all
 
   pub IsEntry-rows : (es : List (K × V)) (bs : List (List ℕ)) (s : Spot) (p : ℕ) (e : K × V) (read shown : List ℕ)
       → ArePlaces es bs → s.block < length bs → read ≡ get_or bs s.block read → shown ≡ read → s.offset < length shown
@@ -309,7 +309,7 @@ module _ {K V : Type 0} where
       let w = within-block (length es) bs s.block a.within in
       let all = subst (AllWithin (length es)) (entries_of-gap bs s g) a.within in
       let one : take 1 (drop p fs) ≡ e ∷ [] = ap (λ n. take 1 (drop n fs)) last ∙ picked-last es e in
-      rows-entries fs cs ∙ ap (picked fs) is ∙ picked-append fs (before bs s) (p ∷ after bs s)
+      rows_entries fs cs ∙ ap (picked fs) is ∙ picked-append fs (before bs s) (p ∷ after bs s)
       ∙ ap (λ xs. xs ++ picked fs (p ∷ after bs s))
       (picked-more es e (before bs s) (within-front (length es) (before bs s) (after bs s) all)
       ∙ sym (before-rows es bs s w))
@@ -327,8 +327,20 @@ module _ {K V : Type 0} where
 
   pub kept-rows : (es fs : List (K × V)) (bs cs : List (List ℕ)) → fs ≡ es → entries_of cs ≡ entries_of bs
       → entries_of (rows fs cs) ≡ entries_of (rows es bs)
-  kept-rows es fs bs cs same is = ap (λ xs. entries_of (rows xs cs)) same ∙ rows-entries es cs ∙ ap (picked es) is
-      ∙ sym (rows-entries es bs)
+  kept-rows es fs bs cs same is = ap (λ xs. entries_of (rows xs cs)) same ∙ rows_entries es cs ∙ ap (picked es) is
+      ∙ sym (rows_entries es bs)
 
   pub untouched : (es fs gs : List (K × V)) (e : K × V) (n : ℕ) → fs ≡ es ++ e ∷ [] → gs ≡ take n fs → n ≡ length es → gs ≡ es
   untouched es fs gs e n pushed cut is = cut ∙ ap (take n) pushed ∙ take_at es (e ∷ []) n (sym is)
+
+-- WHAT FUNCTIONS ARE PROVED BY
+
+pub ruleset for_count = (count-rows, length-rows)
+
+pub ruleset for_entry = (IsEntry-rows, place-within, spot-rows)
+
+pub ruleset for_find = (length-rows, row_is)
+
+pub ruleset for_insert = (ArePlaces-kept, ArePlaces-more, gap-rows, inserted-rows, kept-rows, untouched)
+
+pub ruleset for_join_at = (ArePlaces-set, IsRewritten-rows, place-within, spot-rows)

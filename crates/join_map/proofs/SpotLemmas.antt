@@ -105,3 +105,7 @@ module _ {K V : Type 0} {cmp : K → K → Ordering} (order : IsTotalOrder cmp) 
       subst (λ xs. IsPartOfJoin (joined cmp join) es (one_entry k v) xs) (sym is)
       (IsPartOfJoin-old (joined-laws order exact laws) es (one_entry k v) m
       (IsJoinMap-one order exact laws k v h))
+
+-- WHAT FUNCTIONS ARE PROVED BY
+
+pub ruleset for_join_at = (inserted_map, joined_ok, joined_err, joined_map, put_ok_at, kept_part)

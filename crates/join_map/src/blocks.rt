@@ -55,6 +55,7 @@ impl<K: Copied, V: Semilattice + Drop> Blocks<K, V> {
     }
 
     /// Makes blocks of the places of all entries, in their order.
+    #[tactic(auto, using(crate::proofs::OrderLemmas::ArePlaces_order, crate::proofs::PlaceLemmas::rows_entries))]
     pub(crate) fn from_places(
         alloc: Global,
         entries: Vec<(K, V)>,
@@ -68,6 +69,7 @@ impl<K: Copied, V: Semilattice + Drop> Blocks<K, V> {
     }
 
     /// Returns the number of entries.
+    #[tactic(auto, using(crate::proofs::PlaceLemmas::length_all))]
     pub(crate) fn len(&self) -> usize
         ensures { result ≡ length (entries_of self.now) }
     {
@@ -82,6 +84,7 @@ impl<K: Copied, V: Semilattice + Drop> Blocks<K, V> {
     }
 
     /// Returns the number of entries of a block.
+    #[tactic(auto, using(std::proofs::lemmas::List::get_or_read, crate::proofs::PlaceLemmas::for_count))]
     pub(crate) fn count(&self, block: usize) -> usize
         requires { block < length self.now }
         ensures { result ≡ length (block_at self.now block) }
@@ -91,6 +94,7 @@ impl<K: Copied, V: Semilattice + Drop> Blocks<K, V> {
     }
 
     /// Returns the entry at `spot`.
+    #[tactic(auto, using(std::proofs::lemmas::List::get_or_default, std::proofs::lemmas::List::get_or_read, crate::proofs::PlaceLemmas::for_entry))]
     pub(crate) fn entry(&self, spot: Spot) -> &(K, V)
         requires { IsSpot self.now spot }
         ensures { IsEntry self.now spot result.now }
@@ -100,6 +104,7 @@ impl<K: Copied, V: Semilattice + Drop> Blocks<K, V> {
     }
 
     /// Joins what `other` stands for into the value at `spot`.
+    #[tactic(auto, using(std::proofs::lemmas::List::get_or_default, std::proofs::lemmas::List::get_or_read, crate::proofs::PlaceLemmas::for_join_at))]
     pub(crate) fn join_at<O: JoinHeld<V>>(
         &mut self,
         alloc: Global,
@@ -116,6 +121,7 @@ impl<K: Copied, V: Semilattice + Drop> Blocks<K, V> {
     }
 
     /// Inserts an entry at `spot`. After `Want` the entries are as before.
+    #[tactic(auto, using(crate::proofs::PlaceLemmas::for_insert))]
     pub(crate) fn insert(&mut self, alloc: Global, spot: Spot, key: K, value: V) -> Result<(), Want>
         requires { IsGap self.old spot }
         ensures ok { OnOk result (entries_of self.new ≡ before self.old spot ++ (key, value) ∷ after self.old spot) }

@@ -11,6 +11,7 @@ use std::cmp::Ordering;
 
 impl<K: Copied, V: Semilattice + Drop> Blocks<K, V> {
     /// Returns where the entry of `key` is, or else where it belongs.
+    #[tactic(auto, using(crate::proofs::KeyLemmas::for_find, crate::proofs::PlaceLemmas::for_find))]
     pub(crate) fn find(&self, key: &K) -> Result<Spot, Spot>
         requires { IsStrictlySortedBy K.cmp (keys_of (entries_of self.now)) }
         ensures found { IfOk result (λ spot. IsAt K.cmp self.now key.now spot) }

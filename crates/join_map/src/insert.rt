@@ -9,6 +9,7 @@ use memory::Want;
 use std::alloc::Global;
 
 /// Inserts a place at `spot`. After `Want` the places are as before.
+#[tactic(auto, using(crate::proofs::BlockLemmas::for_insert_at))]
 pub(crate) fn insert_at(
     blocks: &mut Vec<Block>,
     alloc: Global,
@@ -29,6 +30,7 @@ pub(crate) fn insert_at(
 }
 
 // Puts the first place into a block. After `Want` there is none.
+#[tactic(auto, using(crate::proofs::BlockLemmas::entries_of_first, crate::proofs::BlockLemmas::filled_first))]
 fn insert_first(blocks: &mut Vec<Block>, alloc: Global, place: usize) -> Result<(), Want>
     requires none { length blocks.old.items ≡ 0 }
     requires filled { AllFilled blocks.old.items }
@@ -41,6 +43,7 @@ fn insert_first(blocks: &mut Vec<Block>, alloc: Global, place: usize) -> Result<
 }
 
 // Inserts a place at `spot` of a block. After `Want` the places are as before.
+#[tactic(auto, using(std::proofs::lemmas::List::get_or_read, crate::proofs::BlockLemmas::for_insert_in, crate::proofs::PutLemmas::on_err))]
 fn insert_in(blocks: &mut Vec<Block>, spot: Spot, place: usize) -> Result<(), Want>
     requires block { spot.block < length blocks.old.items }
     requires offset { spot.offset ≤ length (block_at blocks.old.items spot.block) }
@@ -55,6 +58,7 @@ fn insert_in(blocks: &mut Vec<Block>, spot: Spot, place: usize) -> Result<(), Wa
 }
 
 // Splits the block of `spot` where it is full. Returns where `spot` is then.
+#[tactic(auto, using(crate::proofs::BlockLemmas::for_make_room, crate::proofs::PutLemmas::on_err))]
 fn make_room(blocks: &mut Vec<Block>, alloc: Global, spot: Spot) -> Result<Spot, Want>
     requires block { spot.block < length blocks.old.items }
     requires gap { IsGap blocks.old.items spot }

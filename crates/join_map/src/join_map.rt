@@ -57,6 +57,7 @@ impl<K: Copied, V: Semilattice + Drop> JoinMap<K, V> {
     /// Joins the value of `other` into the value at `key`, or inserts it under a copy of the key: the join with the map of
     /// that one entry. The key is looked up once, and `to_value` builds the value only where the key is new. After `Want`
     /// the map lies between the old one and the join.
+    #[tactic(auto, using(std::proofs::lemmas::Result::on_ok_weaker, std::proofs::lemmas::Result::on_err_weaker, crate::proofs::SpotLemmas::for_join_at))]
     pub fn join_at<O: JoinHeld<V>>(&mut self, alloc: Global, key: &K, other: &O) -> Result<(), Want>
         ensures ok { OnOk result (self.new ≡ joined K.cmp V.join self.old (one_entry key.now (O.value other.now))) }
         ensures err { OnErr result (IsPartOfJoin (joined K.cmp V.join) self.old (one_entry key.now (O.value other.now)) self.new) }
@@ -94,6 +95,7 @@ impl<K: Copied, V: Semilattice + Drop> JoinMap<K, V> {
 impl<K: Copied, V: Join> JoinMap<K, V> {
     /// Makes the map of entries in any order. A key may stand in several; their values are joined then, which takes
     /// longer. After `Want` the entries are lost.
+    #[tactic(auto, using(crate::proofs::OrderLemmas::map_picked, crate::proofs::OrderLemmas::picked_gathered))]
     pub fn from_entries(alloc: Global, entries: Vec<(K, V)>) -> Result<JoinMap<K, V>, Want>
         requires { AllValid V.Valid entries.items }
         ensures { IfOk result (λ map. map ≡ gathered K.cmp V.join entries.items) }

@@ -44,6 +44,7 @@ fn only_places(alloc: Global, order: &[Ranked]) -> Result<Vec<usize>, Want>
 }
 
 // Returns the places of so many entries.
+#[tactic(auto, using(std::proofs::lemmas::List::map_push, crate::proofs::OrderLemmas::order_more))]
 fn all_places(alloc: Global, count: usize) -> Result<Vec<Ranked>, Want>
     ensures { IfOk result (λ order. IsOrder count (places_of order.items)) }
 {
@@ -92,6 +93,7 @@ fn count_run(order: &[Ranked]) -> usize
 
 // Notes for each place the bytes of its key after those with which all keys begin, and returns how many these are. The
 // first `from` bytes are known to be among them.
+#[tactic(auto, using(crate::proofs::OrderLemmas::for_note_prefixes))]
 fn note_prefixes<K: Copied, V>(order: &mut [Ranked], entries: &[(K, V)], from: usize) -> usize
     ensures { places_of order.new ≡ places_of order.old }
 {

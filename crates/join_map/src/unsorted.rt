@@ -44,6 +44,7 @@ impl<K: Copied, V: Semilattice + Drop> Unsorted<K, V> {
     /// Joins the value of `other` into the value of its key, which has this hash, or adds an entry, and returns the entry's
     /// place. An entry that isn't found, since another of its key was noted under another hash or too many have the same
     /// one, is added again. After `Want` the entries are as before.
+    #[tactic(auto, using(crate::proofs::GatherLemmas::fits_appended, crate::proofs::GatherLemmas::gathered_appended))]
     pub fn join<O: JoinOwn<K, V>>(
         &mut self,
         alloc: Global,
@@ -106,6 +107,7 @@ impl<K: Copied, V: Semilattice + Drop> Unsorted<K, V> {
     }
 
     // Joins the value of `other` into the value at a place, if `other` recognizes the entry there as its own.
+    #[tactic(auto, using(crate::proofs::GatherLemmas::for_join_at))]
     fn join_at<O: JoinOwn<K, V>>(
         &mut self,
         alloc: Global,
@@ -126,6 +128,7 @@ impl<K: Copied, V: Semilattice + Drop> Unsorted<K, V> {
     }
 
     // Adds the entry of `other`, and returns its place. After `Want` the entries are as before.
+    #[tactic(auto, using(crate::proofs::GatherLemmas::valid_both))]
     fn append<O: JoinOwn<K, V>>(
         &mut self,
         alloc: Global,

@@ -27,6 +27,7 @@ impl<'a, K, V> Model for Walk<'a, K, V> {
 
 impl<'a, K, V> Walk<'a, K, V> {
     /// Makes an iterator over the entries in the order of their places.
+    #[tactic(auto, using(crate::proofs::PlaceLemmas::rows_entries))]
     pub(crate) fn new(entries: &'a [(K, V)], blocks: &'a [Block]) -> Walk<'a, K, V>
         requires { ArePlaces entries.now blocks.now }
         ensures { result ≡ entries_of (rows entries.now blocks.now) }

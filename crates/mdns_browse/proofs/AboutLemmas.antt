@@ -1,11 +1,11 @@
 -- What is about subjects, one text and one value at a time.
 use Rattle.std.proofs.Common.{◌≡◌, refl, sym, ◌∙◌, ap, ℕ, ◌<◌, ◌≤◌, ◌==◌, Bool, true, false, ◌||◌}
-use Rattle.std.proofs.Common.{List, [], ◌∷◌, ◌++◌, length, map, take, drop, length-append, codes, string_bytes, arith}
+use Rattle.std.proofs.Common.{List, [], ◌∷◌, ◌++◌, length, map, length-append, codes, string_bytes, arith}
 use Rattle.std.proofs.{Math.Seq.{drop-append_seam, take-append_seam}, lemmas.Bool.{cases_lt, false_from_ne_true, or_left}}
 use Rattle.std.proofs.lemmas.{Bool.Decides.{same_from_decides}, List.Folds.{list_any-append}}
 use Rattle.std.specs.{Fmt.{decimal}, List.{list_any}}
 use Rattle.dns_name.specs.Name.{IsLabel, IsWire, bytes_text, folded, label_text, labels_of, name_text}
-use Rattle.dns_name.proofs.FormLemmas.{IsForm-after, IsForm-last, labels_of-after, labels_of-form, length-after}
+use Rattle.dns_name.proofs.FormLemmas.{IsForm-after, IsForm-last, labels_of-after, labels_of_form, length-after}
 use Rattle.mdns_message.specs.{TextData.{strings_of}, declared.parts.Service.{Service}, declared.resource.Resource.{Resource}}
 use Rattle.mdns_message.specs.declared.parts.Content.TheVariants as content
 use Rattle.people_text.specs.Shown.{name_shown, shown}
@@ -15,6 +15,8 @@ use Rattle.mdns_browse.specs.{RecordShown.{shown_string, shown_strings}, RecordT
 use Rattle.mdns_browse.specs.{declared.about.Subject.{Subject}, Services.{same_text}}
 use Rattle.mdns_browse.proofs.{NameLemmas.{folded-append, length-folded, same_text-decides}, SaidLemmas.{labels_said}}
 use Rattle.mdns_browse.proofs.{ShownLemmas.{strings-cons}, TextLemmas.{text_words-cons}}
+use Rattle.std.proofs.lemmas.Result.{IfOk-weaker}
+use Rattle.std.proofs.Common.{rules}
 
 -- ALTERNATIVES
 
@@ -67,12 +69,10 @@ same_length : (a b x y : List ℕ) → length x ≡ length y → a ++ x ≡ b ++
 same_length a b x y ends e = let whole = ap length e in omega (arith, length-append a x, length-append b y, whole, ends)
 
 same_front : (a b x y : List ℕ) → length x ≡ length y → a ++ x ≡ b ++ y → a ≡ b
-same_front a b x y ends e =
-    sym (take-append_seam a x) ∙ ap (take (length a)) e ∙ ap (λ k. take k (b ++ y)) (same_length a b x y ends e) ∙ take-append_seam b y
+same_front a b x y ends e = grind (arith, take-append_seam a x, take-append_seam b y, same_length a b x y ends e)
 
 same_end : (a b x y : List ℕ) → length x ≡ length y → a ++ x ≡ b ++ y → x ≡ y
-same_end a b x y ends e =
-    sym (drop-append_seam a x) ∙ ap (drop (length a)) e ∙ ap (λ k. drop k (b ++ y)) (same_length a b x y ends e) ∙ drop-append_seam b y
+same_end a b x y ends e = grind (arith, drop-append_seam a x, drop-append_seam b y, same_length a b x y ends e)
 
 abbrev pub in_local : List ℕ
 in_local = codes ".local"
@@ -113,15 +113,13 @@ local-other word text front end whole six other =
 pub text-written : (test : List ℕ → List ℕ → Bool) (about : List Subject) (text written : List ℕ) (r answer : Bool) → written ≡ text
     → r ≡ list_any (λ subject. test (string_bytes subject.text) written) about → r ≡ answer
     → list_any (λ subject. test (string_bytes subject.text) text) about ≡ answer
-text-written test about text written r answer same is answered =
-    ap (λ t. list_any (λ subject. test (string_bytes subject.text) t) about) (sym same) ∙ sym is ∙ answered
+text-written test about text written r answer same is answered = grind arith
 
 pub local-parts : (about : List Subject) (text : List ℕ) → list_any (λ subject. matches_text_in_local (string_bytes subject.text) text) about
     ≡ (list_any (λ subject. same_text (string_bytes subject.text) text) about
     || list_any (λ subject. same_text (string_bytes subject.text ++ in_local) text) about)
 unfolding matches_text_in_local
-local-parts about text =
-    any-or (λ subject. same_text (string_bytes subject.text) text) (λ subject. same_text (string_bytes subject.text ++ in_local) text) about
+local-parts about text = search (rules, any-or)
 
 abbrev pub any_label : List Subject → List (List ℕ) → Bool
 any_label about labels = list_any (λ subject. is_first_label (string_bytes subject.text) labels) about
@@ -148,8 +146,7 @@ pub said-alternatives : (about : List Subject) (labels : List (List ℕ)) → an
     ≡ (list_any (is_text_about (labels_said (front labels))) about
     || list_any (λ subject. matches_text_in_local (string_bytes subject.text) (labels_said labels)) about)
 unfolding matches_said
-said-alternatives about labels =
-    any-or (is_text_about (labels_said (front labels))) (λ subject. matches_text_in_local (string_bytes subject.text) (labels_said labels)) about
+said-alternatives about labels = search (rules, any-or, labels_said)
 
 -- a name's wire form, and its first label and the rest
 abbrev pub Begins : List ℕ → List ℕ → List ℕ → Type 0
@@ -158,8 +155,7 @@ Begins label rest bytes = IsLabel label × (bytes ≡ length label ∷ (label ++
 pub label-first : (about : List Subject) (name wire label rest : List ℕ) → wire ≡ name → Begins label rest wire
     → list_any (λ subject. is_text_about (label_text label) subject || is_text_about (shown label) subject) about
     ≡ any_label about (labels_of name)
-label-first about name wire label rest same head =
-    ap (any_label about) (sym (labels_of-after label rest wire head) ∙ ap labels_of same)
+label-first about name wire label rest same head = grind (arith, labels_of-after label rest wire head)
 
 no_labels : (name wire : List ℕ) → wire ≡ name → ((label rest : List ℕ) → IsLabel label → (wire ≡ length label ∷ (label ++ rest)) → ⊥)
     → IsWire wire → labels_of name ≡ []
@@ -168,8 +164,7 @@ no_labels name wire same none is = ap labels_of (sym same ∙ IsForm-last wire n
 pub label-none : (about : List Subject) (name wire : List ℕ) → wire ≡ name
     → ((label rest : List ℕ) → IsLabel label → (wire ≡ length label ∷ (label ++ rest)) → ⊥) → IsWire wire
     → false ≡ any_label about (labels_of name)
-label-none about name wire same none is =
-    sym (ap (any_label about) (no_labels name wire same none is) ∙ any-none (λ subject. false) (λ subject. refl) about)
+label-none about name wire same none is = grind (arith, no_labels, any-none)
 
 pub rest-wire : (label rest wire : List ℕ) → Begins label rest wire → IsWire wire → IsWire rest
 rest-wire label rest wire head is = grind (arith, IsForm-after, length-after)
@@ -180,13 +175,12 @@ any_rest about labels = list_any (λ subject. matches_rest (string_bytes subject
 pub rest-name : (about : List Subject) (name wire label rest held : List ℕ) → wire ≡ name → Begins label rest wire → IsWire wire
     → held ≡ rest → list_any (is_name_about held) about ≡ any_rest about (labels_of name)
 rest-name about name wire label rest held same head is kept =
-    grind (arith, rest-wire label rest wire head is, labels_of-form, labels_of-after label rest wire head)
+    grind (arith, rest-wire label rest wire head is, labels_of_form, labels_of-after label rest wire head)
 
 pub rest-none : (about : List Subject) (name wire : List ℕ) → wire ≡ name
     → ((label rest : List ℕ) → IsLabel label → (wire ≡ length label ∷ (label ++ rest)) → ⊥) → IsWire wire
     → false ≡ any_rest about (labels_of name)
-rest-none about name wire same none is =
-    sym (ap (any_rest about) (no_labels name wire same none is) ∙ any-none (λ subject. false) (λ subject. refl) about)
+rest-none about name wire same none is = grind (arith, no_labels, any-none)
 
 -- DATA
 
@@ -202,15 +196,7 @@ one_string : (subject : Subject) (bytes string after : List ℕ) → strings_of 
     → is_in_content subject (content.Strings bytes) ≡ (is_string_about string subject || is_in_content subject (content.Strings after))
 unfolding is_in_content
 one_string subject bytes string after split =
-    let word = string_bytes subject.text in
-    ap (λ texts. is_one_of word texts || is_one_of word (shown_strings bytes)) (text_words-cons bytes string after split)
-    ∙ ap (λ texts. is_one_of word (string_words string ++ text_words after) || is_one_of word texts) (strings-cons bytes string after split)
-    ∙ ap (λ b. b || is_one_of word (shown_string string ++ shown_strings after))
-    (list_any-append (same_text word) (string_words string) (text_words after))
-    ∙ ap (λ b. (is_one_of word (string_words string) || is_one_of word (text_words after)) || b)
-    (list_any-append (same_text word) (shown_string string) (shown_strings after))
-    ∙ mixed (is_one_of word (string_words string)) (is_one_of word (text_words after)) (is_one_of word (shown_string string))
-    (is_one_of word (shown_strings after))
+    grind (arith, text_words-cons bytes string after split, strings-cons bytes string after split, list_any-append, mixed)
 
 pub strings-parts : (about : List Subject) (bytes string after : List ℕ) → strings_of bytes ≡ string ∷ strings_of after
     → any_in_text about bytes ≡ (list_any (is_string_about string) about || any_in_text about after)
@@ -224,8 +210,7 @@ unfolding is_in_content text_words shown_strings
 no_string subject = refl
 
 pub strings-none : (about : List Subject) (bytes : List ℕ) → bytes ≡ [] → any_in_text about bytes ≡ false
-strings-none about bytes none =
-    ap (any_in_text about) none ∙ any-none (λ subject. is_in_content subject (content.Strings [])) no_string about
+strings-none about bytes none = grind (arith, any-none, no_string)
 
 word_string : (subject : Subject) (string : List ℕ) → 0 < length string
     → (same_text (string_bytes subject.text) (bytes_text false string) || same_text (string_bytes subject.text) (shown string))
@@ -288,3 +273,21 @@ pub record-parts : (about : List Subject) (resource : Resource)
     → list_any (λ subject. is_name_about resource.owner subject || is_in_data subject resource.body) about
     ≡ (list_any (is_name_about resource.owner) about || list_any (λ subject. is_in_data subject resource.body) about)
 record-parts about resource = any-or (is_name_about resource.owner) (λ subject. is_in_data subject resource.body) about
+
+-- WHAT FUNCTIONS ARE PROVED BY
+
+pub ruleset for_before_local = (local-front, local-other, local-short)
+
+pub ruleset for_matches_name = (label-first, label-none, name-parts, or-first, or-rest, text-written, IfOk-weaker)
+
+pub ruleset for_matches_said = (or-first, or-rest, said-alternatives, text-written)
+
+pub ruleset for_keeps_one = (any-map)
+
+pub ruleset for_keeps_served = (any-map)
+
+pub ruleset for_keeps_heard_instance = (keeps-all, keeps-some, IfOk-weaker)
+
+pub ruleset for_keeps_record = (keeps-all, keeps-some, or-first, or-rest, record-parts)
+
+pub ruleset for_keeps_type = (keeps-all, keeps-some, IfOk-weaker)

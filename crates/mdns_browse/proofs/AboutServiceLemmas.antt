@@ -10,6 +10,7 @@ use Rattle.mdns_browse.specs.About.{is_in_data, is_instance_about, is_name_about
 use Rattle.mdns_browse.specs.Services.{body_of, data_of_set, instance_in, rows_of_set, server_at, servers_in}
 use Rattle.mdns_browse.specs.declared.{instance.Server.{Server}, about.Subject.{Subject}}
 use Rattle.mdns_browse.proofs.AboutLemmas.{any-map, any-none, any-or, any-same, any-swap, any_rest, false_or, or-first, or-rest}
+use Rattle.std.proofs.Common.{arith}
 
 -- one of the values so far, and one more
 module _ {X : Type 0} (p : X → Bool) where
@@ -61,9 +62,7 @@ is_service_about rows o subject = option_map_or (λ service. is_server_about (se
 
 -- other data never is
 pub no-server : (about : List Subject) (rows : List Latest) (body : Body) → None ≡ service_of body → false ≡ any_in_server about rows body
-no-server about rows body none =
-    sym (any-none (is_service_about rows None) (λ subject. refl) about)
-    ∙ ap (λ o. list_any (is_service_about rows o) about) none
+no-server about rows body none = grind (arith, any-none)
 
 -- the target of a server, and its addresses among the rows
 pub server-parts : (about : List Subject) (rows : List Latest) (body : Body) (service : Service (List ℕ)) (fours sixes : List Latest)
@@ -132,3 +131,11 @@ module _ (about : List Subject) (rows : List Latest) (name : List ℕ) where
   pub by-servers : list_any (is_name_about name) about ≡ false → any_rest about (labels_of name) ≡ false
       → any_in_servers about rows (data_of_set rows name 33) ≡ list_any (is_instance_about (instance_in rows name)) about
   by-servers not other = or-rest (sym (or-rest (instance-parts about rows name) not)) other
+
+-- WHAT FUNCTIONS ARE PROVED BY
+
+pub ruleset for_is_in_servers = (any-found, any_in_server, any_in_servers, none-all, none-more, rows-swap)
+
+pub ruleset for_keeps_one = (any-found, none-all, none-more)
+
+pub ruleset for_keeps_served = (any-found, none-all, none-more)

@@ -11,13 +11,13 @@ use Rattle.mdns_browse.specs.RecordShown.{shown_record}
 use Rattle.mdns_browse.proofs.ListLemmas.{map_more}
 
 -- one space more
-pub spaces-more : (old mid new : List ℕ) (n : ℕ) → mid ≡ old ++ spaces n → new ≡ mid ++ 32 ∷ [] → new ≡ old ++ spaces (n + 1)
+pub spaces_more : (old mid new : List ℕ) (n : ℕ) → mid ≡ old ++ spaces n → new ≡ mid ++ 32 ∷ [] → new ≡ old ++ spaces (n + 1)
 unfolding spaces
-spaces-more old mid new n before written = grind (arith, append_assoc, add-one)
+spaces_more old mid new n before written = grind (arith, append_assoc, add-one)
 
-pub spaces-none : (old : List ℕ) → old ≡ old ++ spaces 0
+pub spaces_none : (old : List ℕ) → old ≡ old ++ spaces 0
 unfolding spaces
-spaces-none old = sym (append-nil old)
+spaces_none old = sym (append-nil old)
 
 -- a text that was written, and the spaces after it
 pub padded_by_parts : (old text mid new : List ℕ) (width begin end len count : ℕ) → mid ≡ old ++ text → begin ≡ length old
@@ -41,20 +41,20 @@ widest-more : (texts : List (List ℕ)) (text : List ℕ) → widest (texts ++ t
 unfolding widest
 widest-more texts text = let both = widest-append texts (text ∷ []) in omega (arith, both)
 
-pub widest-none : 0 ≡ widest []
+pub widest_none : 0 ≡ widest []
 unfolding widest
-widest-none = refl
+widest_none = refl
 
-pub width-more : {R : Type 0} (text : R → List ℕ) (rows : List R) (i : ℕ) (row : R) (width len new : ℕ) → i < length rows
+pub width_more : {R : Type 0} (text : R → List ℕ) (rows : List R) (i : ℕ) (row : R) (width len new : ℕ) → i < length rows
     → row ≡ get_or rows i row → width ≡ widest (map text (take i rows)) → len ≡ length (text row) → new ≡ max width len
     → new ≡ widest (map text (take (i + 1) rows))
-width-more text rows i row width len new within at before own is =
+width_more text rows i row width len new within at before own is =
     grind (arith, widest-more (map text (take i rows)) (text row), map_more text rows i row within at)
 
-pub lent_width-more : {R Y : Type 0} (text : Y → List ℕ) (f : R → Y) (rows : List R) (i : ℕ) (row : R) (width len new : ℕ)
+pub lent_width_more : {R Y : Type 0} (text : Y → List ℕ) (f : R → Y) (rows : List R) (i : ℕ) (row : R) (width len new : ℕ)
     → i < length rows → row ≡ get_or rows i row → width ≡ widest (map text (map f (take i rows))) → len ≡ length (text (f row))
     → new ≡ max width len → new ≡ widest (map text (map f (take (i + 1) rows)))
-lent_width-more text f rows i row width len new within at before own is = grind (arith, map-map, width-more)
+lent_width_more text f rows i row width len new within at before own is = grind (arith, map-map, width_more)
 
 -- when a live record was last heard, and its type
 abbrev pub heard_text : Latest × ℕ → List ℕ
@@ -71,15 +71,13 @@ seconds-len nanos = refl
 widest_heard-most : (rows : List (Latest × ℕ)) → widest (map heard_text rows) ≤ 20
 unfolding widest
 widest_heard-most [] = omega arith
-widest_heard-most (row ∷ rows) =
-    let rest = widest_heard-most rows in let own = seconds-len row.0.moment.nanos in omega (arith, rest, own)
+widest_heard-most (row ∷ rows) = grind (arith, widest_heard-most rows, seconds-len)
 
 -- the width of the second column
 heard-width : (rows : List (Latest × ℕ)) → 0 < length rows → widest (codes "HEARD" ∷ map heard_text rows) ≡ 20
 unfolding widest
 heard-width [] some = absurd (omega (arith, some))
-heard-width (row ∷ rows) some =
-    let rest = widest_heard-most rows in let own = seconds-len row.0.moment.nanos in omega (arith, rest, own)
+heard-width (row ∷ rows) some = grind (arith, widest_heard-most, seconds-len)
 
 -- the width of a column below a head of four letters
 head-width : (head : List ℕ) (texts : List (List ℕ)) → length head ≡ 4 → widest (head ∷ texts) ≡ max (widest texts) 4
@@ -141,16 +139,19 @@ row_text left kind now row = grind (arith, padded-exact, seconds-len)
 pub row_by_parts : (old gap left heard kind own a b c d e f g new : List ℕ) → a ≡ old ++ left → b ≡ a ++ gap → c ≡ b ++ heard → d ≡ c ++ gap
     → e ≡ d ++ kind → f ≡ e ++ gap → g ≡ f ++ own → new ≡ g ++ 10 ∷ []
     → new ≡ old ++ (left ++ gap ++ heard ++ gap ++ kind ++ gap ++ own ++ 10 ∷ [])
-row_by_parts old gap left heard kind own a b c d e f g new pa pb pc pd pe pf pg pn =
-    rw (pn, pg, pf, pe, pd, pc, pb, pa) (simp append_assoc)
+row_by_parts old gap left heard kind own a b c d e f g new pa pb pc pd pe pf pg pn = grind (arith, append_assoc)
 
-pub unless_none-some : {R X : Type 0} (f : R → X) (rows : List R) (old a new text : List ℕ) → (length rows == 0) ≡ false
+pub unless_none_some : {R X : Type 0} (f : R → X) (rows : List R) (old a new text : List ℕ) → (length rows == 0) ≡ false
     → a ≡ old ++ 10 ∷ [] → new ≡ a ++ text → new ≡ old ++ unless_none (map f rows) text
-unless_none-some f [] old a new text some line written = let both : true ≡ false = some in cc
-unless_none-some f (row ∷ rows) old a new text some line written = grind (arith, append_assoc)
+unless_none_some f [] old a new text some line written = let both : true ≡ false = some in cc
+unless_none_some f (row ∷ rows) old a new text some line written = grind (arith, append_assoc)
 
 -- a report by what it begins with, which depends on how many are listed, and by their texts
 pub listed_by_parts : {R X : Type 0} (f : R → X) {listed items : List R} {rows : List X} → listed ≡ items → map f items ≡ rows
     → (head : ℕ → List ℕ) (texts : List X → List ℕ) {begun new : List ℕ} → begun ≡ head (length listed) → new ≡ begun ++ texts (map f listed)
     → new ≡ head (length rows) ++ texts rows
 listed_by_parts f same found head texts begins written = grind (arith, length-map)
+
+-- WHAT FUNCTIONS ARE PROVED BY
+
+pub ruleset for_push_table = (table_by_parts, length-map)

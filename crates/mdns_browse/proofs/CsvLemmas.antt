@@ -8,11 +8,9 @@ pub joined-some : (texts : List (List ℕ)) (old new : List ℕ) → 0 < length 
     → (slice_index old 0 < 128 → new ≡ remove_range old 0 1) → old ≡ spaced texts → new ≡ joined texts
 unfolding joined
 joined-some [] old new some cut is = let none : 0 < 0 = subst (λ text. 0 < length text) is some in absurd (omega (arith, none))
-joined-some (text ∷ texts) old new some cut is =
-    subst (λ front. slice_index front 0 < 128 → new ≡ remove_range front 0 1) is cut (omega arith)
+joined-some (text ∷ texts) old new some cut is = grind arith
 
 pub joined-none : (texts : List (List ℕ)) (old : List ℕ) → length old ≡ 0 → old ≡ spaced texts → old ≡ joined texts
 unfolding joined
 joined-none [] old none is = is
-joined-none (text ∷ texts) old none is =
-    let some : length (spaced (text ∷ texts)) ≡ 0 = subst (λ front. length front ≡ 0) is none in absurd (omega (arith, some))
+joined-none (text ∷ texts) old none is = grind arith

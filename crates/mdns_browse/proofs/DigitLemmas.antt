@@ -69,3 +69,9 @@ pub IsAscii-hex_octet : (octet : ℕ) → octet < 256 → IsAscii (hex_octet oct
 IsAscii-hex_octet octet small zero = hex_glyph (octet / 16) (omega arith)
 IsAscii-hex_octet octet small (suc zero) = hex_glyph (octet % 16) (omega arith)
 IsAscii-hex_octet octet small (suc (suc i)) = omega arith
+
+-- WHAT FUNCTIONS ARE PROVED BY
+
+pub ruleset for_write_decimal = (decimal_pair, length_pair, shorter_front)
+
+pub ruleset for_write_first = (length_one, length_two, decimal_two, drop-set)

@@ -8,7 +8,7 @@ use Rattle.mdns_browse.specs.declared.{instance.Server.{Server}, instance_sheet.
 use Rattle.mdns_browse.specs.ColumnPieces.{Adds, Writes, piece_columns, row_after}
 use Rattle.mdns_browse.specs.Columns.{heading, instance_rows, instances_pretty, line_of_some, time_left_text, other_row, others_pretty}
 use Rattle.mdns_browse.specs.{Columns.{rows_by_type, server_line, spaces, type_begin, widest, words_line}, Services.{GivenRow, InstanceRow}}
-use Rattle.mdns_browse.specs.{Sheet.{server_pieces, servers_end, servers_pieces, instance_pieces}, RecordShown.{spaced_wide}}
+use Rattle.mdns_browse.specs.{Sheet.{server_pieces, servers_pieces, instance_pieces}, RecordShown.{spaced_wide}}
 use Rattle.mdns_browse.specs.laws.ColumnPieces.{adds-both, columns-laws}
 use Rattle.mdns_browse.proofs.{LineLemmas.{flat_map-map, flat_map-pieces}, InstanceLemmas.{given_in}}
 
@@ -56,10 +56,10 @@ pub line-some : (width : ℕ) (words : List (List ℕ)) → (length (spaced_wide
 line-some width [] some = let both : true ≡ false = some in cc
 line-some width (word ∷ words) some = refl
 
-pub text_line-some : (width : ℕ) (old words new : List ℕ) (ws : List (List ℕ)) → words ≡ spaced_wide ws → (length words == 0) ≡ false
+pub text_line_some : (width : ℕ) (old words new : List ℕ) (ws : List (List ℕ)) → words ≡ spaced_wide ws → (length words == 0) ≡ false
     → new ≡ old ++ (spaces width ++ codes "    " ++ words ++ 10 ∷ []) → new ≡ old ++ (line_of_some width ws ++ [])
 unfolding words_line
-text_line-some width old words new ws is some written = grind (arith, line-some, append-nil)
+text_line_some width old words new ws is some written = grind (arith, line-some, append-nil)
 
 module _ (width now : ℕ) where
   server_text : (server : Server) → flat_map (piece_columns width now) (server_pieces server) ≡ server_line width server
@@ -72,11 +72,7 @@ module _ (width now : ℕ) where
 
   servers_text : (servers : List Server) → flat_map (piece_columns width now) (servers_pieces servers)
       ≡ flat_map (server_line width) servers ++ unresolved servers
-  servers_text servers =
-      flat_map-append (piece_columns width now) (flat_map server_pieces servers) (servers_end (length servers == 0) ∷ [])
-      ∙ ap (λ text. text ++ (unresolved servers ++ []))
-      (flat_map-pieces (piece_columns width now) server_pieces (server_line width) server_text servers)
-      ∙ ap (λ text. flat_map (server_line width) servers ++ text) (append-nil (unresolved servers))
+  servers_text servers = grind (arith, flat_map-append, flat_map-pieces, server_text, append-nil)
 
   row_text : (row : InstanceRow) → flat_map (piece_columns width now) (instance_pieces row) ≡ instance_rows width now row
   unfolding instance_rows

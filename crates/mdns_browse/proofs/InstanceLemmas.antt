@@ -1,7 +1,7 @@
 -- The instances that records give among rows.
 use Rattle.std.proofs.Common.{◌≡◌, refl, sym, ◌∙◌, ap, ℕ, ◌==◌, Bool, true, false, cond, Option, None, Some, is_some, option_map}
 use Rattle.std.proofs.Common.{List, [], ◌∷◌, ◌++◌, length, map, arith}
-use Rattle.std.proofs.lemmas.{Bool.{false≢true}, Bool.Decides.{nat_tests}, List.{map-append}}
+use Rattle.std.proofs.lemmas.{Bool.{false≢true}, List.{map-append}}
 use Rattle.std.proofs.lemmas.{List.Elements.{filter-append, filter_map-append}, Option.{cond_some, none-some}}
 use Rattle.std.specs.List.{cons_option, filter, filter_map}
 use Rattle.mdns_message.specs.{Parts.{pointer_of, service_of, text_of}, Resource.{Body, number_of}, laws.Resource.{set_key_cmp-exact}}
@@ -12,6 +12,8 @@ use Rattle.mdns_browse.specs.declared.instance.{Instance.{Instance}, Server.{Ser
 use Rattle.mdns_browse.specs.Services.{GivenRow, InstanceRow, body_of, given_of, gives_instance, instance_given, instance_in}
 use Rattle.mdns_browse.specs.Services.{instance_row_in, instance_rows_in, lasts_in, name_if, rows_of_set, server_at}
 use Rattle.mdns_browse.proofs.{KeptLemmas.{filter-all}, ListLemmas.{through-append}, SearchLemmas.{eq_is}}
+use Rattle.std.proofs.lemmas.List.{append-nil}
+use Rattle.std.proofs.Common.{rules}
 
 -- ---- what a record gives
 
@@ -79,10 +81,8 @@ module _ (rows : List Latest) where
   pub kept-none : (about : List Subject) (all : List GivenRow) → (length about == 0) ≡ true
       → filter gives_instance all ≡ given_in (filter (λ (row : InstanceRow). keeps_instance about row.instance) (instance_rows_in rows all))
   unfolding keeps_instance
-  kept-none [] all none =
-      sym (ap given_in (filter-all (λ (row : InstanceRow). true) (λ row. refl) (instance_rows_in rows all)) ∙ given-shown all)
-  kept-none (subject ∷ about) all none =
-      let some : (length (subject ∷ about) == 0) ≡ false = grind (arith, nat_tests) in absurd (false≢true (sym some ∙ none))
+  kept-none [] all none = grind (arith, filter-all, given-shown)
+  kept-none (subject ∷ about) all none = grind (arith, false≢true)
 
   pub kept-append : (about : List Subject) (xs ys : List GivenRow)
       → kept_given about rows (xs ++ ys) ≡ kept_given about rows xs ++ kept_given about rows ys
@@ -101,8 +101,7 @@ module _ (rows : List Latest) where
 
   pub kept-no_pointer : (about : List Subject) (given : GivenRow) → None ≡ pointer_of (body_of given.last)
       → kept_given about rows (given ∷ []) ≡ []
-  kept-no_pointer about given none =
-      ap (λ shown. given_in (filter (λ (row : InstanceRow). keeps_instance about row.instance) shown)) (shown-one given None none)
+  kept-no_pointer about given none = grind (arith, shown-one)
 
   -- the instances by the records that give them
   pub instances-shown : (live : List (Latest × ℕ))
@@ -143,3 +142,11 @@ pub served-each : (all rows : List Latest) (name : List ℕ)
     → length (servers_of all (rows_of_set rows name 33)) ≡ length (rows_of_set rows name 33)
 served-each all [] name = refl
 served-each all (row ∷ rows) name = grind (arith, set_key_cmp-exact, eq_is, has_server, served-each all rows name)
+
+-- WHAT FUNCTIONS ARE PROVED BY
+
+pub ruleset for_kept_of = (kept-append, kept-none)
+
+pub ruleset for_push_kept = (kept-no_pointer, kept-one, append-nil, map-append)
+
+pub ruleset for_push_csv_instances = (row_named, shown-one, shown_in, append-nil, filter_map-append)

@@ -50,11 +50,11 @@ module _ (mark : ℕ) (ascii : mark < 128) where
   character_plain c old new is written = written ∙ ap (λ text. old ++ text) (sym (marked-plain c is))
 
 -- a character written takes its bytes from what is left to write
-pub marked_left-step : (mark c : ℕ) (old new total text rest : List ℕ) → text ≡ encode_utf8 c ++ rest
+pub marked_left_step : (mark c : ℕ) (old new total text rest : List ℕ) → text ≡ encode_utf8 c ++ rest
     → new ≡ old ++ marked mark (encode_utf8 c) → old ++ marked mark text ≡ total → new ++ marked mark rest ≡ total
-marked_left-step mark c old new total text rest split written left = grind (arith, append_assoc, flat_map-append)
+marked_left_step mark c old new total text rest split written left = grind (arith, append_assoc, flat_map-append)
 
 -- with no bytes left nothing is left to write
-pub marked_left-end : (mark : ℕ) (old total rest : List ℕ) → length rest ≡ 0 → old ++ marked mark rest ≡ total → old ≡ total
-marked_left-end mark old total [] none left = sym (append-nil old) ∙ left
-marked_left-end mark old total (b ∷ rest) none left = absurd (omega (arith, none))
+pub marked_left_end : (mark : ℕ) (old total rest : List ℕ) → length rest ≡ 0 → old ++ marked mark rest ≡ total → old ≡ total
+marked_left_end mark old total [] none left = sym (append-nil old) ∙ left
+marked_left_end mark old total (b ∷ rest) none left = absurd (omega (arith, none))

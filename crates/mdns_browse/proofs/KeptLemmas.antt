@@ -3,7 +3,7 @@ use Rattle.std.proofs.Common.{arith, ◌≡◌, refl, ap, ℕ, Bool, true, List,
 use Rattle.std.proofs.lemmas.{List.{map-append}, List.Elements.{filter-append, filter_map-append}, Grind.{flat_map-append}}
 use Rattle.std.specs.List.{filter, filter_map, flat_map}
 use Rattle.mdns_join.specs.declared.latest.Latest.{Latest}
-use Rattle.mdns_browse.specs.{About.{keeps_record, keeps_type}, Report.{records_about, types_about}}
+use Rattle.mdns_browse.specs.{About.{keeps_record}, Report.{records_about, types_about}}
 use Rattle.mdns_browse.specs.Services.{GivenRow, given_of, gives_instance, lasts_in, others_in, type_given, types_in}
 use Rattle.mdns_browse.specs.declared.about.Subject.{Subject}
 use Rattle.mdns_browse.proofs.ListLemmas.{through-append}
@@ -31,14 +31,25 @@ module _ (about : List Subject) where
   records_about-append = filter-append (λ (row : Latest × ℕ). keeps_record about row.0.resource)
 
   -- what is written of those that are kept
-  pub written-append : (text : Latest × ℕ → List ℕ) (xs ys : List (Latest × ℕ))
+  pub written_append : (text : Latest × ℕ → List ℕ) (xs ys : List (Latest × ℕ))
       → flat_map text (records_about about (xs ++ ys)) ≡ flat_map text (records_about about xs) ++ flat_map text (records_about about ys)
-  written-append text = through-append (flat_map text) (records_about about) (flat_map-append text) records_about-append
+  written_append text = through-append (flat_map text) (records_about about) (flat_map-append text) records_about-append
 
   pub others_about-append : (xs ys : List (Latest × ℕ))
       → records_about about (others_in (xs ++ ys)) ≡ records_about about (others_in xs) ++ records_about about (others_in ys)
   others_about-append = grind (arith, through-append, records_about-append, filter-append, is_some)
 
   pub types_about-append : (xs ys : List (Latest × ℕ)) → types_about about (xs ++ ys) ≡ types_about about xs ++ types_about about ys
-  types_about-append =
-      through-append (filter (keeps_type about)) (λ rows. types_in (lasts_in rows)) (filter-append (keeps_type about)) types-append
+  types_about-append = grind (arith, through-append, filter-append, types-append)
+
+-- WHAT FUNCTIONS ARE PROVED BY
+
+pub ruleset for_gather = (given-append, givers, lasts-append, map-append)
+
+pub ruleset for_kept_others = (others_about-append)
+
+pub ruleset for_kept_records = (records_about-append)
+
+pub ruleset for_names_of = (types-append)
+
+pub ruleset for_type_names = (types_about-append)

@@ -1,10 +1,10 @@
 -- Lines by the pieces that are written of them.
-use Rattle.std.proofs.Common.{◌≡◌, refl, ◌∙◌, ap, ℕ, ◌==◌, if◌then◌else◌, List, [], ◌∷◌, ◌++◌, length, map, arith, codes}
+use Rattle.std.proofs.Common.{◌≡◌, refl, ap, ℕ, ◌==◌, if◌then◌else◌, List, [], ◌∷◌, ◌++◌, length, map, arith, codes}
 use Rattle.std.proofs.lemmas.{List.{append-nil, append_assoc}, Grind.{flat_map-append}}
 use Rattle.std.specs.{Fmt.{decimal}, List.{flat_map}}
 use Rattle.dns_name.specs.Name.{name_text}
 use Rattle.mdns_browse.specs.{declared.instance.Server.{Server}, RecordText.{data_words, instance_lines, server_lines, spaced}}
-use Rattle.mdns_browse.specs.Sheet.{server_address, server_end, servers_end, server_pieces, servers_pieces, instance_pieces}
+use Rattle.mdns_browse.specs.Sheet.{server_address, server_end, server_pieces, servers_pieces, instance_pieces}
 use Rattle.mdns_browse.specs.{LinePieces.{piece_lines}, Services.{InstanceRow}}
 
 pub flat_map-map : {X P : Type 0} (text_of : P → List ℕ) (piece : X → P) (xs : List X)
@@ -43,10 +43,7 @@ abbrev unresolved : List Server → List ℕ
 unresolved servers = if length servers == 0 then codes "  unresolved\n" else []
 
 servers_text : (servers : List Server) → flat_map piece_lines (servers_pieces servers) ≡ flat_map server_lines servers ++ unresolved servers
-servers_text servers =
-    flat_map-append piece_lines (flat_map server_pieces servers) (servers_end (length servers == 0) ∷ [])
-    ∙ ap (λ text. text ++ (unresolved servers ++ [])) (flat_map-pieces piece_lines server_pieces server_lines server_text servers)
-    ∙ ap (λ text. flat_map server_lines servers ++ text) (append-nil (unresolved servers))
+servers_text servers = grind (arith, flat_map-append, flat_map-pieces, server_text, append-nil)
 
 instance_by_parts : (name servers none texts : List ℕ)
     → (name ++ 10 ∷ []) ++ ((servers ++ none) ++ (texts ++ [])) ≡ name ++ 10 ∷ servers ++ none ++ texts

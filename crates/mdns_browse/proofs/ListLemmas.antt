@@ -21,8 +21,7 @@ module _ {X Y : Type 0} (g : List X → List Y) (append : (xs ys : List X) → g
 
   pub made_same : {R : Type 0} (f : R → X) (rows : List R) (i : ℕ) (row : R) {old : List Y} → i < length rows → row ≡ get_or rows i row
       → old ≡ g (map f (take i rows)) → g (f row ∷ []) ≡ [] → old ≡ g (map f (take (i + 1) rows))
-  made_same f rows i row {old} within at so_far none =
-      made_more f rows i row within at so_far (sym (append-nil old) ∙ ap (λ ys. old ++ ys) (sym none))
+  made_same f rows i row {old} within at so_far none = grind (arith, made_more, append-nil)
 
   pub made_all : {R : Type 0} (f : R → X) (rows : List R) (i : ℕ) {old : List Y} → length rows ≤ i
       → old ≡ g (map f (take i rows)) → old ≡ g (map f rows)
@@ -33,8 +32,7 @@ module _ {X Y : Type 0} (g : List X → List Y) (append : (xs ys : List X) → g
       → row ≡ get_or rows i row → old ≡ front ++ g (map f (take i rows)) → new ≡ old ++ g (f row ∷ [])
       → new ≡ front ++ g (map f (take (i + 1) rows))
   added_more f rows i row front within at so_far more =
-      more ∙ ap (λ ys. ys ++ g (f row ∷ [])) so_far ∙ append_assoc front (g (map f (take i rows))) (g (f row ∷ []))
-      ∙ ap (λ ys. front ++ ys) (made_more f rows i row within at refl refl)
+      grind (arith, append_assoc front (g (map f (take i rows))) (g (f row ∷ [])), made_more f rows i row within at refl refl)
 
   -- of elements of which some are left
   pub left_more : (x : X) (left after : List X) (old new all : List Y) → left ≡ x ∷ after → new ≡ old ++ g (x ∷ [])
@@ -47,8 +45,7 @@ module _ {X Y : Type 0} (g : List X → List Y) (append : (xs ys : List X) → g
       left_more x left after old old all split (sym (append-nil old) ∙ ap (λ ys. old ++ ys) (sym none))
 
   pub left_all : (left : List X) (old all : List Y) → left ≡ [] → g [] ≡ [] → old ++ g left ≡ all → old ≡ all
-  left_all left old all none empty so_far =
-      sym (append-nil old) ∙ ap (λ ys. old ++ ys) (sym (ap g none ∙ empty)) ∙ so_far
+  left_all left old all none empty so_far = grind (arith, append-nil)
 
   -- pieces that a sheet takes of the first elements of a list
   pub takes_more : {R S : Type 0} {takes : S → List Y → S → Type 0} (laws : TakeLaws takes) (f : R → X) (rows : List R) (i : ℕ) (row : R)
@@ -64,5 +61,20 @@ module _ {X Y : Type 0} (g : List X → List Y) (append : (xs ys : List X) → g
 
   pub takes_all : {R S : Type 0} (takes : S → List Y → S → Type 0) (f : R → X) (rows : List R) (i : ℕ) {old new : S} → length rows ≤ i
       → takes old (g (map f (take i rows))) new → takes old (g (map f rows)) new
-  takes_all takes f rows i {old} {new} enough so_far =
-      subst (λ rs. takes old (g (map f rs)) new) (take_all i rows enough) so_far
+  takes_all takes f rows i {old} {new} enough so_far = grind (arith, take_all)
+
+-- WHAT FUNCTIONS ARE PROVED BY
+
+pub ruleset for_gather = (left_all, left_more)
+
+pub ruleset for_kept_of = (made_all, made_more)
+
+pub ruleset for_push_csv_instances = (takes_all, takes_more, takes_same)
+
+pub ruleset for_kept_others = (left_all, left_more, left_same)
+
+pub ruleset for_kept_records = (left_all, left_more)
+
+pub ruleset for_names_of = (left_all, left_more, left_same)
+
+pub ruleset for_type_names = (left_all, left_more, left_same)

@@ -7,9 +7,8 @@ use Rattle.std.proofs.lemmas.{List.{length-take-le, take-append-drop}, Option.{c
 use Rattle.std.specs.{Char.{to_ascii_lowercase}, Cmp.Lexicographic.{slice_cmp, bytes_decides, texts_ties}, Ordering.{is_eq, nat_cmp}}
 use Rattle.dns_name.specs.Name.{IsLabel, folded, longest_label, wire_of}
 use Rattle.mdns_join.specs.declared.latest.Latest.{Latest}
-use Rattle.mdns_browse.specs.Services.{GivesInstance, GivesOther, GivesType, IsServiceName, IsInstanceOf, body_of, instance_given}
-use Rattle.mdns_browse.specs.Services.{is_instance_of, is_service_name, name_if, other_given, same_text, type_given, types_owner}
-use Rattle.mdns_message.specs.Parts.{pointer_of}
+use Rattle.mdns_browse.specs.Services.{GivesInstance, GivesOther, GivesType, IsServiceName, IsInstanceOf, instance_given}
+use Rattle.mdns_browse.specs.Services.{is_instance_of, is_service_name, name_if, other_given, same_text, type_given}
 
 -- ---- folding
 
@@ -167,38 +166,23 @@ service-decides name =
 -- a name for which the test holds
 name_if-decides : (test : List ℕ → Bool) (Holds : List ℕ → Type 0) → ((name : List ℕ) → Decides (test name) (Holds name))
     → (pointer : Option (List ℕ)) (name : List ℕ) → (name_if test pointer ≡ Some name) ↔ ((pointer ≡ Some name) × Holds name)
-name_if-decides test Holds decides None name =
-    (λ given. absurd (none-some name given), λ holds. absurd (none-some name holds.0))
+name_if-decides test Holds decides None name = grind (arith, none-some)
 name_if-decides test Holds decides (Some target) name = grind (arith, cond_some, same_Some)
 
 pub type-gives : (row : Latest) (name : List ℕ) → (type_given row ≡ Some name) ↔ GivesType row name
 unfolding type_given
-type-gives row name =
-    let both =
-    name_if-decides _ (λ name. (folded row.resource.owner ≡ folded types_owner) × IsServiceName name)
-    (λ name. Decides-and _ _ (same_text-decides row.resource.owner types_owner) (service-decides name)) (pointer_of (body_of row)) name in (
-      λ given. let own = both.0 given in record { pointer = own.0; owner = own.1.0; service = own.1.1 },
-      λ gives. both.1 (gives.pointer, (gives.owner, gives.service)),
-    )
+type-gives row name = grind (arith, name_if-decides, Decides-and, same_text-decides, service-decides)
 
 pub instance-gives : (row : Latest) (name : List ℕ) → (instance_given row ≡ Some name) ↔ GivesInstance row name
 unfolding instance_given
-instance-gives row name =
-    let owner = row.resource.owner in
-    let both =
-    name_if-decides _ (λ name. IsServiceName owner × IsInstanceOf owner name)
-    (λ name. Decides-and _ _ (service-decides owner) (instance-decides owner name)) (pointer_of (body_of row)) name in (
-      λ given. let own = both.0 given in record { pointer = own.0; service = own.1.0; instance = own.1.1 },
-      λ gives. both.1 (gives.pointer, (gives.service, gives.instance)),
-    )
+instance-gives row name = grind (arith, name_if-decides, Decides-and, service-decides, instance-decides)
 
 pub other-gives : (row : Latest) (name : List ℕ) → (other_given row ≡ Some name) ↔ GivesOther row name
 unfolding other_given
-other-gives row name =
-    let owner = row.resource.owner in
-    let both =
-    name_if-decides _ (λ name. IsServiceName owner × (IsInstanceOf owner name → ⊥))
-    (λ name. Decides-and _ _ (service-decides owner) (Decides-not _ (instance-decides owner name))) (pointer_of (body_of row)) name in (
-      λ given. let own = both.0 given in record { pointer = own.0; service = own.1.0; other = own.1.1 },
-      λ gives. both.1 (gives.pointer, (gives.service, gives.other)),
-    )
+other-gives row name = grind (arith, name_if-decides, Decides-and, service-decides, Decides-not, instance-decides)
+
+-- WHAT FUNCTIONS ARE PROVED BY
+
+pub ruleset for_given_by_labels = (instance-decides, instance-gives, other-gives, service-decides, type-gives)
+
+pub ruleset for_is_instance_of = (instance-decides, instance-from, instance-rest, test-begins)

@@ -9,6 +9,7 @@ use Rattle.mdns_browse.specs.Json.{json_member, json_object, json_words, parted,
 use Rattle.mdns_browse.specs.{JsonPieces.{piece_json, piece_next, pieces_json, pieces_next, strings_json}, Services.{InstanceRow}}
 use Rattle.mdns_browse.specs.Sheet.{Piece, instance_pieces, instance_text, server_address, server_pieces}
 use Rattle.mdns_browse.specs.laws.JsonPieces.{next-append, pieces-append, strings-append}
+use Rattle.std.proofs.Common.{rules}
 
 -- ---- objects by their members
 
@@ -39,12 +40,7 @@ object_arrays : (x : List ℕ) (front : List (List ℕ)) (first second values ot
     → (123 ∷ parted true (x ∷ front) ++ array_begin first) ++ ((values ++ 93 ∷ array_begin second) ++ (others ++ codes "]}\n"))
     ≡ json_object (x ∷ front ++ json_member first (91 ∷ values ++ 93 ∷ []) ∷ json_member second (91 ∷ others ++ 93 ∷ []) ∷ []) ++ 10 ∷ []
 unfolding parted escaped
-object_arrays x front first second values others = grind (
-  arith,
-  append_assoc,
-  append-nil,
-  parted-rest front (json_member first (91 ∷ values ++ 93 ∷ []) ∷ json_member second (91 ∷ others ++ 93 ∷ []) ∷ []),
-)
+object_arrays x front first second values others = grind (arith, append_assoc, append-nil, parted-rest)
 
 -- ---- pieces one after another
 
@@ -68,8 +64,7 @@ texts_json : (first : Bool) (texts : List (List ℕ))
     → pieces_json first (map instance_text texts) ≡ parted first (map (λ text. json_words (text_words text)) texts)
 unfolding parted
 texts_json first [] = refl
-texts_json first (text ∷ texts) =
-    ap (λ rest. (comma_unless first ++ json_words (text_words text)) ++ rest) (texts_json false texts)
+texts_json first (text ∷ texts) = grind (arith, texts_json false texts)
 
 server_text : (first : Bool) (server : Server) → pieces_json first (server_pieces server) ≡ comma_unless first ++ server_json server
 unfolding server_json
@@ -98,3 +93,7 @@ instances_json first (row ∷ rows) =
     pieces-append first (instance_pieces row) (flat_map instance_pieces rows)
     ∙ ap (λ text. text ++ pieces_json (pieces_next first (instance_pieces row)) (flat_map instance_pieces rows)) (instance_text_json first row)
     ∙ ap (λ text. instance_json row ++ text) (instances_json (pieces_next first (instance_pieces row)) rows)
+
+-- WHAT FUNCTIONS ARE PROVED BY
+
+pub ruleset for_push_host_json = (object_by_members, append-nil)

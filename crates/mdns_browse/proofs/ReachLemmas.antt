@@ -1,6 +1,7 @@
 -- Sheets that take pieces one after another.
-use Rattle.std.proofs.{Common.{◌≡◌, refl, sym, ◌∙◌, ap, subst, List, [], ◌++◌}, lemmas.List.{append-nil, append_assoc}}
+use Rattle.std.proofs.{Common.{◌≡◌, refl, sym, ◌∙◌, ap, List, [], ◌++◌}, lemmas.List.{append-nil, append_assoc}}
 use Rattle.mdns_browse.specs.Sheet.{TakeLaws}
+use Rattle.std.proofs.Common.{arith}
 
 -- a sheet has taken the pieces before the rest
 pub record Reaches {S P : Type 0} (takes : S → List P → S → Type 0) (old : S) (all : List P) (new : S) (rest : List P) : Type 0 where
@@ -21,5 +22,8 @@ module _ {S P : Type 0} {takes : S → List P → S → Type 0} (laws : TakeLaws
   }
 
   pub reaches-all : {old new : S} {all rest : List P} → Reaches takes old all new rest → rest ≡ [] → takes old all new
-  reaches-all {old} {new} at none =
-      subst (λ ps. takes old ps new) (sym (at.whole ∙ ap (λ ps. at.front ++ ps) none ∙ append-nil at.front)) at.taken
+  reaches-all {old} {new} at none = grind (arith, append-nil)
+
+-- WHAT FUNCTIONS ARE PROVED BY
+
+pub ruleset for_push_text_words = (reaches-start, reaches-more, reaches-all)

@@ -1,5 +1,5 @@
 -- A report about no subjects lists all.
-use Rattle.std.proofs.Common.{arith, ◌≡◌, sym, ap, refl, ◌↔◌, ℕ, true, List, [], ◌∷◌, ◌++◌}
+use Rattle.std.proofs.Common.{arith, ◌≡◌, ap, refl, ◌↔◌, ℕ, true, List, [], ◌∷◌, ◌++◌}
 use Rattle.std.specs.List.{flat_map}
 use Rattle.dns_name.specs.Name.{name_text}
 use Rattle.mdns_message.specs.declared.hearing.Hearing.{Hearing}
@@ -19,5 +19,4 @@ all_lines Instances now rows = grind (arith, filter-all, flat_map-map, instances
 
 pub about_all : (ask : Ask) (heard : List Hearing) (now : ℕ) (text : List ℕ)
     → IsReportIn [] Lines ask heard now text ↔ IsReport ask heard now text
-about_all ask heard now text =
-    (like_value heard now text (all_lines ask now), like_value heard now text (λ rows. sym (all_lines ask now rows)))
+about_all ask heard now text = grind (arith, like_value, all_lines)

@@ -1,7 +1,7 @@
 -- Rows in key order are decided by which rows there are, and so is what is a function of them.
 use Rattle.std.proofs.{Common.{◌≡◌, refl, sym, ◌∙◌, ap, subst, ℕ, inl, inr, List, [], ◌∷◌, map}, lemmas.Simd.{map-map}}
 use Rattle.std.specs.{Prelude.{Contains}, List.{AllByRecursion}, List.Sorted.{IsStrictlySortedBy}, Cmp.{IsTotalOrder}}
-use Rattle.std.specs.{Ordering.{ordering_reverse}, declared.cmp.Ordering.{Ordering}, declared.cmp.Ordering.TheVariants.{Less, Greater}}
+use Rattle.std.specs.{declared.cmp.Ordering.{Ordering}, declared.cmp.Ordering.TheVariants.{Less}}
 use Rattle.mdns_message.specs.{declared.hearing.Hearing.{Hearing}, declared.key.Key.{Key}, Resource.{key_cmp}}
 use Rattle.mdns_message.specs.laws.Resource.{key_cmp-total}
 use Rattle.mdns_join.specs.declared.latest.Latest.{Latest}
@@ -9,6 +9,7 @@ use Rattle.mdns_cache.specs.Live.{key_of_last, AreLiveRecords, IsEnd, IsLive, Sa
 use Rattle.mdns_cache.proofs.EndLemmas.{end_among}
 use Rattle.mdns_cache.proofs.StandsPartLemmas.{Contains-cases, Contains-head, Contains-later, Contains-nil, IsLast-among, same-back}
 use Rattle.mdns_browse.specs.Services.{AreAscending, IsOfLive, lasts_in}
+use Rattle.std.proofs.Common.{rules, arith}
 
 holds_at : {X K : Type 0} (P : K → Type 0) (key : X → K) (xs : List X) (z : X) → Contains xs z → AllByRecursion P (map key xs) → P (key z)
 holds_at P key [] z among all = absurd (Contains-nil z among)
@@ -19,8 +20,7 @@ holds_at P key (x ∷ xs) z among all = elim (Contains-cases x xs z among) [
 
 -- nothing is below itself, nor two things each below the other
 not_below_both : {K : Type 0} (cmp : K → K → Ordering) (o : IsTotalOrder cmp) (a b : K) → cmp a b ≡ Less → cmp b a ≡ Less → ⊥
-not_below_both cmp o a b ab ba =
-    let reversed : Less ≡ Greater = sym ab ∙ o.antisymm a b ∙ ap ordering_reverse ba in cc
+not_below_both cmp o a b ab ba = grind arith
 
 -- two lists in strictly ascending order of their keys with the same elements are equal
 pub same_rows : {X K : Type 0} (cmp : K → K → Ordering) (o : IsTotalOrder cmp) (key : X → K) (xs ys : List X)
@@ -83,8 +83,7 @@ live_among heard others now key l same live = record {
 
 row_among : (heard others : List Hearing) (now : ℕ) (l : Latest) (end : ℕ) → SameHearings heard others
     → IsLive heard now (key_of_last l) l × IsEnd heard (key_of_last l) end → IsLive others now (key_of_last l) l × IsEnd others (key_of_last l) end
-row_among heard others now l end same own =
-    (live_among heard others now (key_of_last l) l same own.0, end_among heard others (key_of_last l) end same own.1)
+row_among heard others now l end same own = search (rules, live_among, end_among)
 
 shared_records : (heard others : List Hearing) (now : ℕ) (rows : List (Latest × ℕ)) → SameHearings heard others
     → AreLiveRecords heard now rows → AreLiveRecords others now rows
@@ -106,8 +105,7 @@ one_records heard now rows other_rows are others_are =
 -- the last hearings of live records are each of another record, in key order
 pub ascending_lasts : (heard : List Hearing) (now : ℕ) (rows : List (Latest × ℕ)) → AreLiveRecords heard now rows
     → AreAscending (lasts_in rows)
-ascending_lasts heard now rows are =
-    subst (IsStrictlySortedBy key_cmp) (sym (map-map key_of_last (λ (row : Latest × ℕ). row.0) rows)) are.ascending
+ascending_lasts heard now rows are = grind (arith, map-map)
 
 -- ---- whatever is a function of the live records
 

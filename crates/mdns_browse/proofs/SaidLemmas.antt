@@ -1,9 +1,14 @@
 -- Names as people write them.
-use Rattle.std.proofs.{lemmas.Grind.{common_steps}, Common.{arith, ◌≡◌, refl, sym, ◌∙◌, ap, ℕ, Bool, true, false}}
+use Rattle.std.proofs.{lemmas.Grind.{common_steps}, Common.{arith, ◌≡◌, refl, ◌∙◌, ap, ℕ, Bool, true, false}}
 use Rattle.std.proofs.Common.{if◌then◌else◌, List, [], ◌∷◌, ◌++◌, append_assoc}
 use Rattle.std.specs.List.{flat_map}
 use Rattle.people_text.specs.Shown.{dotted, shown}
 use Rattle.mdns_browse.specs.NameSaid.{after_front, before_type, from_type, front, is_of_type}
+use Rattle.dns_name.proofs.FormLemmas.{IsForm-after}
+use Rattle.dns_name.proofs.FormLemmas.{IsForm-last}
+use Rattle.dns_name.proofs.FormLemmas.{labels_of-after}
+use Rattle.std.proofs.lemmas.Result.{IfOk-equal}
+use Rattle.std.proofs.lemmas.Result.{IfOk-weaker}
 
 -- the labels that follow another one, each after a `.`
 abbrev pub further_said : List (List ℕ) → List ℕ
@@ -15,8 +20,7 @@ labels_said labels = dotted shown labels
 -- one label more was written, and the others are left
 pub label-written : (old new label whole : List ℕ) (labels : List (List ℕ)) → old ++ further_said labels ≡ whole
     → (after : List (List ℕ)) → labels ≡ label ∷ after → new ≡ old ++ 46 ∷ shown label → new ++ further_said after ≡ whole
-label-written old new label whole labels at after first more =
-    rw (more, append_assoc) (sym (ap (λ these. old ++ further_said these) first) ∙ at)
+label-written old new label whole labels at after first more = grind (arith, append_assoc)
 
 -- a label that is of no type stands before one
 before-other : (label : List ℕ) (labels : List (List ℕ)) → is_of_type label ≡ false
@@ -46,8 +50,7 @@ parts (label ∷ labels) = parts_if (is_of_type label) label labels (parts label
 
 pub front-written : (old mid label : List ℕ) (labels after : List (List ℕ)) → mid ≡ old ++ shown label → labels ≡ label ∷ after
     → mid ++ further_said (before_type after) ≡ old ++ labels_said (front labels)
-front-written old mid label labels after first are =
-    rw (first, append_assoc) (ap (λ these. old ++ labels_said (front these)) (sym are))
+front-written old mid label labels after first are = grind (arith, append_assoc)
 
 pub said-parts : (labels : List (List ℕ)) → labels_said (front labels) ++ further_said (after_front labels) ≡ labels_said labels
 said-parts [] = refl
@@ -57,3 +60,9 @@ said-parts (label ∷ labels) = rw append_assoc (ap (λ text. shown label ++ tex
 pub said-written : (first whole : List ℕ) (labels rest : List (List ℕ)) → first ≡ labels_said (front labels) → rest ≡ after_front labels
     → whole ≡ first ++ further_said rest → whole ≡ labels_said labels
 said-written first whole labels rest begun left both = grind (arith, said-parts)
+
+-- WHAT FUNCTIONS ARE PROVED BY
+
+pub ruleset for_matches_said = (labels_said, said-written)
+
+pub ruleset for_push_front = (front-written, IfOk-equal, IfOk-weaker, IsForm-after, IsForm-last, labels_of-after)

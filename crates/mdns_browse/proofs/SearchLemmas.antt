@@ -163,8 +163,7 @@ filter-map f test (x ∷ xs) = grind (arith, filter-map f test xs)
 pub set-found : {X : Type 0} (f : X → Latest) (owner : List ℕ) (number : ℕ) (xs found : List X)
     → filter (λ x. is_eq (against (λ x. key_of_last (f x)) (set_for owner number) x)) xs ≡ found
     → map f found ≡ rows_of_set (map f xs) owner number
-set-found f owner number xs found same =
-    ap (map f) (sym same) ∙ sym (filter-map f (λ row. is_eq (set_key_cmp (key_of_last row).set (set_for owner number))) xs)
+set-found f owner number xs found same = grind (arith, filter-map)
 
 -- the rest of a list, taken whole
 pub after_whole : {X : Type 0} (xs : List X) (first : ℕ) → take (length xs - first) (drop first xs) ≡ drop first xs

@@ -35,3 +35,7 @@ text_words-cons bytes string after split = rw split refl
 pub text_words-none : (bytes : List ℕ) → bytes ≡ [] → text_words bytes ≡ []
 unfolding text_words
 text_words-none bytes none = rw none refl
+
+-- WHAT FUNCTIONS ARE PROVED BY
+
+pub ruleset for_push_text_words = (text_words-cons, text_words-none)

@@ -44,6 +44,7 @@ impl Subject {
     }
 
     /// Checks that the subject is an address of these octets.
+    #[tactic(auto, unfolding(crate::specs::About::matches_address))]
     pub(crate) fn matches_address(&self, octets: &[u8]) -> bool
         ensures { result ≡ matches_address self.now.address octets.now }
     {

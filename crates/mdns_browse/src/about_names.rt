@@ -62,6 +62,7 @@ pub(crate) fn matches_bytes(
 }
 
 /// Checks that one of the subjects is the name.
+#[tactic(auto, using(crate::proofs::AboutLemmas::for_matches_name))]
 pub(crate) fn matches_name(
     about: &[Subject],
     name: &BorrowedName<'_>,
@@ -89,7 +90,7 @@ pub(crate) fn matches_name(
 }
 
 // Checks that one of the subjects is the name as people write it, or what of it stands before a type.
-#[tactic(auto, unfolding(crate::specs::About::matches_said))]
+#[tactic(auto, using(crate::proofs::AboutLemmas::for_matches_said, crate::proofs::SaidLemmas::for_matches_said), unfolding(crate::specs::About::matches_said))]
 fn matches_said(
     about: &[Subject],
     name: &BorrowedName<'_>,
@@ -135,6 +136,7 @@ fn matches_text_in_local(about: &[Subject], text: &[u8]) -> bool
 }
 
 // Returns the text before `.local` at its end, whatever the case of its letters; `None` where it doesn't end so.
+#[tactic(auto, using(crate::proofs::AboutLemmas::for_before_local))]
 fn before_local(text: &[u8]) -> Option<&[u8]>
     ensures some { IfSome result (λ front. (word : List ℕ)
         → same_text (word ++ codes ".local") text.now ≡ same_text word front.now) }

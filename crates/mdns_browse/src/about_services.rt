@@ -35,6 +35,7 @@ pub(crate) fn is_in_instance(
 }
 
 // Checks that one of the subjects is a server of a name, or an address of one.
+#[tactic(auto, using(crate::proofs::AboutServiceLemmas::for_is_in_servers))]
 fn is_in_servers(
     about: &[Subject],
     rows: &[Last<'_>],

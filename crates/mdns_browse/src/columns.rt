@@ -38,6 +38,7 @@ fn push_word(to: &mut String, word: &str) -> Result<(), Want>
 }
 
 /// Appends so many spaces.
+#[tactic(auto, using(crate::proofs::ColumnLemmas::spaces_more, crate::proofs::ColumnLemmas::spaces_none))]
 pub(crate) fn push_spaces(to: &mut String, count: usize) -> Result<(), Want>
     ensures { OnOk result (string_bytes to.new ≡ string_bytes to.old ++ spaces count) }
 {
@@ -57,6 +58,7 @@ pub fn push_padded(to: &mut String, width: usize, text: &str) -> Result<(), Want
 }
 
 /// Appends how much longer a live record lives, and spaces up to a width.
+#[tactic(auto, using(std::proofs::lemmas::Result::on_ok_weaker, crate::proofs::ColumnLemmas::padded_by_parts))]
 pub(crate) fn push_padded_time_left(
     to: &mut String,
     width: usize,

@@ -94,6 +94,7 @@ fn push_address<W: WordSink>(to: &mut W, address: Address) -> Result<(), Want>
 }
 
 /// Hands over each string of TXT data that isn't empty (RFC 1035, section 3.3.14).
+#[tactic(auto, using(crate::proofs::ReachLemmas::for_push_text_words, crate::proofs::TextLemmas::for_push_text_words))]
 pub(crate) fn push_text_words<W: WordSink>(to: &mut W, bytes: &[u8]) -> Result<(), Want>
     ensures { OnOk result (W.takes_words to.old (text_words bytes.now) to.new) }
 {

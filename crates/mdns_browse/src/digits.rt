@@ -10,6 +10,7 @@ static PAIRS: [u8; 200] =
       5051525354555657585960616263646566676869707172737475767778798081828384858687888990919293949596979899";
 
 // Writes both digits of a number below a hundred at an index.
+#[tactic(auto, using(crate::proofs::DigitLemmas::pair_at, crate::proofs::DigitLemmas::pair_written))]
 fn write_pair(pair: u64, text: &mut [u8], at: usize)
     requires { (pair < 100) × (at + 2 ≤ length text.old) }
     ensures written { drop at text.new ≡ (48 + pair / 10) ∷ (48 + pair % 10) ∷ drop (at + 2) text.old }
@@ -21,6 +22,7 @@ fn write_pair(pair: u64, text: &mut [u8], at: usize)
 }
 
 // Writes a number below a hundred before `end`, with one digit if it is below ten; returns the index of the first.
+#[tactic(auto, using(std::proofs::lemmas::Fmt::decimal_digit, crate::proofs::DigitLemmas::for_write_first))]
 fn write_first(number: u64, text: &mut [u8], end: usize) -> usize
     requires { (number < 100) × (length (decimal number) ≤ end) × (end ≤ length text.old) }
     ensures start { result + length (decimal number) ≡ end }
@@ -36,6 +38,7 @@ fn write_first(number: u64, text: &mut [u8], end: usize) -> usize
 }
 
 /// Writes the decimal digits of a number before `end`, from the last to the first; returns the index of the first.
+#[tactic(auto, using(crate::proofs::DigitLemmas::for_write_decimal))]
 pub(crate) fn write_decimal(number: u64, text: &mut [u8], end: usize) -> usize
     requires { (length (decimal number) ≤ end) × (end ≤ length text.old) }
     ensures start { result + length (decimal number) ≡ end }
@@ -65,6 +68,7 @@ fn hexadecimal(digit: u8) -> u8
 }
 
 /// Writes both hexadecimal digits of an octet before `end`; returns the index of the first.
+#[tactic(auto, using(crate::proofs::DigitLemmas::pair_written))]
 pub(crate) fn write_octet(octet: u8, text: &mut [u8], end: usize) -> usize
     requires { (2 ≤ end) × (end ≤ length text.old) }
     ensures start { result + 2 ≡ end }

@@ -85,6 +85,7 @@ fn services_of<'a>(
 }
 
 // Appends the servers of an instance.
+#[tactic(auto, using(std::proofs::lemmas::List::take_all, crate::proofs::HostLemmas::for_push_services, crate::proofs::ListLemmas::added_more))]
 fn push_services<'a>(
     to: &mut Vec<HostService<'a>>,
     rows: &[Last<'a>],
@@ -219,6 +220,7 @@ fn keeps_host(
 }
 
 // Checks that the instance of one of the services is about one of the subjects.
+#[tactic(auto, using(crate::proofs::AboutLemmas::for_keeps_served, crate::proofs::AboutServiceLemmas::for_keeps_served))]
 fn keeps_served(
     about: &[Subject],
     rows: &[Last<'_>],
@@ -238,6 +240,7 @@ fn keeps_served(
 }
 
 // Checks that one of the records is about one of the subjects.
+#[tactic(auto, using(crate::proofs::AboutLemmas::for_keeps_one, crate::proofs::AboutServiceLemmas::for_keeps_one))]
 fn keeps_one(about: &[Subject], rows: &[Last<'_>], scratch: &mut String) -> Result<bool, Want>
     ensures { IfOk result (λ keeps. keeps
         ≡ list_any (λ (row : Latest). keeps_record about.now row.resource) (map last_lent rows.now)) }

@@ -98,6 +98,7 @@ fn push_address_words<W: WordSink>(to: &mut W, rows: &[Last<'_>]) -> Result<(), 
 }
 
 // Appends the object of a host.
+#[tactic(auto, using(std::proofs::lemmas::List::append_assoc, crate::proofs::ObjectLemmas::for_push_host_json), unfolding(crate::specs::Hosts::host_json, crate::specs::Json::parted))]
 fn push_host_json(to: &mut Objects, host: &Host<'_>) -> Result<(), Want>
     ensures { OnOk result (string_bytes to.new.text ≡ string_bytes to.old.text ++ host_json (host_lent host.now)) }
 {

@@ -71,6 +71,7 @@ fn listed(
 }
 
 // Appends the instance of each of the records that give one. The servers and texts are looked up in the rows.
+#[tactic(auto, using(std::proofs::lemmas::List::append_assoc, std::proofs::lemmas::Result::on_ok_weaker, crate::proofs::InstanceLemmas::shown_in, crate::proofs::LineLemmas::instances_text, crate::proofs::ObjectLemmas::instances_json))]
 fn push_instances(
     to: &mut Objects,
     form: Form,
@@ -94,6 +95,7 @@ fn push_instances(
 }
 
 // Appends the instance of each of the records that give one. The servers and texts are looked up in the rows.
+#[tactic(auto, using(crate::proofs::InstanceLemmas::for_push_csv_instances, crate::proofs::ListLemmas::for_push_csv_instances))]
 fn push_csv_instances(
     to: &mut String,
     rows: &[Last<'_>],

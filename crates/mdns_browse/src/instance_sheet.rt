@@ -100,6 +100,7 @@ impl Sheet for InstanceSheet {
         Ok(())
     }
 
+    #[tactic(auto, using(std::proofs::lemmas::Result::on_ok_weaker, crate::proofs::InstanceColumnLemmas::text_line_some))]
     fn instance_text(&mut self, text: &Bytes) -> Result<(), Want> {
         self.words.clear();
         push_shown_strings(&mut self.words, GAP, text.as_slice())?;

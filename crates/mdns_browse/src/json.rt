@@ -65,6 +65,7 @@ pub(crate) fn json_bool(value: bool) -> &'static str
 }
 
 /// Appends a text, each `"` and each `mark` after a `mark`, which is ASCII.
+#[tactic(auto, using(crate::proofs::JsonLemmas::marked_left_step, crate::proofs::JsonLemmas::marked_left_end))]
 pub(crate) fn push_marked(to: &mut String, mark: char, text: &str) -> Result<(), Want>
     requires { mark < 128 }
     ensures { OnOk result (string_bytes to.new ≡ string_bytes to.old ++ marked mark text.now) }

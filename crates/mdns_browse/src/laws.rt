@@ -34,6 +34,7 @@ pub fn same_report_in()
 {}
 
 /// A report about no subjects lists all, so in lines of words it is the report.
+#[tactic(auto, using(crate::proofs::ReportLemmas::about_all))]
 pub fn report_about_all()
     ensures { (ask : Ask) (heard : List Hearing) (now : ℕ) (text : List ℕ)
         → IsReportIn [] Lines ask heard now text ↔ IsReport ask heard now text }
@@ -41,6 +42,7 @@ pub fn report_about_all()
 
 /// What the definitions find out from the bytes of a record is what RFC 6763 says of it by labels: which names are those of
 /// services and of instances, and which name a record gives, if it gives one.
+#[tactic(auto, using(crate::proofs::NameLemmas::for_given_by_labels))]
 pub fn given_by_labels()
     ensures service_name { (name : List ℕ) → (is_service_name name ≡ true) ↔ IsServiceName name }
     ensures instance_name { (service name : List ℕ) → (is_instance_of service name ≡ true) ↔ IsInstanceOf service name }

@@ -16,6 +16,7 @@ use mdns_message::{Resource, Want};
 use people_text::moment_text::push_millis;
 
 /// Returns the greatest length of the words for how the lives end.
+#[tactic(auto, using(crate::proofs::ColumnLemmas::width_more, crate::proofs::ColumnLemmas::widest_none))]
 pub(crate) fn end_width(end_of_captures: Moment, lives: &[Life]) -> usize
     ensures { result ≡ widest (map (end_shown end_of_captures.nanos) lives.now) }
 {

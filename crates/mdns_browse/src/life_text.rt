@@ -130,6 +130,7 @@ fn push_line(
 }
 
 // Appends an object for each life. The record is written once, and copied for each.
+#[tactic(auto, using(std::proofs::lemmas::List::take_all, crate::proofs::ObjectLemmas::object_by_members), unfolding(crate::specs::LifeText::life_json))]
 fn push_objects(
     text: &mut String,
     end_of_captures: Moment,

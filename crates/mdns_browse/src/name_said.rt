@@ -12,6 +12,7 @@ use people_text::shown::push_shown;
 
 /// Appends the labels of a form that stand before a type, the first one in any case; returns the form after them. The root
 /// is written as `.`.
+#[tactic(auto, using(crate::proofs::SaidLemmas::for_push_front))]
 pub(crate) fn push_front<'b>(to: &mut String, form: &'b [u8]) -> Result<&'b [u8], Want>
     requires { IsForm form.now }
     ensures text { OnOk result (string_bytes to.new ≡ string_bytes to.old ++ dotted shown (front (labels_of form.now))) }

@@ -15,6 +15,7 @@ use mdns_message::Want;
 use people_text::moment_text::push_seconds;
 
 /// Appends an empty line and the table of the records, unless there are none.
+#[tactic(auto, using(std::proofs::lemmas::Result::on_ok_weaker, crate::proofs::ColumnLemmas::unless_none_some))]
 pub(crate) fn push_records_below(
     to: &mut String,
     now: Moment,
@@ -30,6 +31,7 @@ pub(crate) fn push_records_below(
     push_table(to, now, rows)
 }
 
+#[tactic(auto, using(std::proofs::lemmas::Result::on_ok_weaker, crate::proofs::ColumnLemmas::for_push_table))]
 fn push_table(to: &mut String, now: Moment, rows: &[LiveRecord<'_>]) -> Result<(), Want>
     requires { 0 < length rows.now }
     ensures { OnOk result (string_bytes to.new ≡ string_bytes to.old ++ record_table now.nanos (map live_record_lent rows.now)) }
@@ -41,6 +43,7 @@ fn push_table(to: &mut String, now: Moment, rows: &[LiveRecord<'_>]) -> Result<(
 }
 
 // Returns the greatest length of the names of the rows' types.
+#[tactic(auto, using(crate::proofs::ColumnLemmas::lent_width_more, crate::proofs::ColumnLemmas::widest_none))]
 fn kind_width(rows: &[LiveRecord<'_>]) -> usize
     ensures { result ≡ widest (map (λ (row : Latest × ℕ). type_name (type_of row.0.resource.body)) (map live_record_lent rows.now)) }
 {
@@ -78,6 +81,7 @@ fn push_rows(
 }
 
 // Appends the line of a row. What is written of a moment has the width of its column, 20.
+#[tactic(auto, using(crate::proofs::ColumnLemmas::row_by_parts, crate::proofs::ColumnLemmas::row_text))]
 fn push_row(
     to: &mut String,
     left: usize,

@@ -178,6 +178,7 @@ impl Objects {
     }
 
     /// Appends the object of a live record.
+    #[tactic(auto, using(std::proofs::lemmas::List::append_assoc, crate::proofs::ObjectLemmas::object_by_members), unfolding(crate::specs::Json::record_json))]
     pub(crate) fn record(&mut self, row: &LiveRecord<'_>) -> Result<(), Want>
         ensures { OnOk result (string_bytes self.new.text ≡ string_bytes self.old.text ++ record_json (live_record_lent row.now)) }
     {

@@ -43,6 +43,7 @@ fn is_service_name(name: &Name) -> bool
 }
 
 // Checks that a name is one label and then the name of the service.
+#[tactic(auto, using(std::proofs::lemmas::Bool::false_from_ne_true, std::proofs::lemmas::Bool::Decides::same_from_decides, crate::proofs::NameLemmas::for_is_instance_of))]
 fn is_instance_of(service: &[u8], name: &Name) -> bool
     ensures { result ≡ is_instance_of service.now name.now }
 {
@@ -178,6 +179,7 @@ pub fn types(alloc: Global, cache: &Cache, now: Moment) -> Result<Vec<Name>, Wan
 }
 
 // Collects the name of each service type.
+#[tactic(auto, using(crate::proofs::KeptLemmas::for_names_of, crate::proofs::ListLemmas::for_names_of))]
 fn names_of(alloc: Global, records: LiveWalk<'_>) -> Result<Vec<Name>, Want>
     ensures { IfOk result (λ names. names.items ≡ types_in (lasts_in records.entry)) }
 {

@@ -16,6 +16,7 @@ use Rattle.mdns_cache.specs.{Contents.{Contents, contents, IsContents, IsUpTo, M
 use Rattle.mdns_cache.proofs.StandsPartLemmas.{LaterIs, first, second, later-is}
 use Rattle.mdns_cache.proofs.ContentsLemmas.{newer, newer-same, newer-assoc, IsJoinMap-empty, IsJoinMap-single}
 use Rattle.mdns_cache.proofs.ContentsLemmas.{lasts-laws, flushes-laws, IsUpTo-left, later-bounded, flush-bounded, same_contents}
+use Rattle.std.proofs.Common.{rules}
 
 -- the last hearings are no later than the newest moment
 abbrev pub LastsUpTo : Option Moment → List (Key × Latest) → Type 0
@@ -129,24 +130,14 @@ IsContents-raised c n u = grind (arith, IsUpTo-left)
 pub IsContents-lasts : (c : Contents) (other value : List (Key × Latest)) → IsContents c
     → IsJoinMap key_cmp IsLatest other → LastsUpTo c.newest other → IsJoinMap key_cmp IsLatest value
     → IsPartOfJoin (joined key_cmp later) c.lasts other value → IsContents (contents value c.flushes c.newest)
-IsContents-lasts c other value u valid_other bound valid part = record {
-  lasts = valid;
-  flushes = u.flushes;
-  lasts_by_newest = LastsUpTo-between c.newest c.lasts other value u.lasts valid_other valid u.lasts_by_newest bound part;
-  flushes_by_newest = u.flushes_by_newest;
-}
+IsContents-lasts c other value u valid_other bound valid part = search (rules, LastsUpTo-between)
 
 -- contents with flush moments between the old ones and their join with others
 pub IsContents-flushes : (c : Contents) (other value : List (RecordSet × List ℕ)) → IsContents c
     → IsJoinMap set_key_cmp IsKeptList other → FlushesUpTo c.newest other → IsJoinMap set_key_cmp IsKeptList value
     → IsPartOfJoin (joined set_key_cmp kept_union) c.flushes other value
     → IsContents (contents c.lasts value c.newest)
-IsContents-flushes c other value u valid_other bound valid part = record {
-  lasts = u.lasts;
-  flushes = valid;
-  lasts_by_newest = u.lasts_by_newest;
-  flushes_by_newest = FlushesUpTo-between c.newest c.flushes other value u.flushes valid_other valid u.flushes_by_newest bound part;
-}
+IsContents-flushes c other value u valid_other bound valid part = search (rules, FlushesUpTo-between)
 
 -- contents that lie between in each part lie between
 pub part_of_join : (old other value : Contents) → IsContents old → IsContents other

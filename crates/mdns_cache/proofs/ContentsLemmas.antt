@@ -8,7 +8,7 @@ use Rattle.mdns_message.specs.laws.Resource.{key_cmp-total, key_cmp-exact, set_k
 use Rattle.mdns_join.specs.{declared.latest.Latest.{Latest}, Latest.{IsLatest, later}, laws.Latest.{moment-same}}
 use Rattle.mdns_join.specs.{Kept.{has, union, kept_union, IsKeptList}, laws.Kept.{heard_from_kept, union_parts}}
 use Rattle.join_map.specs.{Join.{JoinLaws}, Entries.{joined_at, IsJoinMap, joined, one_entry}, laws.Entries.{value_at-join, sorted_none}}
-use Rattle.mdns_cache.specs.Contents.{Contents, contents, IsContents, IsUpTo, MapLaws, later_moment, join_of, last_at, flushes_at}
+use Rattle.mdns_cache.specs.Contents.{Contents, IsContents, IsUpTo, MapLaws, later_moment, join_of, last_at, flushes_at}
 use Rattle.mdns_cache.proofs.StandsPartLemmas.{first, second, later-is}
 
 -- ---- the maps
@@ -76,8 +76,7 @@ IsUpTo-right a b m u = subst (λ (o : Option Moment). IsUpTo o m) (newer-comm b 
 -- ---- contents by their parts
 
 pub same_contents : (c d : Contents) → c.lasts ≡ d.lasts → c.flushes ≡ d.flushes → c.newest ≡ d.newest → c ≡ d
-same_contents c d p q r =
-    ap (λ l. contents l c.flushes c.newest) p ∙ ap (λ f. contents d.lasts f c.newest) q ∙ ap (λ n. contents d.lasts d.flushes n) r
+same_contents c d p q r = grind arith
 
 -- ---- the join keeps contents
 
@@ -129,6 +128,6 @@ module _ (laws : MapLaws) where
   }
 
   -- joining contents obeys the laws of a join
-  pub join_of-laws : JoinLaws IsContents join_of
+  pub join_of_laws : JoinLaws IsContents join_of
   unfolding join_of
-  join_of-laws = grind (arith, same_contents, lasts-laws, flushes-laws, newer-same, newer-comm, newer-assoc, IsContents-join)
+  join_of_laws = grind (arith, same_contents, lasts-laws, flushes-laws, newer-same, newer-comm, newer-assoc, IsContents-join)

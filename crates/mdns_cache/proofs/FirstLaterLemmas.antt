@@ -12,8 +12,7 @@ above_at : (low : ℕ) (moments : List Moment) (j : ℕ) (d : Moment) → IsAsce
     → low < (get_or moments j d).nanos
 above_at low [] j d a l = absurd (omega arith)
 above_at low (x ∷ xs) zero d a l = a.0
-above_at low (x ∷ xs) (suc j) d a l =
-    let later = above_at x.nanos xs j d a.1 (omega arith) in omega (arith, a.0, later)
+above_at low (x ∷ xs) (suc j) d a l = grind (arith, above_at x.nanos xs j d a.1 (omega arith))
 
 -- no later moment is earlier than one before it
 rising : (moments : List Moment) (i j : ℕ) (d : Moment) → IsAscending (nanos_of moments) → i ≤ j → j < length moments

@@ -5,7 +5,7 @@ use Rattle.mdns_join.specs.{declared.latest.Latest.{Latest}, Latest.{later}, Kep
 use Rattle.join_map.specs.{Join.{JoinLaws}, Entries.{AllFit, AllValid, joined, one_entry}}
 use Rattle.mdns_join.proofs.RefusedLemmas.{part_refused}
 use Rattle.mdns_cache.specs.{Contents.{Contents, contents, IsContents, IsUpTo, MapLaws}, Gathering.{IsGathering}}
-use Rattle.mdns_cache.proofs.{LawLemmas.{stands-nothing}, ContentsLemmas.{IsJoinMap-single, lasts-laws, flushes-laws}}
+use Rattle.mdns_cache.proofs.{LawLemmas.{stands_nothing}, ContentsLemmas.{IsJoinMap-single, lasts-laws, flushes-laws}}
 use Rattle.mdns_cache.proofs.BetweenLemmas.{IsContents-put_last, IsContents-put_flushes, last_entry}
 
 -- any key fits any value
@@ -20,9 +20,9 @@ valid_pushed Valid [] k v a h = (h, tt)
 valid_pushed Valid (e ∷ es) k v a h = (a.0, valid_pushed Valid es k v a.1 h)
 
 -- nothing was gathered
-pub IsGathering-nothing : (lasts : List (Key × Latest)) (flushes : List (RecordSet × List ℕ)) → lasts ≡ [] → flushes ≡ []
+pub IsGathering_nothing : (lasts : List (Key × Latest)) (flushes : List (RecordSet × List ℕ)) → lasts ≡ [] → flushes ≡ []
     → IsGathering lasts flushes None
-IsGathering-nothing lasts flushes p q = grind (arith, stands-nothing)
+IsGathering_nothing lasts flushes p q = grind (arith, stands_nothing)
 
 pub valid_after : {A U W : Type 0} {Valid : A → Type 0} {join : A → A → A} (laws : JoinLaws Valid join) (r : Result U W)
     (old other new : A) → Valid old → Valid other → OnOk r (new ≡ join old other) → OnErr r (new ≡ old) → Valid new

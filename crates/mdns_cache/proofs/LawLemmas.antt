@@ -34,12 +34,12 @@ pub same-joined : (heard others more rest : List Hearing) → SameHearings heard
 same-joined heard others more rest s t = grind (arith, both heard others more rest s.into t.into, both others heard rest more s.back t.back)
 
 -- nothing heard
-pub stands-nothing : StandsFor no_contents []
-stands-nothing = grind (arith, IsJoinMap-empty key_cmp IsLatest, IsJoinMap-empty set_key_cmp IsKeptList, Contains-nil)
+pub stands_nothing : StandsFor no_contents []
+stands_nothing = grind (arith, IsJoinMap-empty key_cmp IsLatest, IsJoinMap-empty set_key_cmp IsKeptList, Contains-nil)
 
 -- each list of hearings has contents that stand for it
 pub some_contents : MapLaws → (heard : List Hearing) → (c : Contents) × StandsFor c heard
-some_contents laws [] = (no_contents, stands-nothing)
+some_contents laws [] = (no_contents, stands_nothing)
 some_contents laws (h ∷ hs) = let rest = some_contents laws hs in
     (join_of (contents_of h) rest.0, stands-join laws (h ∷ []) hs (contents_of h) rest.0 (stands-one h) rest.1)
 
@@ -51,3 +51,9 @@ last_of heard key (Some l) h u = (l, u)
 -- a record that was heard has a last hearing
 pub some_last : MapLaws → (heard : List Hearing) (key : Key) → IsHeard heard key → (l : Latest) × IsLast heard key l
 some_last laws heard key h = let c = some_contents laws heard in last_of heard key (last_at key c.0) h (c.1.lasts key)
+
+-- WHAT FUNCTIONS ARE PROVED BY
+
+pub ruleset for_contents_of_union = (stands_nothing)
+
+pub ruleset for_order_and_repeats = (same-onward, same-swapped, same-repeated, same-joined)

@@ -166,11 +166,15 @@ AreLiveRows-from_records heard now rows are = record {
 }
 
 -- one more was taken from those that are left, and added to those that are kept
-pub kept-more : {X Y : Type 0} (f : X → Y) (all : List Y) (kept new : List X) (x : X) (left rest : List Y)
+pub kept_more : {X Y : Type 0} (f : X → Y) (all : List Y) (kept new : List X) (x : X) (left rest : List Y)
     → map f kept ++ left ≡ all → left ≡ f x ∷ rest → new ≡ kept ++ x ∷ [] → map f new ++ rest ≡ all
-kept-more f all kept new x left rest so_far first more = grind (arith, map-append, append_assoc)
+kept_more f all kept new x left rest so_far first more = grind (arith, map-append, append_assoc)
 
 -- nothing is left
 pub kept-all : {X Y : Type 0} (f : X → Y) (all : List Y) (kept : List X) (left : List Y) → map f kept ++ left ≡ all
     → left ≡ [] → map f kept ≡ all
 kept-all f all kept left so_far none = sym (append-nil (map f kept)) ∙ ap (λ l. map f kept ++ l) (sym none) ∙ so_far
+
+-- WHAT FUNCTIONS ARE PROVED BY
+
+pub ruleset for_lasts_of = (kept-all, kept_more, last_of)

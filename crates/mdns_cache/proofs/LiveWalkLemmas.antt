@@ -1,5 +1,5 @@
 -- Walking over the records and their flush moments, both in key order.
-use Rattle.std.proofs.Common.{◌≡◌, ◌≢◌, ℕ, ◌+◌, ◌<◌, ◌≤◌, Bool, true, false, nat_lt, List, [], ◌∷◌, unwrap_or, refl, sym, ap, ◌∙◌, subst}
+use Rattle.std.proofs.Common.{◌≡◌, ◌≢◌, ℕ, ◌<◌, ◌≤◌, Bool, true, false, nat_lt, List, [], ◌∷◌, refl, sym, subst}
 use Rattle.std.proofs.Common.{if◌then◌else◌, lt-ltb, le-ltb}
 use Rattle.std.specs.{declared.cmp.Ordering.{Ordering}, declared.cmp.Ordering.TheVariants.{Less, Equal, Greater}, Ordering.{ordering_then}}
 use Rattle.std.specs.{List.{AllByRecursion}, List.Sorted.{IsStrictlySortedBy}, Map.{keys_of}}
@@ -7,8 +7,9 @@ use Rattle.mdns_message.specs.{declared.key.Key.{Key}, RecordSet.{RecordSet}, Re
 use Rattle.mdns_message.specs.laws.Resource.{key_cmp-total, key_cmp-exact}
 use Rattle.mdns_join.specs.declared.latest.Latest.{Latest}
 use Rattle.join_map.specs.laws.Entries.{sorted_above, sorted_rest}
-use Rattle.mdns_cache.specs.{Live.{life_of}, LentRecords.{end_of, end_held, live_of}}
+use Rattle.mdns_cache.specs.{LentRecords.{end_held, live_of}}
 use Rattle.mdns_join.proofs.FlushWalkLemmas.{HasLater}
+use Rattle.std.proofs.Common.{arith}
 
 -- ---- records in key order
 
@@ -25,11 +26,7 @@ key_after key later h = then_less (set_key_cmp key.set later.set) _ h
 pub live_of-later : (old new : List (RecordSet × List ℕ)) (now : ℕ) (key : Key) (es : List (Key × Latest))
     → AllByRecursion (λ k. key_cmp key k ≡ Less) (keys_of es) → HasLater key.set old new → live_of new now es ≡ live_of old now es
 live_of-later old new now key [] a has = refl
-live_of-later old new now key (e ∷ es) a has =
-    let end : end_held new e ≡ end_held old e =
-    ap (λ o. end_of (unwrap_or o []) e.1.moment.nanos (e.1.moment.nanos + life_of e.1.ttl)) (has e.0.set (key_after key e.0 a.0)) in
-    let rest = live_of-later old new now key es a.1 has in
-    λ i. if nat_lt now (end i) then (e.1, end i) ∷ rest i else rest i
+live_of-later old new now key (e ∷ es) a has = grind (arith, live_of-later old new now key es a.1 has, key_after)
 
 -- ---- the walk over both
 
@@ -52,10 +49,7 @@ module _ (flushes left : List (RecordSet × List ℕ)) (now : ℕ) (all entries 
 
   shows : (t : Bool) → nat_lt now (end_held left e) ≡ t
       → live_of flushes now all ≡ (if t then (e.1, end_held left e) ∷ live_of new now rest else live_of new now rest)
-  shows t h =
-      sym s.same ∙ ap (live_of left now) is
-      ∙ ap (λ b. if b then (e.1, end_held left e) ∷ live_of left now rest else live_of left now rest) h
-      ∙ ap (λ rows. if t then (e.1, end_held left e) ∷ rows else rows) (sym rest_same)
+  shows t h = grind (arith, rest_same)
 
   pub shows_next : now < end_held left e → live_of flushes now all ≡ (e.1, end_held left e) ∷ live_of new now rest
   shows_next l = shows true (lt-ltb now (end_held left e) l)

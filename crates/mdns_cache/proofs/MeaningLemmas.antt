@@ -1,17 +1,17 @@
 -- What the contents of a cache say of the hearings that they stand for.
-use Rattle.std.proofs.Common.{◌≡◌, ℕ, ◌+◌, ◌<◌, ◌≤◌, Bool, true, false, ◌==◌, ◌&&◌, List, [], ◌∷◌, length}
+use Rattle.std.proofs.Common.{◌≡◌, ℕ, ◌+◌, ◌<◌, ◌≤◌, Bool, true, false, ◌==◌, List, [], ◌∷◌, length}
 use Rattle.std.proofs.Common.{Option, None, Some, Contains, MatchOption, IfSome, IsSome, is_some, IsTrue, ◌↔◌}
-use Rattle.std.proofs.Common.{unwrap_or, refl, sym, ap, ◌∙◌, subst, arith, cond, if◌then◌else◌}
+use Rattle.std.proofs.Common.{unwrap_or, refl, sym, ap, ◌∙◌, subst, arith, cond}
 use Rattle.std.proofs.lemmas.{Bool.{false≢true, or_left, eq-eqb}, Cmp.{tied_itself, eq_by_cmp_equiv}}
 use Rattle.std.proofs.lemmas.Map.{Views.{IsSome-lookup_from_Contains, Contains-keys_from_lookup}, Entries.{length-keys_of}}
 use Rattle.std.specs.{Ordering.{is_eq, eq_by_cmp}, Map.{keys_of}}
 use Rattle.mdns_capture.specs.{declared.moment.Moment.{Moment}, Limits.{second}}
 use Rattle.mdns_message.specs.{declared.hearing.Hearing.{Hearing}, declared.key.Key.{Key}, RecordSet.{RecordSet}, RecordAt.{HeardRecord}}
-use Rattle.mdns_message.specs.{Resource.{key_of, set_key_of, key_cmp, set_key_cmp}, laws.Resource.{key_cmp-total, key_cmp-exact}}
+use Rattle.mdns_message.specs.{Resource.{key_of, key_cmp}, laws.Resource.{key_cmp-total, key_cmp-exact}}
 use Rattle.mdns_join.specs.{declared.latest.Latest.{Latest}, Latest.{latest_of}, Nanos.{nanos_of}}
 use Rattle.mdns_join.specs.Kept.{has, newest, kept, IsGreatest, IsKept, IsKeptList, IsStruckBy}
 use Rattle.mdns_join.specs.laws.Kept.{struck-kept, struck-kept_iff, has-kept_iff, has-le-newest, has-newest, kept-one}
-use Rattle.join_map.specs.{Entries.{value_at, one_entry}, laws.Entries.{is_Equal}}
+use Rattle.join_map.specs.{laws.Entries.{is_Equal}}
 use Rattle.mdns_cache.specs.Live.{IsUnheard, IsHeard, IsLast, IsNewest, CountsRecords, life_of, IsStruck, IsLive, is_flush_of}
 use Rattle.mdns_cache.specs.{Live.{flush_moments, IsEnd}, LentRecords.{end_of, end_held}, Contents.{Contents, last_at, flushes_at, kept_of}}
 use Rattle.mdns_cache.specs.{Contents.{StandsFor, contents_of}, Repeats.{record_heard, at_each, contents_at_each}}
@@ -23,10 +23,7 @@ use Rattle.mdns_cache.proofs.EndLemmas.{until_end_of, IsEnd-by_kept}
 
 pub flushed : (h : Hearing) (set : RecordSet) (us : List Moment) → flush_moments (at_each us h) set ≡ cond (is_flush_of set h) (nanos_of us) []
 flushed h set [] = elim (is_flush_of set h) as (λ b. flush_moments [] set ≡ cond b (nanos_of []) []) [ true ↦ refl | false ↦ refl ]
-flushed h set (u ∷ us) =
-    ap (λ ns. cond (is_flush_of set h) (u.nanos ∷ ns) ns) (flushed h set us)
-    ∙ (elim (is_flush_of set h) as (λ b. cond b (u.nanos ∷ cond b (nanos_of us) []) (cond b (nanos_of us) [])
-    ≡ cond b (u.nanos ∷ nanos_of us) []) [ true ↦ refl | false ↦ refl ])
+flushed h set (u ∷ us) = grind (arith, flushed h set us)
 
 -- a hearing at each of some moments, of which its own is the newest
 module _ (h : Hearing) (ms : List ℕ) (k : IsKeptList ms) (top : IsGreatest ms h.moment.nanos) (ts : List Moment)
@@ -53,9 +50,7 @@ module _ (h : Hearing) (ms : List ℕ) (k : IsKeptList ms) (top : IsGreatest ms 
   }
 
   IsUnheard-each : (key : Key) → is_eq (key_cmp key (key_of h.heard)) ≡ false → IsUnheard (at_each ts h) key
-  IsUnheard-each key e g m o =
-      let same : key_of h.heard ≡ key = ap (λ (r : HeardRecord). key_of r.resource) (each g m).0 ∙ o in
-      false≢true (sym e ∙ ap (λ (k : Key). is_eq (key_cmp key k)) same ∙ ap is_eq (tied_itself key_cmp-total key))
+  IsUnheard-each key e g m o = grind (arith, each g m, false≢true, tied_itself key_cmp-total key)
 
   lasts-each : (key : Key) → MatchOption (last_at key (contents_at_each h ms)) (IsUnheard (at_each ts h) key) (IsLast (at_each ts h) key)
   lasts-each key =
@@ -70,14 +65,7 @@ module _ (h : Hearing) (ms : List ℕ) (k : IsKeptList ms) (top : IsGreatest ms 
   kept_of-all (x ∷ xs) l a = ap Some (sym l)
 
   flushes-each : (set : RecordSet) → flushes_at set (contents_at_each h ms) ≡ kept_of (flush_moments (at_each ts h) set)
-  flushes-each set =
-      (elim h.flush as (λ f. value_at set_key_cmp set (if f then one_entry (set_key_of h.heard) ms else [])
-      ≡ kept_of (cond (f && is_eq (set_key_cmp set (set_key_of h.heard))) ms [])) [
-        | true ↦ elim (is_eq (set_key_cmp set (set_key_of h.heard))) as (λ t. cond t (Some ms) None ≡ kept_of (cond t ms []))
-            [ true ↦ kept_of-all ms k top.among | false ↦ refl ]
-        | false ↦ refl
-      ])
-      ∙ ap (λ xs. kept_of (cond (is_flush_of set h) xs [])) (sym are) ∙ ap kept_of (sym (flushed h set ts))
+  flushes-each set = grind (arith, kept_of-all, flushed)
 
   pub stands-each : StandsFor (contents_at_each h ms) (at_each ts h)
   stands-each = record {
@@ -260,3 +248,7 @@ pub is_live-by_end : {Live : Type 0} (End : ℕ → Type 0) (end : Option ℕ) (
     → MatchOption end (¬ Live) (λ n. Live × End n) → IsTrue r ↔ Live
 is_live-by_end End None r e none = (λ t. absurd (false≢true (sym e ∙ t)), λ l. absurd (none l))
 is_live-by_end End (Some n) r e some = (λ t. some.0, λ l. e)
+
+-- WHAT FUNCTIONS ARE PROVED BY
+
+pub ruleset for_contents_of_union = (stands-one)

@@ -201,3 +201,7 @@ all_heard message t hs ts reads are r q = (
       record { read = read; kept = rw are at w.1 },
   λ k. (all_parts ts hs r q).1 ((hearing_of t r, heard-IsReadOf t message.bytes hs reads r k.read, refl), rw are k.kept),
 )
+
+-- WHAT FUNCTIONS ARE PROVED BY
+
+pub ruleset for_hear = (stands-remembered, stands-heard)

@@ -86,8 +86,7 @@ heard_each (t ∷ ts) h r q =
 -- ---- moments that aren't needed
 
 pub overtaken : (At : ℕ → Type 0) (q next newest : ℕ) → q < next → next + second ≤ newest → At next → At newest → IsOvertaken At q
-overtaken At q next newest after old at_next at_newest =
-    record { next = next; newest = newest; after = after; old = old; at_next = at_next; at_newest = at_newest }
+overtaken At q next newest after old at_next at_newest = grind arith
 
 -- a moment that isn't earlier
 no_less : (At : ℕ → Type 0) (q : ℕ) → IsCovered At q → (p : ℕ) × At p × (q ≤ p)

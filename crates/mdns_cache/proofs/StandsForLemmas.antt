@@ -66,8 +66,8 @@ module _ (gs hs : List Hearing) (same : SameHearings gs hs) where
       has-from_flushed gs set m (IsFlushedAt-in hs gs set m f (same.back f.flush f.among)))
 
 -- contents that stand for the same hearings are equal
-pub stands-same : (gs hs : List Hearing) (c d : Contents) → SameHearings gs hs → StandsFor c gs → StandsFor d hs → c ≡ d
-stands-same gs hs c d same u v =
+pub stands_same : (gs hs : List Hearing) (c d : Contents) → SameHearings gs hs → StandsFor c gs → StandsFor d hs → c ≡ d
+stands_same gs hs c d same u v =
     same_contents c d
     (same_entries key_cmp-total key_cmp-exact c.lasts d.lasts u.contents.lasts.sorted v.contents.lasts.sorted
     (λ key. lasts-same gs hs same key (last_at key c) (last_at key d) (u.lasts key) (v.lasts key)))
@@ -90,3 +90,7 @@ stands-join laws gs hs c d u v = record {
   newest = subst (λ (o : Option Moment). MatchOption o (gs ++ hs ≡ []) (IsNewest (gs ++ hs))) (sym (newest-join c d))
       (newest-append gs hs c.newest d.newest u.newest v.newest);
 }
+
+-- WHAT FUNCTIONS ARE PROVED BY
+
+pub ruleset for_contents_of_union = (stands-join)

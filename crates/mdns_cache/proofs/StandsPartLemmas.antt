@@ -14,6 +14,7 @@ use Rattle.mdns_join.specs.{laws.Latest.{latest_cmp-total, latest_cmp-exact}, Ke
 use Rattle.mdns_join.specs.laws.Kept.{has-union, has-append, has-newest, has-le-newest, kept-same, kept_between, kept_union-kept}
 use Rattle.join_map.specs.{Entries.{joined_at}, laws.Entries.{is_Equal}}
 use Rattle.mdns_cache.specs.{Live.{is_flush_of, flush_moments, IsFlushedAt, IsUnheard, IsLast, SameHearings}, Contents.{kept_of}}
+use Rattle.std.proofs.Common.{rules}
 
 -- ---- orders
 
@@ -68,8 +69,7 @@ latest-same a b p q = latest_cmp-exact a b (reverse-both _ _ (latest_cmp-total.a
 -- the last hearing among other hearings
 pub IsLast-in : (gs hs : List Hearing) (key : Key) (l : Latest) (p : IsLast gs key l) → Contains hs p.hearing
     → ((h : Hearing) → Contains hs h → IsOf key h → latest_cmp (latest_of h) l ≢ Greater) → IsLast hs key l
-IsLast-in gs hs key l p among greatest =
-    record { hearing = p.hearing; among = among; of_record = p.of_record; gives = p.gives; greatest = greatest }
+IsLast-in gs hs key l p among greatest = search rules
 
 module _ (gs hs : List Hearing) (key : Key) where
   IsUnheard-append : IsUnheard gs key → IsUnheard hs key → IsUnheard (gs ++ hs) key
@@ -217,8 +217,7 @@ IsFlushOf-from_test set h e =
     }
 
 pub test-from_IsFlushOf : (set : RecordSet) (h : Hearing) → IsFlushOf set h → is_flush_of set h ≡ true
-test-from_IsFlushOf set h f = and_from h.flush (is_eq (set_key_cmp set (set_key_of h.heard))) f.flush
-    (ap (λ (k : RecordSet). is_eq (set_key_cmp set k)) f.of_set ∙ ap is_eq (tied_itself set_key_cmp-total set))
+test-from_IsFlushOf set h f = grind (arith, and_from, tied_itself set_key_cmp-total set)
 
 pub IsFlushedAt-from_has : (heard : List Hearing) (set : RecordSet) (m : ℕ) → has (flush_moments heard set) m ≡ true → IsFlushedAt heard set m
 IsFlushedAt-from_has [] set m h = absurd (false≢true h)
@@ -252,5 +251,8 @@ has-from_flush (g ∷ gs) set h m f =
         [ true ↦ or_right (g.moment.nanos == m) (has (flush_moments gs set) m) p | false ↦ p ]
 
 pub has-from_flushed : (heard : List Hearing) (set : RecordSet) (m : ℕ) → IsFlushedAt heard set m → has (flush_moments heard set) m ≡ true
-has-from_flushed heard set m f = subst (λ (x : ℕ). has (flush_moments heard set) x ≡ true) f.at_it
-    (has-from_flush heard set f.flush f.among f.of_set)
+has-from_flushed heard set m f = grind (arith, has-from_flush)
+
+-- WHAT FUNCTIONS ARE PROVED BY
+
+pub ruleset for_order_and_repeats = (same-itself, same-back)

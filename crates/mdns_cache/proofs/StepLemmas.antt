@@ -8,7 +8,8 @@ use Rattle.join_map.specs.{Join.{IsPartOfJoin}, laws.Join.{IsPartOfJoin-old, IsP
 use Rattle.mdns_cache.specs.Contents.{Contents, contents, IsContents, MapLaws, join_of, contents_of, StandsFor}
 use Rattle.mdns_cache.specs.Repeats.{at_each, contents_at_each}
 use Rattle.mdns_cache.proofs.{StandsForLemmas.{stands-join}, MeaningLemmas.{stands-each, stands-one}}
-use Rattle.mdns_cache.proofs.{ContentsLemmas.{newer, lasts-laws, flushes-laws, same_contents, join_of-laws}, BetweenLemmas.{part_of_join}}
+use Rattle.mdns_cache.proofs.{ContentsLemmas.{newer, lasts-laws, flushes-laws, same_contents, join_of_laws}, BetweenLemmas.{part_of_join}}
+use Rattle.std.proofs.Common.{rules, arith}
 
 -- ---- joining contents part by part: the newest moment, then the last hearings, then the flush moments
 
@@ -66,26 +67,20 @@ module _ (laws : MapLaws) (old other raised : Contents) (u : IsContents old) (v 
     pub whole_join : (value : Contents) → value.flushes ≡ joined set_key_cmp kept_union middle.flushes other.flushes
         → (value.lasts ≡ middle.lasts) × (value.newest ≡ middle.newest) → value ≡ join_of old other
     unfolding join_of
-    whole_join value e rest =
-        same_contents value (join_of old other) (lasts_are value rest.0)
-        (e ∙ ap (λ (fs : List (RecordSet × List ℕ)). joined set_key_cmp kept_union fs other.flushes) flushes_are)
-        (newest_is value (rest.1 ∙ s.1))
+    whole_join value e rest = grind (arith, same_contents, lasts_are, flushes_are, newest_is)
 
 -- ---- hearing
 
 -- the hearings of both sides
 pub merge_stands : MapLaws → (old other value : Contents) → value ≡ join_of old other → (heard others : List Hearing)
     → StandsFor old heard → StandsFor other others → StandsFor value (heard ++ others)
-merge_stands laws old other value e heard others s t =
-    subst (λ (c : Contents). StandsFor c (heard ++ others)) (sym e) (stands-join laws heard others old other s t)
+merge_stands laws old other value e heard others s t = grind (arith, stands-join)
 
 -- a hearing more at each of some moments, of which its own is the newest
 pub hear_each_stands : MapLaws → (old value : Contents) (h : Hearing) (ms : List ℕ) → IsKeptList ms → IsGreatest ms h.moment.nanos
     → value ≡ join_of old (contents_at_each h ms) → (ts : List Moment) (heard : List Hearing) → nanos_of ts ≡ ms
     → StandsFor old heard → StandsFor value (heard ++ at_each ts h)
-hear_each_stands laws old value h ms k top e ts heard are s =
-    merge_stands laws old (contents_at_each h ms) value e heard (at_each ts h) s
-    (stands-each h ms k top ts are)
+hear_each_stands laws old value h ms k top e ts heard are s = search (rules, merge_stands, stands-each)
 
 -- one hearing more
 pub hear_stands : MapLaws → (old value : Contents) (h : Hearing) → value ≡ join_of old (contents_of h)
@@ -95,4 +90,4 @@ hear_stands laws old value h e heard s = merge_stands laws old (contents_of h) v
 -- a refused call that is repeated gives the join
 pub made_again : MapLaws → (old other value : Contents) → IsContents old → IsContents other → IsContents value
     → IsPartOfJoin join_of old other value → join_of value other ≡ join_of old other
-made_again laws old other value u v w part = join-again (join_of-laws laws) old other value u v w part
+made_again laws old other value u v w part = join-again (join_of_laws laws) old other value u v w part

@@ -211,6 +211,7 @@ impl Cache {
 }
 
 /// States the laws of joins for the types of the cache's two maps.
+#[tactic(auto, unfolding(crate::specs::Contents::MapLaws))]
 pub(crate) fn map_laws()
     ensures { MapLaws }
 {

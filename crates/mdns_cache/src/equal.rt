@@ -15,6 +15,7 @@ impl PartialEq for Cache {
 
     ghost laws = { eq_contents-per };
 
+    #[tactic(auto, using(std::proofs::lemmas::Bool::Decides::same_from_decides, crate::proofs::EqualityLemmas::eq_contents_tells))]
     fn eq(&self, other: &Cache) -> bool {
         is_same(self, other)
     }
@@ -41,6 +42,7 @@ fn are_all(newest: bool, lasts: bool, flushes: bool) -> bool
 }
 
 // States that where only equal values compare as `Equal`, `==` decides equality.
+#[tactic(auto, using(std::proofs::lemmas::Cmp::tied_itself))]
 fn tells_apart<T: Ord>()
     requires { (x y : T) → T.cmp x y ≡ Ordering.Equal → x ≡ y }
     ensures { (x y : T) → (T.eq x y ≡ true) ↔ (x ≡ y) }

@@ -49,6 +49,7 @@ impl Model for Gathering {
 
 impl Gathering {
     /// Makes a gathering that heard nothing. It allocates nothing yet.
+    #[tactic(auto, using(crate::proofs::LawLemmas::stands_nothing, crate::proofs::GatheringLemmas::IsGathering_nothing))]
     pub fn new(alloc: Global) -> Gathering
         ensures contents { result ≡ no_contents }
         ensures stands { StandsFor result [] }

@@ -12,6 +12,7 @@ ghost use Rattle.mdns_cache.specs.{Plan.{hearings_of}, Contents.{Contents, IsCon
 use crate::cache::{Cache, map_laws};
 
 /// `SameHearings` is an equivalence that ignores the order and the repeats of hearings.
+#[tactic(auto, using(crate::proofs::StandsPartLemmas::for_order_and_repeats, crate::proofs::LawLemmas::for_order_and_repeats))]
 pub fn order_and_repeats()
     ensures itself { (heard : List Hearing) → SameHearings heard heard }
     ensures back { (heard others : List Hearing) → SameHearings heard others → SameHearings others heard }
@@ -31,6 +32,7 @@ pub fn one_last_hearing()
 }
 
 /// For each set of hearings there are contents that stand for it, and all such contents are equal.
+#[tactic(auto, using(crate::proofs::LawLemmas::some_contents, crate::proofs::StandsForLemmas::stands_same))]
 pub fn one_contents()
     ensures some { (heard : List Hearing) → (c : Contents) × StandsFor c heard }
     ensures same { (heard others : List Hearing) (c d : Contents) → SameHearings heard others → StandsFor c heard
@@ -40,6 +42,7 @@ pub fn one_contents()
 }
 
 /// Plans of the same hearings have equal contents: caches that replay them are equal.
+#[tactic(auto, using(crate::proofs::EqualityLemmas::eq_contents_tells, crate::proofs::StandsForLemmas::stands_same))]
 pub fn plans_of_same_hearings()
     ensures contents { (p q : Plan) (c d : Contents) → SameHearings (hearings_of p) (hearings_of q)
         → StandsFor c (hearings_of p) → StandsFor d (hearings_of q) → c ≡ d }
@@ -49,6 +52,7 @@ pub fn plans_of_same_hearings()
 
 /// The contents that stand for no hearings, for one, and for the hearings of both sides: the join of both sides'
 /// contents.
+#[tactic(auto, using(crate::proofs::LawLemmas::for_contents_of_union, crate::proofs::StandsForLemmas::for_contents_of_union, crate::proofs::MeaningLemmas::for_contents_of_union))]
 pub fn contents_of_union()
     ensures none { StandsFor no_contents [] }
     ensures one { (h : Hearing) → StandsFor (contents_of h) (h ∷ []) }
@@ -59,6 +63,7 @@ pub fn contents_of_union()
 }
 
 /// Merging is a join: idempotent, commutative and associative, and the least contents that both sides are at most.
+#[tactic(auto, using(crate::proofs::ContentsLemmas::join_of_laws))]
 pub fn merging_is_a_join()
     ensures idempotent { (c : Contents) → IsContents c → join_of c c ≡ c }
     ensures commutative { (c d : Contents) → IsContents c → IsContents d → join_of c d ≡ join_of d c }
@@ -109,6 +114,7 @@ pub fn live_until_end()
 {}
 
 /// `==` of caches is equality of their contents.
+#[tactic(auto, using(crate::proofs::EqualityLemmas::eq_contents_tells))]
 pub fn equal_caches()
     ensures { (c d : Contents) → (⟦<Cache as PartialEq>⟧.eq c d ≡ true) ↔ (c ≡ d) }
 {}

@@ -150,6 +150,7 @@ fn next_live<'a>(
 }
 
 // Collects the last hearings of live records, in their order.
+#[tactic(auto, using(crate::proofs::LiveRowLemmas::for_lasts_of))]
 fn lasts_of<'a>(alloc: Global, records: LiveWalk<'a>) -> Result<Vec<Last<'a>>, Want>
     ensures { IfOk result (λ rows. map last_lent rows.items ≡ map (λ (row : Latest × ℕ). row.0) records.entry) }
 {
@@ -161,6 +162,7 @@ fn lasts_of<'a>(alloc: Global, records: LiveWalk<'a>) -> Result<Vec<Last<'a>>, W
 }
 
 // Collects live records, in their order.
+#[tactic(auto, using(crate::proofs::LiveRowLemmas::kept_more))]
 fn records_of<'a>(alloc: Global, walk: LiveWalk<'a>) -> Result<Vec<LiveRecord<'a>>, Want>
     ensures { IfOk result (λ records. map live_record_lent records.items ≡ walk.entry) }
 {

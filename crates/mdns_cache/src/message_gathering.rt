@@ -66,6 +66,7 @@ impl MessageGathering {
 
     /// Hears a message that was read, of a packet captured at `moment`. If it may come again, it is remembered and heard at
     /// the end. After `Want` nothing is promised of what was heard, earlier messages included.
+    #[tactic(auto, using(std::proofs::lemmas::Result::on_ok_weaker, crate::proofs::MemoryLemmas::for_hear))]
     pub fn hear(&mut self, message: &[u8], moment: Moment, read: &MessageReader) -> Result<(), Want>
         requires { MessageReads moment message.now read.now }
         ensures { OnOk result ((heard : List Hearing) → StandsWith self.old.contents self.old.memory heard

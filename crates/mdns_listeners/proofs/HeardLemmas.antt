@@ -83,9 +83,9 @@ pub keys-entries : (rows : List HeardRow) → keys_of (entries_of rows) ≡ mess
 keys-entries [] = refl
 keys-entries (row ∷ rows) = ap (λ ms. row.message ∷ ms) (keys-entries rows)
 
-pub rows-entries : (rows : List HeardRow) → map row_of (entries_of rows) ≡ rows
-rows-entries [] = refl
-rows-entries (row ∷ rows) = ap (λ rs. row ∷ rs) (rows-entries rows)
+pub rows_entries : (rows : List HeardRow) → map row_of (entries_of rows) ≡ rows
+rows_entries [] = refl
+rows_entries (row ∷ rows) = ap (λ rs. row ∷ rs) (rows_entries rows)
 
 pub row_at-entries : (m : List ℕ) (rows : List HeardRow) → row_at m rows ≡ value_at (slice_cmp nat_cmp) m (entries_of rows)
 row_at-entries m [] = refl
@@ -98,4 +98,4 @@ one-list rows more s t h =
     (subst (IsStrictlySortedBy (slice_cmp nat_cmp)) (sym (keys-entries rows)) s)
     (subst (IsStrictlySortedBy (slice_cmp nat_cmp)) (sym (keys-entries more)) t)
     (λ m. sym (row_at-entries m rows) ∙ h m ∙ row_at-entries m more) in
-    sym (rows-entries rows) ∙ ap (map row_of) same ∙ rows-entries more
+    sym (rows_entries rows) ∙ ap (map row_of) same ∙ rows_entries more

@@ -19,6 +19,7 @@ use Rattle.mdns_cache.proofs.StandsPartLemmas.{not_greater as never_greater, Con
 use Rattle.mdns_listeners.specs.declared.names.SenderAddressName.{SenderAddressName}
 use Rattle.mdns_listeners.specs.Names.{AddsNames, Covers, HoldsNames, IsAtMost, SufficeFor, named, told_in, respelled, address_in}
 use Rattle.mdns_listeners.specs.Names.{address_bytes, address_cmp, by_name, by_spelling}
+use Rattle.std.proofs.lemmas.Result.{IfOk-weaker}
 
 -- ---- orders
 
@@ -199,8 +200,8 @@ adds-none : (held : List SenderAddressName) → AddsNames held held []
 adds-none held told covers = subst (Covers held) (sym (append-nil told)) covers
 
 -- the name that a hearing tells, if any
-pub adds-untold : (held : List SenderAddressName) (h : Hearing) → address_in h.heard.body ≡ None → AddsNames held held (told_in (h ∷ []))
-adds-untold held h none = grind (arith, adds-none)
+pub adds_untold : (held : List SenderAddressName) (h : Hearing) → address_in h.heard.body ≡ None → AddsNames held held (told_in (h ∷ []))
+adds_untold held h none = grind (arith, adds-none)
 
 pub adds_next : (a b c : List SenderAddressName) (heard : List Hearing) (h : Hearing) → AddsNames a b (told_in heard)
     → AddsNames b c (told_in (h ∷ [])) → AddsNames a c (told_in (heard ++ h ∷ []))
@@ -228,3 +229,7 @@ HoldsNames-more old new heard more adds holds = grind (arith, filter_map-append)
 
 pub HoldsNames-kept : (kept held : List SenderAddressName) (heard : List Hearing) → Covers kept held → HoldsNames held heard → HoldsNames kept heard
 HoldsNames-kept kept held heard covers holds = record { covers = Covers-onward kept held (told_in heard) covers holds.covers }
+
+-- WHAT FUNCTIONS ARE PROVED BY
+
+pub ruleset for_finish = (HoldsNames-kept, IfOk-weaker)

@@ -74,13 +74,13 @@ module _ (names : List SenderAddressName) (one : KeptMessage) (payload : List �
 -- ---- what is kept and told after a message more
 
 -- one time less
-pub kept-less : (kept : List KeptMessage) (times less : List Noted) (names : List SenderAddressName) (n : ℕ) → AreKept kept times names
+pub kept_less : (kept : List KeptMessage) (times less : List Noted) (names : List SenderAddressName) (n : ℕ) → AreKept kept times names
     → less ≡ take n times → AreKept kept less names
-kept-less kept times less names n are is = grind (arith, All-take (λ (noted : Noted). noted.place < length kept) n times are.within)
+kept_less kept times less names n are is = grind (arith, All-take (λ (noted : Noted). noted.place < length kept) n times are.within)
 
-pub told-less : (messages : List (List ℕ)) (times less : List Noted) → less ≡ take (length times - 1) times
+pub told_less : (messages : List (List ℕ)) (times less : List Noted) → less ≡ take (length times - 1) times
     → told_by messages less ≡ take (length (told_by messages times) - 1) (told_by messages times)
-told-less messages times less is = grind (arith, take-map, length-map)
+told_less messages times less is = grind (arith, take-map, length-map)
 
 pub kept-names : (kept : List KeptMessage) (times : List Noted) (old new : List SenderAddressName) → AreKept kept times old → SufficeFor new old
     → AreKept kept times new
@@ -105,12 +105,12 @@ kept-push : (kept : List KeptMessage) (times : List Noted) (names : List SenderA
 kept-push kept times names one are last whole read = search (arith, placed-push, All-push, length_push)
 
 -- a message that was read is kept, and names suffice for its hearings
-pub kept-more : (kept new : List KeptMessage) (times : List Noted) (old names : List SenderAddressName) (payload message bytes : List ℕ) (t : Moment)
+pub kept_more : (kept new : List KeptMessage) (times : List Noted) (old names : List SenderAddressName) (payload message bytes : List ℕ) (t : Moment)
     (hs : List Hearing) (count : ℕ) → AreKept kept times old → SufficeFor names old → SufficeFor names (told_in hs)
     → ((i : ℕ) → get_or payload i 0 < 256) → message ≡ bytes → HasWholeAddress bytes → payload_in bytes ≡ payload
     → MessageReads t payload hs → (hs ≡ [] → ⊥) → count ≡ length hs → new ≡ kept ++ next_kept kept message count ∷ []
     → AreKept new times names
-kept-more kept new times old names payload message bytes t hs count are keeps suffice fits is whole carried reads some counted more =
+kept_more kept new times old names payload message bytes t hs count are keeps suffice fits is whole carried reads some counted more =
     let one = next_kept kept message count in
     subst (λ (ks : List KeptMessage). AreKept ks times names) (sym more)
     (kept-push kept times names one (kept-names kept times old names are keeps) refl (subst HasWholeAddress (sym is) whole)

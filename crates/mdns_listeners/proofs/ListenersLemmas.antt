@@ -15,6 +15,9 @@ use Rattle.mdns_listeners.specs.{Numbers.{FileSpans, spans_of_listeners}, Kept.{
 use Rattle.mdns_listeners.specs.Listeners.{AreNamed, CapturesTell, Gathered, Gathers, NotesTime, SaysFacts, TellAll, Tells, heard_at}
 use Rattle.mdns_listeners.specs.{Listeners.{listener_at}, declared.named.NamedSender.{NamedSender as LentSender}}
 use Rattle.mdns_listeners.specs.{Named.{NamedSender, sender_lent}, Names.{AreNames, HoldsNames}}
+use Rattle.std.proofs.lemmas.Bool.{false≢true}
+use Rattle.std.proofs.lemmas.List.{length-map}
+use Rattle.std.proofs.lemmas.Result.{IfOk-weaker}
 
 length-snoc : {X : Type 0} (xs : List X) (x : X) → length (xs ++ x ∷ []) ≡ suc (length xs)
 length-snoc [] x = refl
@@ -172,3 +175,11 @@ says-as names form rows other_rows spans other_spans hearings text same_rows sam
 pub spans-as : (count other : ℕ) (of other_of : List ℕ) (files other_files : List (Option Span)) → other ≡ count → other_of ≡ of
     → other_files ≡ files → spans_of_listeners other other_of other_files ≡ spans_of_listeners count of files
 spans-as count other of other_of files other_files same_count same_of same_files = grind (arith, nat_tests)
+
+-- WHAT FUNCTIONS ARE PROVED BY
+
+pub ruleset for_take = (gathers-told, gathers-untold, false≢true)
+
+pub ruleset for_heard_by = (spans-as, length-map)
+
+pub ruleset for_text_of = (says-as, IfOk-weaker)

@@ -85,12 +85,12 @@ fill-step (row ∷ rows) told t (suc r) x l s own is =
     let rest = fill-step rows told t r x (omega arith) (sorted_tail (slice_cmp nat_cmp) row.message (messages_of rows) s) own is in
     λ i. sym other i ∷ rest i
 
-pub fill-more : (first rows : List HeardRow) (numbers : List ℕ) (times : List Noted) (i : ℕ) (noted : Noted) (r : ℕ) (x y : HeardRow)
+pub fill_more : (first rows : List HeardRow) (numbers : List ℕ) (times : List Noted) (i : ℕ) (noted : Noted) (r : ℕ) (x y : HeardRow)
     → i < length times → noted ≡ get_or times i noted → r ≡ get_or numbers noted.place 0 → r < length first → Ascend first
     → rows ≡ map (filled (told_of_rows first numbers (take i times))) first → x ≡ get_or rows r x
     → y ≡ row_with x.message (x.times ++ noted.at ∷ [])
     → set rows r y ≡ map (filled (told_of_rows first numbers (take (i + 1) times))) first
-fill-more first rows numbers times i noted r x y l is number within s so_far read added =
+fill_more first rows numbers times i noted r x y l is number within s so_far read added =
     let told = told_of_rows first numbers (take i times) in
     let teller : Noted → Told = λ n. record { message = get_or (messages_of first) (get_or numbers n.place 0) []; at = n.at } in
     let more : told_of_rows first numbers (take (i + 1) times) ≡ told ++ teller noted ∷ [] =

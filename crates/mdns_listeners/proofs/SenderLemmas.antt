@@ -8,6 +8,8 @@ use Rattle.std.specs.{List.Sorted.{IsStrictlySortedBy}, Ordering.{nat_cmp}, Str.
 use Rattle.mdns_listeners.specs.{Heard.{HasWholeAddress, HeardRow, messages_of}, Numbers.{FileSpans}}
 use Rattle.mdns_listeners.specs.Senders.{is_from, rows_from, rows_of_sender, sender_in, sender_length, sender_rows, senders}
 use Rattle.mdns_listeners.specs.declared.senders.SenderRow.{SenderRow}
+use Rattle.std.proofs.lemmas.List.Elements.{All-drop}
+use Rattle.std.proofs.lemmas.List.Sums.{prefix_len-le-length}
 
 -- ---- a message between two of a sender is of that sender
 
@@ -268,3 +270,7 @@ pub sender_more : (spans : List FileSpans) (rest front back : List HeardRow) (fi
     → ys ++ sender_rows rest spans ≡ total → zs ++ sender_rows back spans ≡ total
 sender_more spans rest front back first sender n ys zs total some is named count up own split push before =
     grind (arith, nat_tests, append_assoc, own, rest_step)
+
+-- WHAT FUNCTIONS ARE PROVED BY
+
+pub ruleset for_sender_rows = (first_whole, rest_shorter, rest_some, sender_more, up-drop, All-drop, prefix_len-le-length)

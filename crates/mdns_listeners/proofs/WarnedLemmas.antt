@@ -6,6 +6,9 @@ use Rattle.mdns_survey.specs.{declared.survey.SurveyFault.TheVariants.{File, Ear
 use Rattle.mdns_survey.specs.{Question.{HearsReaders, Refuses, WritesAnswer, asked_after, asked_lives}, Readings.{summaries_of}}
 use Rattle.mdns_survey.proofs.ListenedLemmas.{known-read}
 use Rattle.mdns_listeners.specs.{Groups.{Grouped}, WarnedLives.{AreWarnings, WarnsOf, asked_warned}}
+use Rattle.std.proofs.lemmas.Result.{IfErr-weaker}
+use Rattle.std.proofs.lemmas.Result.{IfOk-weaker}
+use Rattle.mdns_survey.proofs.ListenedLemmas.{have-spans}
 
 module _ {Heard : List (List PacketAt) → List (List Outcome) → Type 0} (groups : Grouped) (lives : LivesRequest)
     (lefts : List (Option (List ℕ))) (readings : List Reading) (hears : HearsReaders Heard lefts readings) (warnings : List ℕ)
@@ -24,3 +27,7 @@ module _ {Heard : List (List PacketAt) → List (List Outcome) → Type 0} (grou
   warned-refused Memory (inl untouched) = inl untouched
   warned-refused Memory (inr stops) = inr (λ captures known. (warnings, are-warnings captures known, stops captures known))
   warned-refused Write why = grind (arith, are-warnings)
+
+-- WHAT FUNCTIONS ARE PROVED BY
+
+pub ruleset for_write = (warned-refused, warned-written, IfErr-weaker, IfOk-weaker, have-spans)

@@ -180,6 +180,7 @@ fn take_listeners(sheet: &mut Sheet, names: &[String], rows: &[ListenerRow]) -> 
     Ok(())
 }
 
+#[tactic(auto, using(crate::proofs::SheetLemmas::taken_at))]
 fn take_pairs(sheet: &mut Sheet, names: &[String], rows: &[PairRow]) -> Result<(), Want>
     ensures { OnOk result (sheet.new
         ≡ fold taken sheet.old (map (pair_at sheet.old.form (map string_bytes names.now)) rows.now)) }
@@ -202,6 +203,7 @@ fn take_pair(sheet: &mut Sheet, names: &[String], row: &PairRow) -> Result<(), W
     }
 }
 
+#[tactic(auto, using(crate::proofs::SheetLemmas::taken_more))]
 fn take_senders(
     sheet: &mut Sheet,
     names: &[String],

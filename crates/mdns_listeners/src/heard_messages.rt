@@ -90,6 +90,7 @@ impl HeardMessages {
     }
 
     /// Forgets the time that was added last. Its message stays kept, and so do the names.
+    #[tactic(auto, using(crate::proofs::KeptLemmas::kept_less, crate::proofs::KeptLemmas::told_less))]
     pub fn forget_last(&mut self)
         ensures told { self.new.told ≡ take (length self.old.told - 1) self.old.told }
         ensures names { self.new.names ≡ self.old.names }

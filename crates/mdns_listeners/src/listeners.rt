@@ -108,6 +108,7 @@ impl MessageCollector {
     }
 
     /// Takes back the last `hear_again`.
+    #[tactic(auto, using(crate::proofs::ListenersLemmas::forgets))]
     pub(crate) fn forget_last(&mut self)
         ensures { (earlier : MessageCollector) → NotesTime earlier self.old → self.new ≡ earlier }
     {
@@ -125,6 +126,7 @@ impl Consumer for MessageCollector {
 
     ghost Broke = { λ _ _ _ _ _. Unit {0} };
 
+    #[tactic(auto, using(std::proofs::lemmas::Result::on_ok_weaker, crate::proofs::ListenersLemmas::for_take))]
     fn take(
         &mut self,
         packet: &Packet<'_>,
@@ -200,6 +202,7 @@ impl<'a> TextAnswer for ListenersRequest<'a> {
 }
 
 // Returns the text about the messages that were gathered.
+#[tactic(auto, using(crate::proofs::ListenersLemmas::for_text_of))]
 fn text_of(
     alloc: Global,
     groups: &Groups,
@@ -234,6 +237,7 @@ pub struct HeardByListeners {
 }
 
 /// Returns what listeners heard, of which a collector gathered the messages while captures were read, with these readings.
+#[tactic(auto, using(crate::proofs::ListenersLemmas::for_heard_by))]
 pub fn heard_by(
     alloc: Global,
     groups: &Groups,

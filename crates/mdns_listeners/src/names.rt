@@ -82,6 +82,7 @@ impl SenderNames {
 
     /// Takes the name of an A or AAAA record; other records are ignored. A name that is known in a spelling no greater
     /// allocates nothing. After `Want` the names are as before.
+    #[tactic(auto, using(std::proofs::lemmas::Result::on_ok_weaker, crate::proofs::HeldNameLemmas::adds_untold))]
     pub fn hear(&mut self, hearing: &BorrowedHearing<'_>) -> Result<(), Want>
         ensures ok { OnOk result (AddsNames self.old self.new (told_in (hearing_lent hearing.now ∷ []))) }
         ensures err { OnErr result (self.new ≡ self.old) }
@@ -104,6 +105,7 @@ impl SenderNames {
     }
 
     /// Sorts the names. After `Want` they are lost.
+    #[tactic(auto, using(crate::proofs::HeldNameLemmas::for_finish))]
     pub fn finish(self) -> Result<Names, Want>
         ensures { IfOk result (λ names. (heard : List Hearing) → HoldsNames self heard → ListsNames names heard) }
     {

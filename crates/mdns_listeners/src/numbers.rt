@@ -91,6 +91,7 @@ impl ListenerSpans {
 
 /// Returns the time spans of so many listeners, given each file's listener and time span. A file without packets has no
 /// time span.
+#[tactic(auto, using(crate::proofs::ListLemmas::made_more))]
 pub fn spans_of(
     alloc: Global,
     count: usize,

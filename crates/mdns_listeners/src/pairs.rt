@@ -58,6 +58,7 @@ pub fn pair_rows(
 }
 
 // Returns for each listener marks of the messages that it heard; `count` is how many listeners there are.
+#[tactic(auto, using(crate::proofs::ListLemmas::made_more))]
 fn all_marks(alloc: Global, count: usize, rows: &[HeardMessage]) -> Result<Vec<Marks>, Want>
     ensures { IfOk result (λ all. all.items ≡ map (marks_by rows.now) (range_with_len 0 count)) }
 {

@@ -76,6 +76,7 @@ fn is_last(rows: &[HeardMessage], message: &[u8]) -> bool
 }
 
 // Adds each time to its message's row.
+#[tactic(auto, using(crate::proofs::RowLemmas::fill_more))]
 fn fill(rows: &mut [HeardMessage], numbers: &[usize], times: &[Noted]) -> Result<(), Want>
     requires ascending { IsStrictlySortedBy (slice_cmp nat_cmp) (messages_of rows.old) }
     requires blank { map (filled []) rows.old ≡ rows.old }

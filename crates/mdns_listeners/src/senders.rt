@@ -34,6 +34,7 @@ pub struct SenderRow {
 }
 
 /// Returns the rows of each sender, in the order of the messages, and each listener, in order.
+#[tactic(auto, using(crate::proofs::SenderLemmas::for_sender_rows))]
 pub fn sender_rows(
     alloc: Global,
     rows: &[HeardMessage],

@@ -55,6 +55,7 @@ impl<'a> Question for WarnedLives<'a> {
 
 /// The warnings are written together with what stands before the lives.
 impl<'a> Answer for WarnedLives<'a> {
+    #[tactic(auto, using(std::proofs::lemmas::Result::on_ok_weaker, crate::proofs::WarnedLemmas::for_write))]
     fn write<W: Sink>(
         self,
         alloc: Global,

@@ -10,6 +10,8 @@ use Rattle.mdns_lives.specs.{declared.life.Life.{Life}, declared.lives.RecordLiv
 use Rattle.mdns_lives.specs.{Lives.{AreApart, AreApartAfter}, Changes.{AreOf, AreOfOne, after, comes_back, is_between}}
 use Rattle.mdns_lives.specs.{LentLives.{row_lent}, Window.{in_window}}
 use Rattle.mdns_message.specs.RecordSet.{RecordSet}
+use Rattle.std.proofs.lemmas.List.Sorted.{IsPartitionPoint-from_clause}
+use Rattle.std.proofs.lemmas.List.Sorted.{IsPartitionedBy-leb}
 
 -- ---- those of ascending moments that are later
 
@@ -133,10 +135,10 @@ module _ (window : Window) (begun : List ℕ) (last : Latest) (lives : List Life
 -- ---- the records of a set
 
 -- the lives of each are apart
-pub row-apart : (set : List RecordLives) (k : ℕ) (row : RecordLives) → AreOfOne (map row_lent set) → k < length set
+pub row_apart : (set : List RecordLives) (k : ℕ) (row : RecordLives) → AreOfOne (map row_lent set) → k < length set
     → row ≡ get_or set k row → AreApart row.lives.items
-row-apart [] k row one within is = absurd one
-row-apart (x ∷ set) k row one within is = go _ (x ∷ set) k one.1 within is
+row_apart [] k row one within is = absurd one
+row_apart (x ∷ set) k row one within is = go _ (x ∷ set) k one.1 within is
   where
     go : (set : RecordSet) (rows : List RecordLives) (k : ℕ) → AreOf set (map row_lent rows) → k < length rows → row ≡ get_or rows k row
         → AreApart row.lives.items

@@ -237,11 +237,11 @@ module _ (window : Window) where
   sets-all (row ∷ rows) sorted = sets-from row [] rows (refl, tt) sorted
 
   -- a walk over all rows, of which none were taken
-  pub left-whole : (which : Which) (changed : Bool) (set : List RecordLives) (walk rows : List Row) → set ≡ [] → walk ≡ rows
+  pub left_whole : (which : Which) (changed : Bool) (set : List RecordLives) (walk rows : List Row) → set ≡ [] → walk ≡ rows
       → IsStrictlySortedBy key_cmp (map row_record walk)
       → left_of which window changed (map row_lent set) [] (Some walk) ≡ chosen which window rows
-  left-whole All changed set walk rows none same sorted = ap (met_in window) same
-  left-whole Changes changed set walk rows none same sorted = grind (arith, sets-all)
+  left_whole All changed set walk rows none same sorted = ap (met_in window) same
+  left_whole Changes changed set walk rows none same sorted = grind (arith, sets-all)
 
   pub sets-some : (x : Row) (xs rows : List Row) → by_sets window (x ∷ xs) rows ≢ []
   sets-some x xs [] = some-first _ _
@@ -276,8 +276,8 @@ module _ (window : Window) where
   none-back lives (life ∷ some) = grind (arith, any-own, and-false, none-back lives some)
 
   -- the lives of a record that is alone in its set are no changes
-  pub changes-alone : (row : Row) → changes_in window (row ∷ []) ≡ (row.0, []) ∷ []
-  changes-alone row =
+  pub changes_alone : (row : Row) → changes_in window (row ∷ []) ≡ (row.0, []) ∷ []
+  changes_alone row =
       grind (arith, of-itself, append-nil (begins_of row.1), none-back row.1 row.1, and-false (not ((set_in row).number == 12)))
 
   -- nothing is left of a set that was read
@@ -307,3 +307,7 @@ module _ (window : Window) where
       unshared : (b : Bool) → not b ≡ true → b ≡ false
       unshared false e = refl
       unshared true e = sym e
+
+-- WHAT FUNCTIONS ARE PROVED BY
+
+pub ruleset for_read_set = (read-more, read-two, map-append)

@@ -91,8 +91,8 @@ flush_in-joined (Some a) (Some b) m = grind (arith, union_parts, union_left, uni
 
 -- ---- contents
 
-pub chronicles-none : Chronicles no_accounts []
-chronicles-none = record {
+pub chronicles_none : Chronicles no_accounts []
+chronicles_none = record {
   accounts =
       grind (arith, IsJoinMap-none key_cmp-total key_cmp-exact account-laws, IsJoinMap-none set_key_cmp-total set_key_cmp-exact union-laws);
   lasts = λ key h m o. Contains-nil h m;
@@ -136,3 +136,7 @@ module _ (c d : Accounts) (gs hs : List Hearing) (u : Chronicles c gs) (v : Chro
 pub chronicles-both : (old other c d new : Accounts) → c ≡ old → d ≡ other → new ≡ join_accounts c d
     → (heard others : List Hearing) → Chronicles old heard → Chronicles other others → Chronicles new (heard ++ others)
 chronicles-both old other c d new is others_is joined heard others u v = grind (arith, chronicles-join)
+
+-- WHAT FUNCTIONS ARE PROVED BY
+
+pub ruleset for_join_with = (chronicles-both)

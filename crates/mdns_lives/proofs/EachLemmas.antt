@@ -21,12 +21,12 @@ use Rattle.mdns_lives.specs.{Seconds.{AreEndsIn, IsRoomFor, seconds_of, ends_at}
 use Rattle.mdns_lives.specs.Chronicle.{Accounts, AreAccounts, AreGathered, Chronicles, accounts_of, join_accounts, latest_in, history_in}
 use Rattle.mdns_lives.specs.{Chronicle.{IsFlushIn}, Each.{IsLatestIn, heard_with, heard_each, account_each, flushes_each, accounts_each}}
 use Rattle.mdns_lives.proofs.{ChronicleLemmas.{chronicles-join}, PartLemmas.{records-laws, flushes-laws}, HearingLemmas.{heard_at}}
-use Rattle.mdns_lives.proofs.{RoomLemmas.{length-join}, SecondsLemmas.{ends-alike, at-seconds_of, IsSeconds-of, seconds_of-append}}
+use Rattle.mdns_lives.proofs.{RoomLemmas.{length-join}, SecondsLemmas.{ends-alike, at-seconds_of, IsSeconds-of, seconds_of_append}}
 
 -- more hearings in the same room
 pub room_appended : (hs gs more : List RecordHearing) (held room same : ℕ) → gs ≡ hs ++ more → same ≡ room
     → IsRoomFor (seconds_of hs) held room → IsRoomFor (seconds_of gs) held same
-room_appended hs gs more held room same is kept bound = grind (arith, length-join, seconds_of-append)
+room_appended hs gs more held room same is kept bound = grind (arith, length-join, seconds_of_append)
 
 pub each_account : (h : Hearing) (ts : List Moment) → IsAccount (account_each h ts)
 each_account h ts = IsSeconds-of (heard_each h.ttl ts)

@@ -106,3 +106,7 @@ all-exactly once t message hs reads ts h = (
 pub chronicles-each : ReadsOnce → (new : Accounts) (message : List ℕ) (ts : List Moment) (t : Moment) (hs before : List Hearing)
     → MessageReads t message hs → Chronicles new (before ++ all_at_each ts hs) → ChroniclesAt new message ts before
 chronicles-each once new message ts t hs before reads s = grind (arith, all-exactly once t message hs reads ts)
+
+-- WHAT FUNCTIONS ARE PROVED BY
+
+pub ruleset for_hear_at_each = (chronicles-each)

@@ -11,13 +11,13 @@ use Rattle.mdns_lives.proofs.OrderLemmas.{IsUpTo-itself, no_later}
 
 -- ---- the first flush that is late enough decides
 
-pub end-by_first : (t out : ℕ) (m : Moment) (ms : List Moment) → IsAscendingAbove (t + second) (nanos_of (m ∷ ms))
+pub end_by_first : (t out : ℕ) (m : Moment) (ms : List Moment) → IsAscendingAbove (t + second) (nanos_of (m ∷ ms))
     → min out (m.nanos + second) ≡ end_of (nanos_of (m ∷ ms)) t out
-end-by_first t out m ms a = grind (arith, first_later t out (m ∷ ms) 0 m)
+end_by_first t out m ms a = grind (arith, first_later t out (m ∷ ms) 0 m)
 
-pub end-by_none : (t out : ℕ) (ms : List Moment) → length ms ≡ 0 → out ≡ end_of (nanos_of ms) t out
-end-by_none t out [] none = refl
-end-by_none t out (m ∷ ms) none = absurd (omega (arith, none))
+pub end_by_none : (t out : ℕ) (ms : List Moment) → length ms ≡ 0 → out ≡ end_of (nanos_of ms) t out
+end_by_none t out [] none = refl
+end_by_none t out (m ∷ ms) none = absurd (omega (arith, none))
 
 -- ---- what may be dropped
 

@@ -86,9 +86,9 @@ module _ (P : RecordHearing → Type 0) where
             }
 
 -- the lives that a walk over all hearings gives are those that a walk over the listed ones gives
-pub walked-listed : (flushes : List ℕ) (hs : List RecordHearing) (value : Seconds) → AreInOrder hs → seconds_of hs ≡ value
+pub walked_listed : (flushes : List ℕ) (hs : List RecordHearing) (value : Seconds) → AreInOrder hs → seconds_of hs ≡ value
     → walked flushes hs ≡ walked flushes (listed_ends value)
-walked-listed flushes hs value o view = subst (λ (v : Seconds). walked flushes hs ≡ walked flushes (listed_ends v)) view same
+walked_listed flushes hs value o view = subst (λ (v : Seconds). walked flushes hs ≡ walked flushes (listed_ends v)) view same
   where
     same : walked flushes hs ≡ walked flushes (listed_ends (seconds_of hs))
     same =

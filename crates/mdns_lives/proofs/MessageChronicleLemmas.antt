@@ -231,14 +231,14 @@ is_placed (m ∷ ms) (u ∷ us) (suc place) bytes ts l b k e =
     }
 
 -- a message that is remembered takes the next place
-pub messages_with-push : (messages : List Remembered) (waiting : List (List Moment)) (m : Remembered) (ts : List Moment)
+pub messages_with_push : (messages : List Remembered) (waiting : List (List Moment)) (m : Remembered) (ts : List Moment)
     → length waiting ≡ length messages
     → messages_with (messages ++ m ∷ []) (waiting ++ ts ∷ []) ≡ messages_with messages waiting ++ awaited m.bytes ts ∷ []
 unfolding messages_with
-messages_with-push [] [] m ts e = refl
-messages_with-push [] (u ∷ us) m ts e = absurd (omega (arith, e))
-messages_with-push (x ∷ ms) [] m ts e = absurd (omega (arith, e))
-messages_with-push (x ∷ ms) (u ∷ us) m ts e = grind (arith, messages_with-push ms us m ts (omega (arith, e)))
+messages_with_push [] [] m ts e = refl
+messages_with_push [] (u ∷ us) m ts e = absurd (omega (arith, e))
+messages_with_push (x ∷ ms) [] m ts e = absurd (omega (arith, e))
+messages_with_push (x ∷ ms) (u ∷ us) m ts e = grind (arith, messages_with_push ms us m ts (omega (arith, e)))
 
 few_messages : (messages : List Remembered) (waiting : List (List Moment))
     → (length (messages_with messages waiting) ≤ length messages) × (length (messages_with messages waiting) ≤ length waiting)
@@ -277,10 +277,10 @@ chronicles-no_moment c message ts before none s = grind (arith, append-nil, Cont
 
 -- ---- the steps, by the places of messages
 
-pub records-new : (c : Accounts) (messages : List Remembered) (waiting : List (List Moment)) → messages ≡ [] → Chronicles c []
+pub records_new : (c : Accounts) (messages : List Remembered) (waiting : List (List Moment)) → messages ≡ [] → Chronicles c []
     → RecordsAll c (messages_with messages waiting) []
 unfolding messages_with
-records-new c messages waiting none s = grind (arith, records-none)
+records_new c messages waiting none s = grind (arith, records-none)
 
 -- the message at a place has so many hearings
 pub reads-found : (messages : List Remembered) (place hearings : ℕ) (message : List ℕ) (t : Moment)
@@ -303,3 +303,11 @@ pub records-emptied : (c d : Accounts) (messages : List Remembered) (waiting : L
     → ((told : List Hearing) → Chronicles c told → ChroniclesAt d bytes ts told) → (heard : List Hearing)
     → RecordsAll c (messages_with messages waiting) heard → RecordsAll d (messages_with messages (set waiting place us)) heard
 records-emptied c d messages waiting place bytes ts us w none step heard s = grind (arith, records-cleared)
+
+-- WHAT FUNCTIONS ARE PROVED BY
+
+pub ruleset for_hear = (records-heard, records-remembered)
+
+pub ruleset for_hear_at_each = (chronicles-no_moment)
+
+pub ruleset for_hear_place = (is_placed, records-past, records-placed)

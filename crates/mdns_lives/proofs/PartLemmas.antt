@@ -10,7 +10,7 @@ use Rattle.mdns_cache.proofs.ContentsLemmas.{newer-same, newer-comm, newer-assoc
 use Rattle.mdns_lives.specs.{declared.account.Account.{Account}, Account.{join_account, IsAccount}, laws.Account.{account-laws}}
 use Rattle.mdns_lives.specs.laws.Flushes.{union-laws}
 use Rattle.mdns_lives.specs.Chronicle.{Accounts, accounts, accounts_gathered, AreAccounts, AreGathered, join_accounts}
-use Rattle.mdns_lives.proofs.ChronicleLemmas.{chronicles-none}
+use Rattle.mdns_lives.proofs.ChronicleLemmas.{chronicles_none}
 
 pub records-laws : JoinLaws (IsJoinMap key_cmp IsAccount) (joined key_cmp join_account)
 records-laws = joined-laws key_cmp-total key_cmp-exact account-laws
@@ -27,8 +27,8 @@ pub gathered_accounts : (rs : List (Key × Account)) (fs : List (RecordSet × Li
     → AreGathered rs fs → AreAccounts (accounts_gathered rs fs newest)
 gathered_accounts rs fs newest u = record { records = u.records; flushes = u.flushes }
 
-pub AreGathered-none : (rs : List (Key × Account)) (fs : List (RecordSet × List ℕ)) → rs ≡ [] → fs ≡ [] → AreGathered rs fs
-AreGathered-none rs fs p q = grind (arith, chronicles-none)
+pub AreGathered_none : (rs : List (Key × Account)) (fs : List (RecordSet × List ℕ)) → rs ≡ [] → fs ≡ [] → AreGathered rs fs
+AreGathered_none rs fs p q = grind (arith, chronicles_none)
 
 -- ---- what lies between the old contents and the join
 
@@ -55,3 +55,7 @@ pub part_records : (old new other : Accounts) → AreAccounts old → AreAccount
     → new ≡ accounts (joined key_cmp join_account old.records other.records) old.flushes old.newest
     → IsPartOfJoin join_accounts old other new
 part_records old new other u v is = grind (arith, part_their_records, IsPartOfJoin-join, records-laws)
+
+-- WHAT FUNCTIONS ARE PROVED BY
+
+pub ruleset for_join_with = (accounts-laws, part_their_flushes, part_their_records)

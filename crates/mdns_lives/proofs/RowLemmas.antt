@@ -90,8 +90,8 @@ module _ (by_history : ByHistory) (c : Accounts) (heard : List Hearing) (s : Chr
       by (Some a) e u =
           (a, Contains-from_lookup key_eq-exact k a c.records e, IsLast-same heard heard (same-itself heard) k a.latest l u last)
 
-  pub AreAllLives-rows : AreAllLives heard (rows_of c)
-  AreAllLives-rows = record {
+  pub AreAllLives_rows : AreAllLives heard (rows_of c)
+  AreAllLives_rows = record {
     ascending = subst (IsStrictlySortedBy key_cmp) (sym (records_own c.flushes c.records own)) s.accounts.records.sorted;
     each = λ l lives m.
         let w = from_map (row_held c.flushes) c.records (l, lives) m in

@@ -156,8 +156,8 @@ seconds_of-ends hs es are = same_seconds (seconds_of hs) (seconds_of es) (IsSeco
     (λ s. same_ends_in {P = Contains hs} {Q = Contains es} are.among are.between s (value_at nat_cmp s (seconds_of hs))
     (value_at nat_cmp s (seconds_of es)) (at-seconds_of hs s) (at-seconds_of es s))
 
-pub seconds_of-moved : (xs ys : List RecordHearing) → IsPermutation xs ys → seconds_of ys ≡ seconds_of xs
-seconds_of-moved xs ys moved = search (rules, seconds_of-ends, Contains-permutation, between-itself, IsPermutation-sym)
+pub seconds_of_moved : (xs ys : List RecordHearing) → IsPermutation xs ys → seconds_of ys ≡ seconds_of xs
+seconds_of_moved xs ys moved = search (rules, seconds_of-ends, Contains-permutation, between-itself, IsPermutation-sym)
 
 pub IsSeconds-join : (xs ys : Seconds) → IsSeconds xs → IsSeconds ys → IsSeconds (join_seconds xs ys)
 IsSeconds-join xs ys u v = IsJoinMap-join nat_cmp_total exact_unsigned ends-laws xs ys u v
@@ -166,8 +166,8 @@ pub at-join : (s : ℕ) (xs ys : Seconds) → IsSeconds xs → IsSeconds ys
     → value_at nat_cmp s (join_seconds xs ys) ≡ joined_at join_ends (value_at nat_cmp s xs) (value_at nat_cmp s ys)
 at-join s xs ys u v = value_at-join nat_cmp_total exact_unsigned join_ends s xs ys u.sorted v.sorted
 
-pub seconds_of-append : (xs ys : List RecordHearing) → seconds_of (xs ++ ys) ≡ join_seconds (seconds_of xs) (seconds_of ys)
-seconds_of-append xs ys =
+pub seconds_of_append : (xs ys : List RecordHearing) → seconds_of (xs ++ ys) ≡ join_seconds (seconds_of xs) (seconds_of ys)
+seconds_of_append xs ys =
     let u = IsSeconds-of xs in
     let v = IsSeconds-of ys in
     same_seconds (seconds_of (xs ++ ys)) (join_seconds (seconds_of xs) (seconds_of ys)) (IsSeconds-of (xs ++ ys))
@@ -185,7 +185,7 @@ unfolding seconds_of
 seconds_of-one h = refl
 
 pub seconds_of-push : (xs : List RecordHearing) (h : RecordHearing) → seconds_of (xs ++ h ∷ []) ≡ join_seconds (seconds_of xs) (only h)
-seconds_of-push xs h = seconds_of-append xs (h ∷ []) ∙ ap (join_seconds (seconds_of xs)) (seconds_of-one h)
+seconds_of-push xs h = seconds_of_append xs (h ∷ []) ∙ ap (join_seconds (seconds_of xs)) (seconds_of-one h)
 
 -- ---- hearings that are joined one by one
 
@@ -210,9 +210,13 @@ part_first old other new hs u is w = grind (
   arith,
   IsSeconds-of (take w.0 hs),
   IsSeconds-of (drop w.0 hs),
-  seconds_of-append (take w.0 hs) (drop w.0 hs),
+  seconds_of_append (take w.0 hs) (drop w.0 hs),
   take-append-drop w.0 hs,
   seconds-laws,
   IsAtMost-left,
   IsSeconds-join,
 )
+
+-- WHAT FUNCTIONS ARE PROVED BY
+
+pub ruleset for_thin = (seconds_of-ends, seconds_of_moved)

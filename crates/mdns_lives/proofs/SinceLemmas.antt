@@ -72,12 +72,12 @@ since_rows-one now last lives i life within at = grind (arith, common_steps, las
 
 -- the row of one life
 module _ {R : Type 0} (f : R → (Latest × ℕ) × ℕ) (now : ℕ) (last : Latest) (life : Life) (old : List R) where
-  pub row-pushed : (r : R) (new : List R) → now < life.until → new ≡ old ++ r ∷ [] → f r ≡ since_row last life
+  pub row_pushed : (r : R) (new : List R) → now < life.until → new ≡ old ++ r ∷ [] → f r ≡ since_row last life
       → map f new ≡ map f old ++ since_rows now last (life ∷ [])
-  row-pushed r new later pushed is = grind (arith, last, life, lt-ltb, later, map-append, is)
+  row_pushed r new later pushed is = grind (arith, last, life, lt-ltb, later, map-append, is)
 
-  pub row-left : life.until ≤ now → map f old ≡ map f old ++ since_rows now last (life ∷ [])
-  row-left past = grind (arith, last, life, le-ltb, append-nil)
+  pub row_left : life.until ≤ now → map f old ≡ map f old ++ since_rows now last (life ∷ [])
+  row_left past = grind (arith, last, life, le-ltb, append-nil)
 
 pub rows-more : {R : Type 0} (f : R → (Latest × ℕ) × ℕ) (now : ℕ) (last : Latest) (lives : List Life) (i : ℕ) (life : Life)
     (old mid new : List R)
@@ -125,3 +125,9 @@ pub none_left : {A X : Type 0} (shows : A → X) {old : List X} (new : List X) {
     → ((a : A) → next ≡ Some a → ⊥) → old ≡ []
 none_left shows new {next = None} taken none = taken.0
 none_left shows new {next = Some a} taken none = absurd (none a refl)
+
+-- WHAT FUNCTIONS ARE PROVED BY
+
+pub ruleset for_push_live = (rows-more, rows-start, rows-whole)
+
+pub ruleset for_live_at = (none_later, none_left, tells-all, tells-more, tells-start)

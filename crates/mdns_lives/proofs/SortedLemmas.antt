@@ -12,12 +12,12 @@ use Rattle.mdns_cache.proofs.StandsPartLemmas.{Contains-nil, Contains-head, Cont
 
 -- ---- hearings
 
-pub AreInOrder-from_sorted : (hs : List RecordHearing) → IsSorted heard_cmp hs → AreInOrder hs
-AreInOrder-from_sorted [] up = tt
-AreInOrder-from_sorted (h ∷ []) up = tt
-AreInOrder-from_sorted (h ∷ g ∷ hs) up = (
+pub AreInOrder_from_sorted : (hs : List RecordHearing) → IsSorted heard_cmp hs → AreInOrder hs
+AreInOrder_from_sorted [] up = tt
+AreInOrder_from_sorted (h ∷ []) up = tt
+AreInOrder_from_sorted (h ∷ g ∷ hs) up = (
   IsUpTo-from_lt h g (up 0 h (omega arith) (omega arith)),
-  AreInOrder-from_sorted (g ∷ hs) (λ k d l m.
+  AreInOrder_from_sorted (g ∷ hs) (λ k d l m.
       let next : suc k + 1 ≡ suc (k + 1) = omega arith in
       subst (λ n. is_lt (heard_cmp (get_or (h ∷ g ∷ hs) n d) (get_or (g ∷ hs) k d)) ≡ false) next
       (up (suc k) d (omega arith) (omega (arith, m)))),
@@ -58,3 +58,7 @@ same_nanos a b e = moment-same a b (eqb-true a.nanos b.nanos e)
 
 pub nanos-equiv : IsEquivalence (on (λ (m : Moment). m.nanos) nat_eq)
 nanos-equiv = on_equiv (λ (m : Moment). m.nanos) nat_eq_equiv
+
+-- WHAT FUNCTIONS ARE PROVED BY
+
+pub ruleset for_thin = (AreInOrder_from_sorted)

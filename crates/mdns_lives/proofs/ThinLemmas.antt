@@ -152,3 +152,7 @@ kept_in_place xs kept place a next two le l first now same =
 pub all_kept : (items kept : List RecordHearing) (n place : ℕ) → length items ≤ place → kept ≡ take n items
     → take n items ++ drop place items ≡ kept
 all_kept items kept n place over is = grind (arith, drop_all, append-nil)
+
+-- WHAT FUNCTIONS ARE PROVED BY
+
+pub ruleset for_thin = (AreEndsOf-moved, AreEndsOf-onward, all_kept)

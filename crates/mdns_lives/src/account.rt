@@ -52,6 +52,7 @@ impl Join for Account {
         })
     }
 
+    #[tactic(auto, using(crate::proofs::AccountLemmas::part_history, crate::proofs::AccountLemmas::part_latest))]
     fn join_with(&mut self, alloc: Global, other: &Account) -> Result<(), Want> {
         self.history.valid();
         other.history.valid();

@@ -26,6 +26,7 @@ impl Lives {
     /// Returns the records that were heard, in key order, to be taken one by one, with those of their lives that meet the window.
     /// With `Which::Changes` only those of record sets that changed in the window have lives. What lies outside the window still
     /// decides what was live, and what changed.
+    #[tactic(auto, using(crate::proofs::ChosenLemmas::left_whole))]
     pub fn chosen(&self, which: Which, window: Window) -> ChosenWalk<'_>
         ensures left { (heard : List Hearing) → Chronicles self.now heard → result ≡ chosen which window (rows_of self.now) }
         ensures all { (heard : List Hearing) → Chronicles self.now heard → AreAllLives heard (rows_of self.now) }
@@ -164,6 +165,7 @@ fn first_of<'a>(
 }
 
 // Returns a PTR record, or a record that is alone in its set: it has no record before it whose lives could be changes.
+#[tactic(auto, using(crate::proofs::ChosenLemmas::changes_alone))]
 fn alone<'a>(alloc: Global, window: Window, row: RecordHeard<'a>) -> RecordLives<'a>
     ensures { changes_in window (row.entry ∷ []) ≡ row_lent result ∷ [] }
 {
@@ -171,6 +173,7 @@ fn alone<'a>(alloc: Global, window: Window, row: RecordHeard<'a>) -> RecordLives
 }
 
 // Takes the records of a set after its first two, finds the lives of them all, and takes the record after them.
+#[tactic(auto, using(crate::proofs::ChosenLemmas::for_read_set))]
 fn read_set<'a>(
     alloc: Global,
     window: Window,
@@ -234,6 +237,7 @@ fn has_changed(alloc: Global, window: Window, set: &[RecordLives<'_>]) -> Result
 }
 
 // Returns when the lives of these records began.
+#[tactic(auto, using(std::proofs::lemmas::List::take_more))]
 fn beginnings(alloc: Global, set: &[RecordLives<'_>]) -> Result<Vec<Moment>, Want>
     ensures { IfOk result (λ begun. nanos_of begun.items ≡ begins_in (map row_lent set.now)) }
 {
@@ -244,6 +248,7 @@ fn beginnings(alloc: Global, set: &[RecordLives<'_>]) -> Result<Vec<Moment>, Wan
     Ok(begun)
 }
 
+#[tactic(auto, using(std::proofs::lemmas::List::take_more))]
 fn push_beginnings(begun: &mut Vec<Moment>, lives: &[Life]) -> Result<(), Want>
     ensures { OnOk result (nanos_of begun.new.items ≡ nanos_of begun.old.items ++ begins_of lives.now) }
 {
@@ -254,6 +259,7 @@ fn push_beginnings(begun: &mut Vec<Moment>, lives: &[Life]) -> Result<(), Want>
 }
 
 // Returns whether a life of one of these records is a change that began in the window, where their lives began at these moments.
+#[tactic(auto, using(crate::proofs::ChangesLemmas::row_apart))]
 fn any_comes_back(window: Window, begun: &[Moment], set: &[RecordLives<'_>]) -> bool
     requires sorted { IsAscending (nanos_of begun.now) }
     requires one { AreOfOne (map row_lent set.now) }

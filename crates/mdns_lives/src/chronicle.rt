@@ -53,6 +53,7 @@ impl Model for Chronicle {
 
 impl Chronicle {
     /// Makes an empty chronicle. It allocates nothing yet.
+    #[tactic(auto, using(crate::proofs::ChronicleLemmas::chronicles_none, crate::proofs::PartLemmas::AreGathered_none))]
     pub fn new(alloc: Global) -> Chronicle
         ensures contents { result ≡ no_accounts }
         ensures stands { Chronicles result [] }
@@ -162,6 +163,7 @@ impl Chronicle {
 
     // Joins the moments of hearings with the cache-flush bit into those of their record set, which is looked up by the hash
     // unless its place is guessed, and returns the place; 0 where nothing was to be joined.
+    #[tactic(auto, using(mdns_cache::proofs::GatheringLemmas::any_fit, crate::proofs::EachLemmas::flushes_gathered, crate::proofs::PartLemmas::gathered_accounts))]
     fn hear_flush(&mut self, hash: u64, repeats: &Repeats) -> Result<usize, Want>
         ensures ok { OnOk result (self.new ≡ accounts self.old.records (joined set_key_cmp union self.old.flushes
             (flushes_each (hearing_lent repeats.now.hearing.now) repeats.now.moments)) self.old.newest) }
@@ -211,6 +213,7 @@ fn sort_at(entries: &mut Vec<(Key, Account)>, place: usize)
 }
 
 /// Sorts the moments of each record set.
+#[tactic(auto, using(std::proofs::lemmas::List::nil_from_length, mdns_cache::proofs::GatheringLemmas::valid_pushed))]
 pub(crate) fn moments_of(
     alloc: Global,
     entries: Vec<(SetKey, Flushes)>,

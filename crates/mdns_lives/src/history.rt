@@ -59,6 +59,7 @@ impl History {
     }
 
     /// Adds a hearing. After `Want` the history is as before.
+    #[tactic(auto, using(std::proofs::lemmas::Result::on_ok_weaker))]
     pub(crate) fn add(&mut self, heard: RecordHearing) -> Result<(), Want>
         ensures ok { OnOk result (self.new ≡ join_seconds self.old (only heard)) }
         ensures err { OnErr result (self.new ≡ self.old) }
@@ -123,6 +124,7 @@ impl History {
     }
 
     /// Copies the hearings in the order of their moments, then TTLs.
+    #[tactic(auto, using(crate::proofs::SecondsLemmas::seconds_of_moved, crate::proofs::SortedLemmas::AreInOrder_from_sorted))]
     pub(crate) fn sorted(&self, alloc: Global) -> Result<Vec<Packed>, Want>
         ensures in_order { IfOk result (λ sorted. AreInOrder sorted.items) }
         ensures same { IfOk result (λ sorted. seconds_of sorted.items ≡ self.now) }
@@ -152,6 +154,7 @@ impl Join for History {
         })
     }
 
+    #[tactic(auto, using(mdns_cache::proofs::BetweenLemmas::on_err_any, crate::proofs::SecondsLemmas::part_first))]
     fn join_with(&mut self, _alloc: Global, other: &History) -> Result<(), Want> {
         self.valid();
         self.add_all(other.items.as_slice())?;
@@ -224,6 +227,7 @@ fn push_one(items: &mut Vec<Packed>, heard: RecordHearing) -> Result<(), Want>
 }
 
 // Adds a hearing at each of some moments to a list as `History::add_own` does.
+#[tactic(auto, using(crate::proofs::EachLemmas::room_appended, crate::proofs::SecondsLemmas::seconds_of_append))]
 fn push_own(
     items: &mut Vec<Packed>,
     alloc: Global,
@@ -321,6 +325,7 @@ fn push_each(items: &mut Vec<Packed>, ttl: u32, moments: &[Moment])
 
 // Sorts hearings in place, and drops those between the first and the last of their second, as long as more than `SHORT`
 // are left.
+#[tactic(auto, using(std::proofs::lemmas::List::Sorted::length_permutation, crate::proofs::RoomLemmas::few, crate::proofs::SecondsLemmas::for_thin, crate::proofs::SortedLemmas::for_thin, crate::proofs::ThinLemmas::for_thin))]
 fn thin(items: &mut Vec<Packed>)
     ensures same { seconds_of items.new.items ≡ seconds_of items.old.items }
     ensures in_order { AreInOrder items.new.items }

@@ -89,6 +89,7 @@ pub fn live_lives_are_since()
 }
 
 /// The same hearings, in whatever order and however often, give the same rows.
+#[tactic(auto, using(crate::proofs::OneAllLemmas::one_all_rows, crate::proofs::OneAllLemmas::shared_rows))]
 pub fn one_all()
     ensures shared { (heard others : List Hearing) (rows : List (Latest × List Life)) → SameHearings heard others
         → AreAllLives heard rows → AreAllLives others rows }

@@ -110,6 +110,7 @@ fn life_after(later: &[Moment], heard: RecordHearing) -> Life
 }
 
 // Returns the end of a record whose life runs out at `out`: of the flushes that came late enough, the first one decides.
+#[tactic(auto, using(crate::proofs::LaterLemmas::end_by_first, crate::proofs::LaterLemmas::end_by_none))]
 fn end_by(later: &[Moment], out: u64) -> u64
     ensures { (t : ℕ) → IsAscendingAbove (t + second) (nanos_of later.now) → result ≡ end_of (nanos_of later.now) t out }
 {

@@ -25,6 +25,7 @@ pub struct LiveSince<'a> {
 
 impl Lives {
     /// Returns each record that is live as of `now` with its end and since when it has been live, in key order.
+    #[tactic(auto, using(crate::proofs::SinceLemmas::for_live_at))]
     pub fn live_at(&self, now: Moment) -> Result<Vec<LiveSince<'_>>, Want>
         requires { NoneLater self.now.newest now }
         ensures rows { IfOk result (λ rows. map live_since_lent rows.items ≡ all_since_rows now.nanos (rows_of self.now)) }
@@ -42,6 +43,7 @@ impl Lives {
 }
 
 // Appends a row for each life of a record that goes on after `now`; no record has two.
+#[tactic(auto, using(crate::proofs::SinceLemmas::for_push_live))]
 fn push_live<'a>(
     to: &mut Vec<LiveSince<'a>>,
     last: Last<'a>,
@@ -57,6 +59,7 @@ fn push_live<'a>(
     Ok(())
 }
 
+#[tactic(auto, using(crate::proofs::SinceLemmas::row_left, crate::proofs::SinceLemmas::row_pushed))]
 fn push_life<'a>(
     to: &mut Vec<LiveSince<'a>>,
     last: Last<'a>,

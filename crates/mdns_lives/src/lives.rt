@@ -53,6 +53,7 @@ impl Model for Lives {
 
 impl Lives {
     /// Returns the records that were heard, in key order, to be taken one by one.
+    #[tactic(auto, using(crate::proofs::RowLemmas::AreAllLives_rows))]
     pub fn walk(&self) -> LivesWalk<'_>
         ensures left { result ≡ rows_of self.now }
         ensures all { (heard : List Hearing) → Chronicles self.now heard → AreAllLives heard result }
@@ -67,6 +68,7 @@ impl Lives {
 
     /// Joins the hearings of another. After `Want` they may have been joined in part: the contents lie between the old ones
     /// and their join with those of `other`. Repeating the call until it returns `Ok` joins them whole.
+    #[tactic(auto, using(std::proofs::lemmas::Result::on_err_weaker, mdns_cache::proofs::BetweenLemmas::on_err_any, crate::proofs::ChronicleLemmas::for_join_with, crate::proofs::PartLemmas::for_join_with))]
     pub fn join_with(&mut self, other: &Lives) -> Result<(), Want>
         ensures ok { OnOk result (self.new ≡ join_accounts self.old other.now) }
         ensures err { OnErr result (IsPartOfJoin join_accounts self.old other.now self.new) }
@@ -181,6 +183,7 @@ impl<'a> LivesWalk<'a> {
     }
 
     /// Takes the next record, without finding its lives; `None` after the last one.
+    #[tactic(auto, using(crate::proofs::RowLemmas::rest_sorted, crate::proofs::RowLemmas::row_next))]
     pub fn next_record(&mut self) -> Option<RecordHeard<'a>>
         ensures { TakesFirst (λ row. row) self.old result self.new }
     {
@@ -253,6 +256,7 @@ impl<'a> RecordHeard<'a> {
 
 // Returns the lives of a record. `finish` has sorted its hearings, unless it joined entries of one record; `join_with` leaves
 // a few unsorted behind many.
+#[tactic(auto, using(crate::proofs::ListedLemmas::walked_listed))]
 fn lives_by(alloc: Global, history: &History, flushes: &[Moment]) -> Result<Vec<Life>, Want>
     requires { IsAscending (nanos_of flushes.now) }
     ensures walked { IfOk result (λ lives. lives.items ≡ walked (nanos_of flushes.now) (listed_ends history.now)) }

@@ -44,6 +44,7 @@ impl Model for MessageChronicle {
 
 impl MessageChronicle {
     /// Makes one that heard nothing. It allocates nothing yet.
+    #[tactic(auto, using(crate::proofs::MessageChronicleLemmas::records_new))]
     pub fn new(alloc: Global) -> MessageChronicle
         ensures { RecordsAll result.contents result.memory [] }
     {
@@ -86,6 +87,7 @@ impl MessageChronicle {
 
     /// Hears a message that was read, of a packet captured at `moment`. If it may come again, it is remembered and its
     /// moment waits. After `Want` nothing is promised of what it has recorded.
+    #[tactic(auto, using(std::proofs::lemmas::Result::on_ok_weaker, crate::proofs::MessageChronicleLemmas::for_hear))]
     pub fn hear(&mut self, message: &[u8], moment: Moment, read: &MessageReader) -> Result<(), Want>
         requires { MessageReads moment message.now read.now }
         ensures { OnOk result ((heard : List Hearing) → RecordsAll self.old.contents self.old.memory heard
@@ -147,6 +149,7 @@ impl MessageChronicle {
 
     // Remembers a message that was read, if it may come again and there is room. Returns whether it is remembered now, with
     // its moment.
+    #[tactic(auto, using(crate::proofs::MessageChronicleLemmas::messages_with_push))]
     fn remember(
         &mut self,
         message: &[u8],
@@ -211,6 +214,7 @@ fn hear_and_clear(
 }
 
 // Reads a message once, since reading doesn't look at the moment, and adds its hearings at each of some moments.
+#[tactic(auto, using(std::proofs::lemmas::Result::on_ok_weaker, crate::proofs::HearingLemmas::for_hear_at_each, crate::proofs::MessageChronicleLemmas::for_hear_at_each))]
 fn hear_at_each(
     chronicle: &mut Chronicle,
     reader: &mut MessageReader,
@@ -232,6 +236,7 @@ fn hear_at_each(
 }
 
 // Hears the message at a place at its moments, if there is one.
+#[tactic(auto, using(std::proofs::lemmas::Result::on_ok_weaker, crate::proofs::MessageChronicleLemmas::for_hear_place))]
 fn hear_place(
     chronicle: &mut Chronicle,
     reader: &mut MessageReader,

@@ -48,9 +48,9 @@ module _ {X Y : Type 0} (keep : Y → Bool) (f : X → Y) where
   filtered-left x old isnt = sym (append-nil (map f old)) ∙ ap (λ kept. map f old ++ cond kept (f x ∷ []) []) isnt
 
   -- of a list
-  pub kept-more : (xs : List X) (i : ℕ) (x : X) (kept : List Y) → i < length xs → x ≡ get_or xs i x
+  pub kept_more : (xs : List X) (i : ℕ) (x : X) (kept : List Y) → i < length xs → x ≡ get_or xs i x
       → kept ≡ filter keep (map f (take i xs)) → filter keep (map f (take (i + 1) xs)) ≡ kept ++ filter keep (f x ∷ [])
-  kept-more xs i x kept within at are =
+  kept_more xs i x kept within at are =
       ap (λ (ys : List X). filter keep (map f ys)) (take_more xs i x within)
       ∙ ap (filter keep) (map-append f (take i xs) (get_or xs i x ∷ []))
       ∙ filter-append keep (map f (take i xs)) (f (get_or xs i x) ∷ [])

@@ -6,6 +6,7 @@ use Rattle.mdns_message.specs.declared.hearing.Hearing.{Hearing}
 use Rattle.mdns_cache.specs.{Contents.{Contents, StandsFor}, Repeats.{Listened, StandsWith}}
 use Rattle.mdns_survey.specs.{declared.reading.Reading.{Reading}, Outcomes.{Outcome, hearings_in, hearings_of_outcome}}
 use Rattle.mdns_survey.specs.{Listen.{HearsCapture, HearsPackets, Listens, TakesCapture}, Reading.{ReadsCapture}}
+use Rattle.std.proofs.lemmas.Result.{IfOk-weaker}
 
 module _ {H : Type 0} (Stands : H → H → List Hearing → Type 0) where
   -- a hearer takes these hearings
@@ -37,10 +38,10 @@ module _ {H : Type 0} (Stands : H → H → List Hearing → Type 0) where
   }
 
 -- a consumer took all packets of a capture that was read whole
-pub takes-read : {C : Type 0} (Took : C → C → List PacketAt → List Outcome → Type 0) (left : Option (List ℕ)) (old new : C)
+pub takes_read : {C : Type 0} (Took : C → C → List PacketAt → List Outcome → Type 0) (left : Option (List ℕ)) (old new : C)
     (reading : Reading) → IfSome left (λ bytes. reading.snap_length ≡ snap_length bytes)
     → ReadsCapture Took left old new reading → TakesCapture Took left old new reading
-takes-read Took left old new reading states read = record {
+takes_read Took left old new reading states read = record {
   packets = read.packets;
   outcomes = read.outcomes;
   is_reading = record {
@@ -69,3 +70,7 @@ listens-heard (Some bytes) empty gathering cache reading nothing finish heard = 
   counts = heard.is_reading.counts;
   stands = finish (hearings_in heard.outcomes) (heard.hears empty [] nothing);
 }
+
+-- WHAT FUNCTIONS ARE PROVED BY
+
+pub ruleset for_hear_capture = (hears-taken, IfOk-weaker)

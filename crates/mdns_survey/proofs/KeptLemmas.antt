@@ -71,3 +71,7 @@ module _ (about : List Subject) (end : ℕ) where
     parts = laid.parts ∙ ap (λ (xs : List Row). laid.taken ++ xs) first ∙ sym (append_assoc laid.taken (row ∷ []) more);
     fits = one laid.taken laid.fits;
   }
+
+-- WHAT FUNCTIONS ARE PROVED BY
+
+pub ruleset for_write_rows = (kept-stop, kept-texts, kept_text)

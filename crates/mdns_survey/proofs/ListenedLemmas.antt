@@ -116,10 +116,10 @@ pub known-read : (lefts : List (Option (List ℕ))) (captures : List (List ℕ))
 known-read lefts captures packets outcomes readings known read = grind (arith, all_known)
 
 -- for people it is the text of what was lost and heard
-pub heads-pretty : (form : Form) (readings : List Reading) (given head : List ℕ) → form ≡ Pretty → given ≡ []
+pub heads_pretty : (form : Form) (readings : List Reading) (given head : List ℕ) → form ≡ Pretty → given ≡ []
     → head ≡ given ++ (lost_text (lost_in readings) ++ unheard_text (sum_by (λ summary. summary.tally.hearings) (summaries_of readings)))
     → Heads form readings head
-heads-pretty form readings given head is none written captures packets outcomes have count = grind (arith, lost-counted)
+heads_pretty form readings given head is none written captures packets outcomes have count = grind (arith, lost-counted)
 
 -- is that of the readers listened to
 pub known-head : (form : Form) (lefts : List (Option (List ℕ))) (packets : List (List PacketAt)) (outcomes : List (List Outcome))
@@ -128,3 +128,9 @@ pub known-head : (form : Form) (lefts : List (Option (List ℕ))) (packets : Lis
 known-head form lefts packets outcomes readings head heads read captures known =
     heads captures packets outcomes (known-read lefts captures packets outcomes readings known read)
     (count-losses lefts packets outcomes readings read)
+
+-- WHAT FUNCTIONS ARE PROVED BY
+
+pub ruleset for_lost_packets = (lost-counted)
+
+pub ruleset for_collect_all = (listened-nothing, listened-more)

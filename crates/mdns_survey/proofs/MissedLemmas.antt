@@ -110,3 +110,9 @@ found-in-lives about rows found is heard are = (into, back)
     back some =
         let held = are.all some.key some.last some.is_last in
         sym is ∙ any-passes (keeps_row about) rows (some.last, held.0) held.1 some.keeps
+
+-- WHAT FUNCTIONS ARE PROVED BY
+
+pub ruleset for_is_in_cache = (any-first, any-none, found-in-cache, keeps_entry)
+
+pub ruleset for_is_in_lives = (any-first, any-none, any-rest, found-in-lives, keeps_row)

@@ -29,3 +29,7 @@ blames-no-reader steady readers (File index fault) none = absurd none
 blames-no-reader steady readers (Early newest) none = record { within = tt; no_read = λ all. tt; spared = tt }
 blames-no-reader steady readers Memory none = record { within = tt; no_read = λ all. tt; spared = tt }
 blames-no-reader steady readers Write none = record { within = tt; no_read = λ all. tt; spared = tt }
+
+-- WHAT FUNCTIONS ARE PROVED BY
+
+pub ruleset for_survey_with = (answer-summed, blames-no-reader, hears-readers)

@@ -100,3 +100,7 @@ module _ {X : Type 0} (head : List ℕ) (f : X → List ℕ) where
   pub rows-all : (rows left : List X) (old now next : Option (List ℕ)) (text : List ℕ)
       → RowsSoFar rows left old now text → left ≡ [] → Appends now next text → Appends old next (head ++ flat_map f rows)
   rows-all rows left old now next text far none gone = grind (arith, append-nil far.taken, all-out far.taken old now next text far.out gone)
+
+-- WHAT FUNCTIONS ARE PROVED BY
+
+pub ruleset for_write_rows = (rows-all, rows-cut, rows-more, rows-none, rows-out)

@@ -134,10 +134,10 @@ module _ (program : List ℕ) where
   says-prefix-of-one line said old new is prefix = (said ++ 10 ∷ [], (said, ([], is, refl, refl)), prefix)
 
   -- a line, or `out of memory` in its place
-  pub is-said : (line : List ℕ) (result : Result (String Global) Want) → IfOk result (λ l. string_bytes l ≡ line)
+  pub is_said : (line : List ℕ) (result : Result (String Global) Want) → IfOk result (λ l. string_bytes l ≡ line)
       → IsSaid line (said_text program result)
-  is-said line (Ok l) e = inl e
-  is-said line (Err want) e = inr refl
+  is_said line (Ok l) e = inl e
+  is_said line (Err want) e = inr refl
 
   -- a line that wasn't written whole
   pub prefix-said : (b : Bool) (line said : List ℕ) (old new : Option (List ℕ)) → IsSaid line said
@@ -146,12 +146,12 @@ module _ (program : List ℕ) where
   prefix-said false line said old new is prefix = says-prefix-of-one line said old new is prefix
 
   -- one line, written whole or not
-  pub says-line : (b : Bool) (line said : List ℕ) (err : Writing) → IsSaid line said
+  pub says_line : (b : Bool) (line said : List ℕ) (err : Writing) → IsSaid line said
       → OnTrue b (Appends err.old err.new (said ++ 10 ∷ [])) → OnFalse b (AppendsPrefix err.old err.new (said ++ 10 ∷ []))
       → OnTrue b (err.new_failures ≡ err.failures) → OnFalse b (OneMoreFailed err.failures err.new_failures)
       → (IsTrue err.steady → IsTrue b) → Says program (line ∷ []) err
-  says-line true line said err is whole prefix unfailed failed goes = grind arith
-  says-line false line said err is whole prefix unfailed failed goes = record {
+  says_line true line said err is whole prefix unfailed failed goes = grind arith
+  says_line false line said err is whole prefix unfailed failed goes = record {
     text = said ++ 10 ∷ [];
     said = (said, ([], is, refl, refl));
     ends = inr (failed, prefix);
@@ -159,11 +159,11 @@ module _ (program : List ℕ) where
   }
 
   -- the line of a capture that isn't whole
-  pub prefix-of-ending : (b : Bool) (name : List ℕ) (summary : Summary) (said : List ℕ) (old new : Option (List ℕ))
+  pub prefix_of_ending : (b : Bool) (name : List ℕ) (summary : Summary) (said : List ℕ) (old new : Option (List ℕ))
       → is_whole summary.ending ≡ false
       → IsSaid (ending_line_text program name summary.ending) said → OnFalse b (AppendsPrefix old new (said ++ 10 ∷ []))
       → OnFalse b (SaysPrefix program (ending_lines program (name ∷ []) (summary ∷ [])) old new)
-  prefix-of-ending b name summary said old new damaged is prefix =
+  prefix_of_ending b name summary said old new damaged is prefix =
       grind (arith, prefix-said b (ending_line_text program name summary.ending) said old new is prefix)
 
   -- without names, or without summaries, there are no lines
@@ -187,13 +187,19 @@ module _ (program : List ℕ) where
   so_far-first f all names more name summaries others summary old new is are far = grind (arith, ending_lines-first)
 
 -- a writer that wasn't used has the bytes that it had
-pub leaves-written : {W : Type 0} (written : W → Option (List ℕ)) (at_once : Bool) (old new : W) (fault : SurveyFault)
+pub leaves_written : {W : Type 0} (written : W → Option (List ℕ)) (at_once : Bool) (old new : W) (fault : SurveyFault)
     → Leaves at_once old new fault → Leaves at_once (written old) (written new) fault
-leaves-written written true old new (File index fault) same = ap written same
-leaves-written written true old new (Early newest) same = ap written same
-leaves-written written true old new Memory same = ap written same
-leaves-written written true old new Write same = tt
-leaves-written written false old new (File index fault) same = ap written same
-leaves-written written false old new (Early newest) same = ap written same
-leaves-written written false old new Memory same = tt
-leaves-written written false old new Write same = tt
+leaves_written written true old new (File index fault) same = ap written same
+leaves_written written true old new (Early newest) same = ap written same
+leaves_written written true old new Memory same = ap written same
+leaves_written written true old new Write same = tt
+leaves_written written false old new (File index fault) same = ap written same
+leaves_written written false old new (Early newest) same = ap written same
+leaves_written written false old new Memory same = tt
+leaves_written written false old new Write same = tt
+
+-- WHAT FUNCTIONS ARE PROVED BY
+
+pub ruleset for_say_endings = (says-lines)
+
+pub ruleset for_say_lines = (is_said, says-fewer, says-more, false≢true)

@@ -67,9 +67,9 @@ ends-more moment moments None none = grind (arith, All-cons, All-nil)
 ends-more moment moments (Some span) ends = grind (arith, nanos-earlier, nanos-later, among, nat_lt, All-cons, All-weaker)
 
 -- the span of moments has the earliest and the latest of them
-pub has-ends : (moments : List Moment) → HasEnds moments (span_of moments)
-has-ends [] = refl
-has-ends (moment ∷ moments) = ends-more moment moments (span_of moments) (has-ends moments)
+pub has_ends : (moments : List Moment) → HasEnds moments (span_of moments)
+has_ends [] = refl
+has_ends (moment ∷ moments) = ends-more moment moments (span_of moments) (has_ends moments)
 
 -- the latest moment, or 0 of none
 abbrev pub last_of : Option Span → ℕ
@@ -105,16 +105,16 @@ pub begin-is : (as_of : AsOf) (span : Option Span) (begin end : Moment) (moments
 begin-is as_of span begin end moments is is_end is_first = grind (arith, first-is)
 
 -- and their end, where a moment is given, and where none is
-pub end-given : (as_of : AsOf) (end : Moment) (moments : List Moment) → moment_of as_of ≡ Some end → end.nanos ≡ captures_end as_of moments
-end-given Newest end moments is = absurd cc
-end-given (At moment) end moments is = let same : end ≡ moment = cc in ap (λ (m : Moment). m.nanos) same
-end-given (Before moment) end moments is = let same : end ≡ moment = cc in ap (λ (m : Moment). m.nanos) same
+pub end_given : (as_of : AsOf) (end : Moment) (moments : List Moment) → moment_of as_of ≡ Some end → end.nanos ≡ captures_end as_of moments
+end_given Newest end moments is = absurd cc
+end_given (At moment) end moments is = let same : end ≡ moment = cc in ap (λ (m : Moment). m.nanos) same
+end_given (Before moment) end moments is = let same : end ≡ moment = cc in ap (λ (m : Moment). m.nanos) same
 
-pub end-latest : (as_of : AsOf) (span : Option Span) (end : ℕ) (moments : List Moment) → moment_of as_of ≡ None
+pub end_latest : (as_of : AsOf) (span : Option Span) (end : ℕ) (moments : List Moment) → moment_of as_of ≡ None
     → span ≡ span_of moments → end ≡ last_of span → end ≡ captures_end as_of moments
-end-latest Newest span end moments none is is_last = is_last ∙ ap last_of is ∙ last-is moments
-end-latest (At moment) span end moments none is is_last = absurd cc
-end-latest (Before moment) span end moments none is is_last = absurd cc
+end_latest Newest span end moments none is is_last = is_last ∙ ap last_of is ∙ last-is moments
+end_latest (At moment) span end moments none is is_last = absurd cc
+end_latest (Before moment) span end moments none is is_last = absurd cc
 
 -- THE SPAN OF ALL CAPTURES
 
@@ -139,3 +139,7 @@ all_spans-are (ps ∷ packets) (reading ∷ readings) have =
     ap (λ (s : Option Span). joined_spans s (all_spans readings)) here
     ∙ ap (joined_spans (span_of (packet_moments ps))) (all_spans-are packets readings after)
     ∙ sym (span-both (packet_moments ps) (all_moments packets))
+
+-- WHAT FUNCTIONS ARE PROVED BY
+
+pub ruleset for_span_of = (all_spans, all_spans-are, all_spans-more)

@@ -231,3 +231,9 @@ pub refuses-plain : AboutAll → (ask : Ask) (at : Option Moment) (request : Rep
     → Refuses (asked_report request) lefts out fault → RefusesBy (IsReport ask) lefts (at_or_newest at) out fault
 refuses-plain all ask at request is lefts out fault refuses =
     refused_plainly all ask at lefts out fault (subst (λ (q : ReportRequest). Refuses (asked_report q) lefts out fault) is refuses)
+
+-- WHAT FUNCTIONS ARE PROVED BY
+
+pub ruleset for_plain_survey = (plain-survey)
+
+pub ruleset for_collect_all = (blames-reader, counted-more, first-fails, left-more, sound-more)

@@ -88,6 +88,7 @@ pub struct NamedProgram<'a> {
 /// Answers a question as `answer` does, with the error lines of `named.program` about the captures `named.files`. Where `says`
 /// is `true` it writes an error line for each capture that isn't whole, and then one where nothing that was heard is about what is
 /// asked about.
+#[tactic(auto, using(crate::proofs::SaidLemmas::leaves_written))]
 pub fn answer_with<R: Source + Drop, Q: Answer + Drop, O: Sink, E: Sink>(
     question: Q,
     says: bool,

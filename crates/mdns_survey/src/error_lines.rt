@@ -16,6 +16,7 @@ use mdns_message::Want;
 use std::alloc::Global;
 
 /// Writes the error line of a program that is refused, and returns the status.
+#[tactic(auto, using(crate::proofs::SaidLemmas::says_line, crate::proofs::SaidLemmas::is_said))]
 pub fn refuse<E: Sink>(
     alloc: Global,
     program: &str,
@@ -33,6 +34,7 @@ pub fn refuse<E: Sink>(
 }
 
 /// Writes the error line of each capture that isn't whole, until a write fails.
+#[tactic(auto, using(crate::proofs::SaidLemmas::for_say_endings))]
 pub fn say_endings<E: Sink>(
     alloc: Global,
     program: &str,
@@ -47,6 +49,7 @@ pub fn say_endings<E: Sink>(
 }
 
 /// Writes the lines of a survey as `say_endings` does, and then the error line of what it misses.
+#[tactic(auto, using(crate::proofs::SaidLemmas::for_say_lines))]
 pub(crate) fn say_lines<E: Sink>(
     alloc: Global,
     program: &str,
@@ -95,6 +98,7 @@ fn say_each_ending<E: Sink>(
 }
 
 // Writes the error line of a capture that isn't whole, and returns whether it went out.
+#[tactic(auto, using(crate::proofs::SaidLemmas::prefix_of_ending, crate::proofs::SaidLemmas::is_said))]
 fn say_ending<E: Sink>(
     alloc: Global,
     program: &str,

@@ -12,6 +12,7 @@ use std::alloc::Global;
 
 /// Returns the head of a report in that form on captures with these readings. A report in another form than `Pretty` has
 /// no head.
+#[tactic(auto, using(crate::proofs::ListenedLemmas::heads_pretty))]
 pub(crate) fn head_in(alloc: Global, form: Form, readings: &[Reading]) -> Result<String, Want>
     ensures { IfOk result (λ head. Heads form readings.now (string_bytes head)) }
 {

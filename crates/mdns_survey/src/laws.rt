@@ -19,6 +19,7 @@ use mdns_lives::laws::one_all;
 use mdns_message::laws::one_message_outcome;
 
 /// Each packet comes to exactly one outcome.
+#[tactic(auto, using(crate::proofs::OutcomeLemmas::same_outcome, crate::proofs::OutcomeLemmas::some_outcome))]
 pub fn one_packet_outcome()
     ensures unique { (moment : Moment) (frame : List ℕ) (outcome other : Outcome)
         → ComesTo moment frame outcome → ComesTo moment frame other → outcome ≡ other }
@@ -43,6 +44,7 @@ pub fn one_telling()
 
 /// The span of moments is from one of them, than which none is earlier, to one, than which none is later; there is none
 /// only where there are no moments.
+#[tactic(auto, using(crate::proofs::SpanLemmas::has_ends))]
 pub fn span_has_ends()
     ensures { (moments : List Moment) → HasEnds moments (span_of moments) }
 {}
@@ -59,6 +61,7 @@ pub fn one_survey()
 }
 
 /// The report in lines of words on all hearings is the one that a plain request asks for.
+#[tactic(auto, using(crate::proofs::SurveyLemmas::for_plain_survey))]
 pub fn plain_survey()
     ensures { (captures : List (List ℕ)) (ask : Ask) (at : Option Moment) (summaries : List Summary) (text : List ℕ)
         → SurveysBy (IsReport ask) captures (at_or_newest at) summaries text
@@ -69,6 +72,7 @@ pub fn plain_survey()
 
 /// Where every hearing of the captures is earlier than a moment, the report on the hearings before it is the report as
 /// of it.
+#[tactic(auto, using(crate::proofs::SelectedLemmas::before_is_at))]
 pub fn before_none_later()
     ensures { (captures : List (List ℕ)) (about : List Subject) (ask : Ask) (form : Form) (before : Moment)
         (summaries : List Summary) (text : List ℕ) → AreBefore captures before

@@ -65,6 +65,7 @@ pub fn listen<R: Source + Drop>(alloc: Global, reader: R) -> Result<Heard, Liste
 
 // Listens to a capture, and passes its hearings to `hearer`, of which nothing is promised after an error. It stops after
 // 4,294,967,295 packets.
+#[tactic(auto, using(crate::proofs::HeardLemmas::for_hear_capture))]
 fn hear_capture<R: Source + Drop, H: Hearer>(
     alloc: Global,
     reader: R,
@@ -81,6 +82,7 @@ fn hear_capture<R: Source + Drop, H: Hearer>(
 
 /// Listens to a capture, and passes its packets to `consumer`, whose only fault is a failed allocation, and of which nothing
 /// is promised after an error. It stops after 4,294,967,295 packets.
+#[tactic(auto, using(crate::proofs::HeardLemmas::takes_read))]
 pub fn listen_with<R: Source + Drop, C: Consumer<Fault = Want>>(
     alloc: Global,
     reader: R,

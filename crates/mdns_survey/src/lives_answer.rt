@@ -260,6 +260,7 @@ fn with_row(
 }
 
 // Writes a text that stands before the rows, and the lines of those that are about the subjects.
+#[tactic(auto, using(crate::proofs::KeptLemmas::for_write_rows, crate::proofs::RowsLemmas::for_write_rows))]
 fn write_rows<W: Sink>(
     head: String,
     rows: ChosenWalk<'_>,

@@ -40,6 +40,7 @@ pub fn missed_in_lives(
 }
 
 // Checks that a record in a cache is about one of the subjects, or whether there is a record where there are no subjects.
+#[tactic(auto, using(crate::proofs::MissedLemmas::for_is_in_cache))]
 fn is_in_cache(alloc: Global, about: &[Subject], cache: &Cache) -> Result<bool, Want>
     ensures { IfOk result (λ found. (heard : List Hearing) → StandsFor cache.now heard
         → (IsTrue found ↔ IsHeardAbout about.now heard)) }
@@ -55,6 +56,7 @@ fn is_in_cache(alloc: Global, about: &[Subject], cache: &Cache) -> Result<bool, 
 }
 
 // Checks the same of a record among lives, without finding its lives.
+#[tactic(auto, using(crate::proofs::MissedLemmas::for_is_in_lives))]
 fn is_in_lives(alloc: Global, about: &[Subject], lives: &Lives) -> Result<bool, Want>
     ensures { IfOk result (λ found. (heard : List Hearing) → Chronicles lives.now heard
         → (IsTrue found ↔ IsHeardAbout about.now heard)) }

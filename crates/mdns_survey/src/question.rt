@@ -128,6 +128,7 @@ pub struct Surveyed {
 ///
 /// `File` carries the index of the first reader that can't be listened to, and `Early` the newest hearing's moment
 /// where the moment asked for is earlier.
+#[tactic(auto, using(crate::proofs::QuestionLemmas::for_survey_with))]
 pub fn survey_with<R: Source + Drop, Q: Answer + Drop, W: Sink>(
     alloc: Global,
     readers: Vec<R>,

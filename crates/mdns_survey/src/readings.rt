@@ -25,6 +25,7 @@ pub fn summaries_of(alloc: Global, readings: &[Reading]) -> Result<Vec<Summary>,
 }
 
 /// Returns how many packets of all captures were lost: frames that lost what they said, and damaged messages.
+#[tactic(auto, using(std::proofs::lemmas::List::take_all, std::proofs::lemmas::List::Sums::sum_by_more, crate::proofs::ListenedLemmas::for_lost_packets))]
 pub fn lost_packets(readings: &[Reading]) -> u128
     ensures value { result ≡ lost_in readings.now }
     ensures packets { (packets : List (List PacketAt)) → CountLosses packets readings.now
@@ -38,6 +39,7 @@ pub fn lost_packets(readings: &[Reading]) -> u128
 }
 
 /// Returns how many packets of all captures were skipped for this reason.
+#[tactic(auto, using(std::proofs::lemmas::List::Sums::sum_by_more))]
 pub fn skipped_packets(readings: &[Reading], why: SkipReason) -> u128
     ensures { result ≡ skipped_in why readings.now }
 {
@@ -60,6 +62,7 @@ pub fn refused_packets(readings: &[Reading]) -> u128
 }
 
 /// Returns the span of the packets of all captures; `None` if there are no packets.
+#[tactic(auto, using(std::proofs::lemmas::List::take_all, std::proofs::lemmas::List::take_more, crate::proofs::SpanLemmas::for_span_of))]
 pub fn span_of(readings: &[Reading]) -> Option<Span>
     ensures { (packets : List (List PacketAt)) → HaveSpans packets readings.now → result ≡ span_of (all_moments packets) }
 {
@@ -72,6 +75,7 @@ pub fn span_of(readings: &[Reading]) -> Option<Span>
 
 /// Returns the end of captures: the moment of `as_of`, or with `AsOf::Newest` the latest packet's moment; 0 where there
 /// are no packets.
+#[tactic(auto, using(crate::proofs::SpanLemmas::end_given, crate::proofs::SpanLemmas::end_latest, crate::proofs::SpanLemmas::last_of))]
 pub fn captures_end(as_of: AsOf, readings: &[Reading]) -> Moment
     ensures { (packets : List (List PacketAt)) → HaveSpans packets readings.now
         → result.nanos ≡ captures_end as_of (all_moments packets) }

@@ -166,6 +166,7 @@ fn newest_or_epoch(cache: &Cache) -> Moment
 }
 
 /// Listens to each reader in order, by `collector`. Returns one reading for each reader, in order.
+#[tactic(auto, using(crate::proofs::ListenedLemmas::for_collect_all, crate::proofs::SurveyLemmas::for_collect_all))]
 pub(crate) fn collect_all<R: Source + Drop, L: Collector>(
     alloc: Global,
     readers: Vec<R>,

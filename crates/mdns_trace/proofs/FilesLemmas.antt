@@ -3,6 +3,8 @@ use Rattle.std.proofs.Common.{◌≡◌, ℕ, ◌+◌, ◌<◌, List, [], ◌∷
 use Rattle.std.proofs.Common.{take-append-drop, string_bytes, refl, arith, sym, ap, ◌∙◌, length-append}
 use Rattle.std.proofs.lemmas.List.{drop_more, map-append, take_more}
 use Rattle.mdns_trace.specs.{declared.trace.TraceFault.{TraceFault}, EachFile.{StopsAt, WritesEach, WritesFirst, more}}
+use Rattle.mdns_survey.proofs.SurveyLemmas.{counted-more}
+use Rattle.mdns_survey.proofs.SurveyLemmas.{left-more}
 
 -- another file is left, so its index is one of a name
 pub is-within : {X Y : Type 0} (names : List X) (all done rest after : List Y) (one : Y) → length names ≡ length all
@@ -61,3 +63,7 @@ module _ {R W S : Type 0} (Writes : List ℕ → R → W → W → S → Type 0)
         of_reader = first;
         stops = stops;
       }
+
+-- WHAT FUNCTIONS ARE PROVED BY
+
+pub ruleset for_write_each = (first-written, is-within, stops-at, written-more, counted-more, left-more)

@@ -9,7 +9,6 @@ use Rattle.mdns_capture.specs.Savefile.{format_fault, format_of, header_fault, n
 use Rattle.mdns_capture.specs.declared.savefile.BeginFault.TheVariants as fault
 use Rattle.mdns_capture.proofs.HeaderLemmas.{header_fault-append}
 use Rattle.mdns_trace.specs.{declared.flaw.Flaw.{Flaw}, Flaw.{flaw_in, flaw_of, head_of, is_ethernet}, Verdict.{IsNoCapture}}
-use Rattle.mdns_trace.specs.declared.flaw.Flaw.TheVariants as flaw
 use Rattle.mdns_trace.proofs.VerdictLemmas.{head-read}
 
 -- ---- a whole file header

@@ -3,6 +3,7 @@ use Rattle.std.proofs.Common.{◌≡◌, ℕ, Bool, false, List, [], ◌∷◌, 
 use Rattle.std.specs.List.{flat_map}
 use Rattle.mdns_browse.specs.Json.{first_after, json_object, parted}
 use Rattle.mdns_trace.specs.VerdictJson.{AddsObjects}
+use Rattle.std.proofs.lemmas.Result.{IfOk-weaker}
 
 first_after-false : {X : Type 0} (xs : List X) → first_after false xs ≡ false
 first_after-false [] = refl
@@ -55,3 +56,11 @@ pub objects-more : {A : Type 0} (objects : A → List (List ℕ)) (loss : A) (le
     → AddsObjects first old (objects loss) new next
     → new ++ parted next (flat_map objects left) ≡ old ++ parted first (flat_map objects (loss ∷ left))
 objects-more objects loss left first next old new adds = grind (arith, append_assoc, parted-append)
+
+-- WHAT FUNCTIONS ARE PROVED BY
+
+pub ruleset for_push_capture_members = (two-after, IfOk-weaker)
+
+pub ruleset for_push_flaw_members = (one-after, IfOk-weaker)
+
+pub ruleset for_push_loss_objects = (objects-more)

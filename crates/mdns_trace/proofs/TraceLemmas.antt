@@ -14,6 +14,7 @@ use Rattle.mdns_trace.specs.declared.{inquiry.Trace.{Trace}, trace.Lines.{Lines}
 use Rattle.mdns_trace.specs.{declared.trace.TraceFault.TheVariants.{Listen, Write}, TraceFaults.{Stops, WritesLines}}
 use Rattle.mdns_trace.specs.Trace.{AddsLines, AreAllLines, AreLinesIn, LeavesLines, LinesBroke, LinesTook, PrintsPart, TracesCapture}
 use Rattle.mdns_trace.specs.Trace.{TracesFront, trace_fault}
+use Rattle.std.proofs.lemmas.Bool.{false≢true}
 
 -- THE LINE OF A RESPONSE
 
@@ -129,3 +130,7 @@ lines-cut source sink reader old new next reading empty read sound prefix failed
             (part-on (sink.written next) prefix.0 prefix.1.0 took.prints prefix.1.1 prefix.1.2);
       },
     )
+
+-- WHAT FUNCTIONS ARE PROVED BY
+
+pub ruleset for_print_lines = (lines-cut, lines-stop, lines-written, false≢true)

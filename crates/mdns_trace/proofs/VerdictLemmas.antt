@@ -6,6 +6,7 @@ use Rattle.std.specs.Io.KnownBytes.{Consumes, IsAtEnd, prepend_known}
 use lib.Seq.{take-append-add, take-append_seam}
 use Rattle.mdns_capture.specs.Limits.{file_header_size}
 use Rattle.mdns_trace.specs.Flaw.{head_of}
+use Rattle.std.proofs.lemmas.Bool.{false≢true}
 
 -- BYTES THAT WERE READ BEFORE
 
@@ -48,3 +49,7 @@ head-known (Some rest) to count room within ended =
     let none : take (file_header_size - count) rest ≡ [] =
     none-left (file_header_size - count) rest (λ some. ended (omega (arith, some, room))) in
     grind (arith, take-append-add head rest (file_header_size - count), append-nil head)
+
+-- WHAT FUNCTIONS ARE PROVED BY
+
+pub ruleset for_read = (head-read, false≢true)

@@ -47,6 +47,7 @@ pub(crate) trait Scribe<R, W> {
 }
 
 /// Writes about each file in order, and returns what was found of each.
+#[tactic(auto, using(crate::proofs::FilesLemmas::for_write_each))]
 pub(crate) fn write_each<R: Drop, W, S: Scribe<R, W>>(
     alloc: Global,
     scribe: &S,

@@ -24,6 +24,7 @@ impl<R: Source> Source for Peeked<'_, R> {
 
     ghost failures = { λ peeked. R.failures peeked.inner };
 
+    #[tactic(auto, using(crate::proofs::VerdictLemmas::for_read))]
     fn read(&mut self, to: &mut [u8]) -> Result<usize, Broken> {
         if self.head.is_empty() {
             return self.inner.read(to);

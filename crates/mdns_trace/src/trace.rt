@@ -109,6 +109,7 @@ fn write_lines<R: Source + Drop, W: Sink>(
 }
 
 // Reads a capture, and writes its lines.
+#[tactic(auto, using(crate::proofs::TraceLemmas::for_print_lines))]
 fn print_lines<R: Source + Drop, W: Sink>(
     alloc: Global,
     reader: R,

@@ -149,6 +149,7 @@ fn push_left_out(
 /// # Errors
 ///
 /// `File` carries the index of the first file of which a read failed. The only other fault is `Memory`.
+#[tactic(auto, using(crate::proofs::UsableLemmas::paired))]
 pub fn sort_files<R: Source + Drop>(
     alloc: Global,
     program: &str,

@@ -91,6 +91,7 @@ fn push_do(to: &mut String, is_needed: bool, cure: &str) -> Result<(), Want>
     push_text_member(to, false, "do", cure)
 }
 
+#[tactic(auto, using(crate::proofs::MemberLemmas::for_push_flaw_members), unfolding(crate::specs::VerdictJson::flaw_members))]
 fn push_flaw_members(to: &mut String, flaw: Flaw) -> Result<(), Want>
     ensures { OnOk result (string_bytes to.new ≡ string_bytes to.old ++ parted false (flaw_members flaw)) }
 {
@@ -122,6 +123,7 @@ fn push_link_name(to: &mut String, name: &str) -> Result<(), Want>
     push_text_member(to, false, "link_name", name)
 }
 
+#[tactic(auto, using(crate::proofs::MemberLemmas::for_push_capture_members), unfolding(crate::specs::VerdictJson::capture_members))]
 fn push_capture_members(alloc: Global, to: &mut String, reading: &Reading) -> Result<(), Want>
     ensures { OnOk result (string_bytes to.new ≡ string_bytes to.old ++ parted false (capture_members reading.now)) }
 {
@@ -214,7 +216,7 @@ fn push_lost_json(to: &mut String, reading: &Reading) -> Result<(), Want>
     Ok(())
 }
 
-#[tactic(auto, unfolding(mdns_browse::specs::Json::parted))]
+#[tactic(auto, using(std::proofs::lemmas::List::drop_more, crate::proofs::MemberLemmas::for_push_loss_objects), unfolding(mdns_browse::specs::Json::parted))]
 fn push_loss_objects(to: &mut String, reading: &Reading, losses: &[Loss]) -> Result<(), Want>
     ensures { OnOk result (string_bytes to.new
         ≡ string_bytes to.old ++ parted true (flat_map (loss_objects reading.now) losses.now)) }

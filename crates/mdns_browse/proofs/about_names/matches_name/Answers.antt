@@ -1,18 +1,9 @@
-use Rattle.std.proofs.{Common.{arith, sym, ◌∙◌, ap, ◌++◌}, lemmas.Result.{IfOk-weaker}}
+use Rattle.std.proofs.{Common.{sym, ◌∙◌, ap, ◌++◌}, lemmas.Result.{IfOk-weaker}}
 use Rattle.dns_name.specs.Name.{name_text}
 use Rattle.people_text.specs.Shown.{name_shown}
 use Rattle.mdns_browse.specs.About.{matches_text_in_local}
-use Rattle.mdns_browse.proofs.AboutLemmas.{label-first, label-none, name-parts, or-first, or-rest, text-written}
+use Rattle.mdns_browse.proofs.AboutLemmas.{label-first, label-none, name-parts, or-rest, text-written}
 use Rattle.mdns_browse.proofs.about_names.matches_name.Goals as goal
-
-pub returns-then-matches_text_in_local : goal.returns-then-matches_text_in_local
-returns-then-matches_text_in_local c = grind (arith, or-first, name-parts, text-written)
-
-pub returns-then-matches_text_in_local-2 : goal.returns-then-matches_text_in_local-2
-returns-then-matches_text_in_local-2 c = grind (arith, or-first, or-rest, name-parts, text-written)
-
-pub returns-then-branch : goal.returns-then-branch
-returns-then-branch c = grind (arith, or-first, or-rest, name-parts, text-written)
 
 pub returns-in-Some : goal.returns-in-Some
 returns-in-Some c =

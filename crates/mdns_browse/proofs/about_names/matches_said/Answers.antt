@@ -5,12 +5,6 @@ use Rattle.mdns_browse.specs.{About.{matches_text_in_local}, Services.{same_text
 use Rattle.mdns_browse.proofs.{AboutLemmas.{or-first, or-rest, said-alternatives, text-written}, SaidLemmas.{labels_said, said-written}}
 use Rattle.mdns_browse.proofs.about_names.matches_said.Goals as goal
 
-pub push_front-requires : goal.push_front-requires
-push_front-requires c = c.wire.ensures.form.form
-
-pub push_further-requires : goal.push_further-requires
-push_further-requires c = c.in_ok-rest.ensures.form
-
 pub returns-then-matches_text : goal.returns-then-matches_text
 returns-then-matches_text c =
     let labels = labels_of c.args.name.now in

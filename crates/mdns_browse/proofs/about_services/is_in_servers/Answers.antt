@@ -1,11 +1,8 @@
-use Rattle.std.proofs.Common.{refl, sym, ◌∙◌, ap, map, arith}
+use Rattle.std.proofs.Common.{sym, ◌∙◌, ap, map, arith}
 use Rattle.mdns_cache.specs.{LentRecords.{last_lent}, declared.cache.Last.{Last}}
 use Rattle.mdns_browse.specs.{About.{is_served_about}, Services.{body_of}}
-use Rattle.mdns_browse.proofs.AboutServiceLemmas.{any-found, any_in_server, any_in_servers, none-all, none-more, rows-swap}
+use Rattle.mdns_browse.proofs.AboutServiceLemmas.{any-found, any_in_server, any_in_servers, none-all, rows-swap}
 use Rattle.mdns_browse.proofs.about_services.is_in_servers.Goals as goal
-
-pub loop-row-init : goal.loop-row-init
-loop-row-init c sorted = refl
 
 pub returns-then-branch : goal.returns-then-branch
 returns-then-branch c sorted =
@@ -17,9 +14,6 @@ returns-then-branch c sorted =
     (sym (c.in_ok-is_in_server.ensures sorted) ∙ c.if-branch.true)
     ∙ rows-swap (λ subject body. is_served_about rows body subject) last_lent about found
     ∙ ap (λ served. any_in_servers about rows (map body_of served)) (c.of_set-row-items.ensures sorted)
-
-pub loop-row-preserved : goal.loop-row-preserved
-loop-row-preserved c sorted = grind (arith, any_in_server, none-more)
 
 pub returns : goal.returns
 returns c sorted =

@@ -1,13 +1,9 @@
-use Rattle.std.proofs.lemmas.Grind.{common_steps}
-use Rattle.std.proofs.{lemmas.List.{append-nil, map-append, take_all}, Common.{◌∙◌, ap, sym, ◌++◌, [], arith, map, option_map}}
+use Rattle.std.proofs.{lemmas.List.{append-nil, map-append}, Common.{◌∙◌, ap, sym, ◌++◌, [], arith, map, option_map}}
 use Rattle.std.specs.List.{cons_option}
 use Rattle.mdns_cache.specs.LentRecords.{last_lent}
 use Rattle.mdns_browse.specs.{Hosts.{service_at, served_lent}, Services.{instance_in, server_at}}
 use Rattle.mdns_browse.proofs.{HostLemmas.{served_by, served-append}, ListLemmas.{added_more}}
 use Rattle.mdns_browse.proofs.host.push_services.Goals as goal
-
-pub loop-row-init : goal.loop-row-init
-loop-row-init c ascending = sym (append-nil (map served_lent c.args.to.now.items))
 
 pub loop-row-preserved-in_default : goal.loop-row-preserved-in_default
 loop-row-preserved-in_default c ascending =
@@ -28,6 +24,3 @@ loop-row-preserved c ascending =
     c.row-item.result (map served_lent c.args.to.now.items) (omega arith) c.row-item.is (c.loop-row.invariant ascending)
     (ap (map served_lent) c.in_ok-push.ensures.items ∙ map-append served_lent c.loop-row.to.items _
     ∙ ap (λ o. held ++ map (service_at (instance_in rows name)) (cons_option (option_map (server_at rows) o) [])) c.in-Some.ensures)
-
-pub returns : goal.returns
-returns c ascending = grind (arith, common_steps, served_by, take_all)

@@ -1,15 +1,9 @@
-use Rattle.std.proofs.{Common.{List, ℕ, ◌≡◌, ◌∙◌, ◌++◌, ap, arith, map, string_bytes, subst, sym}, lemmas.{List.{append_assoc}, Result.{on_ok_weaker}}}
+use Rattle.std.proofs.{Common.{List, ℕ, ◌≡◌, ◌∙◌, ◌++◌, ap, map, string_bytes, subst, sym}, lemmas.{List.{append_assoc}, Result.{on_ok_weaker}}}
 use Rattle.std.specs.List.{flat_map}
 use Rattle.mdns_cache.specs.LentRecords.{last_lent}
 use Rattle.mdns_browse.specs.{Csv.{instance_csv, instances_header}, Forms.{listed_text}, Given.{given_lent}}
-use Rattle.mdns_browse.proofs.{InstanceLemmas.{shown_in}, LineLemmas.{instances_text}, ObjectLemmas.{instances_json}}
+use Rattle.mdns_browse.proofs.{InstanceLemmas.{shown_in}}
 use Rattle.mdns_browse.proofs.instance_forms.push_instances.Goals as goal
-
-pub returns-in-Lines : goal.returns-in-Lines
-returns-in-Lines c = grind (arith, on_ok_weaker, instances_text)
-
-pub returns-in-Json : goal.returns-in-Json
-returns-in-Json c = grind (arith, on_ok_weaker, instances_json)
 
 pub returns-in_ok-push_str-in-Csv : goal.returns-in_ok-push_str-in-Csv
 returns-in_ok-push_str-in-Csv c =

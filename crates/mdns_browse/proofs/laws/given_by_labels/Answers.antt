@@ -1,11 +1,5 @@
-use Rattle.mdns_browse.proofs.NameLemmas.{instance-decides, instance-gives, other-gives, service-decides, type-gives}
+use Rattle.mdns_browse.proofs.NameLemmas.{instance-gives, other-gives, type-gives}
 use Rattle.mdns_browse.proofs.laws.given_by_labels.Goals as goal
-
-pub returns-clause-service_name : goal.returns-clause-service_name
-returns-clause-service_name c = service-decides
-
-pub returns-clause-instance_name : goal.returns-clause-instance_name
-returns-clause-instance_name c = instance-decides
 
 pub returns-clause-gives_type : goal.returns-clause-gives_type
 returns-clause-gives_type c = type-gives

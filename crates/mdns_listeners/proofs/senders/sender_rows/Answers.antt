@@ -1,21 +1,7 @@
-use Rattle.std.proofs.{Common.{◌∙◌, ◌<◌, length, ap, arith}, lemmas.{List.Elements.{All-drop}, List.Sums.{prefix_len-le-length}}}
+use Rattle.std.proofs.{Common.{◌∙◌, ◌<◌, length, ap, arith}, lemmas.{List.Elements.{All-drop}}}
 use Rattle.mdns_listeners.specs.Senders.{sender_in, sender_rows}
-use Rattle.mdns_listeners.proofs.SenderLemmas.{first_whole, rest_shorter, rest_some, sender_more, up-drop}
+use Rattle.mdns_listeners.proofs.SenderLemmas.{sender_more, up-drop}
 use Rattle.mdns_listeners.proofs.senders.sender_rows.Goals as goal
-
-pub split_at-requires : goal.split_at-requires
-split_at-requires c = grind (arith, prefix_len-le-length)
-
-pub push_sender-requires : goal.push_sender-requires
-push_sender-requires c = grind (arith, first_whole)
-
-pub loop-rest-smaller : goal.loop-rest-smaller
-loop-rest-smaller c =
-    let some : 0 < length c.loop-rest.rest.now = omega arith in
-    rest_shorter c.loop-rest.rest.now c.split_at.result.1.now c.own_len.result some
-    (rest_some c.loop-rest.rest.now c.first-item.result c.sender_in-sender.result.now c.own_len.result some c.first-item.is
-    (c.sender_in-sender.ensures ∙ ap sender_in c.message.ensures) c.own_len.ensures)
-    c.split_at.ensures.back
 
 pub loop-rest-preserved : goal.loop-rest-preserved
 loop-rest-preserved c =

@@ -14,14 +14,3 @@ loop-record-init c =
     read-two c.args.window c.args.first c.args.second c.args.rows.now (map row_lent c.push-2.new.self.items) c.requires
     (subst (λ (row : Row). AreApart row.1) one.row one.apart) (subst (λ (row : Row). AreApart row.1) two.row two.apart)
     (ap (map row_lent) pushed ∙ (λ i. one.row i ∷ two.row i ∷ []))
-
-pub loop-record-preserved : goal.loop-record-preserved
-loop-record-preserved c =
-    let set = c.loop-record.set.items in
-    let more = c.in_ok-with_lives-3.ensures in
-    let on : c.goes_on.result ≡ true = search rules in
-    let goes_as : goes_on (map row_lent set) c.in-Some.record.0 ≡ c.goes_on.result =
-    (λ i. goes_on (map row_lent (sym c.as_slice.ensures.value i)) (sym c.last.ensures i)) ∙ sym c.goes_on.ensures in
-    let pushed = ap (map row_lent) c.in_ok-push-3.ensures.items ∙ map-append row_lent set (c.in_ok-with_lives-3.field-0 ∷ [])
-    ∙ (λ i. map row_lent set ++ more.row i ∷ []) in
-    grind (arith, read-more)

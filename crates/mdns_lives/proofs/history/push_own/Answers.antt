@@ -1,13 +1,7 @@
 use Rattle.std.proofs.Common.{arith, vec_capacity, vec_len}
 use Rattle.mdns_lives.specs.Each.{heard_each}
-use Rattle.mdns_lives.proofs.{EachLemmas.{room_appended}, SecondsLemmas.{seconds_of-append}}
+use Rattle.mdns_lives.proofs.{EachLemmas.{room_appended}, SecondsLemmas.{seconds_of_append}}
 use Rattle.mdns_lives.proofs.history.push_own.Goals as goal
-
-pub returns-in-Some-Ok-clause-ok : goal.returns-in-Some-Ok-clause-ok
-returns-in-Some-Ok-clause-ok c = grind (arith, seconds_of-append)
-
-pub returns-in-Some-Ok-join_latest-clause-ok : goal.returns-in-Some-Ok-join_latest-clause-ok
-returns-in-Some-Ok-join_latest-clause-ok c = grind (arith, seconds_of-append)
 
 pub returns-in-Some-Ok-join_latest-clause-bound : goal.returns-in-Some-Ok-join_latest-clause-bound
 returns-in-Some-Ok-join_latest-clause-bound c = λ bound.

@@ -2,12 +2,6 @@ use Rattle.std.proofs.{Common.{arith, ◌≡◌, ◌<◌, length, get_or, rules}
 use Rattle.mdns_lives.proofs.MessageChronicleLemmas.{is_placed, records-past, records-placed}
 use Rattle.mdns_lives.proofs.message_chronicle.hear_place.Goals as goal
 
-pub returns-in_default : goal.returns-in_default
-returns-in_default c = grind (arith, records-past)
-
-pub returns-in_default-get : goal.returns-in_default-get
-returns-in_default-get c = grind (arith, records-past)
-
 pub returns : goal.returns
 returns c =
     let ms = c.args.messages.now in

@@ -7,7 +7,7 @@ use Rattle.mdns_lives.specs.{Chronicle.{rows_of}, declared.live_since.LiveSince.
 use Rattle.mdns_lives.specs.Since.{AreLiveSince, all_since_rows, live_since_lent}
 use Rattle.mdns_browse.specs.{Given.{given_lent}, Services.{AreAscending, GivenRow}}
 use Rattle.mdns_page.specs.{Html.{isolated}, KeptRecords.{is_drawn, looked_up}, LiveSection.{live_text}, Page.{given_of_since, live_given}}
-use Rattle.mdns_page.proofs.{KeptLemmas.{kept-all, kept-more, map-more, map-whole}, SurveyLemmas.{live-ascending}}
+use Rattle.mdns_page.proofs.{KeptLemmas.{kept-all, kept_more, map-more, map-whole}, SurveyLemmas.{live-ascending}}
 use Rattle.mdns_page.proofs.page.live_of.Goals as goal
 
 pub loop-row-init : goal.loop-row-init
@@ -23,7 +23,7 @@ loop-row-preserved c =
           ∙ sym (map-more (λ (row : LiveSince). last_lent row.last) c.deref-row-items.result.now c.loop-row.row-index row (omega arith)
           c.row-item.is),
       λ sorted. c.in_ok-push_given.ensures sorted
-          ∙ sym (kept-more (λ (given : GivenRow). is_drawn c.args.about.now (map last_lent c.args.heard.now) given.last)
+          ∙ sym (kept_more (λ (given : GivenRow). is_drawn c.args.about.now (map last_lent c.args.heard.now) given.last)
           (λ (row : LiveSince). given_of_since (live_since_lent row)) c.deref-row-items.result.now c.loop-row.row-index row _ (omega arith)
           c.row-item.is (so_far.1 sorted)),
     )

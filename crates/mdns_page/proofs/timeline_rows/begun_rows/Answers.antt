@@ -3,7 +3,7 @@ use Rattle.std.proofs.lemmas.List.{append-nil, map-append}
 use Rattle.mdns_lives.specs.{LentLives.{row_lent}}
 use Rattle.mdns_browse.specs.Services.{body_of}
 use Rattle.mdns_page.specs.{TimelineRows.{IsBegun}, KeptRecords.{is_shown}, Servers.{servers_of}, Timeline.{Row, counted_lent}}
-use Rattle.mdns_page.proofs.{CountedLemmas.{record_in, row-more}, KeptLemmas.{kept-more}}
+use Rattle.mdns_page.proofs.{CountedLemmas.{record_in, row-more}, KeptLemmas.{kept_more}}
 use Rattle.mdns_page.proofs.timeline_rows.begun_rows.Goals as goal
 
 -- a record of another part
@@ -14,7 +14,7 @@ loop-record-preserved-then-not-is_shown c =
       sym (append-nil _)
           ∙ ap (λ kept. map record_in (map counted_lent c.loop-record.rows.items) ++ cond kept (row_lent c.record-item.result ∷ []) [])
           (sym c.if-not-is_shown.true ∙ c.is_shown.ensures)
-          ∙ sym (kept-more keep row_lent c.args.records.now c.loop-record.record-index c.record-item.result _ c.loop-record-test.true
+          ∙ sym (kept_more keep row_lent c.args.records.now c.loop-record.record-index c.record-item.result _ c.loop-record-test.true
           c.record-item.is so_far.0),
       so_far.1,
       so_far.2,
@@ -33,7 +33,7 @@ loop-record-preserved c =
           ∙ ap (λ one. map record_in (map counted_lent rows) ++ one ∷ []) made.record
           ∙ ap (λ kept. map record_in (map counted_lent rows) ++ cond kept (row_lent c.record-item.result ∷ []) [])
           (sym c.if-not-is_shown.false ∙ c.is_shown.ensures)
-          ∙ sym (kept-more keep row_lent c.args.records.now c.loop-record.record-index c.record-item.result _ c.loop-record-test.true
+          ∙ sym (kept_more keep row_lent c.args.records.now c.loop-record.record-index c.record-item.result _ c.loop-record-test.true
           c.record-item.is so_far.0),
       λ each are. row-more (IsBegun each) rows row _ pushed (so_far.1 each are) (made.heard each are),
       λ sorted. row-more (λ (row : Row). row.servers ≡ servers_of (map row_lent c.args.servers.now) (body_of row.last)) rows row _ pushed (so_far.2 sorted) (made.servers sorted),

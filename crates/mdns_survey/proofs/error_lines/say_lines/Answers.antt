@@ -1,20 +1,9 @@
-use Rattle.std.proofs.{Common.{◌∙◌, ◌+◌, ◌++◌, ℕ, List, Some, ap, map, option_map, string_bytes, subst, sym}, lemmas.Bool.{OnFalse_at, OnFalse_from, OnTrue_at, OnTrue_from, false≢true}}
+use Rattle.std.proofs.{Common.{◌∙◌, ◌+◌, ◌++◌, ℕ, List, Some, ap, map, option_map, string_bytes, subst}, lemmas.Bool.{OnFalse_at, OnFalse_from, OnTrue_at, OnTrue_from}}
 use Rattle.mdns_capture.specs.Output.{writing}
 use Rattle.mdns_survey.specs.{declared.summary.Summary.{Summary}, ProgramLines.{missed_line_text, said_text}}
-use Rattle.mdns_survey.specs.Said.{Says, SaysAll, SaysPrefix, ending_lines, missed_lines}
-use Rattle.mdns_survey.proofs.SaidLemmas.{is-said, says-fewer, says-more}
+use Rattle.mdns_survey.specs.Said.{Says, SaysAll, ending_lines, missed_lines}
+use Rattle.mdns_survey.proofs.SaidLemmas.{is_said, says-more}
 use Rattle.mdns_survey.proofs.error_lines.say_lines.Goals as goal
-
-pub returns-then-not-say_each_ending : goal.returns-then-not-say_each_ending
-returns-then-not-say_each_ending g c =
-    let program = c.args.program.now in
-    let well = c.say_each_ending.ensures.well in
-    says-fewer program _ _ (writing g.E.Sink c.args.err.now c.say_each_ending.new.err)
-    (subst (λ (summaries : List Summary). SaysPrefix program (ending_lines program (map string_bytes c.args.names.now) summaries)
-    (g.E.Sink.written c.args.err.now) (g.E.Sink.written c.say_each_ending.new.err)) c.as_slice.ensures.value
-    c.if-not-say_each_ending.ensures.prefix)
-    c.if-not-say_each_ending.ensures.well.failed
-    (λ s. false≢true (sym c.if-not-say_each_ending.true ∙ well.answers s))
 
 pub returns-in-Some : goal.returns-in-Some
 returns-in-Some g c =
@@ -25,7 +14,7 @@ returns-in-Some g c =
     let none_failed = c.if-not-say_each_ending.ensures.well.unfailed in
     let all = subst (λ (summaries : List Summary). SaysAll program (ending_lines program (map string_bytes c.args.names.now) summaries)
     (written c.args.err.now) (written c.say_each_ending.new.err)) c.as_slice.ensures.value c.if-not-say_each_ending.ensures.whole in
-    let is = is-said program (missed_line_text program c.as_str.result.now) c.missed_line_of.result c.missed_line_of.ensures in
+    let is = is_said program (missed_line_text program c.as_str.result.now) c.missed_line_of.result c.missed_line_of.ensures in
     rw c.in-Some.is (subst (λ (words : List ℕ). Says program (ending_lines program (map string_bytes c.args.names.now) c.args.surveyed.now.summaries.items
     ++ missed_lines program (Some words)) (writing g.E.Sink c.args.err.now c.say.new.err)) c.as_str.ensures.value
     (says-more program c.say.result _ _ (said_text program c.missed_line_of.result) _ (writing g.E.Sink c.args.err.now c.say.new.err)

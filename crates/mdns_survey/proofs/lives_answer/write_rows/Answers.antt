@@ -1,20 +1,11 @@
-use Rattle.std.proofs.Common.{refl, ◌≡◌, ◌∙◌, ℕ, List, ◌∷◌, [], ◌++◌, rules, string_bytes, subst}
+use Rattle.std.proofs.Common.{◌≡◌, ◌∙◌, ℕ, List, ◌∷◌, [], ◌++◌, rules, string_bytes, subst}
 use Rattle.std.specs.Io.KnownBytes.{Appends}
 use Rattle.mdns_capture.specs.Output.{AppendsPrefix}
 use Rattle.mdns_lives.specs.LentLives.{row_lent}
 use Rattle.mdns_browse.specs.LifeText.{lives_text}
 use Rattle.mdns_survey.proofs.KeptLemmas.{kept-stop, kept-texts, kept_text}
-use Rattle.mdns_survey.proofs.RowsLemmas.{rows-all, rows-cut, rows-more, rows-none, rows-out}
+use Rattle.mdns_survey.proofs.RowsLemmas.{rows-all, rows-cut, rows-more, rows-out}
 use Rattle.mdns_survey.proofs.lives_answer.write_rows.Goals as goal
-
-pub loop-row-init : goal.loop-row-init
-loop-row-init g c =
-    record {
-      far = rows-none (string_bytes c.args.head) (kept_text c.args.lines.about.now (lives_text c.args.lines.form c.args.lines.width c.args.lines.end_of_captures.nanos))
-          c.args.rows (g.W.Sink.written c.args.out.now) (string_bytes c.args.head) refl;
-      unfailed = search rules;
-      stays = λ steady. steady;
-    }
 
 pub loop-row-preserved : goal.loop-row-preserved
 loop-row-preserved g c =

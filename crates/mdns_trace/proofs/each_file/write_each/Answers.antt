@@ -1,5 +1,5 @@
-use Rattle.std.proofs.Common.{rules, arith, ◌≡◌, ◌<◌, ◌∙◌, [], ap, length, refl, string_bytes, sym}
-use Rattle.mdns_survey.proofs.SurveyLemmas.{counted-more, left-more}
+use Rattle.std.proofs.Common.{rules, ◌≡◌, ◌∙◌, [], ap, length, refl, string_bytes, sym}
+use Rattle.mdns_survey.proofs.SurveyLemmas.{left-more}
 use Rattle.mdns_trace.specs.EachFile.{none}
 use Rattle.mdns_trace.proofs.FilesLemmas.{first-written, is-within, stops-at, written-more}
 use Rattle.mdns_trace.proofs.each_file.write_each.Goals as goal
@@ -10,34 +10,6 @@ loop-reader-init g c = record {
   counted = search rules;
   left = sym c.into_iter-reader-iterator.ensures.into_iter_gives.0;
 }
-
-pub offset_bounds-names-index : goal.offset_bounds-names-index
-offset_bounds-names-index g c =
-    let so_far = c.loop-reader.invariant in
-    let within : length c.loop-reader.yielded < length c.args.names.now =
-    is-within c.args.names.now _ _ _ _ _ c.requires so_far.left c.in-Some.ensures.steps.0 in
-    search (rules, arith, so_far.counted)
-
-pub bounds-names-index : goal.bounds-names-index
-bounds-names-index g c =
-    let so_far = c.loop-reader.invariant in
-    let within : length c.loop-reader.yielded < length c.args.names.now =
-    is-within c.args.names.now _ _ _ _ _ c.requires so_far.left c.in-Some.ensures.steps.0 in
-    search (rules, arith, so_far.counted)
-
-pub loop-reader-preserved : goal.loop-reader-preserved
-loop-reader-preserved g c =
-    let so_far = c.loop-reader.invariant in
-    let pushed = c.in-Ok-push.ensures.items in
-    let index : c.len-index.result ≡ length c.loop-reader.yielded = search (rules, so_far.counted) in
-    let within = is-within c.args.names.now _ _ _ _ _ c.requires so_far.left c.in-Some.ensures.steps.0 in
-    record {
-      written = rw pushed (written-more (g.S.Scribe.Writes c.args.scribe.now) c.args.names.now c.index-names-index.result _
-          c.loop-reader.yielded c.in-Some.reader _ _ _ c.loop-reader.all.items c.in-Ok-write.found c.len-index.result index
-          within (c.as_str.ensures.value ∙ ap string_bytes c.index-names-index.is) so_far.written c.in-Ok-write.ensures.written);
-      counted = counted-more c.loop-reader.yielded _ _ c.in-Some.reader c.in-Ok-write.found so_far.counted pushed;
-      left = left-more _ c.loop-reader.yielded _ _ c.in-Some.reader so_far.left c.in-Some.ensures.steps.0;
-    }
 
 pub returns-in-Err-write-clause-stops : goal.returns-in-Err-write-clause-stops
 returns-in-Err-write-clause-stops g c =

@@ -1,23 +1,6 @@
 use Rattle.std.proofs.lemmas.Bool.{false≢true}
-use Rattle.mdns_trace.proofs.TraceLemmas.{lines-cut, lines-stop, lines-written}
+use Rattle.mdns_trace.proofs.TraceLemmas.{lines-cut, lines-written}
 use Rattle.mdns_trace.proofs.trace.print_lines.Goals as goal
-
-pub returns-in-Err-clause-same : goal.returns-in-Err-clause-same
-returns-in-Err-clause-same g c =
-    (lines-stop g.R.Source g.W.Sink c.args.reader c.args.lines.now c.read_capture.new.consumer c.in-Err.fault c.requires.empty
-    c.in-Err.ensures.fault c.in-Err.ensures.steady c.in-Err.ensures.leaves).0
-
-pub returns-in-Err-clause-stops : goal.returns-in-Err-clause-stops
-returns-in-Err-clause-stops g c =
-    rw c.trace_fault.ensures (lines-stop g.R.Source g.W.Sink c.args.reader c.args.lines.now c.read_capture.new.consumer c.in-Err.fault
-    c.requires.empty c.in-Err.ensures.fault c.in-Err.ensures.steady c.in-Err.ensures.leaves).1
-
-pub returns-in-Ok-write_whole-clause-same : goal.returns-in-Ok-write_whole-clause-same
-returns-in-Ok-write_whole-clause-same g c =
-    (lines-written g.R.Source g.W.Sink c.args.reader c.args.lines.now c.read_capture.new.consumer c.write_whole.new.out
-    c.in-Ok.reading c.requires.empty c.in-Ok.ensures.read c.in-Ok.ensures.over
-    (rw c.as_bytes.ensures.value at c.in-Ok-write_whole.ensures.whole)
-    c.in-Ok-write_whole.ensures.well.unfailed c.in-Ok-write_whole.ensures.well.stays).0
 
 pub returns-in-Ok-write_whole-clause-written : goal.returns-in-Ok-write_whole-clause-written
 returns-in-Ok-write_whole-clause-written g c =
@@ -25,13 +8,6 @@ returns-in-Ok-write_whole-clause-written g c =
     c.in-Ok.reading c.requires.empty c.in-Ok.ensures.read c.in-Ok.ensures.over
     (rw c.as_bytes.ensures.value at c.in-Ok-write_whole.ensures.whole)
     c.in-Ok-write_whole.ensures.well.unfailed c.in-Ok-write_whole.ensures.well.stays).1
-
-pub returns-in-Err-write_whole-clause-same : goal.returns-in-Err-write_whole-clause-same
-returns-in-Err-write_whole-clause-same g c =
-    (lines-cut g.R.Source g.W.Sink c.args.reader c.args.lines.now c.read_capture.new.consumer c.write_whole.new.out
-    c.in-Ok.reading c.requires.empty c.in-Ok.ensures.read c.in-Ok.ensures.sound
-    (rw c.as_bytes.ensures.value at c.in-Err-write_whole.ensures.prefix) c.in-Err-write_whole.ensures.well.failed
-    (λ steady. false≢true (c.in-Err-write_whole.ensures.well.answers steady))).0
 
 pub returns-in-Err-write_whole-clause-stops : goal.returns-in-Err-write_whole-clause-stops
 returns-in-Err-write_whole-clause-stops g c =

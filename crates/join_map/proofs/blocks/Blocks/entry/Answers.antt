@@ -4,15 +4,6 @@ use Rattle.std.specs.Prelude.{slice_index_or}
 use Rattle.join_map.proofs.PlaceLemmas.{IsEntry-rows, place-within, spot-rows}
 use Rattle.join_map.proofs.blocks.Blocks.entry.Goals as goal
 
-pub index-requires : goal.index-requires
-index-requires g c = grind (arith, spot-rows)
-
-pub offset_bounds-places-spot : goal.offset_bounds-places-spot
-offset_bounds-places-spot g c = grind (arith, spot-rows, get_or_read)
-
-pub bounds-places-spot : goal.bounds-places-spot
-bounds-places-spot g c = grind (arith, spot-rows, get_or_read)
-
 pub index-requires-2 : goal.index-requires-2
 index-requires-2 g c =
     let spot = spot-rows c.self.inside.entries.items c.self.inside.blocks.items c.args.spot c.self.invariant

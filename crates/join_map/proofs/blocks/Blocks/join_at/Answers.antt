@@ -1,17 +1,8 @@
 use Rattle.std.proofs.{Common.{◌<◌, ◌∙◌, [], length, ap, sym, subst, arith}, lemmas.List.{get_or_default, get_or_read}}
 use Rattle.std.specs.{List.Sorted.{IsStrictlySortedBy}, Map.{keys_of}, Prelude.{slice_index_or}}
 use Rattle.join_map.specs.Blocks.{IsSpot, entries_of}
-use Rattle.join_map.proofs.PlaceLemmas.{ArePlaces-set, IsRewritten-rows, place-within, spot-rows}
+use Rattle.join_map.proofs.PlaceLemmas.{IsRewritten-rows, place-within, spot-rows}
 use Rattle.join_map.proofs.blocks.Blocks.join_at.Goals as goal
-
-pub index-requires : goal.index-requires
-index-requires g c = grind (arith, spot-rows)
-
-pub offset_bounds-places-spot : goal.offset_bounds-places-spot
-offset_bounds-places-spot g c = grind (arith, spot-rows, get_or_read)
-
-pub bounds-places-spot : goal.bounds-places-spot
-bounds-places-spot g c = grind (arith, spot-rows, get_or_read)
 
 pub index_mut-entry-requires : goal.index_mut-entry-requires
 index_mut-entry-requires g c =
@@ -61,6 +52,3 @@ returns g c =
       valid = c.join_held.ensures.valid;
       other = c.join_held.ensures.other;
     })
-
-pub invariant_of-self : goal.invariant_of-self
-invariant_of-self g c = ArePlaces-set c.self.inside.entries.items c.self.inside.blocks.items _ _ c.self.invariant

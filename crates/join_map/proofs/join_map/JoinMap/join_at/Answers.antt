@@ -1,6 +1,6 @@
-use Rattle.std.proofs.{Common.{arith}, lemmas.Result.{on_ok_weaker, on_err_weaker}}
+use Rattle.std.proofs.{Common.{arith}}
 use Rattle.join_map.specs.Blocks.{entries_of}
-use Rattle.join_map.proofs.SpotLemmas.{inserted_map, joined_ok, joined_err, joined_map, put_ok_at, kept_part}
+use Rattle.join_map.proofs.SpotLemmas.{inserted_map, joined_err, joined_map}
 use Rattle.join_map.proofs.join_map.JoinMap.join_at.Goals as goal
 
 pub invariant_of-self : goal.invariant_of-self
@@ -8,9 +8,6 @@ invariant_of-self g c =
     joined_map g.met.K.Ord.total g.met.K.Copied.exact g.met.V.Semilattice.laws c.join_at.result c.self.inside.blocks
     c.join_at.new.self c.args.key.now c.in-Ok.spot (g.O.JoinInto.value c.args.other.now) c.self.invariant
     c.in-Ok.ensures.found c.join_at.ensures
-
-pub returns-in-Ok-clause-ok : goal.returns-in-Ok-clause-ok
-returns-in-Ok-clause-ok g c = grind (arith, joined_ok)
 
 pub returns-in-Ok-clause-err : goal.returns-in-Ok-clause-err
 returns-in-Ok-clause-err g c = grind (
@@ -29,12 +26,6 @@ invariant_of-self-in-Err g c =
     inserted_map g.met.K.Ord.total g.met.K.Copied.exact g.met.V.Semilattice.laws c.insert_new.result c.self.inside.blocks
     c.args.key.now c.in-Err.spot (g.O.JoinInto.value c.args.other.now) (entries_of c.insert_new.new.blocks)
     c.self.invariant c.insert_new.ensures.valid c.in-Err.ensures.free c.insert_new.ensures.ok c.insert_new.ensures.err
-
-pub returns-in-Err-clause-ok : goal.returns-in-Err-clause-ok
-returns-in-Err-clause-ok g c = grind (arith, on_ok_weaker, put_ok_at)
-
-pub returns-in-Err-clause-err : goal.returns-in-Err-clause-err
-returns-in-Err-clause-err g c = grind (arith, on_err_weaker, kept_part)
 
 pub returns-in-Err-clause-valid : goal.returns-in-Err-clause-valid
 returns-in-Err-clause-valid g c =

@@ -1,13 +1,7 @@
-use Rattle.std.proofs.Common.{arith, ◌≡◌, ◌<◌, length, get_or, sym, subst, rules}
+use Rattle.std.proofs.Common.{◌≡◌, ◌<◌, length, get_or, sym, subst, rules}
 use Rattle.join_map.specs.Entries.{AllFit}
-use Rattle.join_map.proofs.GatherLemmas.{fits-at, fits-set, joined_at_place, valid-set}
+use Rattle.join_map.proofs.GatherLemmas.{fits-at, joined_at_place}
 use Rattle.join_map.proofs.unsorted.Unsorted.join_at.Goals as goal
-
-pub invariant_of-self-2 : goal.invariant_of-self-2
-invariant_of-self-2 g c = grind (arith, valid-set)
-
-pub returns-clause-fits : goal.returns-clause-fits
-returns-clause-fits g c = grind (arith, fits-set, fits-at)
 
 pub returns-clause-ok : goal.returns-clause-ok
 returns-clause-ok g c =

@@ -3,7 +3,7 @@ use Rattle.mdns_cache.proofs.BetweenLemmas.{on_err_any}
 use Rattle.mdns_listeners.specs.{declared.kept.Noted.{Noted}, Heard.{message_bytes}}
 use Rattle.mdns_listeners.specs.{Kept.{AreKept, HeardSoFar, KeptMessage, kept_messages, next_kept, told_by}, Names.{AddsNames, told_in}}
 use Rattle.mdns_listeners.proofs.HeldNameLemmas.{HoldsNames-more, adds-suffice}
-use Rattle.mdns_listeners.proofs.KeptLemmas.{kept-more, kept-names, kept-noted, message-push, told-noted, told-push}
+use Rattle.mdns_listeners.proofs.KeptLemmas.{kept_more, kept-names, kept-noted, message-push, told-noted, told-push}
 use Rattle.mdns_listeners.proofs.heard_messages.HeardMessages.hear.Goals as goal
 
 pub invariant_of-self-in_err-hear_all : goal.invariant_of-self-in_err-hear_all
@@ -18,7 +18,7 @@ invariant_of-self-in_err-keep c =
 pub invariant_of-self-in_err-push : goal.invariant_of-self-in_err-push
 invariant_of-self-in_err-push c =
     subst (λ (ts : List Noted). AreKept c.keep.new.kept.items ts c.hear_all.new.self) (sym c.in_err-push.ensures.items)
-    (kept-more c.self.inside.kept.items c.keep.new.kept.items c.self.inside.times.items c.self.inside.names c.hear_all.new.self
+    (kept_more c.self.inside.kept.items c.keep.new.kept.items c.self.inside.times.items c.self.inside.names c.hear_all.new.self
     c.args.payload.now _ _ c.args.at.moment c.args.read.now _ c.self.invariant c.hear_all.ensures.keeps
     (adds-suffice c.self.inside.names c.hear_all.new.self (told_in c.args.read.now) c.in_ok-hear_all.ensures.ok)
     (λ i. omega (arith, c.type_inv.payload i)) c.as_slice-message.ensures.value c.in_ok-write_message.ensures.addressed
@@ -44,7 +44,7 @@ invariant_of-self-2 c =
     grind (arith, length_push) in
     subst (λ (ts : List Noted). AreKept new ts c.hear_all.new.self) (sym c.in_ok-push.ensures.items)
     (kept-noted new c.self.inside.times.items c.hear_all.new.self noted
-    (kept-more kept new c.self.inside.times.items c.self.inside.names c.hear_all.new.self
+    (kept_more kept new c.self.inside.times.items c.self.inside.names c.hear_all.new.self
     c.args.payload.now _ _ c.args.at.moment c.args.read.now _ c.self.invariant c.hear_all.ensures.keeps
     (adds-suffice c.self.inside.names c.hear_all.new.self (told_in c.args.read.now) c.in_ok-hear_all.ensures.ok)
     (λ i. omega (arith, c.type_inv.payload i)) c.as_slice-message.ensures.value c.in_ok-write_message.ensures.addressed

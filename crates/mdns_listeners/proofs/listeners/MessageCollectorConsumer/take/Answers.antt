@@ -1,19 +1,10 @@
-use Rattle.std.proofs.{Common.{◌∙◌, ◌++◌, ◌∷◌, [], ap, refl, subst, sym, arith}, lemmas.{Bool.{false≢true}, Result.{on_ok_weaker}}}
+use Rattle.std.proofs.{Common.{◌∙◌, ◌++◌, ◌∷◌, [], ap, refl, subst, sym}, lemmas.{Bool.{false≢true}, Result.{on_ok_weaker}}}
 use Rattle.mdns_survey.specs.{declared.outcome.PacketOutcome.{PacketOutcome}, Why.{IsPayloadOf, SaysWhy}, Listen.{outcome_of}}
-use Rattle.mdns_survey.specs.Outcomes.{Outcome, heard, refused, skipped}
+use Rattle.mdns_survey.specs.Outcomes.{Outcome}
 use Rattle.mdns_listeners.specs.{declared.listeners.MessageCollector.{MessageCollector}, Kept.{HearsMessage}, Listeners.{Gathers}}
 use Rattle.mdns_capture.specs.Capture.{packet_lent}
-use Rattle.mdns_listeners.proofs.ListenersLemmas.{gathers-told, gathers-untold}
+use Rattle.mdns_listeners.proofs.ListenersLemmas.{gathers-told}
 use Rattle.mdns_listeners.proofs.listeners.MessageCollectorConsumer.take.Goals as goal
-
-pub returns-then-is_empty-clause-took : goal.returns-then-is_empty-clause-took
-returns-then-is_empty-clause-took c = grind (arith, gathers-untold, heard)
-
-pub hear-requires-clause-reads : goal.hear-requires-clause-reads
-hear-requires-clause-reads c = grind arith
-
-pub hear-requires-clause-some : goal.hear-requires-clause-some
-hear-requires-clause-some c = λ none. false≢true (sym c.if-is_empty.false ∙ c.is_empty.ensures.1 none)
 
 pub returns-else-is_empty-clause-took : goal.returns-else-is_empty-clause-took
 returns-else-is_empty-clause-took c =
@@ -31,9 +22,3 @@ returns-else-is_empty-clause-took c =
     (subst (SaysWhy frame) c.in-Heard.is c.requires.why)
     (subst (λ (found : PacketOutcome). IsPayloadOf frame found payload) c.in-Heard.is c.requires.payload)
     (λ none. false≢true (sym c.if-is_empty.false ∙ c.is_empty.ensures.1 none)))) c.hear.ensures.ok
-
-pub returns-in-Skipped-clause-took : goal.returns-in-Skipped-clause-took
-returns-in-Skipped-clause-took c = grind (arith, gathers-untold, skipped, refused)
-
-pub returns-in-Skipped-2-clause-took : goal.returns-in-Skipped-2-clause-took
-returns-in-Skipped-2-clause-took c = grind (arith, gathers-untold, skipped, refused)

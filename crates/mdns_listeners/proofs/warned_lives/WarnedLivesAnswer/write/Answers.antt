@@ -1,4 +1,4 @@
-use Rattle.std.proofs.lemmas.Result.{IfErr-weaker, IfOk-weaker, on_ok_weaker}
+use Rattle.std.proofs.lemmas.Result.{IfErr-weaker, on_ok_weaker}
 use Rattle.mdns_capture.specs.Output.{writing}
 use Rattle.mdns_survey.proofs.ListenedLemmas.{have-spans}
 use Rattle.mdns_listeners.proofs.WarnedLemmas.{warned-refused, warned-written}
@@ -14,15 +14,6 @@ returns-clause-written g c = on_ok_weaker c.write_lives.result (λ written lefts
       read = hears.read;
       heard = hears.heard.0;
     }))) c.write_lives.ensures.written
-
-pub returns-clause-misses : goal.returns-clause-misses
-returns-clause-misses g c = IfOk-weaker c.write_lives.result _ _ (λ missed misses lefts hears.
-    misses lefts (record {
-      packets = hears.packets;
-      outcomes = hears.outcomes;
-      read = hears.read;
-      heard = hears.heard.0;
-    })) c.write_lives.ensures.misses
 
 pub returns-clause-refused : goal.returns-clause-refused
 returns-clause-refused g c = IfErr-weaker c.write_lives.result _ _ (λ fault refused lefts hears.

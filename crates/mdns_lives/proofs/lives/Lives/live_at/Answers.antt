@@ -5,9 +5,6 @@ use Rattle.mdns_lives.specs.Since.{AreLiveSince, live_since_lent, since_rows}
 use Rattle.mdns_lives.proofs.SinceLemmas.{none_later, none_left, tells-all, tells-more, tells-start}
 use Rattle.mdns_lives.proofs.lives.Lives.live_at.Goals as goal
 
-pub loop-rows-init : goal.loop-rows-init
-loop-rows-init c = grind (arith, tells-start)
-
 pub loop-rows-preserved : goal.loop-rows-preserved
 loop-rows-preserved c =
     let row = c.in-Some.row in

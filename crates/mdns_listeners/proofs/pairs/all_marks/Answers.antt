@@ -1,6 +1,0 @@
-use Rattle.mdns_listeners.proofs.ListLemmas.{made_more}
-use Rattle.mdns_listeners.proofs.pairs.all_marks.Goals as goal
-use Rattle.std.proofs.Common.{rules}
-
-pub loop-listener-preserved : goal.loop-listener-preserved
-loop-listener-preserved c = search (rules, made_more)

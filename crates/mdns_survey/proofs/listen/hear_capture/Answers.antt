@@ -1,7 +1,0 @@
-use Rattle.std.proofs.lemmas.Result.{IfOk-weaker}
-use Rattle.mdns_survey.proofs.HeardLemmas.{hears-taken}
-use Rattle.mdns_survey.proofs.listen.hear_capture.Goals as goal
-
-pub returns-clause-heard : goal.returns-clause-heard
-returns-clause-heard g c =
-    IfOk-weaker c.listen_with.result _ _ (λ reading taken. hears-taken g.H.Hearer.Stands _ _ _ reading taken) c.listen_with.ensures.taken
