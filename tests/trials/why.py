@@ -69,6 +69,7 @@ REFUSALS = (
         (["one.pcap", "skipped.pcap", "missing.pcap", "absent.pcap"], "missing.pcap: cannot be opened"),
         (["empty.pcap"], "empty.pcap: file header is cut short"),
         (["folder"], "folder: read failed"),
+        (["--skip-unusable", "one.pcap", "folder", "text.pcap"], "folder: read failed"),
         (["text.pcap", "one.pcap", "skipped.pcap"], "text.pcap: not a classic pcap file"),
         ([b"\xff.pcap"], "an argument is not UTF-8 text"))),
     *(said(words, "write failed", out_to=to) for to in ("closed", "full", "gone")

@@ -7,7 +7,7 @@ use Rattle.mdns_browse.specs.declared.report.Form.{Form}
 use Rattle.mdns_listeners.specs.Groups.{unfit_prefix}
 use Rattle.command_line.specs.declared.{line.Takes.{Takes}, lists.Lists.{Lists}, option_fault.OptionFault.{OptionFault}}
 use Rattle.command_line.specs.{declared.options.ConflictingFlags.{ConflictingFlags}, declared.options.Options.{Options}, Line.{AsksForm}}
-use Rattle.command_line.specs.Line.{AsksOneOf, Flags, GivesForm, GivesForms, HasLists, HasOneForm, HasOptions, HasText, IsGiven, Matches}
+use Rattle.command_line.specs.Line.{AsksOneOf, Flags, GivesForm, GivesForms, HasLists, HasOneForm, HasOptions, HasText, IsFlag, IsGiven, Matches}
 use Rattle.command_line.specs.{Line.{Table, words_of}, CommandLine.{GivesAfter, GivesNoInquiry, GivesNoWindow, GivesTwo, HasUnfit}}
 use Rattle.command_line.specs.{CommandLine.{IsRefusedFor, both_given, form_flags, no_file}, Faults.{IsRefusal, IsUnasked}}
 use Rattle.command_line.specs.OptionFault.{MakesNoForm, MakesNoInquiry, MakesNoWindow, option_fault_text, text_of}
@@ -73,16 +73,17 @@ gives-two program (flag ∷ flags) rows both (inl (one, (form, asks), later)) li
     (is ∙ ap (λ (name : Text). both_given program name both.other.now) one))
 gives-two program (flag ∷ flags) rows both (inr gives) line is = inr (gives-two program flags rows both gives line is)
 
--- the texts of the moments, which flags two forms are of, and the texts of the bounds
+-- the texts of the moments, which flags two forms are of, the texts of the bounds, and whether unusable files are left out
 abbrev pub Known : List Row → Options → Type 0
 Known rows options = HasText (codes "at") rows options.at × HasText (codes "before") rows options.before
     × ((both : ConflictingFlags) → options.form ≡ Err both → GivesForms form_flags rows both)
     × HasText (codes "since") rows options.since × HasText (codes "until") rows options.until
+    × IsFlag (one_of (codes "skip-unusable") rows) options.skip_unusable
 
 known : (rows : List Row) (flags : Flags) (options : Options) → ((both : ConflictingFlags) → GivesForms flags rows both → GivesForms form_flags rows both)
     → HasOptions flags rows options → Known rows options
 known rows flags options within has =
-    (has.1, has.2, (λ both is. within both (subst (HasOneForm flags rows) is has.3)), has.5, has.6)
+    (has.1, has.2, (λ both is. within both (subst (HasOneForm flags rows) is has.3)), has.5, has.6, has.4)
 
 -- ---- tables of which each subcommand takes the first of the flags that ask for forms, after its other flags
 

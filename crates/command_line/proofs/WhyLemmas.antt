@@ -13,7 +13,7 @@ abbrev pub AsksRead : Text → List Row → (Inquiry × Options) × Lists → Ty
 AsksRead = AsksWithLists (IsOneOf inquiries)
 
 abbrev pub why_asks : (Inquiry × Options) × Lists → Form × Window → WhyAsks
-why_asks what made = record { inquiry = in_form what.0.0 made.0; lists = what.1; window = made.1 }
+why_asks what made = record { inquiry = in_form what.0.0 made.0; lists = what.1; window = made.1; skip_unusable = what.0.1.skip_unusable }
 
 pub inquiry-asked : (what : (Inquiry × Options) × Lists) (made : Form × Window) → MakesFormWindow what.0.1 made
     → (name : Text) (rows : List Row) → AsksRead name rows what → AsksWhy name rows (why_asks what made)
@@ -22,6 +22,7 @@ inquiry-asked what made gives name rows told =
       one-asked MakesInquiry (in_form what.0.0 made.0) inquiries name rows what.0 makes told.0,
       told.1,
       subst₂ (λ (since until : Option Text). GivesWindow since until false made.1) has.3 has.4 gives.1,
+      has.5,
     )
   where
     makes : (flags : Flags) (own : Inquiry) → what.0.0 ≡ own → HasOptions flags rows what.0.1

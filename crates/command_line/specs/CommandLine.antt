@@ -80,16 +80,20 @@ lives_flags = at_flag ∷ before_flag ∷ (window_flags ++ (word_flags ++ skip_f
 abbrev pub page_flags : Flags
 page_flags = at_flag ∷ before_flag ∷ (window_flags ++ (word_flags ++ listener_flag ∷ skip_flag ∷ []))
 
--- the flags of the hearings and of the packets; those of the spans are `people_forms`, and those of the files `common_forms`
+-- the flags of the spans; those of the files are `common_forms`
+abbrev pub spans_flags : Flags
+spans_flags = skip_flag ∷ people_forms
+
+-- the flags of the hearings and of the packets
 abbrev pub hearings_flags : Flags
-hearings_flags = window_flags ++ (word_flags ++ form_flags)
+hearings_flags = window_flags ++ (word_flags ++ skip_flag ∷ form_flags)
 
 abbrev pub packets_flags : Flags
-packets_flags = window_flags ++ people_forms
+packets_flags = window_flags ++ spans_flags
 
 -- the flags of what is written of listeners
 abbrev pub listeners_flags : Flags
-listeners_flags = listener_flag ∷ people_forms
+listeners_flags = listener_flag ∷ spans_flags
 
 -- ---- the moments
 
@@ -197,7 +201,7 @@ AsksJob = AsksOneOf MakesJob tasks
 abbrev pub inquiries : Table Inquiry
 inquiries = (codes "hearings", hearings_flags, inquiry.Trace (trace.Hearings form.Lines))
     ∷ (codes "packets", packets_flags, inquiry.Trace (trace.Packets form.Lines))
-    ∷ (codes "spans", people_forms, inquiry.Trace (trace.Spans form.Lines))
+    ∷ (codes "spans", spans_flags, inquiry.Trace (trace.Spans form.Lines))
     ∷ (codes "files", common_forms, inquiry.Files form.Lines)
     ∷ (codes "listeners", listeners_flags, inquiry.Listeners form.Lines) ∷ []
 
@@ -221,6 +225,7 @@ MakesInquiry flags rows own asked = (form : Form) × HasForm flags rows form × 
 abbrev pub AsksWhy : Text → List Row → WhyAsks → Type 0
 AsksWhy name rows asks = AsksOneOf MakesInquiry inquiries name rows asks.inquiry × HasLists rows asks.lists
     × GivesWindow (first_of (codes "since") rows) (first_of (codes "until") rows) false asks.window
+    × IsFlag (one_of (codes "skip-unusable") rows) asks.skip_unusable
 
 -- ---- refusals
 

@@ -1,9 +1,9 @@
 -- What the programs do alike.
 use Rattle.std.specs.Prelude.{◌≡◌, ℕ, ◌<◌, ◌==◌, ◌⊎◌, ◌++◌, ⊤, Bool, List, [], ◌∷◌, if◌then◌else◌}
 use Rattle.std.specs.{Prelude.{length, slice_index_or, string_bytes}, Bool.{OnTrue, OnFalse}, Io.KnownBytes.{Appends}}
-use Rattle.mdns_capture.specs.{Calls.{WritesWell}, Output.{AppendsPrefix}}
+use Rattle.mdns_capture.specs.{Calls.{WritesWell}, Output.{AppendsPrefix, writing}}
 use Rattle.mdns_capture.specs.declared.stream.Sink as sink
-use Rattle.mdns_survey.specs.ProgramLines.{open_line_text}
+use Rattle.mdns_survey.specs.{ProgramLines.{fault_line_text, open_line_text}, Said.{Says}, declared.survey.SurveyFault.{SurveyFault}}
 use Rattle.command_line.specs.declared.{program.OpenFault.{OpenFault}, words.WordsFault.TheVariants.{Memory, Help, Refused}}
 use Rattle.command_line.specs.declared.words.{AskFault.{AskFault}, AskFault.TheVariants.{Version, Words}}
 use Rattle.command_line.specs.declared.program.OpenFault.TheVariants as opening
@@ -40,6 +40,11 @@ Prints writer old new text = (done : Bool) × Puts writer old new text done
 -- the error line was printed, and the exit status is that of a refusal
 abbrev pub PrintsRefusal : {W : Type 0} → sink.Ghosts W → W → W → List ℕ → ℕ → Type 0
 PrintsRefusal writer old new line status = (status ≡ 2) × Prints writer old new line
+
+-- the error line of a failed allocation or of a file's fault was printed, and the exit status is that of a refusal
+abbrev pub IsUnopened : {W : Type 0} → sink.Ghosts W → List ℕ → List ℕ → List (List ℕ) → W → W → ℕ → Type 0
+IsUnopened writer program no_memory names old new status = PrintsRefusal writer old new no_memory status
+    ⊎ ((status ≡ 2) × ((fault : SurveyFault) × Says program (fault_line_text program names fault ∷ []) (writing writer old new)))
 
 -- the text was printed, and the exit status is 0; or a write failed, and so says an error line
 abbrev pub Shows : {O E : Type 0} → sink.Ghosts O → O → O → sink.Ghosts E → E → E → List ℕ → List ℕ → ℕ → Type 0

@@ -137,17 +137,18 @@ pub(crate) const CHECK_FLAGS: &[Flag] = &[SKIP_UNUSABLE];
 
 /// The flags of `hearings`.
 pub(crate) const HEARINGS_FLAGS: &[Flag] = with_forms!(
-    [SINCE, UNTIL, ABOUT, PRINTERS],
+    [SINCE, UNTIL, ABOUT, PRINTERS, SKIP_UNUSABLE],
     [PRETTY, CSV]
 );
 
 /// The flags of `packets`.
-pub(crate) const PACKETS_FLAGS: &[Flag] = with_forms!([SINCE, UNTIL], [PRETTY]);
+pub(crate) const PACKETS_FLAGS: &[Flag] = with_forms!([SINCE, UNTIL, SKIP_UNUSABLE], [PRETTY]);
 
 /// The flags of `spans`.
-pub(crate) const SPANS_FLAGS: &[Flag] = with_forms!([], [PRETTY]);
+pub(crate) const SPANS_FLAGS: &[Flag] = with_forms!([SKIP_UNUSABLE], [PRETTY]);
 
 /// The flags of what is written of listeners.
-pub(crate) const LISTENERS_FLAGS: &[Flag] = with_forms!([LISTENER], [PRETTY]);
+pub(crate) const LISTENERS_FLAGS: &[Flag] = with_forms!([LISTENER, SKIP_UNUSABLE], [PRETTY]);
 
+/// The flags of `files`, which says what each file is that can't be used.
 pub(crate) const FILES_FLAGS: &[Flag] = with_forms!([], []);

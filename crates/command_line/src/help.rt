@@ -143,8 +143,7 @@ pub const HEARINGS: HelpText = HelpText {
         "\
 Each line is MOMENT FILE SOURCE OWNER TYPE WORDS ttl TTL, with `flush` after it
 where the cache-flush bit is set. SOURCE sent it; a TTL of 0 is a goodbye:
-    mdnswhy hearings --pretty --about elm west.pcap east.pcap | sort
-    ...
+    mdnswhy hearings --pretty --about elm west.pcap east.pcap | sort | tail -4
     2026-11-22T07:26:43.397Z  ttl 120 flush   198.51.100.22    west.pcap  A ..."
     ),
 };

@@ -58,10 +58,10 @@ const WHY_ASKED: CommandTable<Inquiry> = CommandTable {
 
 /// Reads the words of a command line of `mdnswhy`, of which the first is the program's name.
 ///
-/// It is a subcommand, and then one or more files. All take `--json`, and all but `files` also `--pretty`. `hearings` also
-/// takes `--csv`, `--printers` and `--about WORD`, and `listeners` also `--listener PREFIX`, these two any number of times. `hearings` and
-/// `packets` also take `--since MOMENT` and `--until MOMENT`, with moments as `asked` reads them. `--help` asks for help, and
-/// `--version` for the version.
+/// It is a subcommand, and then one or more files. All take `--json`, and all but `files` also `--pretty` and `--skip-unusable`.
+/// `hearings` also takes `--csv`, `--printers` and `--about WORD`, and `listeners` also `--listener PREFIX`, these two any number of
+/// times. `hearings` and `packets` also take `--since MOMENT` and `--until MOMENT`, with moments as `asked` reads them. `--help` asks
+/// for help, and `--version` for the version.
 ///
 /// # Errors
 ///
@@ -96,6 +96,7 @@ fn read_why(alloc: Global, words: &[String]) -> Result<Asked<WhyAsks>, AskFault>
                 inquiry: in_form(inquiry, form),
                 lists,
                 window,
+                skip_unusable: options.skip_unusable,
             },
             names,
         }),

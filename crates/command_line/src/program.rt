@@ -3,13 +3,15 @@
 ghost use Rattle.std.specs.Prelude.{◌≡◌, ℕ, List, [], ◌∷◌, ◌++◌, IfErr, IfOk, OnOk, MatchResult, length, map};
 ghost use Rattle.std.specs.{Prelude.{string_bytes}, Bool.{OnFalse, OnTrue}, Io.KnownBytes.{Appends}};
 ghost use Rattle.mdns_capture.specs.{Calls.{WritesWell}, Output.{AppendsPrefix}};
-ghost use Rattle.command_line.specs.Program.{AnswersFault, IsIndexOf, IsOpenLine, Prints, PrintsRefusal, Shows, trimmed};
+ghost use Rattle.command_line.specs.Program.{AnswersFault, IsIndexOf, IsOpenLine, IsUnopened, Prints, PrintsRefusal, Shows, trimmed};
 
 use crate::words::{AskFault, WordsFault};
 use mdns_capture::{ReadAhead, Sink, Through, write_whole};
 use mdns_message::Want;
+use mdns_survey::error_lines;
 use mdns_survey::program_lines::open_line_of;
 use mdns_survey::status::{REFUSED, WHOLE};
+use mdns_trace::usable::{Usable, sort_files};
 use std::env::{self, Env};
 use std::fs::File;
 use std::io::ErrorKind;
@@ -148,6 +150,31 @@ pub fn open_each<R: Files + AllocGlobal>(
         }
     }
     Ok(readers)
+}
+
+/// Opens the files, and leaves out those that can't be used. Where a read or an allocation fails, prints the error line on `err`.
+///
+/// # Errors
+///
+/// The exit status of a refusal.
+pub fn open_usable<R: Files + AllocGlobal, E: Sink>(
+    rt: &R,
+    lines: ErrorLines,
+    names: &[String],
+    err: &mut E,
+) -> Result<Usable<Reader<R::File>>, u8>
+    ensures paired { IfOk result (λ usable. length usable.names.items ≡ length usable.readers.items) }
+    ensures silent { OnOk result (err.new ≡ err.old) }
+    ensures refused { IfErr result (IsUnopened E.Sink lines.program.now lines.out_of_memory.now (map string_bytes names.now)
+        err.old err.new) }
+{
+    let Ok(readers) = open_each(rt, names) else {
+        return Err(refuse(lines.out_of_memory, err));
+    };
+    match sort_files(rt.alloc(), lines.program, names, readers) {
+        Ok(usable) => Ok(usable),
+        Err(fault) => Err(error_lines::refuse(rt.alloc(), lines.program, names, &fault, err)),
+    }
 }
 
 /// Prints the help or the version on `out`, or the error line of a refusal on `err`, and returns the exit status.

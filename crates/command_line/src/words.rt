@@ -50,6 +50,8 @@ pub struct WhyAsks {
     pub lists: Lists,
     /// The moments of the hearings and packets that are listed.
     pub window: Window,
+    /// Whether files that can't be used are left out, and no refusal.
+    pub skip_unusable: bool,
 }
 
 /// What a command line asks for, as `told` reads it.

@@ -6,11 +6,12 @@ mod task;
 ghost use Rattle.std.specs.Prelude.{◌≡◌, ◌≤◌, length};
 
 use crate::task::answer_task;
-use command_line::program::{MDNSMERGE, arguments, open_each, open_or_refuse, print_fault, refuse};
+use command_line::program::{
+    MDNSMERGE, arguments, open_or_refuse, open_usable, print_fault, refuse,
+};
 use command_line::{Asked, Job, Task, asked};
 use mdns_capture::{Sink, Source, Through};
-use mdns_survey::error_lines;
-use mdns_trace::usable::{Usable, sort_files};
+use mdns_trace::usable::Usable;
 use std::alloc::Global;
 use std::process::ExitCode;
 
@@ -68,10 +69,7 @@ fn answer_all(rt: &HostRuntime, task: Task, names: &[String]) -> u8 {
 // Opens the files, and does the task over those that can be used.
 fn answer_usable(rt: &HostRuntime, task: Task, names: &[String]) -> u8 {
     let mut err = Through(rt.stderr());
-    let Ok(readers) = open_each(rt, names) else {
-        return refuse(MDNSMERGE.out_of_memory, &mut err);
-    };
-    match sort_files(rt.alloc(), MDNSMERGE.program, names, readers) {
+    match open_usable(rt, MDNSMERGE, names, &mut err) {
         Ok(usable) => answer_sorted(
             rt.alloc(),
             task,
@@ -79,7 +77,7 @@ fn answer_usable(rt: &HostRuntime, task: Task, names: &[String]) -> u8 {
             &mut Through(rt.stdout()),
             &mut err,
         ),
-        Err(fault) => error_lines::refuse(rt.alloc(), MDNSMERGE.program, names, &fault, &mut err),
+        Err(status) => status,
     }
 }
 
