@@ -22,7 +22,7 @@ CAPTURES, HEARINGS = "CAPTURES", "hearings"
 # A name is a word, or stands for whole lines; these words stand for themselves.
 NAME = re.compile(r"(?:(?<!\S)|(?<=\\n))[A-Z][A-Z0-9_]*(?=[\s;]|\\n|$)")
 WORDS = (*NAMED, "ALONE", "CLOCK", "COMMON", "END", "FILE", "FROM", "HEARD", "ID", "IP", "LEFT", "LISTENER", "MISSED", "NAMES",
-         "NEW", "OPCODE", "OTHER", "RCODE", "RECORD", "SENDER", "TAGGED", "THE", "TYPE", "UDP", "UNTIL", "VLAN")
+         "NEW", "OPCODE", "OTHER", "RCODE", "RECORD", "SENDER", "SERVICE", "TAGGED", "THE", "TYPE", "UDP", "UNTIL", "VLAN")
 
 ANSWER = re.compile(r"(.*?)(?:beside it (.*?))?(?:status (\d)\n?)?", re.DOTALL)
 

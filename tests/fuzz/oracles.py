@@ -8,6 +8,7 @@ import io
 import re
 import struct
 from collections import Counter
+from itertools import groupby
 
 from tests.captures.wire import LAST_MOMENT, SECOND
 from tests.judges.answers import Basis, answer_to, counts_of, lives_in
@@ -18,7 +19,7 @@ from tests.judges.lives import CHOICES, window_of
 from tests.judges.page_text import differences
 from tests.judges.savefile import FILE_HEADER, LAYOUTS, moment_of, reading_of, split_at
 from tests.judges.subjects import some_word
-from tests.judges.words import moment_text
+from tests.judges.words import moment_text, name_text
 from tests.running.commands import ANSWERS, ASKS, FORMS, TRACES, WINDOWED, forms_of, taking
 from tests.running.program import expect, expect_same
 
@@ -214,6 +215,7 @@ class Case:
     def ask_lives(self, *moment):
         """The text of each command that lists lives, some also in another form."""
         texts = {}
+        self.ask("lives", "--services", *moment, *self.rng.choice(((), *zip(FORMS))))
         for ask in CHOICES:
             if self.rng.random() < 0.3:
                 self.ask(ask, *moment, self.rng.choice(FORMS))
@@ -269,6 +271,9 @@ class Case:
         judge = Judge([(name, self.captures[name]) for name in names], asked)
         found = differences(text, judge) if text else []
         expect(not found, "page", *asked.words, *names, "\n".join(["", *found]))
+        services = self.ask("lives", "--services", *asked._replace(listener=()).words, names=names) if text else ""
+        rows = [name_text(judge.accounts[key].hearings[-1].data) for key in judge.drawn if text]
+        expect(rows == [name for name, _ in groupby(one.split(" ")[0] for one in services.splitlines())], "lives --services", *asked.words)
         of_what = " of a window" * (judge.window != window_of(Asked())) + " about words" * bool(asked.about)
         self.seen.update({f"pages{of_what}": 1, f"rows{of_what}": len(judge.drawn), "names of several labels": len(judge.apart)})
         return judge, text

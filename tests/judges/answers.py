@@ -7,16 +7,19 @@ from functools import cached_property, lru_cache
 from itertools import compress, takewhile
 from typing import Callable, NamedTuple
 
+from tests.captures.wire import SRV
 from tests.judges.causes import DAMAGED, LOST, causes_of
 from tests.judges.csv_forms import csv_text
 from tests.judges.hearings import hearings_of
 from tests.judges.json_forms import MEMBERS, json_text, objects_of
 from tests.judges.lines import (Line, gives_instance, host_text, hosts_in, instances_text, line_of, lines_of, moment_of, sets_of,
-                                types_names)
+                                types_names, wire_of)
 from tests.judges.listeners import COMMAND, listeners_text, unfit_text, warnings_text
-from tests.judges.lives import CHOICES, lives_text, records_text, rows_of, window_of
-from tests.judges.pretty import hosts_columns, instances_columns, is_apart, lives_columns, pretty_text, records_columns, types_columns
+from tests.judges.lives import CHOICES, Window, lives_text, records_text, rows_of, window_of
+from tests.judges.pretty import (hosts_columns, instances_columns, is_apart, lives_columns, pretty_text, records_columns,
+                                 services_columns, shown_label, types_columns)
 from tests.judges.savefile import frames_in, reading_of
+from tests.judges.shown import shown_name
 from tests.judges.subjects import is_about, is_host_about, is_instance_about, is_name, is_record_about, subjects_of
 from tests.judges.traced import TEXTS, traced_text
 from tests.judges.words import moment_text
@@ -30,6 +33,7 @@ for flag in ("--at", "--before", "--since", "--until"):
     WORDS.add_argument(flag, type=moment_of)
 for flag in ("--about", "--listener"):
     WORDS.add_argument(flag, action="append", default=[])
+WORDS.add_argument("--services", action="store_true")
 for form in FORMS:
     WORDS.add_argument(form, dest="form", action="store_const", const=form)
 
@@ -76,6 +80,7 @@ class Basis:
         self.now = self.newest if given is None else given
         self.end = max(self.moments, default=0) if given is None else given
         self.begin = min([self.end, *self.moments])
+        self.bounds = [one if given is None else given for one, given in ((self.begin, asked.since), (self.end, asked.until))]
         self.window = window_of(asked)
         self.rows = rows_of(self.hearings)
 
@@ -115,9 +120,7 @@ def texts_of(_, some):
 def lives_kind(choice):
     """What a command lists that chooses so from all lives."""
     def columns(basis, _, some):
-        begin, end = (moment if given is None else given for moment, given in (
-            (basis.begin, basis.asked.since), (basis.end, basis.asked.until)))
-        return lives_columns(some, begin, end, choice.words)
+        return lives_columns(some, *basis.bounds, choice.words)
 
     return Kind(lambda basis: list(lives_in(lives_text(choice.of_rows(basis.rows, basis.window), basis.window, basis.end))),
                 lambda _, words, life: is_about(is_record_about, words, life.record),
@@ -166,6 +169,8 @@ def heard_in(line):
 
 def report_text(basis):
     """The text of a report: of what a command lists, that which is about the words."""
+    if basis.asked.services:
+        return services_text(basis, list(services_of(basis)))
     asked, kind = basis.asked, KINDS[basis.asked.ask]
     listed = kind.listed(basis)
     kept = [kind.is_about(basis, asked.about, one) for one in listed]
@@ -177,13 +182,39 @@ def report_text(basis):
     return kind.lines_text(basis, some)
 
 
+def services_of(basis):
+    """The lives in the window of the instances about the words, each with the data of the SRV records that were live in it."""
+    lives = list(lives_in(lives_text(basis.rows, Window(0, 1 << 64), basis.end)))
+    sets = sets_of(life.record for life in lives)
+    for life in filter(lambda life: gives_instance(life.record) and basis.window.meets(life), lives):
+        if is_about(lambda word, line: is_instance_about(word, line, sets), basis.asked.about, life.record):
+            yield life, list(dict.fromkeys(one.record.words for one in lives if one.record.set_key == (wire_of(life.record.target), SRV)
+                                           and life.start < one.until and one.start < life.until))
+
+
+def service_object(life, servers):
+    (told,), name = objects_of("lives", life.text, None), life.record.words[0]
+    members = [{"target": target, "shown": shown_name(target), "port": int(port), "priority": int(priority), "weight": int(weight)}
+               for priority, weight, port, target in servers]
+    return {"instance": name, "shown": shown_label(name), "type": told["owner"], "servers": members,
+            **{member: told[member] for member in ("from", "ttl", "heard", "until", "end")}}
+
+
+def services_text(basis, services):
+    form = basis.asked.form
+    if form == "--pretty":
+        return head_text(basis) + services_columns(services, *basis.bounds)
+    return OF_OBJECTS[form]("services", [service_object(*one) for one in services]) if form else "".join(
+        life.text.split(" ", 2)[2] + "".join(f" server {words[3]} {words[2]}" for words in servers) + "\n" for life, servers in services)
+
+
 def head_text(basis):
     """What stands above columns: before lives which clocks don't agree by all packets, whatever the moment; what was lost, and
     whether anything was heard."""
     captures = [capture for _, capture in basis.files]
     lost = sum(causes_of(capture)[cause] for capture in captures for cause in LOST)
     return "".join((
-        warnings_text(basis.files) if basis.asked.ask in CHOICES else "",
+        warnings_text(basis.files) if basis.asked.ask in CHOICES and not basis.asked.services else "",
         f"{lost} packet{'' if lost == 1 else 's'} could not be used: mdnswhy files FILE... says why\n" if lost else "",
         "" if any(held_in(capture)[1] for capture in captures) else "nothing was heard: mdnswhy files FILE... says what each file is\n"))
 

@@ -10,6 +10,7 @@ RECORD = ("owner", "type", "data")
 HEADERS = {
     "records": (*RECORD, "ttl", "heard", "until"),
     **dict.fromkeys(CHOICES, (*RECORD, "from", "ttl", "heard", "until", "end")),
+    "services": ("instance", "type", "servers", "from", "ttl", "heard", "until", "end"),
     "types": ("type",),
     "instances": ("instance", "type", "host", "port", "addresses", "texts"),
     "hosts": ("host", "addresses", "instance", "port"),
@@ -34,6 +35,9 @@ def rows_of(one):
         return [{"host": one["host"], "addresses": one["addresses"], **service} for service in services or [{}]]
     if "servers" not in one:
         return [one]
+    if "end" in one:
+        named = " ".join(f"{server['shown']}:{server['port']}" for server in one["servers"])
+        return [{**one, "instance": one["shown"], "servers": named}]
     servers = [{"host": server["target"], "port": server["port"], "addresses": server["addresses"]} for server in one["servers"]]
     return [{"instance": one["shown"], "type": one["type"], "texts": one["texts"], **server} for server in servers or [{}]]
 

@@ -89,6 +89,7 @@ RUNS = (
     *(Run((ask, "--pretty", "--about", "alder", *BOTH), 2, WHOLE) for ask in CHOICES),
     Run(("lives", "--pretty", "long.pcap"), 1, WHOLE),
     Run(("lives", "--before", "1795332450", *BOTH), 2, WHOLE),
+    *(Run(("lives", "--services", *form, *BOTH), 2, WHOLE) for form in ((), *zip(FORMS))),
     *(Run((ask, "--since", "1795332440", "--until", "1795332450", *BOTH), 2, WHOLE) for ask in CHOICES),
     Run(("hosts", "--pretty", "--about", "elm shell", *BOTH), 2, WHOLE),
     Run(("lives", "long.pcap"), 1, WHOLE),

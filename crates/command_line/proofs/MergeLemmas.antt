@@ -32,7 +32,14 @@ what-asked asked name rows is_told =
 
 abbrev pub scope_of : Options → Lists → Form × Window × AsOf → Scope
 scope_of options lists made =
-    record { form = made.0; as_of = made.2; window = made.1; lists = lists; skip_unusable = options.skip_unusable }
+    record {
+      form = made.0;
+      as_of = made.2;
+      window = made.1;
+      lists = lists;
+      skip_unusable = options.skip_unusable;
+      services = options.services;
+    }
 
 pub job-asked : (asked : (Asks × Options) × Lists) (made : Form × Window × AsOf) → MakesBounds asked.0.1 made
     → (name : Text) (rows : List Row) → AsksAsked name rows asked → AsksJob name rows (job_of asked.0.0 (scope_of asked.0.1 asked.1 made))
@@ -52,6 +59,7 @@ job-asked asked made gives name rows is_asked =
         subst₂ (λ (since until : Option Text). GivesWindow since until false made.1) has.5 has.6 gives.0.1,
         is_asked.1,
         has.4,
+        has.7,
       ),
       ap (λ (asks : Asks). job_of asks scope) same,
     )
@@ -60,7 +68,11 @@ job-asked asked made gives name rows is_asked =
 pub task-fits : (own : Asks) (scope : Scope) (names : List Text) → unfit_prefix (map string_bytes scope.lists.listeners.items) names ≡ None
     → HasFitting (task_of own scope) names
 task-fits (asks.Report ask) scope names fit = tt
-task-fits (asks.Lives which) scope names fit = tt
+task-fits (asks.Lives which) scope names fit = either scope.services
+  where
+    either : (services : Bool) → HasFitting (task_of (asks.Lives which) (record scope { services = services })) names
+    either true = tt
+    either false = tt
 task-fits asks.Page scope names fit = fit
 task-fits asks.Check scope names fit = tt
 

@@ -118,6 +118,7 @@ options-told : (counted : Text → Bool) (flags : Flags) (rows : List Row) → A
 options-told counted flags rows are sound nothing =
     seconds-told counted flags rows are sound (λ seconds seconds_are.
     flag-given (one_of (codes "skip-unusable") rows) (λ skips skips_are.
+    flag-given (one_of (codes "services") rows) (λ services services_are.
     form-told flags rows (λ form form_is. nothing (record {
       seconds = seconds;
       at = lent_option (first_of (codes "at") rows);
@@ -126,6 +127,7 @@ options-told counted flags rows are sound nothing =
       until = lent_option (first_of (codes "until") rows);
       form = form;
       skip_unusable = skips;
+      services = services;
     }) (
       seconds_are,
       lent-text (first_of (codes "at") rows),
@@ -134,7 +136,8 @@ options-told counted flags rows are sound nothing =
       skips_are,
       lent-text (first_of (codes "since") rows),
       lent-text (first_of (codes "until") rows),
-    ))))
+      services_are,
+    )))))
 
 -- ---- the subcommand that words without a fault reach
 

@@ -17,7 +17,7 @@ use Rattle.mdns_trace.specs.declared.inquiry.Inquiry.TheVariants as inquiry
 use Rattle.mdns_trace.specs.declared.inquiry.Trace.TheVariants as trace
 use Rattle.command_line.specs.declared.{line.Takes.{Takes}, mdnsmerge.Asks.{Asks}, mdnsmerge.Scope.{Scope}, words.WhyAsks.{WhyAsks}}
 use Rattle.command_line.specs.declared.words.{WordsFault.TheVariants.{Refused}, AskFault.{AskFault}, AskFault.TheVariants.{Words}}
-use Rattle.command_line.specs.declared.words.{Job.{Job}, Task.{Task}, Task.TheVariants.{Survey, Page}}
+use Rattle.command_line.specs.declared.words.{Job.{Job}, Task.{Task}, Task.TheVariants.{Survey, Services, Page}}
 use Rattle.command_line.specs.Line.{AsksOneOf, Flags, HasForm, HasLists, HasSeconds, IsFlag, IsGiven, Table, line_with, words_of}
 use Rattle.command_line.specs.Moments.{IsMomentText}
 use Rattle.command_line.specs.declared.line.Takes.TheVariants as takes
@@ -48,6 +48,10 @@ listener_flag = (codes "listener", takes.Words)
 abbrev pub skip_flag : Text × Takes
 skip_flag = (codes "skip-unusable", takes.Switch)
 
+-- the flag that asks for the lives of service instances
+abbrev pub services_flag : Text × Takes
+services_flag = (codes "services", takes.Switch)
+
 -- the flags of the words that an answer is about
 abbrev pub word_flags : Flags
 word_flags = about_flag ∷ printers_flag ∷ []
@@ -72,9 +76,13 @@ told_flags = (codes "at", takes.Seconds) ∷ []
 abbrev pub report_flags : Flags
 report_flags = at_flag ∷ before_flag ∷ (word_flags ++ skip_flag ∷ form_flags)
 
--- the flags of lives and of changes
+-- the flags of lives
 abbrev pub lives_flags : Flags
-lives_flags = at_flag ∷ before_flag ∷ (window_flags ++ (word_flags ++ skip_flag ∷ form_flags))
+lives_flags = at_flag ∷ before_flag ∷ (window_flags ++ (word_flags ++ services_flag ∷ skip_flag ∷ form_flags))
+
+-- the flags of changes
+abbrev pub changes_flags : Flags
+changes_flags = at_flag ∷ before_flag ∷ (window_flags ++ (word_flags ++ skip_flag ∷ form_flags))
 
 -- the flags of the page, which has one form
 abbrev pub page_flags : Flags
@@ -137,7 +145,7 @@ abbrev pub tasks : Table Asks
 tasks = map (λ row. (row.0, report_flags, asks.Report row.1)) reports
     ++ (codes "hosts", report_flags, asks.Report ask.Hosts)
     ∷ (codes "lives", lives_flags, asks.Lives which.All)
-    ∷ (codes "changes", lives_flags, asks.Lives which.Changes)
+    ∷ (codes "changes", changes_flags, asks.Lives which.Changes)
     ∷ (codes "page", page_flags, asks.Page)
     ∷ (codes "check", skip_flag ∷ [], asks.Check) ∷ []
 
@@ -164,24 +172,28 @@ GivesScope flags rows scope = HasForm flags rows scope.form
     × GivesWindow (first_of (codes "since") rows) (first_of (codes "until") rows) false scope.window
     × HasLists rows scope.lists
     × IsFlag (one_of (codes "skip-unusable") rows) scope.skip_unusable
+    × IsFlag (one_of (codes "services") rows) scope.services
 
 -- what a subcommand asks for, as the options say
 abbrev pub task_of : Asks → Scope → Task
 task_of (asks.Report ask) scope =
     Survey (request.Report (record { ask = ask; form = scope.form; as_of = scope.as_of; about = scope.lists.about }))
-task_of (asks.Lives which) scope = Survey (request.Lives (record {
-  which = which;
-  form = scope.form;
-  as_of = scope.as_of;
-  window = scope.window;
-  about = scope.lists.about;
-}))
+task_of (asks.Lives which) scope =
+    if scope.services then Services scope.form scope.as_of scope.window scope.lists.about
+    else Survey (request.Lives (record {
+      which = which;
+      form = scope.form;
+      as_of = scope.as_of;
+      window = scope.window;
+      about = scope.lists.about;
+    }))
 task_of asks.Page scope = Page scope.as_of scope.window scope.lists.about scope.lists.listeners
 task_of asks.Check scope = Survey request.Check
 
 -- each prefix of a listener fits one of the files
 abbrev pub HasFitting : Task → List Text → Type 0
 HasFitting (Survey request) names = ⊤
+HasFitting (Services form as_of window about) names = ⊤
 HasFitting (Page as_of window about listeners) names = unfit_prefix (map string_bytes listeners.items) names ≡ None
 
 abbrev pub job_of : Asks → Scope → Job

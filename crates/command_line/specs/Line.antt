@@ -198,6 +198,7 @@ HasOptions flags rows options = HasSeconds flags rows options.seconds
     × IsFlag (one_of (codes "skip-unusable") rows) options.skip_unusable
     × HasText (codes "since") rows options.since
     × HasText (codes "until") rows options.until
+    × IsFlag (one_of (codes "services") rows) options.services
 
 -- a subcommand of the table has this name and asks for this, with these options
 abbrev pub AsksIn : {T : Type 0} → List (Subcommand T) → Text → List Row → T × Options → Type 0

@@ -78,6 +78,14 @@ pub(crate) const SKIP_UNUSABLE: Flag = Flag {
     help: "Leave out files that can't be used, and say why",
 };
 
+/// Lists the lives of service instances in place of those of records.
+pub(crate) const SERVICES: Flag = Flag {
+    name: "services",
+    takes: Takes::Switch,
+    value: "",
+    help: "Lives of service instances, with their servers",
+};
+
 /// A list of flags: the first ones, `--json`, and the last ones.
 macro_rules! with_forms {
     ([$($first:expr),*], [$($last:expr),*]) => {
@@ -114,8 +122,23 @@ pub(crate) const REPORT_FLAGS: &[Flag] = with_forms!(
     [PRETTY, CSV]
 );
 
-/// The flags of lives and of changes.
+/// The flags of lives.
 pub(crate) const LIVES_FLAGS: &[Flag] = with_forms!(
+    [
+        AT,
+        BEFORE,
+        SINCE,
+        UNTIL,
+        ABOUT,
+        PRINTERS,
+        SERVICES,
+        SKIP_UNUSABLE
+    ],
+    [PRETTY, CSV]
+);
+
+/// The flags of changes.
+pub(crate) const CHANGES_FLAGS: &[Flag] = with_forms!(
     [AT, BEFORE, SINCE, UNTIL, ABOUT, PRINTERS, SKIP_UNUSABLE],
     [PRETTY, CSV]
 );

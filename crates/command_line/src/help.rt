@@ -85,8 +85,7 @@ pub const LIVES: HelpText = HelpText {
     about: "When each record was live, and why it ended, a line for each life",
     more: page!(
         "\
-A life ended by `goodbye`, `flushed` or `expired`, or is `live` past the end:
-    doum.local A 198.51.100.21 from 1795332398.060651000 ttl 120 ... flushed"
+A life ended by `goodbye`, `flushed` or `expired`, or is `live` past the end."
     ),
 };
 

@@ -7,7 +7,9 @@ ghost use Rattle.command_line.specs.CommandLine.{HasFitting, IsRefusedFor, comma
 ghost use Rattle.command_line.specs.OptionFault.{MakesBounds, MakesNoAsOf, MakesNoTask, text_of};
 ghost use Rattle.mdns_listeners.specs.Groups.{unfit_prefix};
 
-use crate::flags::{AT, AT_SECONDS, BEFORE, CHECK_FLAGS, LIVES_FLAGS, PAGE_FLAGS, REPORT_FLAGS};
+use crate::flags::{
+    AT, AT_SECONDS, BEFORE, CHANGES_FLAGS, CHECK_FLAGS, LIVES_FLAGS, PAGE_FLAGS, REPORT_FLAGS,
+};
 use crate::help;
 use crate::line::{CommandTable, Subcommand};
 use crate::lists::Lists;
@@ -39,6 +41,7 @@ struct Scope {
     window: Window,
     lists: Lists,
     skip_unusable: bool,
+    services: bool,
 }
 
 /// The subcommands: the reports of `told`, which take `$flags`, the `$other` ones, and `check`, which takes `$check_flags`. `$report` turns
@@ -107,7 +110,7 @@ const ASKED: CommandTable<Asks> = CommandTable {
             Subcommand {
                 name: "changes",
                 page: help::CHANGES,
-                flags: LIVES_FLAGS,
+                flags: CHANGES_FLAGS,
                 asks: Asks::Lives(Which::Changes),
             },
             Subcommand {
@@ -172,8 +175,8 @@ fn what_of(ask: Option<Ask>, at: Option<Moment>) -> What
 ///
 /// It is a subcommand and its flags, and then one or more files. Each subcommand takes `--skip-unusable`. One whose answer
 /// depends on a moment takes `--at` or `--before`, `--about WORD`, any number of times, and `--printers`; one that has several
-/// forms also the flag of a form, `lives`, `changes` and `page` also `--since` and `--until`, and `page` also `--listener PREFIX`,
-/// any number of times. `--version` asks for the version.
+/// forms also the flag of a form, `lives`, `changes` and `page` also `--since` and `--until`, `lives` also `--services`, and
+/// `page` also `--listener PREFIX`, any number of times. `--version` asks for the version.
 ///
 /// A `MOMENT` is seconds since 1970, with up to nine digits of a fraction, or a date and time of RFC 3339 with its zone; a space
 /// may be in place of the `T`, and the second may be left out. A leap second, `23:59:60`, names no moment. A `WORD` that ends in a
@@ -216,6 +219,7 @@ fn read_asked(alloc: Global, words: &[String]) -> Result<Asked<Job>, AskFault>
                     window,
                     lists,
                     skip_unusable: options.skip_unusable,
+                    services: options.services,
                 },
             ),
             names,
@@ -260,6 +264,7 @@ fn task_of(asks: Asks, scope: Scope) -> Task
         as_of,
         window,
         lists,
+        services,
         ..
     } = scope;
     let Lists { about, listeners } = lists;
@@ -270,6 +275,12 @@ fn task_of(asks: Asks, scope: Scope) -> Task
             as_of,
             about,
         })),
+        Asks::Lives(_) if services => Task::Services {
+            form,
+            as_of,
+            window,
+            about,
+        },
         Asks::Lives(which) => Task::Survey(Request::Lives(LivesRequest {
             which,
             form,

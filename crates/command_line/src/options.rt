@@ -5,7 +5,7 @@ ghost use Rattle.clap.specs.Words.{found_of, one_of, rows_of};
 ghost use Rattle.command_line.specs.Line.{AsksForm, HasOneForm, HasOptions, HasSeconds, IsFlag, IsMomentOf, flags_of};
 ghost use Rattle.mdns_capture.specs.declared.moment.Moment.{Moment};
 
-use crate::flags::SKIP_UNUSABLE;
+use crate::flags::{SERVICES, SKIP_UNUSABLE};
 use crate::line::{Flag, Takes};
 use clap::ArgMatches;
 use mdns_browse::report::Form;
@@ -35,6 +35,8 @@ pub struct Options<'a> {
     pub form: Result<Form, ConflictingFlags>,
     /// Whether `--skip-unusable` is given.
     pub skip_unusable: bool,
+    /// Whether `--services` is given.
+    pub services: bool,
 }
 
 /// Returns the options that are given. `None` where seconds can't be read.
@@ -53,6 +55,7 @@ pub(crate) fn options_of<'a>(flags: &[Flag], given: &ArgMatches<'a>) -> Option<O
         until: given.get_str("until"),
         form,
         skip_unusable: is_given(SKIP_UNUSABLE.name, given),
+        services: is_given(SERVICES.name, given),
     })
 }
 

@@ -5,6 +5,7 @@ ghost use Rattle.command_line.specs.{Faults.{ask_fault_name, fault_name}, declar
 ghost use Rattle.command_line.specs.declared.words.AskFault.TheVariants.{Words};
 
 use crate::lists::Lists;
+use mdns_browse::report::Form;
 use mdns_message::Want;
 use mdns_survey::request::{AsOf, Request, Subjects, What, Window};
 use mdns_trace::Inquiry;
@@ -33,6 +34,13 @@ pub struct Job {
 pub enum Task {
     /// What is asked of all captures together, or of each.
     Survey(Request),
+    /// The lives of service instances.
+    Services {
+        form: Form,
+        as_of: AsOf,
+        window: Window,
+        about: Subjects,
+    },
     /// A page.
     Page {
         as_of: AsOf,

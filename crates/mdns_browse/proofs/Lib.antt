@@ -18,5 +18,6 @@ mod ReportLemmas
 pub mod RowLemmas
 mod SaidLemmas
 pub mod SearchLemmas
+mod ServiceLifeLemmas
 mod ShownLemmas
 mod TextLemmas

@@ -11,6 +11,7 @@ pub mod ColumnPieces
 pub mod Columns
 pub mod Report
 pub mod NameSaid
+pub mod ServiceLifeText
 pub mod Services
 pub mod Sheet
 pub mod RecordShown

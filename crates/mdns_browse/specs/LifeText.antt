@@ -32,12 +32,12 @@ open_text Flushed = codes "live, flushed"
 abbrev pub end_shown : ℕ → Life → List ℕ
 end_shown end life = if nat_lt end life.until then open_text life.reason else reason_text life.reason
 
--- when a life began, the TTL and the moment of its last hearing, when it ends and how, and a line feed
-abbrev pub life_words : ℕ → Life → List ℕ
+-- when a life began, the TTL and the moment of its last hearing, when it ends and how
+unfoldable pub life_words : ℕ → Life → List ℕ
 life_words end life =
     codes " from " ++ moment_text life.from.nanos
     ++ codes " ttl " ++ decimal life.last.ttl ++ codes " heard " ++ moment_text life.last.moment.nanos
-    ++ codes " until " ++ moment_text life.until ++ 32 ∷ end_text end life ++ 10 ∷ []
+    ++ codes " until " ++ moment_text life.until ++ 32 ∷ end_text end life
 
 -- what an object says of a life: what that of a live record says of the last hearing, with `from` before it and `end` last
 abbrev pub life_members : ℕ → Life → List (List ℕ)
@@ -100,26 +100,33 @@ called Changes count =
 unfoldable pub bound_shown : Option Moment → ℕ → ℕ
 bound_shown bound other = unwrap_or (option_map (λ (moment : Moment). moment.nanos) bound) other
 
--- how many lives there are, which those are, and between which moments; an empty line, and the heads of the columns, unless
--- there are none
-unfoldable pub lives_heading : Which → Window → (count width begin end : ℕ) → List ℕ
-lives_heading which window count width begin end =
-    decimal count ++ called which count ++ millis_text (bound_shown window.since begin) ++ codes " and "
-    ++ millis_text (bound_shown window.until end)
-    ++ 10 ∷ (if count == 0 then [] else 10 ∷ (codes "FROM                      UNTIL                     "
-    ++ padded width (codes "END") ++ codes "  TYPE  RECORD\n"))
+abbrev pub bounds_shown : Window → (begin end : ℕ) → List ℕ
+bounds_shown window begin end =
+    millis_text (bound_shown window.since begin) ++ codes " and " ++ millis_text (bound_shown window.until end)
+
+-- an empty line, and the heads of the columns, of which `last` are those after END; nothing where there are no lives
+abbrev pub heads_shown : (count width : ℕ) → List ℕ → List ℕ
+heads_shown count width last =
+    if count == 0 then []
+    else 10 ∷ (codes "FROM                      UNTIL                     " ++ padded width (codes "END") ++ last)
+
+-- how many lives there are, what they are called, and between which moments, and the heads of the columns
+unfoldable pub lives_heading : (called last : List ℕ) → Window → (count width begin end : ℕ) → List ℕ
+lives_heading called last window count width begin end =
+    decimal count ++ called ++ bounds_shown window begin end ++ 10 ∷ heads_shown count width last
 
 -- ---- forms
 
 -- what stands before the lives; in columns also the bounds, and the width of the column that says how they end
 abbrev pub lives_head : Which → Window → Form → (count width begin end : ℕ) → List ℕ
-lives_head which window Pretty count width begin end = lives_heading which window count width begin end
+lives_head which window Pretty count width begin end =
+    lives_heading (called which count) (codes "  TYPE  RECORD\n") window count width begin end
 lives_head which window Csv count width begin end = lives_header
 lives_head which window _ count width begin end = []
 
 -- a life in that form
 abbrev pub life_text : Form → ℕ → ℕ → Resource → Life → List ℕ
-life_text Lines width = λ end resource life. resource_text resource ++ life_words end life
+life_text Lines width = λ end resource life. resource_text resource ++ life_words end life ++ 10 ∷ []
 life_text Json width = life_json
 life_text Pretty width = life_row width
 life_text Csv width = life_csv

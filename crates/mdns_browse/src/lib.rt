@@ -33,6 +33,7 @@ mod report_csv;
 mod report_json;
 mod report_lines;
 mod report_walk;
+pub mod service_life_text;
 pub mod services;
 pub mod sheet;
 mod short_text;

@@ -4,7 +4,7 @@ ghost use Rattle.std.specs.Prelude.{◌≡◌, ◌++◌, ◌∷◌, [], codes, l
 ghost use Rattle.std.specs.{List.{flat_map}, String.{string_bytes}};
 ghost use Rattle.mdns_message.specs.Resource.{type_name, type_of};
 ghost use Rattle.people_text.specs.MomentText.{millis_text};
-ghost use Rattle.mdns_browse.specs.LifeText.{bound_shown, called, end_shown, life_row, lives_heading, open_text, until_shown};
+ghost use Rattle.mdns_browse.specs.LifeText.{bound_shown, bounds_shown, called, end_shown, heads_shown, life_row, lives_heading, open_text, until_shown};
 ghost use Rattle.mdns_browse.specs.{Columns.{padded, widest}, RecordShown.{shown_record}};
 
 use crate::columns::{push_padded, wider, word_for};
@@ -27,31 +27,41 @@ pub(crate) fn end_width(end_of_captures: Moment, lives: &[Life]) -> usize
     width
 }
 
-/// Appends how many lives there are, which those are, and between which moments; then an empty line and the heads of the columns,
-/// unless there are none.
+/// Appends how many lives there are, what they are called, and between which moments; then an empty line and the heads of the
+/// columns, of which `last` are those after END, unless there are none.
 #[tactic(auto, unfolding(crate::specs::LifeText::lives_heading))]
 pub(crate) fn push_heading(
     text: &mut String,
-    which: Which,
+    called: &str,
+    last: &str,
     window: Window,
     layout: Layout,
     begin: Moment,
     end_of_captures: Moment,
 ) -> Result<(), Want>
     ensures { OnOk result (string_bytes text.new
-        ≡ string_bytes text.old ++ lives_heading which window layout.count layout.width begin.nanos end_of_captures.nanos) }
+        ≡ string_bytes text.old ++ lives_heading called.now last.now window layout.count layout.width begin.nanos end_of_captures.nanos) }
 {
-    let called = called(which, layout.count);
-    write!(text, "{}{called}", layout.count)?;
+    write!(text, "{}", layout.count)?;
+    text.push_str(called)?;
+    push_bounds(text, window, begin, end_of_captures)?;
+    text.push('\n')?;
+    push_heads(text, layout, last)
+}
+
+// Appends the moments that bound the window, or else the captures.
+fn push_bounds(
+    text: &mut String,
+    window: Window,
+    begin: Moment,
+    end_of_captures: Moment,
+) -> Result<(), Want>
+    ensures { OnOk result (string_bytes text.new
+        ≡ string_bytes text.old ++ bounds_shown window begin.nanos end_of_captures.nanos) }
+{
     push_millis(text, bound_shown(window.since, begin))?;
     text.push_str(" and ")?;
-    push_millis(text, bound_shown(window.until, end_of_captures))?;
-    text.push('\n')?;
-    if layout.count == 0 {
-        return Ok(());
-    }
-    text.push('\n')?;
-    push_heads(text, layout.width)
+    push_millis(text, bound_shown(window.until, end_of_captures))
 }
 
 // Returns the moment that bounds the window, or else the captures.
@@ -65,8 +75,8 @@ fn bound_shown(bound: Option<Moment>, other: Moment) -> u64
     }
 }
 
-// Returns what so many lives are called.
-fn called(which: Which, count: usize) -> &'static str
+/// Returns what so many lives are called.
+pub(crate) fn called(which: Which, count: usize) -> &'static str
     ensures { result.now ≡ called which count }
 {
     match which {
@@ -79,14 +89,18 @@ fn called(which: Which, count: usize) -> &'static str
     }
 }
 
-fn push_heads(text: &mut String, width: usize) -> Result<(), Want>
+// Appends an empty line and the heads of the columns, unless there are no lives.
+fn push_heads(text: &mut String, layout: Layout, last: &str) -> Result<(), Want>
     ensures { OnOk result (string_bytes text.new ≡ string_bytes text.old
-        ++ (codes "FROM                      UNTIL                     " ++ padded width (codes "END")
-        ++ codes "  TYPE  RECORD\n")) }
+        ++ heads_shown layout.count layout.width last.now) }
 {
+    if layout.count == 0 {
+        return Ok(());
+    }
+    text.push('\n')?;
     text.push_str("FROM                      UNTIL                     ")?;
-    push_padded(text, width, "END")?;
-    text.push_str("  TYPE  RECORD\n")?;
+    push_padded(text, layout.width, "END")?;
+    text.push_str(last)?;
     Ok(())
 }
 
@@ -142,9 +156,9 @@ fn push_row(
     Ok(())
 }
 
-// Appends when a life ends, in parentheses if it goes on: that is a forecast.
+/// Appends when a life ends, in parentheses if it goes on: that is a forecast.
 #[tactic(auto, unfolding(crate::specs::LifeText::until_shown))]
-fn push_until(text: &mut String, end_of_captures: Moment, life: &Life) -> Result<(), Want>
+pub(crate) fn push_until(text: &mut String, end_of_captures: Moment, life: &Life) -> Result<(), Want>
     ensures { OnOk result (string_bytes text.new ≡ string_bytes text.old ++ until_shown end_of_captures.nanos life.now) }
 {
     if end_of_captures.nanos() < life.until {
@@ -159,8 +173,8 @@ fn push_until(text: &mut String, end_of_captures: Moment, life: &Life) -> Result
     Ok(())
 }
 
-// Returns how a life ends, for people.
-fn end_shown(end_of_captures: Moment, life: &Life) -> &'static str
+/// Returns how a life ends, for people.
+pub(crate) fn end_shown(end_of_captures: Moment, life: &Life) -> &'static str
     ensures { result.now ≡ end_shown end_of_captures.nanos life.now }
 {
     if end_of_captures.nanos() < life.until {

@@ -8,7 +8,7 @@ ghost use Rattle.mdns_browse.specs.RecordText.{resource_text};
 
 use crate::columns::wider;
 use crate::format::push_resource;
-use crate::life_columns::{end_width, push_heading, push_rows};
+use crate::life_columns::{called, end_width, push_heading, push_rows};
 use crate::report::Form;
 use crate::report_csv::push_csv_lives;
 use crate::report_json::Objects;
@@ -65,7 +65,11 @@ pub fn push_lives_head(
         ≡ string_bytes text.old ++ lives_head which window form layout.count layout.width begin.nanos end_of_captures.nanos) }
 {
     match form {
-        Form::Pretty => push_heading(text, which, window, layout, begin, end_of_captures),
+        Form::Pretty => {
+            let called = called(which, layout.count);
+            let last = "  TYPE  RECORD\n";
+            push_heading(text, called, last, window, layout, begin, end_of_captures)
+        }
         Form::Csv => Ok(text.push_str("owner,type,data,from,ttl,heard,until,end\r\n")?),
         _ => Ok(()),
     }
@@ -106,7 +110,7 @@ fn push_lines(
     lives: &[Life],
 ) -> Result<(), Want>
     ensures { OnOk result (string_bytes text.new
-        ≡ string_bytes text.old ++ flat_map (λ life. resource_text resource.now ++ life_words end_of_captures.nanos life) lives.now) }
+        ≡ string_bytes text.old ++ flat_map (λ life. resource_text resource.now ++ life_words end_of_captures.nanos life ++ 10 ∷ []) lives.now) }
 {
     let mut head = String::new(*text.allocator());
     push_resource(&mut head, &resource.borrowed())?;
@@ -123,10 +127,11 @@ fn push_line(
     life: &Life,
 ) -> Result<(), Want>
     ensures { OnOk result (string_bytes text.new
-        ≡ string_bytes text.old ++ (head.now ++ life_words end_of_captures.nanos life.now)) }
+        ≡ string_bytes text.old ++ (head.now ++ life_words end_of_captures.nanos life.now ++ 10 ∷ [])) }
 {
     text.push_str(head)?;
-    push_life(text, end_of_captures, life)
+    push_life(text, end_of_captures, life)?;
+    Ok(text.push('\n')?)
 }
 
 // Appends an object for each life. The record is written once, and copied for each.

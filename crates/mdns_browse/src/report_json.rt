@@ -107,8 +107,8 @@ impl Objects {
         push_text_member(&mut self.text, false, "shown", self.scratch.as_str())
     }
 
-    // Appends the name of an instance for people as a member.
-    fn shown_instance(&mut self, name: &Name) -> Result<(), Want>
+    /// Appends the name of an instance for people as a member.
+    pub(crate) fn shown_instance(&mut self, name: &Name) -> Result<(), Want>
         ensures text { OnOk result (string_bytes self.new.text
             ≡ string_bytes self.old.text ++ 44 ∷ text_member (codes "shown") (shown_instance name.now)) }
         ensures first { self.new.first ≡ self.old.first }
@@ -228,9 +228,9 @@ impl Objects {
         Ok(self.text.push_str(json_bool(given.row.last.ttl == 0))?)
     }
 
-    // Begins the object of a server with the members before its addresses.
+    /// Begins the object of a server with the members before its addresses.
     #[tactic(auto, unfolding(crate::specs::Json::parted))]
-    fn server_members(
+    pub(crate) fn server_members(
         &mut self,
         priority: u16,
         weight: u16,

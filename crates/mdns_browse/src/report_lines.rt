@@ -66,12 +66,12 @@ fn push_live(to: &mut String, row: &LiveRecord<'_>) -> Result<(), Want>
     text.append_to(to)
 }
 
-/// Appends when a life began, its last hearing, and when and how it ends, and ends the line.
+/// Appends when a life began, its last hearing, and when and how it ends.
+#[tactic(auto, unfolding(crate::specs::LifeText::life_words))]
 pub(crate) fn push_life(to: &mut String, end_of_captures: Moment, life: &Life) -> Result<(), Want>
     ensures { OnOk result (string_bytes to.new ≡ string_bytes to.old ++ life_words end_of_captures.nanos life.now) }
 {
     let mut text = ShortText::new();
-    text.prepend("\n");
     text.prepend(end_word(end_of_captures, life));
     text.prepend(" ");
     prepend_hearing(&mut text, life.last.ttl, life.last.moment, life.until);

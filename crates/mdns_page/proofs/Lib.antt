@@ -18,6 +18,7 @@ mod PartLemmas
 mod PathLemmas
 mod SameLists
 mod ServerLemmas
+mod ServiceLifeLemmas
 mod SurveyLemmas
 pub mod TickLemmas
 mod TitleLemmas

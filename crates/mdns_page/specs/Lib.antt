@@ -20,6 +20,7 @@ pub mod Document
 pub mod Picture
 pub mod RowPicture
 pub mod Servers
+pub mod ServiceLives
 pub mod Page
 pub mod Ticks
 pub mod Timeline

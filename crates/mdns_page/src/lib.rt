@@ -33,6 +33,7 @@ mod picture;
 mod row_picture;
 mod row_text;
 mod servers;
+pub mod service_lives;
 mod skipped_section;
 mod style;
 mod ticks;

@@ -33,8 +33,11 @@ pub(crate) fn servers_of<'a, 'b>(rows: &'a [RecordLives<'b>], body: &Body) -> &'
     }
 }
 
-// Finds the SRV records of a name.
-fn servers_named<'a, 'b>(rows: &'a [RecordLives<'b>], name: &Name) -> &'a [RecordLives<'b>]
+/// Finds the SRV records of a name.
+pub(crate) fn servers_named<'a, 'b>(
+    rows: &'a [RecordLives<'b>],
+    name: &Name,
+) -> &'a [RecordLives<'b>]
     ensures { IsStrictlySortedBy key_cmp (map (λ (row : Latest × List Life). key_of_last row.0) (map row_lent rows.now))
         → map row_lent result.now ≡ servers_named (map row_lent rows.now) name.now }
 {

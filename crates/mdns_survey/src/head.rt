@@ -77,7 +77,7 @@ fn hearings_in(readings: &[Reading]) -> u128
 }
 
 /// Returns a report after the head of captures with these readings.
-pub(crate) fn headed(
+pub fn headed(
     alloc: Global,
     form: Form,
     readings: &[Reading],

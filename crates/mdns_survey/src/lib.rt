@@ -5,7 +5,7 @@
 pub mod answers;
 pub mod error_lines;
 pub mod filter;
-mod head;
+pub mod head;
 pub mod hearer;
 pub mod laws;
 pub mod listen;

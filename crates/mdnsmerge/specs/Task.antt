@@ -5,8 +5,8 @@ use Rattle.mdns_capture.specs.{declared.stream.Source.{Ghosts}, Output.{Writing}
 use Rattle.mdns_survey.specs.{Answer.{IsRefusedOf, Reports}, Question.{Asked, asked_lives, asked_of}}
 use Rattle.mdns_survey.specs.declared.request.{LivesRequest.{LivesRequest}, Request.TheVariants.{Check, Lives}}
 use Rattle.mdns_listeners.specs.{Groups.{grouped}, Together.{are_compared}, WarnedLives.{asked_warned}}
-use Rattle.mdns_page.specs.Page.{asked_page}
-use Rattle.command_line.specs.declared.words.{Task.{Task}, Task.TheVariants.{Survey, Page}}
+use Rattle.mdns_page.specs.{Page.{asked_page}, ServiceLives.{asked_service_lives}}
+use Rattle.command_line.specs.declared.words.{Task.{Task}, Task.TheVariants.{Survey, Services, Page}}
 
 -- lives in this form, of so many files, come after warnings
 abbrev pub is_warned : Form → ℕ → Bool
@@ -25,6 +25,8 @@ asked_lives_of lives names = asked_lives_if (is_warned lives.form (length names)
 abbrev pub asked_by : Task → List (List ℕ) → Asked
 asked_by (Survey (Lives lives)) names = asked_lives_of lives names
 asked_by (Survey request) names = asked_of request names
+asked_by (Services form as_of window about) names =
+    asked_service_lives (record { form = form; as_of = as_of; window = window; about = about })
 asked_by (Page as_of window about listeners) names =
     asked_page names (grouped (map string_bytes listeners.items) names) about window as_of
 

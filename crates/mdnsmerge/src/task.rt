@@ -13,6 +13,7 @@ use mdns_listeners::together::are_compared;
 use mdns_listeners::warned_lives::WarnedLives;
 use mdns_message::Want;
 use mdns_page::page::PageRequest;
+use mdns_page::service_lives::ServiceLivesRequest;
 use mdns_survey::answers::{NamedProgram, answer_request, answer_with};
 use mdns_survey::status::REFUSED;
 use mdns_survey::{LivesRequest, Request, SurveyFault, error_lines};
@@ -50,6 +51,20 @@ pub(crate) fn answer_task<R: Source + Drop, O: Sink, E: Sink>(
         }
         Task::Survey(Request::Check) => {
             answer_request(alloc, Request::Check, names, readers, out, err)
+        }
+        Task::Services {
+            form,
+            as_of,
+            window,
+            about,
+        } => {
+            let services = ServiceLivesRequest {
+                form,
+                as_of,
+                window,
+                about,
+            };
+            answer_with(services, true, named(names), readers, out, err)
         }
         Task::Page {
             as_of,

@@ -43,6 +43,10 @@ hours_text nanos = two_digits (seconds_of nanos / 3600 % 24) ++ 58 ∷ two_digit
 unfoldable pub clock_text : ℕ → List ℕ
 clock_text nanos = hours_text nanos ++ 58 ∷ two_digits (seconds_of nanos % 60)
 
+-- `07:28:19.196Z`
+unfoldable pub time_text : ℕ → List ℕ
+time_text nanos = clock_text nanos ++ 46 ∷ three_digits (nanos / 1000000 % 1000) ++ 90 ∷ []
+
 -- `2026-11-22T07:28:19Z`
 unfoldable pub seconds_text : ℕ → List ℕ
 seconds_text nanos = date_text nanos ++ 84 ∷ clock_text nanos ++ 90 ∷ []

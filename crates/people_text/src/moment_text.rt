@@ -3,7 +3,7 @@
 ghost use Rattle.std.specs.{Prelude.{◌≡◌, ◌<◌, ◌≤◌, ◌+◌, ◌/◌, ◌%◌, ◌∷◌, [], ◌++◌, OnOk}, String.{string_bytes}};
 ghost use Rattle.dns_name.specs.Name.{three_digits};
 ghost use Rattle.people_text.specs.MomentText.{clock_text, date_text, date_written, days_to, exact_text, hours_text};
-ghost use Rattle.people_text.specs.MomentText.{millis_text, month_day_text, seconds_text, two_digits, year_at};
+ghost use Rattle.people_text.specs.MomentText.{millis_text, month_day_text, seconds_text, time_text, two_digits, year_at};
 
 use crate::calendar::{Date, date_of};
 use mdns_capture::moment::SECOND;
@@ -54,6 +54,17 @@ pub fn push_clock(to: &mut String, nanos: u64) -> Result<(), Want>
     push_two_digits(to, (nanos / SECOND % 60) as u32)
 }
 
+/// Appends the time of day to the millisecond, as `07:28:19.196Z`.
+#[tactic(auto, unfolding(crate::specs::MomentText::time_text))]
+pub fn push_time(to: &mut String, nanos: u64) -> Result<(), Want>
+    ensures { OnOk result (string_bytes to.new ≡ string_bytes to.old ++ time_text nanos) }
+{
+    push_clock(to, nanos)?;
+    push_milli(to, nanos)?;
+    to.push('Z')?;
+    Ok(())
+}
+
 /// Appends the date and time to the second, as `2026-11-22T07:28:19Z`.
 #[tactic(auto, unfolding(crate::specs::MomentText::seconds_text))]
 pub fn push_seconds(to: &mut String, nanos: u64) -> Result<(), Want>
@@ -90,6 +101,14 @@ fn push_to_milli(to: &mut String, nanos: u64) -> Result<(), Want>
         ++ (date_text nanos ++ 84 ∷ clock_text nanos ++ 46 ∷ three_digits (nanos / 1000000 % 1000))) }
 {
     push_to_second(to, nanos)?;
+    push_milli(to, nanos)
+}
+
+// Appends a dot and the milliseconds.
+fn push_milli(to: &mut String, nanos: u64) -> Result<(), Want>
+    ensures { OnOk result (string_bytes to.new
+        ≡ string_bytes to.old ++ (46 ∷ three_digits (nanos / 1000000 % 1000))) }
+{
     to.push('.')?;
     push_three_digits(to, (nanos / 1_000_000 % 1000) as u32)
 }

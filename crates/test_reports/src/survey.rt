@@ -10,6 +10,7 @@ use mdns_browse::report::{Ask, Form};
 use mdns_listeners::Groups;
 use mdns_listeners::listeners::ListenersRequest;
 use mdns_page::page::PageRequest;
+use mdns_page::service_lives::ServiceLivesRequest;
 use mdns_survey::survey::{SurveyFault, survey};
 use mdns_survey::{AsOf, ListenFault, Request, Subjects, survey_request, survey_with};
 use mdns_trace::Window;
@@ -71,6 +72,7 @@ const CALLS: &[Call] = &[
     Call::Answer(&["mdnsmerge", "instances", "--json", "a"]),
     Call::Answer(&["mdnsmerge", "lives", "a"]),
     Call::Answer(&["mdnsmerge", "changes", "--pretty", "a"]),
+    Call::Answer(&["mdnsmerge", "lives", "--services", "a"]),
     Call::Answer(&["mdnsmerge", "page", "a"]),
     Call::Listeners,
 ];
@@ -124,6 +126,20 @@ fn task_fault(
         Task::Survey(Request::Report(report)) => survey_request(alloc, readers, report, out).err(),
         Task::Survey(Request::Lives(lives)) => survey_with(alloc, readers, lives, out).err(),
         Task::Survey(Request::Check) => None,
+        Task::Services {
+            form,
+            as_of,
+            window,
+            about,
+        } => {
+            let question = ServiceLivesRequest {
+                form,
+                as_of,
+                window,
+                about,
+            };
+            survey_with(alloc, readers, question, out).err()
+        }
         Task::Page { as_of, about, .. } => page_fault(alloc, as_of, about, readers, out),
     }
 }

@@ -1,0 +1,394 @@
+//! The lives of service instances as text (RFC 6763, sections 4 and 5). After `Want` the contents of `to` are not specified.
+
+ghost use Rattle.std.specs.Prelude.{◌≡◌, ◌==◌, ◌++◌, ◌∷◌, [], if◌then◌else◌, nat_lt, codes, length, map, true, false, IfOk, OnOk};
+ghost use Rattle.std.specs.{Prelude.{decimal}, List.{flat_map}, String.{string_bytes}};
+ghost use Rattle.dns_name.specs.Name.{name_text};
+ghost use Rattle.mdns_message.specs.Parts.{service_lent};
+ghost use Rattle.people_text.specs.Shown.{name_shown};
+ghost use Rattle.mdns_browse.specs.{Columns.{padded, widest}, Json.{json_array, json_member, parted, text_member}};
+ghost use Rattle.mdns_browse.specs.RecordShown.{shown_instance, shown_order, spaced_by, spaced_wide};
+ghost use Rattle.mdns_browse.specs.ServiceLifeText.{ServiceLife as Shown, csv_life, server_object, server_words, service_csv, service_end, service_json};
+ghost use Rattle.mdns_browse.specs.ServiceLifeText.{service_life_lent, service_line, service_lives_text, service_row, service_text};
+ghost use Rattle.mdns_browse.specs.ServiceLifeText.{service_width, servers_shown, services_called, services_head};
+
+use crate::columns::{push_spaces, wider, word_for};
+use crate::csv::{Field, push_csv_line};
+use crate::life_columns::{end_shown, push_heading, push_until};
+use crate::life_text::{Layout, end_word};
+use crate::record_shown::{GAP, push_shown_instance, push_shown_order, push_shown_target};
+use crate::report::Form;
+use crate::report_csv::join;
+use crate::report_json::Objects;
+use crate::report_lines::push_life;
+use mdns_capture::Moment;
+use mdns_lives::{EndReason, Life, Window};
+use mdns_message::{Name, Service, Want};
+use people_text::moment_text::{push_millis, push_time};
+use people_text::shown_names::push_shown_name;
+use std::alloc::Global;
+
+/// A life of a service instance.
+#[derive(Drop)]
+pub struct ServiceLife<'a> {
+    /// The service type, which owns the record that gives the instance.
+    pub kind: &'a Name,
+    /// The instance.
+    pub name: &'a Name,
+    /// The life of the record that gives it.
+    pub life: Life,
+    /// Its servers in that life.
+    pub servers: Vec<Service<&'a Name>>,
+}
+
+/// Returns the lives in a form. In `Form::Pretty` a heading comes first, with the bounds of the window, or else the earliest moment
+/// and the end of the captures; in `Form::Csv` the names of the fields.
+pub fn service_lives_text(
+    alloc: Global,
+    form: Form,
+    window: Window,
+    begin: Moment,
+    end_of_captures: Moment,
+    services: &[ServiceLife<'_>],
+) -> Result<String, Want>
+    ensures { IfOk result (λ text. string_bytes text
+        ≡ service_lives_text form window begin.nanos end_of_captures.nanos (map service_life_lent services.now)) }
+{
+    let layout = Layout {
+        count: services.len(),
+        width: wider(3, ends_width(alloc, end_of_captures, services)?),
+    };
+    let mut to = Objects::new(alloc);
+    push_head(&mut to.text, form, window, layout, begin, end_of_captures)?;
+    push_services(&mut to, form, layout.width, end_of_captures, services)?;
+    Ok(to.text)
+}
+
+// Returns the greatest length of the words for how lives end.
+fn ends_width(
+    alloc: Global,
+    end_of_captures: Moment,
+    services: &[ServiceLife<'_>],
+) -> Result<usize, Want>
+    ensures { IfOk result (λ width. width ≡ widest
+        (map (λ (service : Shown). service_end end_of_captures.nanos service.life) (map service_life_lent services.now))) }
+{
+    let mut text = String::new(alloc);
+    let mut width = 0;
+    for service in services {
+        let len = end_len(&mut text, end_of_captures, &service.life)?;
+        width = wider(width, len);
+    }
+    Ok(width)
+}
+
+// Returns the length of the words for how a life ends, by way of `text`.
+fn end_len(text: &mut String, end_of_captures: Moment, life: &Life) -> Result<usize, Want>
+    ensures { IfOk result (λ len. len ≡ length (service_end end_of_captures.nanos life.now)) }
+{
+    text.clear();
+    push_end(text, end_of_captures, life)?;
+    Ok(text.len())
+}
+
+fn push_head(
+    to: &mut String,
+    form: Form,
+    window: Window,
+    layout: Layout,
+    begin: Moment,
+    end_of_captures: Moment,
+) -> Result<(), Want>
+    ensures { OnOk result (string_bytes to.new
+        ≡ string_bytes to.old ++ services_head form window layout.count layout.width begin.nanos end_of_captures.nanos) }
+{
+    match form {
+        Form::Pretty => {
+            let called = services_called(layout.count);
+            let last = "  SERVICE\n";
+            push_heading(to, called, last, window, layout, begin, end_of_captures)
+        }
+        Form::Csv => Ok(to.push_str("instance,type,servers,from,ttl,heard,until,end\r\n")?),
+        Form::Lines | Form::Json => Ok(()),
+    }
+}
+
+fn services_called(count: usize) -> &'static str
+    ensures { result.now ≡ services_called count }
+{
+    word_for(
+        count,
+        " life of a service between ",
+        " lives of services between ",
+    )
+}
+
+fn push_services(
+    to: &mut Objects,
+    form: Form,
+    width: usize,
+    end_of_captures: Moment,
+    services: &[ServiceLife<'_>],
+) -> Result<(), Want>
+    ensures { OnOk result (string_bytes to.new.text ≡ string_bytes to.old.text
+        ++ flat_map (service_text form width end_of_captures.nanos) (map service_life_lent services.now)) }
+{
+    for service in services {
+        push_service(to, form, width, end_of_captures, service)?;
+    }
+    Ok(())
+}
+
+fn push_service(
+    to: &mut Objects,
+    form: Form,
+    width: usize,
+    end_of_captures: Moment,
+    service: &ServiceLife<'_>,
+) -> Result<(), Want>
+    ensures { OnOk result (string_bytes to.new.text ≡ string_bytes to.old.text
+        ++ service_text form width end_of_captures.nanos (service_life_lent service.now)) }
+{
+    match form {
+        Form::Lines => push_line(&mut to.text, end_of_captures, service),
+        Form::Json => push_object(to, end_of_captures, service),
+        Form::Pretty => push_row(&mut to.text, width, end_of_captures, service),
+        Form::Csv => push_csv(&mut to.text, end_of_captures, service),
+    }
+}
+
+#[tactic(auto, unfolding(crate::specs::ServiceLifeText::service_line))]
+fn push_line(
+    to: &mut String,
+    end_of_captures: Moment,
+    service: &ServiceLife<'_>,
+) -> Result<(), Want>
+    ensures { OnOk result (string_bytes to.new
+        ≡ string_bytes to.old ++ service_line end_of_captures.nanos (service_life_lent service.now)) }
+{
+    service.name.push_text(to)?;
+    push_life(to, end_of_captures, &service.life)?;
+    push_servers(to, service.servers.as_slice())?;
+    Ok(to.push('\n')?)
+}
+
+fn push_servers(to: &mut String, servers: &[Service<&Name>]) -> Result<(), Want>
+    ensures { OnOk result (string_bytes to.new ≡ string_bytes to.old
+        ++ flat_map (λ server. codes " server " ++ name_text server.target ++ 32 ∷ decimal server.port) (map service_lent servers.now)) }
+{
+    for server in servers {
+        push_server(to, server)?;
+    }
+    Ok(())
+}
+
+fn push_server(to: &mut String, server: &Service<&Name>) -> Result<(), Want>
+    ensures { OnOk result (string_bytes to.new ≡ string_bytes to.old
+        ++ (codes " server " ++ name_text (service_lent server.now).target ++ 32 ∷ decimal (service_lent server.now).port)) }
+{
+    to.push_str(" server ")?;
+    server.target.push_text(to)?;
+    write!(to, " {}", server.port)?;
+    Ok(())
+}
+
+#[tactic(auto, unfolding(crate::specs::ServiceLifeText::service_json))]
+fn push_object(
+    to: &mut Objects,
+    end_of_captures: Moment,
+    service: &ServiceLife<'_>,
+) -> Result<(), Want>
+    ensures { OnOk result (string_bytes to.new.text
+        ≡ string_bytes to.old.text ++ service_json end_of_captures.nanos (service_life_lent service.now)) }
+{
+    push_names(to, service.kind, service.name)?;
+    push_server_objects(to, service.servers.as_slice())?;
+    to.life(end_of_captures, &service.life)?;
+    Ok(())
+}
+
+// Begins an object with the members before the servers.
+#[tactic(auto, unfolding(crate::specs::Json::parted))]
+fn push_names(to: &mut Objects, kind: &Name, name: &Name) -> Result<(), Want>
+    ensures { OnOk result (string_bytes to.new.text ≡ string_bytes to.old.text
+        ++ 123 ∷ parted true (text_member (codes "instance") (name_text name.now)
+        ∷ text_member (codes "shown") (shown_instance name.now) ∷ text_member (codes "type") (name_text kind.now) ∷ [])) }
+{
+    to.text.push('{')?;
+    to.name_member(true, "instance", name)?;
+    to.shown_instance(name)?;
+    to.name_member(false, "type", kind)
+}
+
+// Appends the member with the servers.
+#[tactic(auto, unfolding(crate::specs::Json::parted))]
+fn push_server_objects(to: &mut Objects, servers: &[Service<&Name>]) -> Result<(), Want>
+    ensures { OnOk result (string_bytes to.new.text ≡ string_bytes to.old.text
+        ++ 44 ∷ json_member (codes "servers") (json_array (map server_object (map service_lent servers.now)))) }
+{
+    to.array_begin("servers")?;
+    if let Some((first, others)) = servers.split_first() {
+        push_server_object(to, first)?;
+        push_other_objects(to, others)?;
+    }
+    Ok(to.text.push(']')?)
+}
+
+fn push_other_objects(to: &mut Objects, servers: &[Service<&Name>]) -> Result<(), Want>
+    ensures { OnOk result (string_bytes to.new.text
+        ≡ string_bytes to.old.text ++ parted false (map server_object (map service_lent servers.now))) }
+{
+    for server in servers {
+        to.text.push(',')?;
+        push_server_object(to, server)?;
+    }
+    Ok(())
+}
+
+fn push_server_object(to: &mut Objects, server: &Service<&Name>) -> Result<(), Want>
+    ensures { OnOk result (string_bytes to.new.text ≡ string_bytes to.old.text ++ server_object (service_lent server.now)) }
+{
+    to.server_members(server.priority, server.weight, server.port, server.target)?;
+    Ok(to.text.push('}')?)
+}
+
+fn push_csv(to: &mut String, end_of_captures: Moment, service: &ServiceLife<'_>) -> Result<(), Want>
+    ensures { OnOk result (string_bytes to.new
+        ≡ string_bytes to.old ++ service_csv end_of_captures.nanos (service_life_lent service.now)) }
+{
+    let alloc = *to.allocator();
+    let mut name = String::new(alloc);
+    push_shown_instance(&mut name, &service.name.borrowed())?;
+    let mut kind = String::new(alloc);
+    push_shown_name(&mut kind, &service.kind.borrowed())?;
+    let mut servers = String::new(alloc);
+    push_targets(&mut servers, service.servers.as_slice())?;
+    join(&mut servers);
+    push_csv_life(
+        to,
+        end_of_captures,
+        name.as_str(),
+        kind.as_str(),
+        servers.as_str(),
+        &service.life,
+    )
+}
+
+fn push_csv_life<'a>(
+    to: &mut String,
+    end_of_captures: Moment,
+    name: &'a str,
+    kind: &'a str,
+    servers: &'a str,
+    life: &Life,
+) -> Result<(), Want>
+    ensures { OnOk result (string_bytes to.new
+        ≡ string_bytes to.old ++ csv_life end_of_captures.nanos name.now kind.now servers.now life.now) }
+{
+    push_csv_line(
+        to,
+        &[
+            Field::Text(name),
+            Field::Text(kind),
+            Field::Text(servers),
+            Field::Moment(life.from.nanos()),
+            Field::Number(life.last.ttl as u64),
+            Field::Moment(life.last.moment.nanos()),
+            Field::Moment(life.until),
+            Field::Text(end_word(end_of_captures, life)),
+        ],
+    )
+}
+
+// Appends target and port of each server, after a space.
+fn push_targets(to: &mut String, servers: &[Service<&Name>]) -> Result<(), Want>
+    ensures { OnOk result (string_bytes to.new
+        ≡ string_bytes to.old ++ spaced_by (32 ∷ []) (map server_words (map service_lent servers.now))) }
+{
+    for server in servers {
+        push_shown_target(to, " ", &server.target.borrowed(), server.port)?;
+    }
+    Ok(())
+}
+
+#[tactic(auto, unfolding(crate::specs::ServiceLifeText::service_row))]
+fn push_row(
+    to: &mut String,
+    width: usize,
+    end_of_captures: Moment,
+    service: &ServiceLife<'_>,
+) -> Result<(), Want>
+    ensures { OnOk result (string_bytes to.new
+        ≡ string_bytes to.old ++ service_row width end_of_captures.nanos (service_life_lent service.now)) }
+{
+    push_millis(to, service.life.from.nanos())?;
+    to.push_str(" ")?;
+    push_until(to, end_of_captures, &service.life)?;
+    to.push_str(" ")?;
+    push_padded_end(to, width, end_of_captures, &service.life)?;
+    to.push_str("  ")?;
+    push_shown_name(to, &service.name.borrowed())?;
+    push_shown_servers(to, service.servers.as_slice())?;
+    Ok(to.push('\n')?)
+}
+
+// Appends how a life ends, and spaces up to a width.
+fn push_padded_end(
+    to: &mut String,
+    width: usize,
+    end_of_captures: Moment,
+    life: &Life,
+) -> Result<(), Want>
+    ensures { OnOk result (string_bytes to.new
+        ≡ string_bytes to.old ++ padded width (service_end end_of_captures.nanos life.now)) }
+{
+    let begin = to.len();
+    push_end(to, end_of_captures, life)?;
+    let len = to.len().saturating_sub(begin);
+    push_spaces(to, width.saturating_sub(len))
+}
+
+// Appends how a life ends, a goodbye with the time of day at which it was said.
+fn push_end(to: &mut String, end_of_captures: Moment, life: &Life) -> Result<(), Want>
+    ensures { OnOk result (string_bytes to.new ≡ string_bytes to.old ++ service_end end_of_captures.nanos life.now) }
+{
+    match life.reason {
+        EndReason::Goodbye => {
+            to.push_str(goodbye_word(end_of_captures, life))?;
+            push_time(to, life.last.moment.nanos())
+        }
+        EndReason::Expired | EndReason::Flushed => {
+            Ok(to.push_str(end_shown(end_of_captures, life))?)
+        }
+    }
+}
+
+fn goodbye_word(end_of_captures: Moment, life: &Life) -> &'static str
+    ensures { result.now
+        ≡ (if nat_lt end_of_captures.nanos life.now.until then codes "live, goodbye at " else codes "goodbye at ") }
+{
+    if end_of_captures.nanos() < life.until {
+        "live, goodbye at "
+    } else {
+        "goodbye at "
+    }
+}
+
+fn push_shown_servers(to: &mut String, servers: &[Service<&Name>]) -> Result<(), Want>
+    ensures { OnOk result (string_bytes to.new ≡ string_bytes to.old ++ servers_shown (map service_lent servers.now)) }
+{
+    if servers.is_empty() {
+        return Ok(to.push_str("  unresolved")?);
+    }
+    for server in servers {
+        push_shown_server(to, server)?;
+    }
+    Ok(())
+}
+
+fn push_shown_server(to: &mut String, server: &Service<&Name>) -> Result<(), Want>
+    ensures { OnOk result (string_bytes to.new ≡ string_bytes to.old ++ spaced_wide
+        (server_words (service_lent server.now) ∷ shown_order server.now.priority server.now.weight)) }
+{
+    push_shown_target(to, GAP, &server.target.borrowed(), server.port)?;
+    push_shown_order(to, server.priority, server.weight)
+}
