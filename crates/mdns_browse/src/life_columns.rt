@@ -158,7 +158,11 @@ fn push_row(
 
 /// Appends when a life ends, in parentheses if it goes on: that is a forecast.
 #[tactic(auto, unfolding(crate::specs::LifeText::until_shown))]
-pub(crate) fn push_until(text: &mut String, end_of_captures: Moment, life: &Life) -> Result<(), Want>
+pub(crate) fn push_until(
+    text: &mut String,
+    end_of_captures: Moment,
+    life: &Life,
+) -> Result<(), Want>
     ensures { OnOk result (string_bytes text.new ≡ string_bytes text.old ++ until_shown end_of_captures.nanos life.now) }
 {
     if end_of_captures.nanos() < life.until {

@@ -14,40 +14,40 @@ closed count = count * 365 + (count + 3) / 4 - (count + 99) / 100 + (count + 399
 closed-suc : (n : ℕ) → closed (suc n) ≡ closed n + year_length n
 closed-suc n = grind (arith, nat_tests)
 
-pub days_of_years-closed : (n : ℕ) → days_of_years n ≡ closed n
+pub days_of_years_closed : (n : ℕ) → days_of_years n ≡ closed n
 unfolding days_of_years
-days_of_years-closed zero = refl
-days_of_years-closed (suc n) = rw (days_of_years-closed n, closed-suc n) refl
+days_of_years_closed zero = refl
+days_of_years_closed (suc n) = rw (days_of_years_closed n, closed-suc n) refl
 
-pub days_of_years-1970 : days_of_years 1970 ≡ 719528
-days_of_years-1970 = days_of_years-closed 1970
+pub days_of_years_1970 : days_of_years 1970 ≡ 719528
+days_of_years_1970 = days_of_years_closed 1970
 
 -- the estimate of the year is this one or the one before
-pub estimate-begun : (days year : ℕ) → 2 ≤ days → year ≡ (days - 2) * 400 / 146097 → closed year ≤ days
-estimate-begun days year low is = omega arith
+pub estimate_begun : (days year : ℕ) → 2 ≤ days → year ≡ (days - 2) * 400 / 146097 → closed year ≤ days
+estimate_begun days year low is = omega arith
 
-pub estimate-next : (days year : ℕ) → 2 ≤ days → year ≡ (days - 2) * 400 / 146097 → days < closed (year + 1 + 1)
-estimate-next days year low is = omega arith
+pub estimate_next : (days year : ℕ) → 2 ≤ days → year ≡ (days - 2) * 400 / 146097 → days < closed (year + 1 + 1)
+estimate_next days year low is = omega arith
 
 -- ---- months
 
-pub months-more : (year month : ℕ) → 1 ≤ month → days_of_months year month ≡ days_of_months year (month - 1) + month_length year month
+pub months_more : (year month : ℕ) → 1 ≤ month → days_of_months year month ≡ days_of_months year (month - 1) + month_length year month
 unfolding days_of_months
-months-more year zero low = absurd (omega arith)
-months-more year (suc month) low = let back : suc month - 1 ≡ month = omega arith in rw back refl
+months_more year zero low = absurd (omega arith)
+months_more year (suc month) low = let back : suc month - 1 ≡ month = omega arith in rw back refl
 
-pub months-none : (year : ℕ) → days_of_months year 0 ≡ 0
+pub months_none : (year : ℕ) → days_of_months year 0 ≡ 0
 unfolding days_of_months
-months-none year = refl
+months_none year = refl
 
 -- twelve months are a year
-pub months-year : (year : ℕ) → days_of_months year 12 ≡ year_length year
+pub months_year : (year : ℕ) → days_of_months year 12 ≡ year_length year
 unfolding days_of_months
-months-year year = grind arith
+months_year year = grind arith
 
-pub years-more : (year : ℕ) → days_of_years (year + 1) ≡ days_of_years year + year_length year
+pub years_more : (year : ℕ) → days_of_years (year + 1) ≡ days_of_years year + year_length year
 unfolding days_of_years
-years-more year = let next : year + 1 ≡ suc year = omega arith in rw next refl
+years_more year = let next : year + 1 ≡ suc year = omega arith in rw next refl
 
 years-next : (year : ℕ) → days_of_years (suc year) ≡ days_of_years year + year_length year
 unfolding days_of_years
@@ -55,7 +55,7 @@ years-next year = refl
 
 pub month_within : (year month day left : ℕ) → 1 ≤ month → month ≤ 12 → day < days_of_months year 12
     → day ≡ days_of_months year (month - 1) + left → month_length year month ≤ left → month + 1 ≤ 12
-month_within year month day left low high within is long = grind (arith, nat_tests, months-more)
+month_within year month day left low high within is long = grind (arith, nat_tests, months_more)
 
 -- ---- the last that has begun
 
@@ -114,9 +114,9 @@ years-count (suc n) = let some = year_length-some n in let at = years-count n in
 year-is : (days year month day : ℕ) → IsDate days year month day → days < days_of_years (suc year)
 unfolding days_of_years
 year-is days year month day date =
-    let more = months-more year month date.month_is.0 in
+    let more = months_more year month date.month_is.0 in
     let within = rises (λ n. days_of_months year n) (months-rise year) month 12 date.month_is.1 in
-    let whole = months-year year in
+    let whole = months_year year in
     omega (arith, date.days_are, date.day_is.0, date.day_is.1)
 
 pub year_of-date : (days year month day : ℕ) → IsDate days year month day → year_of days ≡ year
@@ -133,7 +133,7 @@ unfolding month_of
 month_of-date days year month day date =
     let low = date.month_is.0 in
     let rest : days - days_of_years year ≡ days_of_months year (month - 1) + (day - 1) = omega (arith, date.days_are) in
-    let more = months-more year month low in
+    let more = months_more year month low in
     let back : suc (month - 1) ≡ month = omega arith in
     rw (year_of-date days year month day date, rest)
     (ap suc
@@ -182,7 +182,7 @@ date_of-year days year is =
 date_of-month : (year rest month : ℕ) → rest < days_of_months year 12 → month ≡ last_begun (days_of_months year) rest 11
     → (days_of_months year month ≤ rest) × (rest < days_of_months year (suc month)) × (month ≤ 11)
 date_of-month year rest month within is =
-    let none : days_of_months year 0 ≤ rest = rw (months-none year) (omega arith) in
+    let none : days_of_months year 0 ≤ rest = rw (months_none year) (omega arith) in
     let by = begun_by (days_of_months year) rest 11 none in
     let few : month ≤ 11 = rw is by.1 in (
       rw is by.0,
@@ -197,13 +197,13 @@ pub date-is : (days : ℕ) → IsDate days (year_of days) (month_of days) (day_o
 unfolding month_of day_of
 date-is days =
     let year = date_of-year days (year_of days) refl in
-    let whole = months-year (year_of days) in
+    let whole = months_year (year_of days) in
     let length : days_of_years (suc (year_of days)) ≡ days_of_years (year_of days) + year_length (year_of days) = years-next (year_of days) in
     let rest : ℕ = days - days_of_years (year_of days) in
     let within : rest < days_of_months (year_of days) 12 = omega (arith, year.0, year.1) in
     let month : ℕ = last_begun (days_of_months (year_of days)) rest 11 in
     let at = date_of-month (year_of days) rest month within refl in
-    let more = months-more (year_of days) (suc month) (omega arith) in
+    let more = months_more (year_of days) (suc month) (omega arith) in
     let back : suc month - 1 ≡ month = omega arith in
     record {
       month_is = (omega arith, omega (arith, at.2));
@@ -213,3 +213,9 @@ date-is days =
 
 pub month_length-few : (year month : ℕ) → month_length year month ≤ 31
 month_length-few year month = grind (arith, nat_tests)
+
+-- WHAT FUNCTIONS ARE PROVED BY
+
+pub ruleset estimates = (days_of_years_closed, estimate_begun, estimate_next)
+
+pub ruleset months = (month_within, months_more, months_none)

@@ -57,9 +57,9 @@ ends-each (suc last) plane is within =
     let two = both_true (ends (suc last)) (all_ends last) is in
     ends-step (nat_lt last plane) last plane refl within two.0 (λ low. ends-each last plane two.1 low)
 
-pub noncharacter-hidden : (code : ℕ) → IsNoncharacter code → is_hidden code ≡ true
+pub noncharacter_hidden : (code : ℕ) → IsNoncharacter code → is_hidden code ≡ true
 unfolding is_hidden hidden_ranges covers ends all_ends
-noncharacter-hidden code is =
+noncharacter_hidden code is =
     elim is.1 as (λ _. is_hidden code ≡ true) [
       | inl within ↦ in_ranges-covered hidden_ranges 0xFDD0 0xFDEF code refl within.0 within.1
       | inr high ↦

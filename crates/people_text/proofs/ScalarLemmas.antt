@@ -74,10 +74,10 @@ text_after-drop dots zero bytes = refl
 text_after-drop dots (suc taken) [] = refl
 text_after-drop dots (suc taken) (b ∷ bytes) = text_after-drop dots taken bytes
 
-pub scalar-shown : (dots : Bool) (c : ℕ) (rest : List ℕ) → IsScalar c
+pub scalar_shown : (dots : Bool) (c : ℕ) (rest : List ℕ) → IsScalar c
     → bytes_shown dots (encode_utf8 c ++ rest) ≡ scalar_text dots c ++ bytes_shown dots rest
 unfolding bytes_shown
-scalar-shown dots c rest is = go (encode_utf8 c ++ rest) refl
+scalar_shown dots c rest is = go (encode_utf8 c ++ rest) refl
   where
     go : (bytes : List ℕ) → bytes ≡ encode_utf8 c ++ rest → text_after dots 0 bytes ≡ scalar_text dots c ++ text_after dots 0 rest
     go [] same = absurd (omega (arith, encode-some c, length-append (encode_utf8 c) rest, ap length same))
@@ -89,15 +89,15 @@ scalar-shown dots c rest is = go (encode_utf8 c ++ rest) refl
         let after : drop (len_utf8 c - 1) bytes ≡ rest = ap (λ n. drop n (b ∷ bytes)) back ∙ drop_past_char (b ∷ bytes) rest 0 c same in
         rw (test, first, text_after-drop dots (len_utf8 c - 1) bytes, after) refl
 
-pub byte-shown : (dots : Bool) (b : ℕ) (rest : List ℕ) → StartsWithNoChar (b ∷ rest)
+pub byte_shown : (dots : Bool) (b : ℕ) (rest : List ℕ) → StartsWithNoChar (b ∷ rest)
     → bytes_shown dots (b ∷ rest) ≡ escaped_byte b ++ bytes_shown dots rest
 unfolding bytes_shown
-byte-shown dots b rest none = grind (arith, nat_tests, first-scalar)
+byte_shown dots b rest none = grind (arith, nat_tests, first-scalar)
 
-pub shown-none : (dots : Bool) (bs : List ℕ) → length bs ≡ 0 → bytes_shown dots bs ≡ []
+pub shown_none : (dots : Bool) (bs : List ℕ) → length bs ≡ 0 → bytes_shown dots bs ≡ []
 unfolding bytes_shown
-shown-none dots [] none = refl
-shown-none dots (b ∷ bs) none = absurd (omega arith)
+shown_none dots [] none = refl
+shown_none dots (b ∷ bs) none = absurd (omega arith)
 
 -- ---- a chunk at the front
 
@@ -107,7 +107,7 @@ text-shown dots [] rest are = refl
 text-shown dots (c ∷ cs) rest are =
     let parts = and_parts _ _ are in
     ap (bytes_shown dots) (append_assoc (encode_utf8 c) (encode_utf8_all cs) rest)
-    ∙ scalar-shown dots c (encode_utf8_all cs ++ rest) parts.0
+    ∙ scalar_shown dots c (encode_utf8_all cs ++ rest) parts.0
     ∙ ap (λ text. scalar_text dots c ++ text) (text-shown dots cs rest parts.1)
     ∙ sym (append_assoc (scalar_text dots c) (flat_map (scalar_text dots) cs) (bytes_shown dots rest))
 
@@ -119,7 +119,7 @@ run-shown : (dots : Bool) (run rest : List ℕ) → ((k : ℕ) → k < length ru
     → bytes_shown dots (run ++ rest) ≡ flat_map escaped_byte run ++ bytes_shown dots rest
 run-shown dots [] rest on = refl
 run-shown dots (b ∷ run) rest on =
-    byte-shown dots b (run ++ rest) (goes_on-none (b ∷ run ++ rest) (on 0 (omega arith)))
+    byte_shown dots b (run ++ rest) (goes_on-none (b ∷ run ++ rest) (on 0 (omega arith)))
     ∙ ap (λ text. escaped_byte b ++ text) (run-shown dots run rest (λ k below. on (suc k) (omega arith)))
 
 second_goes_on : (bs : List ℕ) → 1 < utf8_invalid_len bs → IsInRange 0x80 0xBF (get_or bs 1 0)
@@ -143,17 +143,17 @@ invalid-shown : (dots : Bool) (invalid rest : List ℕ) → length invalid ≡ u
     → StartsWithNoChar (invalid ++ rest) → bytes_shown dots (invalid ++ rest) ≡ flat_map escaped_byte invalid ++ bytes_shown dots rest
 invalid-shown dots [] rest size none = refl
 invalid-shown dots (b ∷ run) rest size none =
-    byte-shown dots b (run ++ rest) none ∙ ap (λ text. escaped_byte b ++ text) (run-shown dots run rest on)
+    byte_shown dots b (run ++ rest) none ∙ ap (λ text. escaped_byte b ++ text) (run-shown dots run rest on)
   where
     on : (k : ℕ) → k < length run → IsInRange 0x80 0xBF (get_or (run ++ rest) k 0)
     on zero below = second_goes_on (b ∷ run ++ rest) (omega (arith, size))
     on (suc zero) below = third_goes_on (b ∷ run ++ rest) (omega (arith, size))
     on (suc (suc k)) below = absurd (omega (arith, size, invalid_few (b ∷ run ++ rest)))
 
-pub chunk-shown : (dots : Bool) (bs valid invalid rest : List ℕ) → IsUtf8 valid → bs ≡ valid ++ (invalid ++ rest)
+pub chunk_shown : (dots : Bool) (bs valid invalid rest : List ℕ) → IsUtf8 valid → bs ≡ valid ++ (invalid ++ rest)
     → length valid ≡ utf8_valid_len bs → length invalid ≡ utf8_invalid_len (drop (utf8_valid_len bs) bs)
     → bytes_shown dots bs ≡ flat_map (scalar_text dots) (chars valid) ++ (flat_map escaped_byte invalid ++ bytes_shown dots rest)
-chunk-shown dots bs valid invalid rest text whole size after_size =
+chunk_shown dots bs valid invalid rest text whole size after_size =
     let more : List ℕ = invalid ++ rest in
     let after : drop (utf8_valid_len bs) bs ≡ more = ap (drop (utf8_valid_len bs)) whole ∙ drop_at valid more (utf8_valid_len bs) size in
     let none : StartsWithNoChar more = λ c r is same.
@@ -166,3 +166,7 @@ chunk-shown dots bs valid invalid rest text whole size after_size =
     ap (bytes_shown dots) whole ∙ ap (λ t. bytes_shown dots (t ++ more)) (sym text.1.1) ∙ text-shown dots text.0 more text.1.0
     ∙ ap (λ cs. flat_map (scalar_text dots) cs ++ bytes_shown dots more) (chars_from_encodes text.0 valid text text.1.1)
     ∙ ap (λ t. flat_map (scalar_text dots) (chars valid) ++ t) (invalid-shown dots invalid rest (rw after at after_size) none)
+
+-- WHAT FUNCTIONS ARE PROVED BY
+
+pub ruleset pieces_shown = (byte_shown, scalar_shown, shown_none)

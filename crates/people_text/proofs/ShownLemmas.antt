@@ -4,7 +4,7 @@ use Rattle.std.proofs.Common.{◌&&◌, ◌||◌, nat_le, nat_lt, List, [], ◌�
 use Rattle.std.proofs.lemmas.{Bool.{cond_both}, Bool.Decides.{nat_tests}, Str.{IsUtf8-append, IsUtf8-encode, IsUtf8-nil, encode_ascii}}
 use Rattle.std.specs.{Char.{IsScalar, encode_utf8}, List.{flat_map, list_any, prefix_len}, Str.{IsUtf8}}
 use Rattle.people_text.specs.Shown.{bytes_shown, hidden_ranges, is_hidden, is_marked, is_plain_byte, scalar_text}
-use Rattle.people_text.proofs.ScalarLemmas.{scalar-shown}
+use Rattle.people_text.proofs.ScalarLemmas.{scalar_shown}
 
 -- ---- printing ASCII is not hidden
 
@@ -31,9 +31,9 @@ in_ranges-apart [] c is low high = refl
 in_ranges-apart (range ∷ ranges) c is low high =
     grind (arith, others_apart, apart, one_apart, in_ranges-apart ranges c (others_apart _ (apart ranges) is) low high)
 
-pub ascii-shown : (c : ℕ) → 32 ≤ c → c < 127 → is_hidden c ≡ false
+pub ascii_shown : (c : ℕ) → 32 ≤ c → c < 127 → is_hidden c ≡ false
 unfolding is_hidden apart hidden_ranges
-ascii-shown c low high = in_ranges-apart hidden_ranges c refl low high
+ascii_shown c low high = in_ranges-apart hidden_ranges c refl low high
 
 -- ---- labels, one after another
 
@@ -42,10 +42,10 @@ abbrev pub further : List (List ℕ) → List ℕ
 further labels = flat_map (λ label. 46 ∷ bytes_shown true label) labels
 
 -- one label more, after its dot
-pub label-moved : (old dotted new label whole : List ℕ) (labels : List (List ℕ)) → old ++ further labels ≡ whole
+pub label_moved : (old dotted new label whole : List ℕ) (labels : List (List ℕ)) → old ++ further labels ≡ whole
     → (after : List (List ℕ)) → labels ≡ label ∷ after → dotted ≡ old ++ 46 ∷ [] → new ≡ dotted ++ bytes_shown true label
     → new ++ further after ≡ whole
-label-moved old dotted new label whole labels at after first dot more = grind (arith, append_assoc)
+label_moved old dotted new label whole labels at after first dot more = grind (arith, append_assoc)
 
 -- ---- plain ASCII
 
@@ -58,10 +58,10 @@ plain-more dots b rest plain =
     let high : b < 127 = grind (arith, nat_tests) in
     let unmarked : is_marked dots b ≡ false = grind (arith, nat_tests) in
     let ascii = encode_ascii b (omega arith) in
-    let text : scalar_text dots b ≡ b ∷ [] = rw (ascii-shown b low high, unmarked) ascii in (
+    let text : scalar_text dots b ≡ b ∷ [] = rw (ascii_shown b low high, unmarked) ascii in (
       ascii,
       scalar,
-      ap (λ bytes. bytes_shown dots (bytes ++ rest)) (sym ascii) ∙ scalar-shown dots b rest scalar
+      ap (λ bytes. bytes_shown dots (bytes ++ rest)) (sym ascii) ∙ scalar_shown dots b rest scalar
           ∙ ap (λ bytes. bytes ++ bytes_shown dots rest) text,
     )
 

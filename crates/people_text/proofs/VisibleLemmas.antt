@@ -9,7 +9,7 @@ use Rattle.std.specs.{Str.{IsUtf8, NoCharPasses, NonePass, all_scalars, chars, e
 use Rattle.dns_name.specs.Name.{labels_of, pieces_of}
 use Rattle.people_text.specs.Shown.{AreBytes, IsPrinted, IsVisible, IsVisibleText, bytes_shown, escaped_byte}
 use Rattle.people_text.specs.Shown.{dotted, hidden_ranges, is_hidden, is_marked, name_shown, scalar_text, text_after}
-use Rattle.people_text.proofs.{ScalarLemmas.{first-char, first-scalar, scalar-shown}, ShownLemmas.{ascii-shown, further}}
+use Rattle.people_text.proofs.{ScalarLemmas.{first-char, first-scalar, scalar_shown}, ShownLemmas.{ascii_shown, further}}
 
 -- ---- texts that are appended
 
@@ -25,7 +25,7 @@ text-ascii c low high =
     let scalar : IsScalar c = grind (arith, nat_tests) in
     record {
       scalars = c ∷ [];
-      visible = All-cons IsVisible c [] (scalar, ascii-shown c low high) (All-nil IsVisible);
+      visible = All-cons IsVisible c [] (scalar, ascii_shown c low high) (All-nil IsVisible);
       encoded = ap (λ text. text ++ []) (encode_ascii c (omega arith));
     }
 
@@ -86,9 +86,9 @@ after-visible dots zero (b ∷ bytes) are =
     (after-visible dots (len_utf8 scalar - 1) bytes more))
 after-visible dots (suc taken) (b ∷ bytes) are = after-visible dots taken bytes (All-tail (λ byte. byte < 256) b bytes are)
 
-pub shown-visible : (dots : Bool) (bytes : List ℕ) → AreBytes bytes → IsVisibleText (bytes_shown dots bytes)
+pub shown_visible : (dots : Bool) (bytes : List ℕ) → AreBytes bytes → IsVisibleText (bytes_shown dots bytes)
 unfolding bytes_shown
-shown-visible dots bytes are = after-visible dots 0 bytes are
+shown_visible dots bytes are = after-visible dots 0 bytes are
 
 -- ---- names
 
@@ -113,17 +113,17 @@ unfolding AreLabelBytes
 further-visible [] are = text-nil
 further-visible (label ∷ labels) are =
     text-append (46 ∷ bytes_shown true label) (further labels)
-    (text-append (46 ∷ []) (bytes_shown true label) (text-ascii 46 (omega arith) (omega arith)) (shown-visible true label are.0))
+    (text-append (46 ∷ []) (bytes_shown true label) (text-ascii 46 (omega arith) (omega arith)) (shown_visible true label are.0))
     (further-visible labels are.1)
 
 labels-visible : (labels : List (List ℕ)) → AreLabelBytes labels → IsVisibleText (dotted (bytes_shown true) labels)
 unfolding AreLabelBytes
 labels-visible [] are = text-ascii 46 (omega arith) (omega arith)
 labels-visible (label ∷ labels) are =
-    text-append (bytes_shown true label) (further labels) (shown-visible true label are.0) (further-visible labels are.1)
+    text-append (bytes_shown true label) (further labels) (shown_visible true label are.0) (further-visible labels are.1)
 
-pub name-visible : (name : List ℕ) → AreBytes name → IsVisibleText (name_shown name)
-name-visible name are = labels-visible (labels_of name) (pieces-bytes 0 name are).1
+pub name_visible : (name : List ℕ) → AreBytes name → IsVisibleText (name_shown name)
+name_visible name are = labels-visible (labels_of name) (pieces-bytes 0 name are).1
 
 -- ---- plain text is shown as it is
 
@@ -135,10 +135,10 @@ plain-text : (c : ℕ) → IsPlain c → scalar_text false c ≡ encode_utf8 c
 unfolding scalar_text
 plain-text c plain = grind (arith, nat_tests)
 
-pub plain-shown : (cs : List ℕ) → All IsPlain cs → bytes_shown false (encode_utf8_all cs) ≡ encode_utf8_all cs
+pub plain_shown : (cs : List ℕ) → All IsPlain cs → bytes_shown false (encode_utf8_all cs) ≡ encode_utf8_all cs
 unfolding bytes_shown
-plain-shown [] are = refl
-plain-shown (c ∷ cs) are = grind (arith, All-head, scalar-shown, plain-text, All-tail, plain-shown cs (All-tail IsPlain c cs are))
+plain_shown [] are = refl
+plain_shown (c ∷ cs) are = grind (arith, All-head, scalar_shown, plain-text, All-tail, plain_shown cs (All-tail IsPlain c cs are))
 
 -- ---- what visible text has
 
@@ -146,8 +146,8 @@ scalars-all : (cs : List ℕ) → All IsVisible cs → all_scalars cs ≡ true
 scalars-all [] are = refl
 scalars-all (c ∷ cs) are = rw ((All-head IsVisible c cs are).0, scalars-all cs (All-tail IsVisible c cs are)) refl
 
-pub visible-utf8 : (text : List ℕ) → IsVisibleText text → IsUtf8 text
-visible-utf8 text is = (is.scalars, (scalars-all is.scalars is.visible, is.encoded))
+pub visible_utf8 : (text : List ℕ) → IsVisibleText text → IsUtf8 text
+visible_utf8 text is = (is.scalars, (scalars-all is.scalars is.visible, is.encoded))
 
 or_false : (a b : Bool) → (a || b) ≡ false → (a ≡ false) × (b ≡ false)
 or_false true b is = cc
@@ -162,11 +162,15 @@ none-hidden [] are = tt
 none-hidden (c ∷ cs) are = ((All-head IsVisible c cs are).1, none-hidden cs (All-tail IsVisible c cs are))
 
 -- a byte below 128 is a scalar by itself
-pub visible-printed : (text : List ℕ) → IsVisibleText text → All IsPrinted text
-visible-printed text is =
+pub visible_printed : (text : List ℕ) → IsVisibleText text → All IsPrinted text
+visible_printed text is =
     let none : NoCharPasses is_hidden text = (is.scalars, is.encoded, none-hidden is.scalars is.visible) in
     All-from_get_or IsPrinted text 0
     (λ i within. elim (cases_lt (get_or text i 0) 128) as (λ _. IsPrinted (get_or text i 0)) [
       | inl low ↦ no_control (get_or text i 0) (NoCharPasses-byte is_hidden text i none within low)
       | inr high ↦ (omega arith, λ same. omega arith)
     ])
+
+-- WHAT FUNCTIONS ARE PROVED BY
+
+pub ruleset texts_visible = (name_visible, plain_shown, shown_visible, visible_printed, visible_utf8)

@@ -12,6 +12,7 @@ pub(crate) struct Date {
 }
 
 /// Returns the days before a day, from the first day of the year 0 on. `None` where the calendar doesn't have the day.
+#[tactic(auto, unfolding(crate::specs::Calendar::day_number))]
 pub fn day_number(year: u32, month: u32, day: u32) -> Option<u32>
     requires small { year < 10000 }
     ensures value { result ≡ day_number year month day }
@@ -25,6 +26,7 @@ pub fn day_number(year: u32, month: u32, day: u32) -> Option<u32>
 }
 
 /// Returns the date that has so many days before it, from the first day of the year 0 on.
+#[tactic(auto, using(crate::proofs::CalendarLemmas::months_year, crate::proofs::CalendarLemmas::years_more))]
 pub(crate) fn date_of(days: u32) -> Date
     requires low { 2 ≤ days }
     requires high { days < 1_000_000 }
@@ -36,6 +38,7 @@ pub(crate) fn date_of(days: u32) -> Date
 }
 
 // Returns the year that a day is in.
+#[tactic(auto, using(crate::proofs::CalendarLemmas::estimates))]
 fn year_of(days: u32) -> u32
     requires low { 2 ≤ days }
     requires high { days < 1_000_000 }
@@ -53,6 +56,7 @@ fn year_of(days: u32) -> u32
 }
 
 // Returns the date of a day of a year.
+#[tactic(auto, using(crate::proofs::CalendarLemmas::months))]
 fn month_and_day(year: u32, day_of_year: u32) -> Date
     requires within { day_of_year < days_of_months year 12 }
     ensures date { IsDate (days_of_years year + day_of_year) result.year result.month result.day }
@@ -72,6 +76,7 @@ fn month_and_day(year: u32, day_of_year: u32) -> Date
 }
 
 // Returns the days of so many years, from the year 0 on.
+#[tactic(auto, using(crate::proofs::CalendarLemmas::days_of_years_closed))]
 fn days_of_years(count: u32) -> u32
     requires small { count < 10000 }
     ensures value { result ≡ days_of_years count }
@@ -81,6 +86,7 @@ fn days_of_years(count: u32) -> u32
 }
 
 // Returns the days of a year before a month.
+#[tactic(auto, using(crate::proofs::CalendarLemmas::months_more, crate::proofs::CalendarLemmas::months_none))]
 fn days_before_month(year: u32, month: u32) -> u32
     requires low { 1 ≤ month }
     requires high { month ≤ 12 }

@@ -48,7 +48,7 @@ static HIDDEN: [(u32, u32); 39] = [
 ];
 
 /// Checks that a scalar is hidden.
-#[tactic(auto, unfolding(crate::specs::Shown::is_hidden, crate::specs::Shown::hidden_ranges))]
+#[tactic(auto, using(crate::proofs::ShownLemmas::ascii_shown), unfolding(crate::specs::Shown::is_hidden, crate::specs::Shown::hidden_ranges))]
 pub(crate) fn is_hidden(scalar: u32) -> bool
     ensures { result ≡ is_hidden scalar }
 {

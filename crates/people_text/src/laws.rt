@@ -7,6 +7,7 @@ ghost use Rattle.people_text.specs.Shown.{bytes_shown, escaped_byte, is_hidden, 
 ghost use Rattle.people_text.specs.Shown.{IsPrinted, IsVisible, IsVisibleText};
 
 /// Bytes are shown from left to right: a scalar where its UTF-8 begins them, and else their first byte as `\DDD`.
+#[tactic(auto, using(crate::proofs::ScalarLemmas::pieces_shown))]
 pub fn shown_bytes()
     ensures scalar { (dots : Bool) (scalar : ℕ) (rest : List ℕ) → IsScalar scalar
         → bytes_shown dots (encode_utf8 scalar ++ rest) ≡ scalar_text dots scalar ++ bytes_shown dots rest }
@@ -17,6 +18,7 @@ pub fn shown_bytes()
 
 /// Shown bytes and names are well-formed UTF-8 without a hidden scalar, so without controls and bidirectional marks. Text
 /// that has no hidden scalar and no `\` is shown as it is.
+#[tactic(auto, using(crate::proofs::VisibleLemmas::texts_visible))]
 pub fn shown_text()
     ensures bytes { (bytes : List ℕ) → AreBytes bytes → IsVisibleText (shown bytes) }
     ensures name { (name : List ℕ) → AreBytes name → IsVisibleText (name_shown name) }
@@ -27,6 +29,7 @@ pub fn shown_text()
 {}
 
 /// Every noncharacter is hidden.
+#[tactic(auto, using(crate::proofs::NoncharacterLemmas::noncharacter_hidden))]
 pub fn noncharacters()
     ensures { (code : ℕ) → IsNoncharacter code → is_hidden code ≡ true }
 {}

@@ -123,6 +123,7 @@ fn push_to_second(to: &mut String, nanos: u64) -> Result<(), Want>
 }
 
 // Returns the days from the first day of the year 0 to the day of a moment.
+#[tactic(auto, using(crate::proofs::CalendarLemmas::days_of_years_1970))]
 fn day_of(nanos: u64) -> u32
     ensures days { result ≡ days_to nanos }
     ensures low { 2 ≤ result }
