@@ -1,6 +1,6 @@
 -- Lemmas on what the subcommands of `mdnsmerge` ask for.
 use Rattle.std.proofs.Common.{◌≡◌, ◌∙◌, ◌⊎◌, ap, ap₂, sym, subst, subst₂, refl, inl, inr, codes, false, map, string_bytes}
-use Rattle.std.proofs.Common.{List, Option, Some, None}
+use Rattle.std.proofs.Common.{Bool, List, Option, Some, None, true}
 use Rattle.clap.specs.Words.{Row, Text, all_of}
 use Rattle.mdns_lives.specs.declared.window.Window.{Window}
 use Rattle.mdns_browse.specs.declared.report.{Ask.{Ask}, Form.{Form}}

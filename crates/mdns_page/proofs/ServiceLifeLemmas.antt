@@ -1,5 +1,5 @@
 -- The lives of service instances, by the hearings of the readers listened to.
-use Rattle.std.proofs.Common.{◌≡◌, refl, subst, ℕ, ◌≤◌, List, ◌++◌, Option, Some, map}
+use Rattle.std.proofs.Common.{◌≡◌, subst, ℕ, ◌≤◌, List, ◌++◌, Option}
 use Rattle.std.specs.Prelude.{Contains}
 use Rattle.mdns_capture.specs.{declared.moment.Moment.{Moment}, Savefile.{PacketAt}}
 use Rattle.mdns_message.specs.declared.hearing.Hearing.{Hearing}

@@ -6,7 +6,7 @@ use Rattle.mdns_message.specs.{declared.{hearing.Hearing.{Hearing}, parts.Servic
 use Rattle.mdns_join.specs.declared.latest.Latest.{Latest}
 use Rattle.mdns_lives.specs.{Chronicle.{AreAllLives}, Window.{meets}, declared.life.Life.{Life}, declared.window.Window.{Window}}
 use Rattle.mdns_browse.specs.{Services.{body_of, instance_given}, ServiceLifeText.{ServiceLife, service_lives_text}}
-use Rattle.mdns_survey.specs.declared.{request.AsOf.{AsOf}, summary.Summary.{Summary}}
+use Rattle.mdns_survey.specs.declared.{summary.Summary.{Summary}}
 use Rattle.mdns_survey.specs.{Filter.{counted, filter_of}, Head.{IsHead}, LivesAnswer.{captures_begin, captures_end}}
 use Rattle.mdns_survey.specs.{Outcomes.{AllRead, Outcome}, Question.{Asked, asked_at_once}, Readings.{all_moments}}
 use Rattle.mdns_page.specs.declared.{kept_records.TimelinePart.TheVariants.{Instances}, service_lives.ServiceLivesRequest.{ServiceLivesRequest}}

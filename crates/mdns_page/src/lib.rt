@@ -1,6 +1,7 @@
 //! A page about the service instances of captures, for people: one HTML file that shows in pictures and in words when each
 //! was live, and each address of a host and each name that isn't one label and its type, by the records that several
-//! listeners heard. After `Want` the contents of a text that was appended to are not specified.
+//! listeners heard; and the lives of the instances that have a row there, as lines (`service_lives`). After `Want` the
+//! contents of a text that was appended to are not specified.
 #![tactic(auto)]
 
 mod about_heard;

@@ -1,10 +1,10 @@
-use Rattle.std.proofs.Common.{◌≡◌, ◌∙◌, List, ap, map, string_bytes, subst, sym}
+use Rattle.std.proofs.Common.{◌≡◌, ◌∙◌, List, ap, map, subst, sym}
 use Rattle.std.specs.{List.{filter}, List.Sorted.{IsStrictlySortedBy}}
 use Rattle.mdns_message.specs.Resource.{key_cmp}
 use Rattle.mdns_cache.specs.{Live.{key_of_last}, LentRecords.{last_lent}}
 use Rattle.mdns_join.specs.declared.latest.Latest.{Latest}
 use Rattle.mdns_lives.specs.{LentLives.{row_lent}, declared.life.Life.{Life}}
-use Rattle.mdns_browse.specs.{ServiceLifeText.{ServiceLife, service_life_lent, service_lives_text}, declared.about.Subject.{Subject}}
+use Rattle.mdns_browse.specs.{ServiceLifeText.{service_life_lent, service_lives_text}, declared.about.Subject.{Subject}}
 use Rattle.mdns_page.specs.{KeptRecords.{is_kept, kept_of, looked_up}, ServiceLives.{service_lives}}
 use Rattle.mdns_page.proofs.KeptLemmas.{looked_up-sorted, some-sorted}
 use Rattle.mdns_page.proofs.service_lives.text_of.Goals as goal
