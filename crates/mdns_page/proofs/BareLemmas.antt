@@ -21,7 +21,7 @@ use Rattle.mdns_page.specs.{Lead.{about_line, ending_warning, pair_warning}, Pic
 use Rattle.mdns_page.specs.{LiveSection.{live_row, live_text, server_html, text_html}, Document.{Shown, head, page}}
 use Rattle.mdns_page.specs.Timeline.{Row, content_name, count_last, group_text, is_open, lives_in, owner_of, row_text, timeline}
 use Rattle.mdns_page.specs.declared.kept_records.{TimelinePart.{TimelinePart}, TimelinePart.TheVariants.{Addresses, Instances, Names}}
-use Rattle.mdns_page.proofs.{GroupLemmas.{grouped-all}, LiveWordLemmas.{some-items}}
+use Rattle.mdns_page.proofs.{GroupLemmas.{grouped_all}, LiveWordLemmas.{some-items}}
 use Rattle.mdns_page.proofs.SameLists.{append-same, count-same, flat_map-alike, flat_map-same, groups-same, length-same}
 
 -- ---- captures
@@ -124,7 +124,7 @@ lives-same : (row other : Row) → bare_row row ≡ bare_row other → lives_in 
 lives-same row other same = ap (λ (bare : BareRow). bare.1 ++ flat_map (λ (lives : List Life). lives) bare.2) same
 
 rows-same : (rows drawn : List Row) → bare_groups rows ≡ bare_groups drawn → map bare_row rows ≡ map bare_row drawn
-rows-same rows drawn same = grind (arith, grouped-all owner_of rows, groups-same, grouped-all owner_of drawn)
+rows-same rows drawn same = grind (arith, grouped_all owner_of rows, groups-same, grouped_all owner_of drawn)
 
 -- ---- the timeline
 

@@ -100,3 +100,9 @@ pub gathers-more : (begun old new : Option MessageCollector) (was heard_by now :
     → GathersIf begun new (packets ++ next ∷ []) (outcomes ++ come ∷ [])
 gathers-more None old new was heard_by now packets outcomes next come before after took goes_on gathers = grind arith
 gathers-more (Some begun) old new was heard_by now packets outcomes next come before after took goes_on gathers = grind arith
+
+-- WHAT FUNCTIONS ARE PROVED BY
+
+pub ruleset for_compared_by = (compared-by)
+
+pub ruleset for_collector = (gathered-now, gathers-nothing, ok-and)

@@ -74,3 +74,7 @@ without (digit ∷ digits) are = grind (arith, digit_from_value, digit-stays, no
 pub commas-decimal : (number : ℕ) → number < 2 ^ 128 → filter (λ byte. not (byte == 44)) (commas number) ≡ decimal number
 unfolding commas
 commas-decimal number high = without (decimal number) (decimal_is_IsNumeral_wide number (omega (arith, high))).0.1
+
+-- WHAT FUNCTIONS ARE PROVED BY
+
+pub ruleset for_counts = (commas-decimal, commas-few, commas-more)

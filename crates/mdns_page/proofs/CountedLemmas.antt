@@ -9,6 +9,7 @@ use Rattle.mdns_lives.specs.{declared.life.Life.{Life}, declared.seconds_heard.S
 use Rattle.mdns_lives.specs.Heard.{AreSecondsHeard}
 use Rattle.mdns_browse.specs.Services.{AreEach}
 use Rattle.mdns_page.specs.{TimelineRows.{AreShownBy}, Timeline.{Row, counted_lent}, declared.timeline_rows.CountedRow.{CountedRow}}
+use Rattle.std.proofs.lemmas.List.{append-nil}
 
 -- ---- one capture after another
 
@@ -78,3 +79,7 @@ row-more Is rows row more pushed all is =
     All-same Is (map counted_lent more) (map counted_lent rows ++ counted_lent row ∷ [])
     (ap (map counted_lent) pushed ∙ map-append counted_lent rows (row ∷ []))
     (All-append Is (map counted_lent rows) (counted_lent row ∷ []) all (All-cons Is (counted_lent row) [] is (All-nil Is)))
+
+-- WHAT FUNCTIONS ARE PROVED BY
+
+pub ruleset for_begun_rows = (record_in, row-more, append-nil, map-append)

@@ -102,10 +102,10 @@ module _ {R : Type 0} (owner : R → List ℕ) where
   with-all row ((other ∷ others) ∷ groups) = with-all_by row other others groups (same_text (owner row) (owner other))
 
   -- all rows are there, in their order
-  pub grouped-all : (rows : List R) → flat_map (λ (group : List R). group) (grouped owner rows) ≡ rows
+  pub grouped_all : (rows : List R) → flat_map (λ (group : List R). group) (grouped owner rows) ≡ rows
   unfolding grouped
-  grouped-all [] = refl
-  grouped-all (row ∷ rows) = with-all row (grouped owner rows) ∙ ap (λ rest. row ∷ rest) (grouped-all rows)
+  grouped_all [] = refl
+  grouped_all (row ∷ rows) = with-all row (grouped owner rows) ∙ ap (λ rest. row ∷ rest) (grouped_all rows)
 
   with-types_by : (row other : R) (others : List R) (groups : List (List R)) (same : Bool)
       → same_text (owner row) (owner other) ≡ same → AreGroups owner ((other ∷ others) ∷ groups)
@@ -119,7 +119,11 @@ module _ {R : Type 0} (owner : R → List ℕ) where
   with-types row ((other ∷ others) ∷ groups) rest = grind (arith, with-types_by)
 
   -- each group is of one type
-  pub grouped-types : (rows : List R) → AreGroups owner (grouped owner rows)
+  pub grouped_types : (rows : List R) → AreGroups owner (grouped owner rows)
   unfolding grouped
-  grouped-types [] = tt
-  grouped-types (row ∷ rows) = with-types row (grouped owner rows) (grouped-types rows)
+  grouped_types [] = tt
+  grouped_types (row ∷ rows) = with-types row (grouped owner rows) (grouped_types rows)
+
+-- WHAT FUNCTIONS ARE PROVED BY
+
+pub ruleset for_following_len = (following-all, following-end, following-more)

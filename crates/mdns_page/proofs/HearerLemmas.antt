@@ -19,6 +19,7 @@ use Rattle.mdns_page.specs.TimelineRows.{AreShownBy, HearsCapture, HearsRecord, 
 use Rattle.mdns_page.specs.{Timeline.{Row, counted_lent}, declared.timeline_rows.CountedRow.{CountedRow}}
 use Rattle.mdns_page.proofs.{CountedLemmas.{each-last, each-more, record_in, shown-more}, KeptLemmas.{sorted-filter}}
 use Rattle.mdns_page.proofs.LiveLemmas.{each-count}
+use Rattle.std.proofs.lemmas.List.{set-set}
 
 -- ---- lists that belong together
 
@@ -360,3 +361,13 @@ all-many chronicles old new many far each are all =
     all-weaker (IsSoFar (length each) each) (IsCounted each) (counted-many each is) new
     (far each (length each) are
     (all-weaker (IsBegun each) (IsSoFar (length each) []) (begun-many each is) old all))
+
+-- WHAT FUNCTIONS ARE PROVED BY
+
+pub ruleset for_add_capture = (keys-kept, up_to-end, up_to-more, up_to-start)
+
+pub ruleset for_add_hearers = (all-few, all-many, keys-kept, row_key, so_far-more, so_far-start)
+
+pub ruleset for_add_record = (found-hears, searchable, unfound, unheard-set, set-set)
+
+pub ruleset for_counted_rows = (all-kept, records-kept, rows-sorted)

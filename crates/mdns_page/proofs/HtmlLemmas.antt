@@ -5,15 +5,16 @@ use Rattle.std.proofs.{Common.{append_assoc}, lemmas.{Bool.Decides.{nat_tests}, 
 use Rattle.std.proofs.lemmas.{List.{get_or-drop, length-drop, take-append-drop, take_more}, List.Elements.{All-append, All-cons, All-nil}}
 use Rattle.std.specs.{Bool.{IsTrue}, List.{All}, Str.{IsCharBoundary, IsUtf8}}
 use Rattle.mdns_page.specs.Html.{html_byte, html_text, is_marked, references, BeginsReference, IsHarmless}
+use Rattle.std.proofs.lemmas.List.{append-nil}
 
 pub html_text-append : (xs ys : List ℕ) → html_text (xs ++ ys) ≡ html_text xs ++ html_text ys
 unfolding html_text
 html_text-append xs ys = flat_map-append html_byte xs ys
 
-pub html_text-nil : (bytes : List ℕ) → length bytes ≡ 0 → html_text bytes ≡ []
+pub html_text_nil : (bytes : List ℕ) → length bytes ≡ 0 → html_text bytes ≡ []
 unfolding html_text
-html_text-nil [] none = refl
-html_text-nil (b ∷ bytes) none = absurd (omega arith)
+html_text_nil [] none = refl
+html_text_nil (b ∷ bytes) none = absurd (omega arith)
 
 html_text-one : (b : ℕ) → is_marked b ≡ false → html_text (b ∷ []) ≡ b ∷ []
 unfolding html_text
@@ -22,9 +23,9 @@ html_text-one b is = grind (arith, nat_tests)
 -- ---- a run of plain bytes
 
 -- one plain byte more
-pub plain-more : (bytes : List ℕ) (i : ℕ) → i < length bytes → is_marked (get_or bytes i 0) ≡ false
+pub plain_more : (bytes : List ℕ) (i : ℕ) → i < length bytes → is_marked (get_or bytes i 0) ≡ false
     → html_text (take i bytes) ≡ take i bytes → html_text (take (i + 1) bytes) ≡ take (i + 1) bytes
-plain-more bytes i within is before = grind (arith, take_more bytes i 0 within, html_text-append, html_text-one (get_or bytes i 0) is)
+plain_more bytes i within is before = grind (arith, take_more bytes i 0 within, html_text-append, html_text-one (get_or bytes i 0) is)
 
 -- what is left to write after a run of plain bytes
 pub run-plain : (old mid text bytes plain rest : List ℕ) (len : ℕ) → mid ≡ old ++ plain → bytes ≡ text
@@ -84,10 +85,10 @@ harmless-byte : (b : ℕ) → All IsHarmless (html_byte b)
 unfolding are_harmless
 harmless-byte b = grind (arith, harmless-all)
 
-pub harmless-text : (text : List ℕ) → All IsHarmless (html_text text)
+pub harmless_text : (text : List ℕ) → All IsHarmless (html_text text)
 unfolding html_text
-harmless-text [] = All-nil IsHarmless
-harmless-text (b ∷ text) = All-append IsHarmless (html_byte b) (html_text text) (harmless-byte b) (harmless-text text)
+harmless_text [] = All-nil IsHarmless
+harmless_text (b ∷ text) = All-append IsHarmless (html_byte b) (html_text text) (harmless-byte b) (harmless_text text)
 
 -- each `&` of the bytes begins a reference
 abbrev Refer : List ℕ → Type 0
@@ -135,5 +136,11 @@ refer-at [] k all at = absurd (omega arith)
 refer-at (b ∷ bytes) zero all at = all.0 at
 refer-at (b ∷ bytes) (suc k) all at = refer-at bytes k all.1 at
 
-pub references-text : (text : List ℕ) (k : ℕ) → get_or (html_text text) k 0 ≡ 38 → BeginsReference (drop k (html_text text))
-references-text text k at = refer-at (html_text text) k (refer-text text) at
+pub references_text : (text : List ℕ) (k : ℕ) → get_or (html_text text) k 0 ≡ 38 → BeginsReference (drop k (html_text text))
+references_text text k at = refer-at (html_text text) k (refer-text text) at
+
+-- WHAT FUNCTIONS ARE PROVED BY
+
+pub ruleset for_push_html = (html_text_nil, append-nil)
+
+pub ruleset for_push_run = (cut-after, run-marked, run-plain)

@@ -11,12 +11,14 @@ use Rattle.mdns_cache.specs.Live.{key_of_last}
 use Rattle.mdns_lives.specs.{Chronicle.{AreAllLives}, declared.life.Life.{Life}}
 use Rattle.mdns_browse.specs.{declared.about.Subject.{Subject}, Services.{name_if}}
 use Rattle.mdns_page.specs.KeptRecords.{looked_up}
+use Rattle.std.proofs.lemmas.Result.{IfOk-weaker}
+use Rattle.std.proofs.lemmas.List.{length-map}
 
 -- ---- names that a record gives
 
-pub some-mapped : {X Y : Type 0} (f : X → Y) (x : Option X) (y : Option Y) → option_map f x ≡ y → is_some x ≡ is_some y
-some-mapped f None y same = ap is_some same
-some-mapped f (Some x) y same = ap is_some same
+pub some_mapped : {X Y : Type 0} (f : X → Y) (x : Option X) (y : Option Y) → option_map f x ≡ y → is_some x ≡ is_some y
+some_mapped f None y same = ap is_some same
+some_mapped f (Some x) y same = ap is_some same
 
 some-if : (b : Bool) (name : List ℕ) → b ≡ is_some (if b then Some name else None)
 some-if true name = refl
@@ -33,19 +35,19 @@ module _ (test : List ℕ → Bool) (given : Option (List ℕ)) where
 
 module _ {X : Type 0} (keep : X → Bool) where
   -- of a walk
-  pub filtered-next : (all old new walk more : List X) (x : X) → walk ≡ x ∷ more → new ≡ old ++ filter keep (x ∷ [])
+  pub filtered_next : (all old new walk more : List X) (x : X) → walk ≡ x ∷ more → new ≡ old ++ filter keep (x ∷ [])
       → all ≡ old ++ filter keep walk → all ≡ new ++ filter keep more
-  filtered-next all old new walk more x first taken far = grind (arith, filter-append, append_assoc)
+  filtered_next all old new walk more x first taken far = grind (arith, filter-append, append_assoc)
 
 module _ {X Y : Type 0} (keep : Y → Bool) (f : X → Y) where
   -- which is kept, or isn't
-  pub filtered-taken : (x : X) (old new : List X) → true ≡ keep (f x) → new ≡ old ++ x ∷ []
+  pub filtered_taken : (x : X) (old new : List X) → true ≡ keep (f x) → new ≡ old ++ x ∷ []
       → map f new ≡ map f old ++ filter keep (f x ∷ [])
-  filtered-taken x old new is pushed =
+  filtered_taken x old new is pushed =
       ap (map f) pushed ∙ map-append f old (x ∷ []) ∙ ap (λ kept. map f old ++ cond kept (f x ∷ []) []) is
 
-  pub filtered-left : (x : X) (old : List X) → false ≡ keep (f x) → map f old ≡ map f old ++ filter keep (f x ∷ [])
-  filtered-left x old isnt = sym (append-nil (map f old)) ∙ ap (λ kept. map f old ++ cond kept (f x ∷ []) []) isnt
+  pub filtered_left : (x : X) (old : List X) → false ≡ keep (f x) → map f old ≡ map f old ++ filter keep (f x ∷ [])
+  filtered_left x old isnt = sym (append-nil (map f old)) ∙ ap (λ kept. map f old ++ cond kept (f x ∷ []) []) isnt
 
   -- of a list
   pub kept_more : (xs : List X) (i : ℕ) (x : X) (kept : List Y) → i < length xs → x ≡ get_or xs i x
@@ -108,3 +110,13 @@ module _ (heard : List Hearing) (rows : List (Latest × List Life)) (are : AreAl
   unfolding IsStrictlySortedBy
   looked_up-sorted [] = tt
   looked_up-sorted (subject ∷ about) = grind (arith, map-map)
+
+-- WHAT FUNCTIONS ARE PROVED BY
+
+pub ruleset for_is_drawn = (named, unnamed, IfOk-weaker)
+
+pub ruleset for_is_kept = (some_mapped, IfOk-weaker)
+
+pub ruleset for_live_of = (kept-all, kept_more, map-more, map-whole, map-append, map-map)
+
+pub ruleset for_begun_rows = (kept_more)

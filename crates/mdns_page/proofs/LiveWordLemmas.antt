@@ -71,9 +71,13 @@ module _ (say : List ℕ → List ℕ) where
 
 -- ---- an address
 
-pub address-lent : (b : BorrowedBody) → address_of b ≡ address_of (body_lent b)
-address-lent (body.A octets) = refl
-address-lent (body.Aaaa octets) = refl
-address-lent (body.Ptr target) = refl
-address-lent (body.Txt strings) = refl
-address-lent (body.Srv priority weight port target) = refl
+pub address_lent : (b : BorrowedBody) → address_of b ≡ address_of (body_lent b)
+address_lent (body.A octets) = refl
+address_lent (body.Aaaa octets) = refl
+address_lent (body.Ptr target) = refl
+address_lent (body.Txt strings) = refl
+address_lent (body.Srv priority weight port target) = refl
+
+-- WHAT FUNCTIONS ARE PROVED BY
+
+pub ruleset for_push_text = (lines-joined, none-paragraph, some-paragraph)

@@ -92,3 +92,11 @@ module _ {X : Type 0} (mark_of : X → Option Mark) (stroke : Stroke) (xs : List
       → now ++ path_rest stroke before (filter_map mark_of (drop i xs)) ≡ old ++ path_rest stroke None (filter_map mark_of xs)
       → new ≡ now ++ path_last before → new ≡ old ++ path_rest stroke None (filter_map mark_of xs)
   path-all before old now new past so_far written = grind (arith, rest-last, drop_all)
+
+-- WHAT FUNCTIONS ARE PROVED BY
+
+pub ruleset for_push_ticks_path = (path-all, path-more)
+
+pub ruleset for_push_next = (none_if, path-begins, path-goes_on, path-keeps, path-passed)
+
+pub ruleset for_push_path = (path-all, path-more)

@@ -26,3 +26,7 @@ lives-lent rows = sym (map-map (λ (row : Latest × List Life). row.1) row_lent 
 pub passing-lent : {R : Type 0} (lent : R → Latest × List Life) (rows found : List R) (passes : Latest × List Life → Bool)
     → filter (λ r. passes (lent r)) rows ≡ found → map lent found ≡ filter passes (map lent rows)
 passing-lent lent rows found passes is = ap (map lent) (sym is) ∙ sym (filter-map passes lent rows)
+
+-- WHAT FUNCTIONS ARE PROVED BY
+
+pub ruleset for_servers_of = (lives-lent)

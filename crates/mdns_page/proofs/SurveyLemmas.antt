@@ -70,3 +70,7 @@ module _ {Heard : List (List PacketAt) → List (List Outcome) → Type 0} (name
         writes = written (hearings_by groups (counted_each (filter_of as_of) hears.outcomes)) heard holds.captures all
             (none_later heard all);
       }
+
+-- WHAT FUNCTIONS ARE PROVED BY
+
+pub ruleset for_live_of = (live-ascending)

@@ -76,3 +76,7 @@ ticks-each axis n =
       multiple-in (first_step span steps * second) axis.start.nanos axis.end.nanos n some,
       λ (k, is, from, until). multiple-of (first_step span steps * second) axis.start.nanos axis.end.nanos n k some is from until,
     )
+
+-- WHAT FUNCTIONS ARE PROVED BY
+
+pub ruleset for_multiples = (multiples-all, multiples-more, multiples-none)

@@ -9,8 +9,8 @@ use Rattle.mdns_page.specs.{Timeline.{Row, lives_in}, BarTitles.{IsLess}}
 module _ {X : Type 0} (lives : X → List Life) (xs : List X) (i left count : ℕ) (x : X) (within : i < length xs) (at : x ≡ get_or xs i x)
     (counted : left + length (flat_map lives (take i xs)) ≡ count) where
   -- the next one has more lives than are left
-  pub lives-many : left < length (lives x) → count < length (flat_map lives xs)
-  lives-many more = grind (arith, length-flat_map-take)
+  pub lives_many : left < length (lives x) → count < length (flat_map lives xs)
+  lives_many more = grind (arith, length-flat_map-take)
 
 module _ {R : Type 0} (lent : R → Row) (rows : List R) (i left count : ℕ) (row : R) (within : i < length rows) (at : row ≡ get_or rows i row)
     (counted : left + length (flat_map lives_in (map lent (take i rows))) ≡ count) where
@@ -18,21 +18,21 @@ module _ {R : Type 0} (lent : R → Row) (rows : List R) (i left count : ℕ) (r
   counted-lent = ap (λ lives. left + length lives) (sym (flat_map-map lives_in lent (take i rows))) ∙ counted
 
   -- a row has more lives than are left of so many
-  pub too-many : left < length (lives_in (lent row)) → count < length (flat_map lives_in (map lent rows))
-  too-many more = grind (arith, flat_map-map, lives-many, counted-lent)
+  pub too_many : left < length (lives_in (lent row)) → count < length (flat_map lives_in (map lent rows))
+  too_many more = grind (arith, flat_map-map, lives_many, counted-lent)
 
 -- the lives of a row: its own, and those of its servers
-pub row-lives : {R : Type 0} (own : List Life) (lives : R → List Life) (servers : List R)
+pub row_lives : {R : Type 0} (own : List Life) (lives : R → List Life) (servers : List R)
     → length (own ++ flat_map (λ some. some) (map lives servers)) ≡ length own + length (flat_map lives servers)
-row-lives own lives servers = grind (arith, length-append, flat_map-map)
+row_lives own lives servers = grind (arith, length-append, flat_map-map)
 
 -- a count less the lives of a row, by parts
-pub less-parts : (count own more all : ℕ) (left : Option ℕ) → own ≤ count → all ≡ own + more → IsLess (count - own) more left
+pub less_parts : (count own more all : ℕ) (left : Option ℕ) → own ≤ count → all ≡ own + more → IsLess (count - own) more left
     → IsLess count all left
-less-parts count own more all None few parts is = omega (arith, few, parts, is)
-less-parts count own more all (Some rest) few parts is = omega (arith, few, parts, is)
+less_parts count own more all None few parts is = omega (arith, few, parts, is)
+less_parts count own more all (Some rest) few parts is = omega (arith, few, parts, is)
 
 -- all have few lives, if some count is left
-pub few-by : (n : ℕ) (left : Option ℕ) (is : Bool) → is ≡ is_some left → IsLess 1000 n left → is ≡ nat_le n 1000
-few-by n (Some rest) is same less = let counted : rest + n ≡ 1000 = less in same ∙ grind (arith, nat_tests, counted)
-few-by n None is same less = let more : 1000 < n = less in same ∙ grind (arith, nat_tests, more)
+pub few_by : (n : ℕ) (left : Option ℕ) (is : Bool) → is ≡ is_some left → IsLess 1000 n left → is ≡ nat_le n 1000
+few_by n (Some rest) is same less = let counted : rest + n ≡ 1000 = less in same ∙ grind (arith, nat_tests, counted)
+few_by n None is same less = let more : 1000 < n = less in same ∙ grind (arith, nat_tests, more)

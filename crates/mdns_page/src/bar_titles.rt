@@ -16,6 +16,7 @@ const TITLED_LIVES: usize = 1000;
 
 /// Checks that all rows together, those of instances, addresses and names, have so few lives, those of servers too, that each
 /// bar has a title.
+#[tactic(auto, using(crate::proofs::TitleLemmas::few_by))]
 pub(crate) fn are_titled(
     rows: &[CountedRow<'_>],
     addresses: &[CountedRow<'_>],
@@ -42,6 +43,7 @@ fn left_after_all(
 }
 
 // Subtracts the number of lives of some rows, if there are so many.
+#[tactic(auto, using(crate::proofs::TitleLemmas::too_many))]
 fn left_after(count: usize, rows: &[CountedRow<'_>]) -> Option<usize>
     ensures { IsLess count (length (flat_map lives_in (map counted_lent rows.now))) result }
 {
@@ -56,6 +58,7 @@ fn left_after(count: usize, rows: &[CountedRow<'_>]) -> Option<usize>
 }
 
 // Subtracts the number of lives of a row, if there are so many.
+#[tactic(auto, using(crate::proofs::TitleLemmas::less_parts, crate::proofs::TitleLemmas::row_lives))]
 fn less_row(count: usize, row: &CountedRow<'_>) -> Option<usize>
     ensures { IsLess count (length (lives_in (counted_lent row.now))) result }
 {
@@ -67,6 +70,7 @@ fn less_row(count: usize, row: &CountedRow<'_>) -> Option<usize>
 }
 
 // Subtracts the number of lives of some servers, if there are so many.
+#[tactic(auto, using(crate::proofs::TitleLemmas::lives_many))]
 fn less_servers(count: usize, servers: &[RecordLives<'_>]) -> Option<usize>
     ensures { IsLess count (length (flat_map lives_lent servers.now)) result }
 {
@@ -83,6 +87,7 @@ fn less_servers(count: usize, servers: &[RecordLives<'_>]) -> Option<usize>
 
 /// Appends the title of a life's bar: from when until when, to the millisecond, how long that is, and why it ended,
 /// or that it goes on.
+#[tactic(auto, using(crate::proofs::PartLemmas::parts7), unfolding(crate::specs::BarTitles::life_title))]
 pub(crate) fn push_life_title(to: &mut String, goes_on: bool, life: &Life) -> Result<(), Want>
     ensures { OnOk result (string_bytes to.new ≡ string_bytes to.old ++ life_title goes_on life.now) }
 {

@@ -147,6 +147,7 @@ pub(crate) fn compared(
     }
 }
 
+#[tactic(auto, using(crate::proofs::ComparedLemmas::for_compared_by))]
 fn compared_by(
     alloc: Global,
     groups: &Groups,

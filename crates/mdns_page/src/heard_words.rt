@@ -107,7 +107,7 @@ fn push_each(to: &mut String, heard: &[Vec<SecondHeard>]) -> Result<(), Want>
     Ok(())
 }
 
-#[tactic(auto, unfolding(crate::specs::HeardWords::capture_times))]
+#[tactic(auto, using(std::proofs::lemmas::Result::on_ok_weaker, crate::proofs::PartLemmas::parts4), unfolding(crate::specs::HeardWords::capture_times))]
 fn push_capture_times(to: &mut String, index: usize, seconds: &[SecondHeard]) -> Result<(), Want>
     requires { index < 2 ^ 63 }
     ensures { OnOk result (string_bytes to.new ≡ string_bytes to.old ++ capture_times index seconds.now) }

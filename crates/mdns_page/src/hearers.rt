@@ -20,6 +20,7 @@ use std::alloc::Global;
 ///
 /// Each capture's records are taken once, and each is looked up among the rows: a look-up of each row in each capture would take
 /// time by both numbers.
+#[tactic(auto, using(std::proofs::lemmas::List::take_all, crate::proofs::HearerLemmas::for_add_hearers))]
 pub(crate) fn add_hearers<'a>(
     alloc: Global,
     rows: &mut Vec<CountedRow<'a>>,
@@ -53,6 +54,7 @@ fn keys_of<'a>(alloc: Global, rows: &[CountedRow<'a>]) -> Result<Vec<Key>, Want>
 }
 
 // Adds the seconds in which a capture heard the records of rows with these keys.
+#[tactic(auto, using(mdns_lives::proofs::SinceLemmas::none_left, crate::proofs::HearerLemmas::for_add_capture))]
 fn add_capture<'a>(
     alloc: Global,
     rows: &mut Vec<CountedRow<'a>>,
@@ -72,6 +74,7 @@ fn add_capture<'a>(
 }
 
 // Adds the seconds in which a capture heard a record, if one of the rows is of it.
+#[tactic(auto, using(crate::proofs::HearerLemmas::for_add_record))]
 fn add_record<'a>(
     alloc: Global,
     rows: &mut Vec<CountedRow<'a>>,

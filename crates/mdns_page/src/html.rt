@@ -17,6 +17,7 @@ pub(crate) fn push_isolated(to: &mut String, text: &str) -> Result<(), Want>
     Ok(())
 }
 
+#[tactic(auto, using(std::proofs::lemmas::Bool::Decides::nat_tests, crate::proofs::HtmlLemmas::for_push_html))]
 fn push_html(to: &mut String, text: &str) -> Result<(), Want>
     ensures { OnOk result (string_bytes to.new ≡ string_bytes to.old ++ html_text text.now) }
 {
@@ -28,6 +29,7 @@ fn push_html(to: &mut String, text: &str) -> Result<(), Want>
 }
 
 // Appends the characters before the first one that begins or ends markup, and its reference; returns the text after it.
+#[tactic(auto, using(std::proofs::lemmas::Bool::Decides::nat_tests, crate::proofs::HtmlLemmas::for_push_run))]
 fn push_run<'a>(to: &mut String, text: &'a str) -> Result<&'a str, Want>
     requires { 0 < length text.now }
     ensures text { IfOk result (λ rest. string_bytes to.new ++ html_text rest.now ≡ string_bytes to.old ++ html_text text.now) }
@@ -43,6 +45,7 @@ fn push_run<'a>(to: &mut String, text: &'a str) -> Result<&'a str, Want>
 }
 
 // Returns the number of bytes before the first one that begins or ends markup.
+#[tactic(auto, using(crate::proofs::HtmlLemmas::html_text_nil, crate::proofs::HtmlLemmas::plain_more))]
 fn plain_len(bytes: &[u8]) -> usize
     ensures within { result ≤ length bytes.now }
     ensures plain { html_text (take result bytes.now) ≡ take result bytes.now }

@@ -28,6 +28,7 @@ pub(crate) enum TimelinePart {
 }
 
 /// Collects the records that a page keeps, in key order.
+#[tactic(auto, using(crate::proofs::KeptLemmas::filtered_next))]
 pub(crate) fn kept_rows<'a>(
     alloc: Global,
     rows: LivesWalk<'a>,
@@ -46,6 +47,7 @@ pub(crate) fn kept_rows<'a>(
     Ok(kept)
 }
 
+#[tactic(auto, using(crate::proofs::KeptLemmas::filtered_left, crate::proofs::KeptLemmas::filtered_taken))]
 fn push_kept<'a>(
     to: &mut Vec<RecordLives<'a>>,
     row: RecordLives<'a>,
@@ -65,6 +67,7 @@ fn push_kept<'a>(
 
 /// Checks that a page about the subjects keeps a record. `heard` are the last hearings in which servers and addresses are
 /// looked up.
+#[tactic(auto, using(crate::proofs::KeptLemmas::for_is_kept))]
 pub(crate) fn is_kept(
     last: &Last<'_>,
     heard: &[Last<'_>],
@@ -85,6 +88,7 @@ pub(crate) fn is_kept(
 
 /// Checks that a record gives an instance about one of the subjects. `heard` are the last hearings in which servers and
 /// addresses are looked up.
+#[tactic(auto, using(crate::proofs::KeptLemmas::for_is_drawn))]
 pub(crate) fn is_drawn(
     last: &Last<'_>,
     heard: &[Last<'_>],
@@ -108,6 +112,7 @@ fn is_apart(last: &Last<'_>) -> bool
 }
 
 /// Checks that a record has its row in a part of the timeline.
+#[tactic(auto, using(crate::proofs::KeptLemmas::some_mapped))]
 pub(crate) fn is_of(part: TimelinePart, last: &Last<'_>) -> bool
     ensures { result ≡ is_of part (last_lent last.now) }
 {

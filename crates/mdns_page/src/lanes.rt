@@ -126,6 +126,7 @@ fn push_lane(
 }
 
 // Appends the ticks of a kind as one path; nothing where no second has one.
+#[tactic(auto, using(std::proofs::lemmas::Result::on_ok_weaker, crate::proofs::PathLemmas::for_push_ticks_path), unfolding(crate::specs::Picture::path, crate::specs::Picture::path_rest))]
 fn push_ticks_path(
     to: &mut String,
     axis: Axis,
@@ -190,7 +191,7 @@ fn point(axis: Axis, heard: RecordHearing) -> Option<Mark>
 }
 
 /// Appends the lines on which the ticks stand: below each capture's lane one for the time that it recorded.
-#[tactic(auto, unfolding(crate::specs::Lanes::bases_text))]
+#[tactic(auto, using(std::proofs::lemmas::Bool::Decides::nat_tests, crate::proofs::PartLemmas::parts3), unfolding(crate::specs::Lanes::bases_text))]
 pub(crate) fn push_bases(
     to: &mut String,
     axis: Axis,

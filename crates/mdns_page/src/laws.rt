@@ -53,6 +53,7 @@ pub fn live_at_the_end()
 
 /// Text of the network has no byte within markup that begins or ends a tag or the value of an attribute, and each `&` in it
 /// begins one of five character references.
+#[tactic(auto, using(crate::proofs::HtmlLemmas::harmless_text, crate::proofs::HtmlLemmas::references_text))]
 pub fn escape()
     ensures harmless { (text : List ℕ) → All IsHarmless (html_text text) }
     ensures references { (text : List ℕ) (k : ℕ) → slice_index (html_text text) k ≡ 38
@@ -78,6 +79,7 @@ pub fn strokes()
 {}
 
 /// Groups are of one type each, and have all rows in their order.
+#[tactic(auto, using(crate::proofs::GroupLemmas::grouped_all, crate::proofs::GroupLemmas::grouped_types))]
 pub fn groups()
     ensures types { (rows : List Row) → AreGroups owner_of (grouped owner_of rows) }
     ensures all { (rows : List Row) → flat_map (λ group. group) (grouped owner_of rows) ≡ rows }
@@ -85,6 +87,7 @@ pub fn groups()
 
 /// A count without its commas is its decimal. Below 1,000 it has none; from then on it is its thousands, a comma, and three
 /// digits.
+#[tactic(auto, using(crate::proofs::CountLemmas::for_counts))]
 pub fn counts()
     ensures digits { (n : ℕ) → n < 2 ^ 128 → filter (λ byte. not (byte == 44)) (commas n) ≡ decimal n }
     ensures few { (n : ℕ) → n < 1000 → commas n ≡ decimal n }

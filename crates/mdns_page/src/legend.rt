@@ -53,6 +53,7 @@ fn push_key_lanes(to: &mut String, lanes: u32) -> Result<(), Want>
     push_key_ticks(to)
 }
 
+#[tactic(auto, using(crate::proofs::PartLemmas::parts4), unfolding(crate::specs::Legend::key_entry))]
 fn push_key_ticks(to: &mut String) -> Result<(), Want>
     ensures { OnOk result (string_bytes to.new ≡ string_bytes to.old ++ (32 ∷ key_entry
         (codes "<path class=\"n\" d=\"M0 11H26\"/><path class=\"t\" d=\"M4 6v5M9 6v5M20 6v5\"/>") (codes "heard, while recording")

@@ -108,6 +108,7 @@ pub(crate) fn push_address(
 }
 
 // Appends an address as people read it. Only A and AAAA records have one.
+#[tactic(auto, using(std::proofs::lemmas::Result::on_ok_weaker, crate::proofs::LiveWordLemmas::address_lent))]
 fn push_octets(to: &mut String, address: &BorrowedBody<'_>) -> Result<(), Want>
     ensures { OnOk result (string_bytes to.new
         ≡ string_bytes to.old ++ unwrap_or (option_map shown_address (address_of (body_lent address.now))) []) }
@@ -136,6 +137,7 @@ pub(crate) fn push_unresolved_if(to: &mut String, none: bool) -> Result<(), Want
 
 /// Appends the paragraph of TXT data, in which each string that isn't empty is a line; nothing where there is none.
 /// `scratch` is only room.
+#[tactic(auto, using(std::proofs::lemmas::Result::on_ok_weaker, crate::proofs::LiveWordLemmas::for_push_text))]
 pub(crate) fn push_text(to: &mut String, scratch: &mut String, text: &[u8]) -> Result<(), Want>
     ensures { OnOk result (string_bytes to.new ≡ string_bytes to.old ++ text_html isolated text.now) }
 {

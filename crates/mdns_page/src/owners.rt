@@ -18,6 +18,7 @@ pub(crate) trait HasOwner {
 }
 
 /// Returns how many rows after one are of its type and follow it directly.
+#[tactic(auto, using(crate::proofs::GroupLemmas::for_following_len))]
 pub(crate) fn following_len<'a, R: HasOwner>(first: &'a R, others: &'a [R]) -> usize
     ensures value { result ≡ following (R.owner first.now) (map R.owner others.now) }
     ensures within { result ≤ length others.now }

@@ -72,6 +72,7 @@ impl<'a> Question for PageRequest<'a> {
     ghost Heard = { λ page now packets outcomes. HoldsLives page.groups.now (counted_each (filter_of page.as_of) outcomes) now.lives
         × AreGathered page.groups.now now.messages packets outcomes };
 
+    #[tactic(auto, using(crate::proofs::ComparedLemmas::for_collector))]
     fn collector(&self, alloc: Global) -> Result<PageCollector, Want> {
         PageCollector::new(alloc, self.as_of.filter(), self.groups)
     }
@@ -199,6 +200,7 @@ fn endings_of<'a>(
 }
 
 // Writes what was live at the end.
+#[tactic(auto, using(crate::proofs::KeptLemmas::for_live_of, crate::proofs::SurveyLemmas::for_live_of))]
 fn live_of(
     alloc: Global,
     lives: &Lives,

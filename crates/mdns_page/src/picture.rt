@@ -109,6 +109,7 @@ fn title_word(stroke: Stroke) -> &'static str
 }
 
 /// Appends the strokes of a kind as one path; nothing where no life has one.
+#[tactic(auto, using(std::proofs::lemmas::Result::on_ok_weaker, crate::proofs::PathLemmas::for_push_path), unfolding(crate::specs::Picture::path, crate::specs::Picture::path_rest))]
 pub(crate) fn push_path(
     to: &mut String,
     axis: Axis,
@@ -126,6 +127,7 @@ pub(crate) fn push_path(
 
 /// Appends the next stroke of a path, if there is one, unless it is the same as the one before. Returns the last
 /// stroke then.
+#[tactic(auto, using(crate::proofs::PathLemmas::for_push_next))]
 pub(crate) fn push_next(
     to: &mut String,
     stroke: Stroke,

@@ -23,6 +23,7 @@ pub(crate) fn is_server(last: &Last<'_>) -> bool
 }
 
 /// Finds the SRV records of the instance that PTR data gives, by binary search; none for other data.
+#[tactic(auto, using(crate::proofs::ServerLemmas::for_servers_of))]
 pub(crate) fn servers_of<'a, 'b>(rows: &'a [RecordLives<'b>], body: &Body) -> &'a [RecordLives<'b>]
     ensures { IsStrictlySortedBy key_cmp (map (λ (row : Latest × List Life). key_of_last row.0) (map row_lent rows.now))
         → map lives_lent result.now ≡ servers_of (map row_lent rows.now) body.now }

@@ -145,6 +145,7 @@ fn ticks(alloc: Global, axis: Axis) -> Result<Vec<u64>, Want>
 }
 
 // Returns the multiples of a number from `low` to `high`, in ascending order.
+#[tactic(auto, using(crate::proofs::TickLemmas::for_multiples))]
 fn multiples(alloc: Global, step: u64, low: u64, high: u64) -> Result<Vec<u64>, Want>
     requires some { 0 < step }
     requires small { high < 2 ^ 63 }

@@ -32,6 +32,7 @@ pub(crate) struct CountedRow<'a> {
 
 /// Makes the rows of a part of the timeline, of those records that were live in the window, each with its servers, by the hearings
 /// of each capture.
+#[tactic(auto, using(crate::proofs::HearerLemmas::for_counted_rows))]
 pub(crate) fn counted_rows<'a>(
     alloc: Global,
     part: TimelinePart,
@@ -54,6 +55,7 @@ pub(crate) fn counted_rows<'a>(
 }
 
 // Makes the rows; where there are many captures, without the seconds in which these heard the records.
+#[tactic(auto, using(crate::proofs::CountedLemmas::for_begun_rows, crate::proofs::KeptLemmas::for_begun_rows))]
 fn begun_rows<'a>(
     alloc: Global,
     part: TimelinePart,

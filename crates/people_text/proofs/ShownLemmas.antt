@@ -49,10 +49,10 @@ label_moved old dotted new label whole labels at after first dot more = grind (a
 
 -- ---- plain ASCII
 
-plain-more : (dots : Bool) (b : ℕ) (rest : List ℕ) → is_plain_byte dots b ≡ true
+plain_more : (dots : Bool) (b : ℕ) (rest : List ℕ) → is_plain_byte dots b ≡ true
     → (encode_utf8 b ≡ b ∷ []) × IsScalar b × (bytes_shown dots (b ∷ rest) ≡ b ∷ bytes_shown dots rest)
 unfolding scalar_text
-plain-more dots b rest plain =
+plain_more dots b rest plain =
     let scalar : IsScalar b = grind (arith, nat_tests) in
     let low : 32 ≤ b = grind (arith, nat_tests) in
     let high : b < 127 = grind (arith, nat_tests) in
@@ -74,7 +74,7 @@ plain-front dots (b ∷ bytes) =
     cond_both (is_plain_byte dots b) (1 + prefix_len (is_plain_byte dots) bytes) 0
     (λ n. IsUtf8 (take n (b ∷ bytes)) × (take n (b ∷ bytes) ++ bytes_shown dots (drop n (b ∷ bytes)) ≡ bytes_shown dots (b ∷ bytes)))
     (λ plain.
-    let first = plain-more dots b bytes plain in
+    let first = plain_more dots b bytes plain in
     rw one-add (
       IsUtf8-append (b ∷ []) _ (subst IsUtf8 first.0 (IsUtf8-encode b first.1)) more.0,
       ap (λ text. b ∷ text) more.1 ∙ sym first.2,

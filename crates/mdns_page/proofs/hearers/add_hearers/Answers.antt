@@ -1,17 +1,9 @@
-use Rattle.std.proofs.{Common.{◌∙◌, List, ap, arith, map, refl, subst, sym}, lemmas.List.{take_all}}
+use Rattle.std.proofs.{Common.{◌∙◌, List, ap, arith, map, subst, sym}, lemmas.List.{take_all}}
 use Rattle.std.specs.List.Sorted.{IsStrictlySortedBy}
 use Rattle.mdns_message.specs.Resource.{key_cmp}
 use Rattle.mdns_page.specs.{Timeline.{counted_lent}, declared.timeline_rows.CountedRow.{CountedRow}}
-use Rattle.mdns_page.proofs.HearerLemmas.{AreSoFar, all-few, all-many, keys-kept, row_key, so_far-more, so_far-start}
+use Rattle.mdns_page.proofs.HearerLemmas.{AreSoFar, all-many, row_key, so_far-more}
 use Rattle.mdns_page.proofs.hearers.add_hearers.Goals as goal
-
-pub loop-chronicle-init : goal.loop-chronicle-init
-loop-chronicle-init c = (refl, λ sorted. so_far-start (map counted_lent c.args.rows.now.items))
-
-pub add_capture-requires : goal.add_capture-requires
-add_capture-requires c =
-    c.as_slice-in-loop-chronicle.ensures.value ∙ c.in_ok-keys.ensures ∙ ap (λ (rows : List CountedRow). map row_key (map counted_lent rows)) c.as_slice.ensures.value
-    ∙ sym (keys-kept (map counted_lent c.loop-chronicle.rows.items) (map counted_lent c.args.rows.now.items) c.loop-chronicle.invariant.0)
 
 pub loop-chronicle-preserved : goal.loop-chronicle-preserved
 loop-chronicle-preserved c =
@@ -23,10 +15,6 @@ loop-chronicle-preserved c =
           c.loop-chronicle-test.true c.chronicle-item.is (so_far.1 sorted)
           (c.in_ok-add_capture.ensures.heard (subst (IsStrictlySortedBy key_cmp) (sym keys) sorted)),
     )
-
-pub returns-then-chronicles-le-FEW_CAPTURES-clause-heard : goal.returns-then-chronicles-le-FEW_CAPTURES-clause-heard
-returns-then-chronicles-le-FEW_CAPTURES-clause-heard c = λ sorted each are.
-    all-few c.args.chronicles.now (map counted_lent c.args.rows.now.items) (omega arith) each are
 
 pub returns-clause-heard : goal.returns-clause-heard
 returns-clause-heard c = λ sorted each are.

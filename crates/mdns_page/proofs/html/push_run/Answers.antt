@@ -1,21 +1,7 @@
 use Rattle.std.proofs.{Common.{◌≡◌, ◌<◌, ◌++◌, arith, length, string_bytes}, lemmas.Bool.Decides.{nat_tests}}
 use Rattle.mdns_page.specs.Html.{html_text}
-use Rattle.mdns_page.proofs.HtmlLemmas.{cut-after, run-marked, run-plain}
+use Rattle.mdns_page.proofs.HtmlLemmas.{run-marked, run-plain}
 use Rattle.mdns_page.proofs.html.push_run.Goals as goal
-
-pub returns-then-is_empty-clause-text : goal.returns-then-is_empty-clause-text
-returns-then-is_empty-clause-text c =
-    run-plain (string_bytes c.args.to.now) (string_bytes c.push_str.new.self) c.args.text.now c.as_bytes.result.now
-    c.split_at.result.0.now c.split_at.result.1.now c.plain_len.result c.in_ok-push_str.ensures.bytes c.as_bytes.ensures.value
-    c.plain_len.ensures.plain c.split_at.ensures.front c.split_at.ensures.back
-
-pub range_from-requires : goal.range_from-requires
-range_from-requires c =
-    let some : 0 < length c.split_at.result.1.now = grind (arith, nat_tests, c.is_empty.ensures, c.if-is_empty.false) in
-    λ _.
-    cut-after c.args.text.now c.as_bytes.result.now c.split_at.result.1.now c.as_bytes-2.result.now c.plain_len.result
-    c.as_bytes.ensures.value c.split_at.ensures.back c.as_bytes-2.ensures.value c.as_bytes-2.ensures.utf8
-    c.plain_len.ensures.marked some
 
 pub returns-clause-text : goal.returns-clause-text
 returns-clause-text c =

@@ -1,5 +1,5 @@
-use Rattle.std.proofs.Common.{◌≡◌, ◌∙◌, ◌++◌, ◌∷◌, [], ℕ, List, ap, arith, map, subst, sym}
-use Rattle.std.proofs.lemmas.{List.{map-append}, Simd.{map-map}}
+use Rattle.std.proofs.Common.{◌≡◌, ◌∙◌, ◌++◌, ℕ, List, ap, arith, map, subst, sym}
+use Rattle.std.proofs.lemmas.{Simd.{map-map}}
 use Rattle.std.specs.List.{filter}
 use Rattle.mdns_cache.specs.LentRecords.{last_lent}
 use Rattle.mdns_join.specs.declared.latest.Latest.{Latest}
@@ -7,26 +7,8 @@ use Rattle.mdns_lives.specs.{Chronicle.{rows_of}, declared.live_since.LiveSince.
 use Rattle.mdns_lives.specs.Since.{AreLiveSince, all_since_rows, live_since_lent}
 use Rattle.mdns_browse.specs.{Given.{given_lent}, Services.{AreAscending, GivenRow}}
 use Rattle.mdns_page.specs.{Html.{isolated}, KeptRecords.{is_drawn, looked_up}, LiveSection.{live_text}, Page.{given_of_since, live_given}}
-use Rattle.mdns_page.proofs.{KeptLemmas.{kept-all, kept_more, map-more, map-whole}, SurveyLemmas.{live-ascending}}
+use Rattle.mdns_page.proofs.{KeptLemmas.{kept-all, map-whole}, SurveyLemmas.{live-ascending}}
 use Rattle.mdns_page.proofs.page.live_of.Goals as goal
-
-pub loop-row-init : goal.loop-row-init
-loop-row-init c = (ap (map last_lent) c.new-rows.ensures.items, λ sorted. ap (map given_lent) c.new-given.ensures.items)
-
-pub loop-row-preserved : goal.loop-row-preserved
-loop-row-preserved c =
-    let row = c.row-item.result in
-    let rows = c.loop-row.rows.items in
-    let so_far = c.loop-row.invariant in (
-      ap (map last_lent) c.in_ok-push.ensures.items ∙ map-append last_lent rows (row.last ∷ [])
-          ∙ ap (λ (lasts : List Latest). lasts ++ last_lent row.last ∷ []) so_far.0
-          ∙ sym (map-more (λ (row : LiveSince). last_lent row.last) c.deref-row-items.result.now c.loop-row.row-index row (omega arith)
-          c.row-item.is),
-      λ sorted. c.in_ok-push_given.ensures sorted
-          ∙ sym (kept_more (λ (given : GivenRow). is_drawn c.args.about.now (map last_lent c.args.heard.now) given.last)
-          (λ (row : LiveSince). given_of_since (live_since_lent row)) c.deref-row-items.result.now c.loop-row.row-index row _ (omega arith)
-          c.row-item.is (so_far.1 sorted)),
-    )
 
 pub returns : goal.returns
 returns c = λ heard stands sorted looked.

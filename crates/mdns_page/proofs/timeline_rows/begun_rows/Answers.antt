@@ -1,24 +1,10 @@
 use Rattle.std.proofs.Common.{◌≡◌, ◌∙◌, ◌++◌, ◌∷◌, [], ap, cond, map, sym}
-use Rattle.std.proofs.lemmas.List.{append-nil, map-append}
+use Rattle.std.proofs.lemmas.List.{map-append}
 use Rattle.mdns_lives.specs.{LentLives.{row_lent}}
 use Rattle.mdns_browse.specs.Services.{body_of}
 use Rattle.mdns_page.specs.{TimelineRows.{IsBegun}, KeptRecords.{is_shown}, Servers.{servers_of}, Timeline.{Row, counted_lent}}
 use Rattle.mdns_page.proofs.{CountedLemmas.{record_in, row-more}, KeptLemmas.{kept_more}}
 use Rattle.mdns_page.proofs.timeline_rows.begun_rows.Goals as goal
-
--- a record of another part
-pub loop-record-preserved-then-not-is_shown : goal.loop-record-preserved-then-not-is_shown
-loop-record-preserved-then-not-is_shown c =
-    let keep = is_shown c.args.part c.args.window in
-    let so_far = c.loop-record.invariant in (
-      sym (append-nil _)
-          ∙ ap (λ kept. map record_in (map counted_lent c.loop-record.rows.items) ++ cond kept (row_lent c.record-item.result ∷ []) [])
-          (sym c.if-not-is_shown.true ∙ c.is_shown.ensures)
-          ∙ sym (kept_more keep row_lent c.args.records.now c.loop-record.record-index c.record-item.result _ c.loop-record-test.true
-          c.record-item.is so_far.0),
-      so_far.1,
-      so_far.2,
-    )
 
 pub loop-record-preserved : goal.loop-record-preserved
 loop-record-preserved c =

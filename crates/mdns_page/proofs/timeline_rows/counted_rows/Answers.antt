@@ -1,15 +1,9 @@
-use Rattle.std.proofs.Common.{◌≡◌, ◌∙◌, map}
+use Rattle.std.proofs.Common.{◌≡◌, map}
 use Rattle.mdns_lives.specs.LentLives.{row_lent}
 use Rattle.mdns_browse.specs.Services.{body_of}
 use Rattle.mdns_page.specs.{KeptRecords.{is_shown}, Servers.{servers_of}, Timeline.{Row, counted_lent}}
-use Rattle.mdns_page.proofs.HearerLemmas.{all-kept, records-kept, rows-sorted}
+use Rattle.mdns_page.proofs.HearerLemmas.{all-kept, rows-sorted}
 use Rattle.mdns_page.proofs.timeline_rows.counted_rows.Goals as goal
-
-pub returns-clause-records : goal.returns-clause-records
-returns-clause-records c =
-    records-kept (map counted_lent c.add_hearers.new.rows.items) (map counted_lent c.in_ok-rows.rows.items)
-    c.in_ok-add_hearers.ensures.same
-    ∙ c.in_ok-rows.ensures.records
 
 pub returns-clause-heard : goal.returns-clause-heard
 returns-clause-heard c = λ sorted each are.
