@@ -12,7 +12,7 @@ from typing import NamedTuple
 from tests import TOP
 from tests.captures.built import frame_of, lay_out_small, pointer, write_capture
 from tests.captures.wire import SECOND
-from tests.captures.written import cells_of
+from tests.captures.written import cells_of, expanded
 from tests.judges.answers import WORDS, answer_to
 from tests.running.commands import ANSWERS, ASKS, COMMANDS, END, FLAGS, WINDOWED, flags_of, page, two_forms
 from tests.running.runs import WHOLE, Case, agrees, fails, refused, said
@@ -44,25 +44,26 @@ def misused(words, fault, usage="", tip="", program="mdnsmerge", **how):
     return refused(words, f"error: {fault}\n{tip}{usage}\n{TRY_HELP}", **how)
 
 
+def words_of(text):
+    r"""The words of a cell, quoted as in a shell, with the escapes of Python's texts: `\udcff` is the byte 0xff, which is no UTF-8."""
+    return [word.encode("latin-1", "backslashreplace").decode("unicode_escape") for word in shlex.split(text)]
+
+
+def refused_rows(name, program, groups):
+    """The rows of command lines that are refused. One that begins with the name of some commands is a row of each."""
+    for place, cells in cells_of(TOP / f"trials/{name}.rows"):
+        group = cells[0].split(" ")[0]
+        for known in [{**FAULTS, group: command} for command in groups.get(group, ())] or [FAULTS]:
+            words, fault, *usage = (expanded(cell, known) for cell in cells)
+            if fault.startswith(OWN):
+                yield said(words_of(words), fault.removeprefix(OWN), program, place=place)
+            else:
+                yield misused(words_of(words), fault, *usage, program=program, place=place)
+
+
 def unfit_prefixes(ask, program):
     """Refusals of a command that takes `--listener`: of words, and of prefixes that begin the name of no file, before any is opened."""
-    def unfit(words, quoted):
-        return said([ask, *words], f"invalid prefix {quoted}for --listener: no FILE's name, without folders, begins with it", program)
-
-    return (
-        misused([ask, "--listener", "one"], NO_FILE, f"{ask} --listener <PREFIX> <FILE>...", program=program),
-        *(misused([ask, *words], "a value is required for '--listener <PREFIX>' but none was supplied", program=program)
-          for words in (["one.pcap", "--listener"], ["--listener=", "one.pcap"])),
-        unfit(["--listener", "x", "one.pcap"], "'x' "),
-        unfit(["--listener", "folder", "folder/one.pcap"], "'folder' "),
-        unfit(["--listener", "one", "one.pcap", "--listener=one.pcapng", "--listener=x", "cut.pcap"], "'one.pcapng' "),
-        unfit(["--listener", "One", "one.pcap"], "'One' "),
-        unfit(["--listener", "x", "missing.pcap"], "'x' "),
-        # Only printable ASCII is repeated.
-        *(unfit(["--listener", prefix, "one.pcap"], "") for prefix in ("\u00e9", "x\n", "\x7f")),
-        said([ask, "--listener", "m", "missing.pcap"], "missing.pcap: cannot be opened", program),
-        said([ask, "--listener", "t", "one.pcap", "text.pcap"], "text.pcap: not a classic pcap file", program),
-    )
+    return refused_rows("prefixes", program, {"PREFIXED": [ask]})
 
 
 def given(flag):
@@ -78,12 +79,6 @@ def unknown_flags(commands, program):
             for command in commands for flag in FLAGS if flag not in flags_of(command)]
 
 
-def no_moment(words, flag, quoted):
-    """A refusal of a value that names no moment."""
-    return said(words, f"invalid moment {quoted}for {flag}: give seconds since 1970 (1795332403.397617) "
-                "or a date and time with its zone (2026-11-22T07:27:00Z)")
-
-
 # The rows of command lines that ask for something, and the texts that name no moment.
 LINES_OF_ROWS = [(place, list(map(shlex.split, cells))) for place, cells in cells_of(TOP / "trials/told.rows")]
 NO_MOMENTS = [text for _, cells in LINES_OF_ROWS if len(cells) == 1 for text in cells[0]]
@@ -93,43 +88,21 @@ NO_FILE = "the following required arguments were not provided:\n  <FILE>..."
 NO_COMMAND = ("'mdnsmerge' requires a subcommand but one was not provided\n"
               f"  [subcommands: {', '.join(COMMANDS)}]")
 
-
-def refused_rows():
-    """The rows of command lines that are refused."""
-    return [misused(shlex.split(words), fault.replace("NO_FILE", NO_FILE), *usage, place=place)
-            for place, (words, fault, *usage) in cells_of(TOP / "trials/refused.rows")]
-
+# What names of the rows stand for, and what is before a line of the program's own.
+FAULTS = {
+    "NO_FILE": NO_FILE,
+    "NO_MOMENT": "give seconds since 1970 (1795332403.397617) or a date and time with its zone (2026-11-22T07:27:00Z)",
+    "NO_NAME": "no FILE's name, without folders, begins with it",
+}
+OWN = "says "
 
 REFUSALS = (
     misused([], NO_COMMAND, "<COMMAND>"),
     # Since version 5.18 Linux gives an empty name in place of none.
     misused([], NO_COMMAND, "<COMMAND>", is_nameless=True),
-    *refused_rows(),
-    *(misused([name], NO_FILE, f"{name} <FILE>...") for name in COMMANDS),
-    *(no_moment([command, f"{flag}={value}", "one.pcap"], flag, f"'{value}' ")
+    *refused_rows("refused", "mdnsmerge", {"ANSWERS": ANSWERS, "COMMANDS": COMMANDS, "WINDOWED": WINDOWED}),
+    *(said([command, f"{flag}={value}", "one.pcap"], f"invalid moment '{value}' for {flag}: {FAULTS['NO_MOMENT']}")
       for value in NO_MOMENTS for command, flag in zip(ANSWERS, cycle(("--at", "--before")))),
-    # Only printable ASCII is repeated.
-    *(no_moment(["records", "--before", value, "one.pcap"], "--before", "")
-      for value in ("12\n3", "\x1b[2J", "1\x7f", "\u0661\u0662", "2026-11-22\u00a007:27Z")),
-    no_moment(["records", "--at", "noon", "one.pcap"], "--at", "'noon' "),
-    *(said([command, *words, "one.pcap"], "--at and --before can't be given together") for command in ANSWERS
-      for words in (["--at", "5", "--before", "5"], ["--before=6", "--at=5"], ["--at", "noon", "--before", "5"],
-                    ["--at", "noon", "--before", ""])),
-    *(no_moment([command, f"{flag}={value}", "one.pcap"], flag, f"'{value}' ") for command in WINDOWED for flag in ("--since", "--until")
-      for value in ("noon", "1e9", "4294967296", "1.0000000001", "2026-11-22T07:27:00")),
-    *(case for command in WINDOWED for case in (
-        no_moment([command, "--until", "then", "--since", "now", "one.pcap"], "--since", "'now' "),
-        no_moment([command, "--since", "5", "--until", "", "--at", "noon", "one.pcap"], "--until", "'' "),
-        no_moment([command, "--since", "\u0661", "one.pcap"], "--since", ""),
-        no_moment([command, "--since", "5", "--until", "6", "--before", "noon", "one.pcap"], "--before", "'noon' "),
-        said([command, "--since", "5", "--at", "7", "--before", "7", "one.pcap"], "--at and --before can't be given together"),
-        misused([command, "--since", "5", "--since", "6", "one.pcap"], "the argument '--since <MOMENT>' cannot be used multiple times",
-                f"{command} [OPTIONS] <FILE>..."),
-        misused([command, "one.pcap", "--until"], "a value is required for '--until <MOMENT>' but none was supplied"))),
-    *(said([command, *words, "missing.pcap"], "--since must be earlier than --until: nothing lies between them") for command in WINDOWED
-      for words in (["--since", "100", "--until", "100"], ["--until=99.999999999", "--since", "1970-01-01T00:01:40Z"],
-                    ["--until", "0", "--since=0", "--at", "5"], ["--before", "7", "--since", "6", "--until", "5"],
-                    ["--since", "6", "--until", "5", "--at", "5", "--before", "5"])),
     *(misused(["records", *given(flag), *given(flag), "one.pcap"],
               f"the argument '{flag}{takes}' cannot be used multiple times", REPORT)
       for flag, (takes, text) in FLAGS.items() if flag in flags_of("records") and not text.endswith("; repeatable")),
@@ -140,13 +113,6 @@ REFUSALS = (
     *(said([command, *words, "one.pcap"], f"{one} and {other} can't be given together")
       for command, one, other in two_forms(ASKS) for words in ([one, other], [other, "--about=a", one])),
     *unfit_prefixes("page", "mdnsmerge"),
-    said(["records", b"\xff.pcap"], "an argument is not UTF-8 text"),
-    said([b"\xff"], "an argument is not UTF-8 text"),
-    # Among good ones, too, wherever it stands and whatever they ask for.
-    said(["records", "one.pcap", b"\xff.pcap", "one.pcap"], "an argument is not UTF-8 text"),
-    said(["check", "one.pcap", "one.pcap", b"one\x80.pcap"], "an argument is not UTF-8 text"),
-    said(["records", "--at", b"15\xc0", "one.pcap"], "an argument is not UTF-8 text"),
-    said(["--help", b"\xed\xa0\x80"], "an argument is not UTF-8 text"),
 )
 
 VERSION = tuple(Case((word,), WHOLE, version_of("mdnsmerge")) for word in ("--version", "-V"))
@@ -174,13 +140,6 @@ class Told(NamedTuple):
 
 TOLD = [Told(place, words, asked[0], asked[1:], options) for place, (words, asked, options) in (
     line for line in LINES_OF_ROWS if len(line[1]) == 3)]
-
-# No file has an empty name. Files are opened in the order of the words, and the first that can't be is named.
-NAMELESS = (
-    said(["check", ""], ": cannot be opened"),
-    said(["check", "a b", "", "\u00e9.pcap"], "a b: cannot be opened"),
-    said(["check", "one.pcap", "", "\u00e9.pcap"], ": cannot be opened"),
-)
 
 
 def packet(label, moment, ttl):
@@ -231,7 +190,7 @@ def unfit(text):
 def try_command_lines(program, folder):
     """Tries all command lines on a program; answers how many failed."""
     lay_out_small(folder)
-    cases = (*REFUSALS, *VERSION, *HELP, *NAMELESS)
+    cases = (*REFUSALS, *VERSION, *HELP)
     failed = sum(not agrees(case, program, folder) for case in cases)
     failed += sum(try_told(told, program, folder / f"told {number}") for number, told in enumerate(TOLD))
     failed += sum(fails(case.place, f"mdnsmerge {case.words}", unfit(case.out)) for case in HELP)
