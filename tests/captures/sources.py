@@ -7,7 +7,7 @@ from functools import lru_cache
 from tests import EXAMPLES
 from tests.captures import floods
 from tests.captures import hostile
-from tests.captures.link import META, START, Link, Record
+from tests.captures.link import LOCAL, META, START, Link, Record
 from tests.captures.wire import (A, LAST_MOMENT, NSEC, PTR, QUERY, RESPONSE, SECOND, SRV, TXT, TYPES, Content, ipv4_frame, ipv6_frame,
                                  message_of)
 from tests.judges.savefile import frames_in
@@ -15,7 +15,6 @@ from tests.judges.savefile import frames_in
 IPV4_SOURCE = bytes((192, 0, 2, 1))
 IPV6_SOURCE = bytes.fromhex("fe80000000000000") + bytes((0, 0, 0, 0, 0, 0, 0, 1))
 
-LOCAL = b"local"
 IPP = (b"_ipp", b"_tcp", LOCAL)
 
 

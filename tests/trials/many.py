@@ -2,8 +2,8 @@
 
 import shutil
 
-from tests.captures.built import frame_of, labels, lay_out_small, write_capture
-from tests.captures.wire import SECOND, A
+from tests.captures.built import lay_out_small, write_capture
+from tests.captures.written import packet_of
 from tests.judges.answers import answer_to
 from tests.running.runs import Case, agrees, said
 
@@ -17,8 +17,7 @@ HOSTS = [f"host-{number:03}.pcap" for number in range(FILES)]
 
 def host_packet(number):
     """What one of the hosts tells of itself."""
-    address = bytes((198, 18, number >> 8, number & 0xFF))
-    return 100 * SECOND + number, frame_of([((labels(f"host-{number:03}.local"), A, address, True), 120)])
+    return packet_of(f"100.{number:09} host-{number:03}.local 120,flush A 198.18.{number >> 8}.{number & 0xFF}")
 
 
 def with_another(names, name):

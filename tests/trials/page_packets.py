@@ -3,12 +3,11 @@
 from typing import NamedTuple
 
 from tests.captures.built import frame_of, write_capture
-from tests.captures.link import START, Record
+from tests.captures.link import LOCAL, START, Record
 from tests.captures.wire import PTR, SECOND, SRV, TXT, A
 from tests.judges.judged_page import Asked
 from tests.running.runs import placed
 
-LOCAL = b"local"
 HTTP, IPP = ((label, b"_tcp", LOCAL) for label in (b"_http", b"_ipp"))
 OVER_UDP, SCTP = ((b"_x", protocol, LOCAL) for protocol in (b"_udp", b"_sctp"))
 HOST = (b"host", LOCAL)

@@ -11,8 +11,9 @@ from functools import partial
 from itertools import cycle
 
 from tests import EXAMPLES
-from tests.captures.built import frame_of, labels, lay_out_small, write_capture
-from tests.captures.wire import A, SECOND
+from tests.captures.built import lay_out_small, write_capture
+from tests.captures.wire import SECOND
+from tests.captures.written import packet_of
 from tests.judges.answers import answer_to
 from tests.running.runs import Case, agrees
 
@@ -100,9 +101,7 @@ def lay_out(folder):
     lay_out_small(folder)
     for name in ("west.pcap", "east.pcap"):
         shutil.copy(EXAMPLES / name, folder)
-    first, second = (frame_of([((labels(name), A, bytes((192, 0, 2, last)), False), 120)])
-                     for name, last in (("a.local", 1), ("b.local", 2)))
-    packets = [(100 * SECOND, first), (100 * SECOND, LONG_FRAME), (101 * SECOND, second)]
+    packets = [packet_of("100 a.local 120 A 192.0.2.1"), (100 * SECOND, LONG_FRAME), packet_of("101 b.local 120 A 192.0.2.2")]
     write_capture(folder / "long.pcap", "big-nano", packets)
 
 
