@@ -108,7 +108,7 @@ REFUSALS = (
       for flag, (takes, text) in FLAGS.items() if flag in flags_of("records") and not text.endswith("; repeatable")),
     *(misused(["records", f"{flag}=true", "one.pcap"],
               f"unexpected value 'true' for '{flag}' found; no more were expected", f"records {flag} <FILE>...")
-      for flag, (takes, _) in FLAGS.items() if not takes),
+      for flag, (takes, _) in FLAGS.items() if flag in flags_of("records") and not takes),
     *unknown_flags(COMMANDS, "mdnsmerge"),
     *(said([command, *words, "one.pcap"], f"{one} and {other} can't be given together")
       for command, one, other in two_forms(ASKS) for words in ([one, other], [other, "--about=a", one])),
