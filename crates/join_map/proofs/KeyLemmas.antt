@@ -6,7 +6,7 @@ use Rattle.std.proofs.lemmas.List.{take-append-drop, take_more, drop_more, get_o
 use Rattle.std.specs.{Ordering.{match_ordering, ordering_reverse, is_lt}, BTreeMap.{insert_entry}, Cmp.{IsTotalOrder}}
 use Rattle.std.specs.{List.Sorted.{IsStrictlySortedBy}, Map.{keys_of, set_value}}
 use Rattle.join_map.proofs.BlockLemmas.{entries_of-cut, entries_of-from}
-use Rattle.join_map.specs.{Blocks.{AllAbove, AllBelow, IsOffset, IsAt, IsFree, block_at, entries_of}, declared.blocks.Spot.{Spot}}
+use Rattle.join_map.specs.{Blocks.{AllAbove, AllBelow, IsEntry, IsOffset, IsAt, IsFree, IsSpot, block_at, entries_of}, declared.blocks.Spot.{Spot}}
 use Rattle.join_map.specs.{Entries.{value_at}, laws.Entries.{sorted_none, greater_back, sorted_above, sorted_rest, above_trans}}
 use Rattle.join_map.specs.laws.Entries.{value_at-above, value_at-equal, value_at-greater}
 
@@ -209,6 +209,10 @@ Less-from b o is t = is_less o (sym is ∙ t)
 
 pub not_Less-from : (b : Bool) (o : Ordering) → b ≡ is_lt o → b ≡ false → o ≡ Less → ⊥
 not_Less-from b o is f less = true≢false (sym (ap is_lt less) ∙ sym is ∙ f)
+
+pub is_at : {K V : Type 0} (cmp : K → K → Ordering) (bs : List (List (K × V))) (k : K) (s : Spot) (e : K × V) → IsSpot bs s → IsEntry bs s e
+    → cmp k e.0 ≡ Equal → IsAt cmp bs k s
+is_at cmp bs k s e spot is same = record { spot = spot; entry = e; is = is; same = same }
 
 -- WHAT FUNCTIONS ARE PROVED BY
 

@@ -1,6 +1,6 @@
 -- What a map has at a key, and how it changes there, by the spot of the key.
 use Rattle.std.proofs.Common.{arith, ◌≡◌, List, ◌∷◌, ◌++◌, Some, None, Result, Ok, Err, OnOk}
-use Rattle.std.proofs.Common.{OnErr, Ordering, Equal, sym, ap, ◌∙◌, subst}
+use Rattle.std.proofs.{Common.{OnErr, Ordering, Equal, sym, ap, ◌∙◌, subst}, lemmas.Result.{on_err_weaker, on_ok_weaker}}
 use Rattle.std.specs.{BTreeMap.{insert_entry}, Cmp.{IsTotalOrder}}
 use Rattle.join_map.specs.{Blocks.{entries_of, before, after, IsEntry, IsAt, IsFree, IsRewritten, JoinsAt}, declared.blocks.Spot.{Spot}}
 use Rattle.join_map.specs.{Entries.{value_at, IsJoinMap, put_entry, joined, one_entry}, laws.Entries.{insert_entry-put, joined-laws}}
@@ -108,4 +108,4 @@ module _ {K V : Type 0} {cmp : K → K → Ordering} (order : IsTotalOrder cmp) 
 
 -- WHAT FUNCTIONS ARE PROVED BY
 
-pub ruleset for_join_at = (inserted_map, joined_ok, joined_err, joined_map, put_ok_at, kept_part)
+pub ruleset for_join_found = (inserted_map, joined_ok, joined_err, joined_map, put_ok_at, kept_part, on_err_weaker, on_ok_weaker)

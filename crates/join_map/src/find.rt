@@ -1,13 +1,16 @@
 //! Where the entry of a key is among the blocks, or belongs.
 
-ghost use Rattle.std.specs.Prelude.{◌≡◌, ◌+◌, ◌<◌, ◌≤◌, length, take, drop, IfOk, IfErr};
+ghost use Rattle.std.specs.Prelude.{◌≡◌, ◌+◌, ◌<◌, ◌≤◌, length, take, drop, IfOk, IfErr, IsTrue};
 ghost use Rattle.std.specs.{declared.cmp.Ordering.{Ordering}, List.Sorted.{IsStrictlySortedBy}, Map.{keys_of}};
-ghost use Rattle.join_map.specs.Blocks.{block_at, entries_of, AllAbove, AllBelow, IsAt, IsFree, IsOffset, before, after};
+ghost use Rattle.join_map.specs.Blocks.{block_at, entries_of, AllAbove, AllBelow, IsAt, IsFree, IsOffset, IsSpot, before, after};
 
 use crate::blocks::{Blocks, Spot};
 use crate::copied::Copied;
 use crate::join::Semilattice;
 use std::cmp::Ordering;
+
+/// How many entries are looked at one by one before a binary search.
+const NEAR: usize = 4;
 
 impl<K: Copied, V: Semilattice + Drop> Blocks<K, V> {
     /// Returns where the entry of `key` is, or else where it belongs.
@@ -27,6 +30,59 @@ impl<K: Copied, V: Semilattice + Drop> Blocks<K, V> {
         match self.offset_of(block, key) {
             Ok(offset) => Ok(Spot { block, offset }),
             Err(offset) => Err(Spot { block, offset }),
+        }
+    }
+
+    /// Does the same, and looks at the entry at `near` and the next ones first. Where keys are looked up in their order, and most
+    /// are found, that takes fewer comparisons.
+    pub(crate) fn find_near(&self, near: Spot, key: &K) -> Result<Spot, Spot>
+        requires { IsStrictlySortedBy K.cmp (keys_of (entries_of self.now)) }
+        ensures found { IfOk result (λ spot. IsAt K.cmp self.now key.now spot) }
+        ensures free { IfErr result (λ spot. IsFree K.cmp self.now key.now spot) }
+    {
+        let mut spot = near;
+        for _ in 0..NEAR {
+            if self.is_at(spot, key) {
+                return Ok(spot);
+            }
+            spot = self.next_spot(spot);
+        }
+        self.find(key)
+    }
+
+    // Returns whether the entry at `spot` is that of `key`.
+    fn is_at(&self, spot: Spot, key: &K) -> bool
+        ensures { IsTrue result → IsAt K.cmp self.now key.now spot }
+    {
+        if !self.is_spot(spot) {
+            return false;
+        }
+        match key.cmp(&self.entry(spot).0) {
+            Ordering::Equal => true,
+            Ordering::Less | Ordering::Greater => false,
+        }
+    }
+
+    // Returns whether there is an entry at `spot`.
+    #[tactic(auto, using(crate::proofs::PlaceLemmas::for_find))]
+    fn is_spot(&self, spot: Spot) -> bool
+        ensures { IsTrue result → IsSpot self.now spot }
+    {
+        spot.block < self.blocks.len() && spot.offset < self.count(spot.block)
+    }
+
+    // Returns the spot after another one.
+    fn next_spot(&self, spot: Spot) -> Spot {
+        let next = Spot {
+            block: spot.block,
+            offset: spot.offset.saturating_add(1),
+        };
+        if self.is_spot(next) {
+            return next;
+        }
+        Spot {
+            block: spot.block.saturating_add(1),
+            offset: 0,
         }
     }
 

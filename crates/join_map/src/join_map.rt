@@ -3,7 +3,7 @@
 ghost use Rattle.std.specs.Prelude.{◌≡◌, ◌↔◌, ◌&&◌, List, [], ◌∷◌, ◌++◌, length, IsTrue, IfOk, IfErr, IfSome};
 ghost use Rattle.std.specs.{Prelude.{OnOk, OnErr, option_copied}, Cmp.{on_per, and_per}, Cmp.Lexicographic.{pointwise, lists_per}};
 ghost use Rattle.std.specs.{Iterator.{at_most}, Map.Iter.{TakesFirst, deref_pair}};
-ghost use Rattle.join_map.specs.{Blocks.{entries_of, IsGap, before, after}, Join.{IsPartOfJoin}};
+ghost use Rattle.join_map.specs.{Blocks.{entries_of, IsAt, IsFree, IsGap, before, after}, Join.{IsPartOfJoin}};
 ghost use Rattle.join_map.specs.{Entries.{AllValid, IsJoinMap, value_at, joined, gathered, one_entry}, laws.Entries.{joined-laws}};
 
 use crate::blocks::{Blocks, Spot};
@@ -57,16 +57,13 @@ impl<K: Copied, V: Semilattice + Drop> JoinMap<K, V> {
     /// Joins the value of `other` into the value at `key`, or inserts it under a copy of the key: the join with the map of
     /// that one entry. The key is looked up once, and `to_value` builds the value only where the key is new. After `Want`
     /// the map lies between the old one and the join.
-    #[tactic(auto, using(std::proofs::lemmas::Result::on_ok_weaker, std::proofs::lemmas::Result::on_err_weaker, crate::proofs::SpotLemmas::for_join_at))]
     pub fn join_at<O: JoinHeld<V>>(&mut self, alloc: Global, key: &K, other: &O) -> Result<(), Want>
         ensures ok { OnOk result (self.new ≡ joined K.cmp V.join self.old (one_entry key.now (O.value other.now))) }
         ensures err { OnErr result (IsPartOfJoin (joined K.cmp V.join) self.old (one_entry key.now (O.value other.now)) self.new) }
         ensures valid { IsJoinMap K.cmp V.Valid self.new }
     {
-        match self.blocks.find(key) {
-            Ok(spot) => self.blocks.join_at(alloc, spot, other),
-            Err(spot) => insert_new(&mut self.blocks, alloc, spot, key, other),
-        }
+        let found = self.blocks.find(key);
+        join_found(&mut self.blocks, alloc, found, key, other)
     }
 
     /// Returns the number of entries.
@@ -109,6 +106,20 @@ impl<K: Copied, V: Join> JoinMap<K, V> {
         })
     }
 
+    // Does the same as `put_join`. The entry is looked for near `near` first, which becomes the spot where it is or belongs.
+    fn join_near(&mut self, alloc: Global, near: &mut Spot, key: &K, value: &V) -> Result<(), Want>
+        ensures ok { OnOk result (self.new ≡ joined K.cmp V.join self.old (one_entry key.now value.now)) }
+        ensures err { OnErr result (IsPartOfJoin (joined K.cmp V.join) self.old (one_entry key.now value.now) self.new) }
+        ensures valid { IsJoinMap K.cmp V.Valid self.new }
+    {
+        let found = self.blocks.find_near(*near, key);
+        *near = match found {
+            Ok(spot) => spot,
+            Err(spot) => spot,
+        };
+        join_found(&mut self.blocks, alloc, found, key, value)
+    }
+
     /// Joins `value` into the value at `key`, or inserts a copy of both, as `join_at` does.
     pub fn put_join(&mut self, alloc: Global, key: &K, value: &V) -> Result<(), Want>
         ensures ok { OnOk result (self.new ≡ joined K.cmp V.join self.old (one_entry key.now value.now)) }
@@ -128,6 +139,30 @@ fn join_all<K: Copied, V: Join>(alloc: Global, entries: Vec<(K, V)>) -> Result<J
         map.put_join(alloc, &key, &value)?;
     }
     Ok(map)
+}
+
+// Joins what `other` stands for into the value at `key`, where that was found, or inserts it where it belongs.
+#[tactic(auto, using(crate::proofs::SpotLemmas::for_join_found))]
+fn join_found<K: Copied, V: Semilattice + Drop, O: JoinHeld<V>>(
+    blocks: &mut Blocks<K, V>,
+    alloc: Global,
+    found: Result<Spot, Spot>,
+    key: &K,
+    other: &O,
+) -> Result<(), Want>
+    requires map { IsJoinMap K.cmp V.Valid (entries_of blocks.old) }
+    requires found { IfOk found (λ spot. IsAt K.cmp blocks.old key.now spot) }
+    requires free { IfErr found (λ spot. IsFree K.cmp blocks.old key.now spot) }
+    ensures ok { OnOk result (entries_of blocks.new
+        ≡ joined K.cmp V.join (entries_of blocks.old) (one_entry key.now (O.value other.now))) }
+    ensures err { OnErr result (IsPartOfJoin (joined K.cmp V.join) (entries_of blocks.old)
+        (one_entry key.now (O.value other.now)) (entries_of blocks.new)) }
+    ensures valid { IsJoinMap K.cmp V.Valid (entries_of blocks.new) }
+{
+    match found {
+        Ok(spot) => blocks.join_at(alloc, spot, other),
+        Err(spot) => insert_new(blocks, alloc, spot, key, other),
+    }
 }
 
 // Puts what `other` stands for at `spot` under a copy of the key, which is new.
@@ -170,8 +205,12 @@ impl<K: Copied, V: Join> Join for JoinMap<K, V> {
 
     fn join_with(&mut self, alloc: Global, other: &JoinMap<K, V>) -> Result<(), Want> {
         self.valid();
+        let mut near = Spot {
+            block: 0,
+            offset: 0,
+        };
         for (key, value) in other.walk() {
-            self.put_join(alloc, key, value)?;
+            self.join_near(alloc, &mut near, key, value)?;
         }
         Ok(())
     }

@@ -11,12 +11,12 @@ loop-key-init g c = grind (
 pub loop-key-preserved : goal.loop-key-preserved
 loop-key-preserved g c = grind (
   arith,
-  leads_more g.met.K.Ord.total g.met.K.Copied.exact g.met.V.Semilattice.laws c.args.self.now c.args.other.now c.loop-key.self c.put_join.new.self c.next.new.self (c.in-Some.key.now, c.in-Some.value.now) c.loop-key.key-iterator c.valid.ensures c.in_ok-put_join.ensures.valid c.in-Some.ensures.steps c.loop-key.invariant c.in_ok-put_join.ensures.ok,
+  leads_more g.met.K.Ord.total g.met.K.Copied.exact g.met.V.Semilattice.laws c.args.self.now c.args.other.now c.loop-key.self c.join_near.new.self c.next.new.self (c.in-Some.key.now, c.in-Some.value.now) c.loop-key.key-iterator c.valid.ensures c.in_ok-join_near.ensures.valid c.in-Some.ensures.steps c.loop-key.invariant c.in_ok-join_near.ensures.ok,
 )
 
-pub returns-in_err-put_join-clause-err : goal.returns-in_err-put_join-clause-err
-returns-in_err-put_join-clause-err g c = grind (
+pub returns-in_err-join_near-clause-err : goal.returns-in_err-join_near-clause-err
+returns-in_err-join_near-clause-err g c = grind (
   arith,
-  on_err c.from_residual.result _ (leads_part g.met.K.Ord.total g.met.K.Copied.exact g.met.V.Semilattice.laws c.args.self.now c.args.other.now c.loop-key.self c.put_join.new.self c.next.new.self (c.in-Some.key.now, c.in-Some.value.now) c.loop-key.key-iterator c.valid.ensures c.walk-key-items.ensures.valid c.in_err-put_join.ensures.valid c.in-Some.ensures.steps c.loop-key.invariant c.in_err-put_join.ensures.err),
-  leads_part g.met.K.Ord.total g.met.K.Copied.exact g.met.V.Semilattice.laws c.args.self.now c.args.other.now c.loop-key.self c.put_join.new.self c.next.new.self (c.in-Some.key.now, c.in-Some.value.now) c.loop-key.key-iterator c.valid.ensures c.walk-key-items.ensures.valid c.in_err-put_join.ensures.valid c.in-Some.ensures.steps c.loop-key.invariant c.in_err-put_join.ensures.err,
+  on_err c.from_residual.result _ (leads_part g.met.K.Ord.total g.met.K.Copied.exact g.met.V.Semilattice.laws c.args.self.now c.args.other.now c.loop-key.self c.join_near.new.self c.next.new.self (c.in-Some.key.now, c.in-Some.value.now) c.loop-key.key-iterator c.valid.ensures c.walk-key-items.ensures.valid c.in_err-join_near.ensures.valid c.in-Some.ensures.steps c.loop-key.invariant c.in_err-join_near.ensures.err),
+  leads_part g.met.K.Ord.total g.met.K.Copied.exact g.met.V.Semilattice.laws c.args.self.now c.args.other.now c.loop-key.self c.join_near.new.self c.next.new.self (c.in-Some.key.now, c.in-Some.value.now) c.loop-key.key-iterator c.valid.ensures c.walk-key-items.ensures.valid c.in_err-join_near.ensures.valid c.in-Some.ensures.steps c.loop-key.invariant c.in_err-join_near.ensures.err,
 )
