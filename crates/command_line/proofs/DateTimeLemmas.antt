@@ -2,7 +2,7 @@
 use Rattle.std.proofs.Common.{◌≡◌, ◌∙◌, ◌<◌, ◌+◌, ◌*◌, ◌++◌, ◌∷◌, ◌==◌, ℕ, Bool, true, false, cond}
 use Rattle.std.proofs.Common.{IfSome, eqb-true, nat_lt, subst, List, [], get_or, drop, Option, Some, None, option_and_then, option_map}
 use Rattle.std.proofs.{Common.{refl, sym, ap, arith, inl, inr, Result, Ok, Err}, lemmas.Bool.Decides.{nat_tests}}
-use Rattle.std.proofs.lemmas.{Option.{none-some, same_Some}, List.{append_assoc, append-nil}}
+use Rattle.std.proofs.lemmas.{Grind.{common_steps}, Option.{none-some, same_Some}, List.{append_assoc, append-nil}}
 use Rattle.std.specs.Result.{OkIff, result_ok}
 use Rattle.mdns_capture.specs.{declared.moment.Moment.{Moment}, Limits.{second}}
 use Rattle.command_line.specs.{declared.moments.Offset.{Offset}, declared.moments.Offset.TheVariants.{Ahead, Behind}, Moments.{IsClock}}
@@ -11,6 +11,7 @@ use Rattle.command_line.specs.MomentReading as reading
 use Rattle.people_text.specs.{Calendar.{days_of_years}, MomentText.{two_digits}}
 use Rattle.command_line.proofs.GrammarLemmas.{Stops, clock-complete, clock-sound, cond-some, date-complete, date-sound}
 use Rattle.command_line.proofs.GrammarLemmas.{dotted-complete, dotted-sound, map-some, same-parts, then-some, two-complete, two-sound}
+use Rattle.people_text.proofs.CalendarLemmas.{days_of_years_1970}
 
 -- ---- seconds
 
@@ -230,3 +231,5 @@ pub since-told : {E : Type 0} (offset : Offset) (utc since local : ℕ) (r : Res
 since-told offset utc since local (Err e) found only is has same = rw is tt
 since-told offset utc since local (Ok x) found only is has same =
     rw (is, only.1) (subst (λ n. IsLocal offset n local) same has)
+
+pub ruleset for_since_1970 = (same-utc, since-told, common_steps, nat_tests, days_of_years_1970)

@@ -9,6 +9,7 @@ use Rattle.mdns_browse.specs.declared.report.{Form.{Form}, Form.TheVariants.{Lin
 use Rattle.command_line.specs.{Line.{AsksForm, Flags, GivesForm, HasNoForm, HasOneForm, IsFlag, IsMomentOf}, declared.line.Takes.{Takes}}
 use Rattle.command_line.specs.declared.options.ConflictingFlags.{ConflictingFlags}
 use Rattle.command_line.specs.declared.line.Takes.TheVariants as takes
+use Rattle.clap.proofs.WalkLemmas.{first_value-rows, one_text-rows, raw_values-rows}
 
 -- what a flag is read as
 pub flag-told : (flag : Bool) (text rows : Option Text) → text ≡ rows → (text ≡ None → flag ≡ false)
@@ -124,3 +125,11 @@ pub lent-words : (words : Option (Bor (List (Bor Text)))) (none : Bor (List (Bor
     → map (λ word. word.now) (unwrap_or words none).now ≡ unwrap_or (option_map (λ s. map (λ word. word.now) s.now) words) []
 lent-words None none is = ap (map (λ (word : Bor Text). word.now)) is
 lent-words (Some words) none is = refl
+
+pub ruleset for_moment_of = (moment-told, none-told, unread-told, one_text-rows)
+
+pub ruleset for_is_given = (flag-told, one_text-rows)
+
+pub ruleset for_options_of = (first_value-rows)
+
+pub ruleset for_matched = (both-parts, raw_values-rows)

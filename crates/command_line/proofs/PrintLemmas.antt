@@ -3,11 +3,11 @@ use Rattle.std.proofs.{lemmas.Grind.{common_steps}, Common.{◌≡◌, ◌≢◌
 use Rattle.command_line.specs.Program.{before_feeds, trimmed}
 
 -- one line feed more at the end
-pub trimmed-feed : (text : List ℕ) → trimmed (text ++ 10 ∷ []) ≡ trimmed text
-trimmed-feed [] = refl
-trimmed-feed (x ∷ text) = ap (before_feeds x) (trimmed-feed text)
+pub trimmed_feed : (text : List ℕ) → trimmed (text ++ 10 ∷ []) ≡ trimmed text
+trimmed_feed [] = refl
+trimmed_feed (x ∷ text) = ap (before_feeds x) (trimmed_feed text)
 
 -- another byte at the end
-pub trimmed-other : (text : List ℕ) (last : ℕ) → last ≢ 10 → trimmed (text ++ last ∷ []) ≡ text ++ last ∷ []
-trimmed-other [] last other = grind arith
-trimmed-other (x ∷ text) last other = grind (arith, common_steps, trimmed-other text last other)
+pub trimmed_other : (text : List ℕ) (last : ℕ) → last ≢ 10 → trimmed (text ++ last ∷ []) ≡ text ++ last ∷ []
+trimmed_other [] last other = grind arith
+trimmed_other (x ∷ text) last other = grind (arith, common_steps, trimmed_other text last other)

@@ -71,6 +71,7 @@ fn date_time(text: &[u8]) -> Option<Moment>
 }
 
 // Returns the seconds since 1970 at so many seconds of a clock since the year 0. `None` where 32 bits don't hold them.
+#[tactic(auto, using(crate::proofs::DateTimeLemmas::for_since_1970))]
 fn since_1970(local: u64, offset: Offset) -> Option<u32>
     requires small { local < 1_000_000_000_000 }
     ensures some { IfSome result (λ since. IsLocal offset (days_of_years 1970 * day_length + since) local) }
@@ -95,6 +96,7 @@ fn utc_of(local: u64, offset: Offset) -> Option<u64>
 }
 
 // Reads the seconds of the clock since the year 0, the nanoseconds, and the offset.
+#[tactic(auto, unfolding(crate::specs::MomentReading::read_date_time))]
 fn read_local(text: &[u8]) -> Option<(u64, u32, Offset)>
     ensures value { result ≡ reading.read_date_time text.now }
     ensures small { IfSome result (λ p. (p.0 < 1_000_000_000_000) × (p.1 < second)) }
@@ -106,6 +108,7 @@ fn read_local(text: &[u8]) -> Option<(u64, u32, Offset)>
 }
 
 // Reads a date: the days before it since the year 0.
+#[tactic(auto, unfolding(crate::specs::MomentReading::read_date))]
 fn read_date(text: &[u8]) -> Option<(u32, &[u8])>
     ensures value { reading.read_of result ≡ reading.read_date text.now }
     ensures small { IfSome result (λ p. p.0 < 4_000_000) }
@@ -119,6 +122,7 @@ fn read_date(text: &[u8]) -> Option<(u32, &[u8])>
 }
 
 // Reads a time: seconds and nanoseconds after midnight.
+#[tactic(auto, unfolding(crate::specs::MomentReading::read_time))]
 fn read_time(text: &[u8]) -> Option<((u32, u32), &[u8])>
     ensures value { reading.read_of result ≡ reading.read_time text.now }
     ensures small { IfSome result (λ p. (p.0.0 < 86_400) × (p.0.1 < second)) }
@@ -129,6 +133,7 @@ fn read_time(text: &[u8]) -> Option<((u32, u32), &[u8])>
 }
 
 // Reads a second and its fraction, or nothing.
+#[tactic(auto, unfolding(crate::specs::MomentReading::read_second))]
 fn read_second(text: &[u8]) -> Option<((u32, u32), &[u8])>
     ensures value { reading.read_of result ≡ reading.read_second text.now }
     ensures small { IfSome result (λ p. (p.0.0 < 60) × (p.0.1 < second)) }
@@ -145,6 +150,7 @@ fn read_second(text: &[u8]) -> Option<((u32, u32), &[u8])>
 }
 
 // Reads a fraction of a second, or nothing, in nanoseconds.
+#[tactic(auto, unfolding(crate::specs::MomentReading::read_fraction))]
 fn read_fraction(text: &[u8]) -> Option<(u32, &[u8])>
     ensures value { reading.read_of result ≡ reading.read_fraction text.now }
     ensures small { IfSome result (λ p. p.0 < second) }
@@ -184,6 +190,7 @@ fn fraction_of(digits: &[u8]) -> Option<u32>
 }
 
 // Reads an offset, which is the whole text.
+#[tactic(auto, unfolding(crate::specs::MomentReading::read_offset))]
 fn read_offset(text: &[u8]) -> Option<Offset>
     ensures { result ≡ reading.read_offset text.now }
 {
@@ -196,6 +203,7 @@ fn read_offset(text: &[u8]) -> Option<Offset>
 }
 
 // Reads an hour and a minute, in minutes.
+#[tactic(auto, unfolding(crate::specs::MomentReading::read_minutes))]
 fn read_minutes(text: &[u8]) -> Option<(u32, &[u8])>
     ensures value { reading.read_of result ≡ reading.read_minutes text.now }
     ensures small { IfSome result (λ p. p.0 < 1440) }
@@ -209,6 +217,7 @@ fn read_minutes(text: &[u8]) -> Option<(u32, &[u8])>
     }
 }
 
+#[tactic(auto, unfolding(crate::specs::MomentReading::read_two_digits))]
 fn read_two_digits(text: &[u8]) -> Option<(u32, &[u8])>
     ensures value { reading.read_of result ≡ reading.read_two_digits text.now }
     ensures small { IfSome result (λ p. p.0 < 100) }

@@ -40,6 +40,7 @@ pub struct Options<'a> {
 }
 
 /// Returns the options that are given. `None` where seconds can't be read.
+#[tactic(auto, using(crate::proofs::OptionLemmas::for_options_of))]
 pub(crate) fn options_of<'a>(flags: &[Flag], given: &ArgMatches<'a>) -> Option<Options<'a>>
     ensures some { IfSome result (HasOptions (flags_of flags.now) (rows_of (found_of given.now))) }
     ensures none { result ≡ None
@@ -110,6 +111,7 @@ fn form_asked(flag: Flag, given: &ArgMatches<'_>) -> Option<Form>
 }
 
 /// Checks whether the flag `name`, which takes nothing, is given.
+#[tactic(auto, using(crate::proofs::OptionLemmas::for_is_given))]
 pub(crate) fn is_given(name: &str, given: &ArgMatches<'_>) -> bool
     ensures { IsFlag (one_of name.now (rows_of (found_of given.now))) result }
 {
@@ -117,6 +119,7 @@ pub(crate) fn is_given(name: &str, given: &ArgMatches<'_>) -> bool
 }
 
 // Returns the moment of the option `name`, if it is given. `None` where its value can't be read.
+#[tactic(auto, using(crate::proofs::OptionLemmas::for_moment_of))]
 fn moment_of(name: &str, given: &ArgMatches<'_>) -> Option<Option<Moment>>
     ensures some { IfSome result (IsMomentOf (one_of name.now (rows_of (found_of given.now)))) }
     ensures none { result ≡ None

@@ -243,6 +243,7 @@ fn print_line<S: Sink>(text: &str, to: &mut S) -> bool
 }
 
 // Returns a text without the line feeds at its end.
+#[tactic(auto, using(crate::proofs::PrintLemmas::trimmed_feed, crate::proofs::PrintLemmas::trimmed_other))]
 fn trimmed(text: &[u8]) -> &[u8]
     ensures { result.now ≡ trimmed text.now }
 {

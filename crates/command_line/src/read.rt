@@ -51,6 +51,7 @@ pub(crate) fn read<'a, T: Copy>(
 }
 
 // Returns what the matches ask for, the matches of the subcommand, and the files.
+#[tactic(auto, using(crate::proofs::OptionLemmas::for_matched))]
 fn matched<'m, 'a, T: Copy>(
     subcommands: &[Subcommand<T>],
     matches: &'m ArgMatches<'a>,

@@ -1,5 +1,6 @@
 -- Lemmas on the state of a capture that is being read.
-use Rattle.std.proofs.{lemmas.Grind.{common_steps}, KnownBytes.{Consumes-nil}, lemmas.List.{take-append-le, take-take, length-take-le}}
+use Rattle.std.proofs.{lemmas.Grind.{common_steps}, KnownBytes.{Consumes-nil}}
+use Rattle.std.proofs.lemmas.List.{length-append, length-take, length-take-le, take-append-le, take-take}
 use Rattle.std.proofs.{lemmas.Bool.{false≢true}, lemmas.Bool.Decides.{nat_tests}, Common.{rules, ◌≡◌, ◌≢◌, ◌↔◌, ℕ}}
 use Rattle.std.proofs.Common.{◌+◌, ◌<◌, ◌≤◌, Bool, IsTrue, List, [], ◌∷◌, ◌++◌, Option, Some, None, IfSome, Result}
 use Rattle.std.proofs.Common.{Ok, Err, OnOk, OnErr, arith, eq-eqb, length, take, refl, ◌∙◌, subst, append_assoc}
@@ -250,3 +251,14 @@ module _ {R : Type 0} (snap : ℕ) where
   Advances-answered reader left steady failures format count offset ending current (Ok _) why =
       Moves-ended reader left steady failures format count offset ending current (not_going ending why.0) (not_failed ending why.0)
   Advances-answered reader left steady failures format count offset ending current (Err fault) why = grind (arith, Consumes-nil, not_failed)
+
+pub ruleset for_advance = (
+  Advances-answered,
+  Moves-full_going,
+  Moves-stop_going,
+  Moves-packet_going,
+  Moves-fault_going,
+  front_of,
+  length-take,
+  length-append,
+)

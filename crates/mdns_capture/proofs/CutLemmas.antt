@@ -193,3 +193,5 @@ pub same_contents : (offset : ℕ) (packets : List PacketAt) → map content_of 
 same_contents offset [] = refl
 same_contents offset (packet ∷ packets) =
     ap (λ (contents : List (Moment × List ℕ)). content_of packet ∷ contents) (same_contents (offset + (16 + length packet.frame)) packets)
+
+pub ruleset for_cut_at_a_packet_header = (first_part_reads, second_part_reads, same_contents)

@@ -1,6 +1,6 @@
 -- Chains of extension headers, one header at a time.
 use Rattle.std.proofs.Common.{◌≡◌, refl, ℕ, zero, suc, ◌+◌, ◌*◌, ◌<◌, ◌≤◌, Bool, true, false, ◌||◌, List, []}
-use Rattle.std.proofs.{Common.{◌∷◌, length, drop, slice_index, arith}, lemmas.Bool.Decides.{nat_tests}}
+use Rattle.std.proofs.{Common.{◌∷◌, length, drop, slice_index, arith}, lemmas.{Bool.Decides.{nat_tests}, List.{take_rest}}}
 use Rattle.mdns_capture.specs.Frame.{is_before_fragments, is_fragment_header, leads_to_fragment}
 
 -- the bytes that are left of a header
@@ -48,3 +48,5 @@ or_false false = refl
 pub last_header : (next : ℕ) (bytes : List ℕ) → is_before_fragments next ≡ false → leads_to_fragment next 0 bytes ≡ is_fragment_header next
 last_header next [] other = refl
 last_header next (after ∷ bytes) other = rw other (or_false (is_fragment_header next))
+
+pub ruleset for_leads_to_fragment = (cut_short, cut_within, last_header, one_header, take_rest)

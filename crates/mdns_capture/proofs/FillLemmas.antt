@@ -21,3 +21,5 @@ Consumes-filled old mid new a k n xs ys within fits before now =
     let joined = take_split a (a + n) xs (put_mid a k xs ys) (omega arith) (take-put_mid_below _ _ _ _ _ (le_refl _) within) in
     subst (Consumes _ _) (ap (λ l. take a xs ++ l) (sym (slice_range-put_mid a k n xs ys within fits)) ∙ joined)
     (Consumes-trans _ _ _ _ _ before now)
+
+pub ruleset for_fill = (Consumes-filled)

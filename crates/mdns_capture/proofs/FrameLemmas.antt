@@ -326,10 +326,10 @@ given_found frame (Ok given) is payload carries = checked_if_carried frame paylo
 given_found frame (Err cause) failed payload carries = carried_not_failed frame payload cause carries failed
 
 -- a check has a kind
-pub skip-from_cause : (frame : List ℕ) (cause : Cause) → cause_of frame ≡ Some cause
+pub skip_from_cause : (frame : List ℕ) (cause : Cause) → cause_of frame ≡ Some cause
     → skip_of frame ≡ Some (skip_of_cause cause)
 unfolding skip_of
-skip-from_cause frame cause some = ap (λ (first : Option Cause). option_map skip_of_cause first) some
+skip_from_cause frame cause some = ap (λ (first : Option Cause). option_map skip_of_cause first) some
 
 -- THE LAWS
 
@@ -343,7 +343,7 @@ payload_or_skip_by frame = by (cause_of frame) refl
     by : (cause : Option Cause) → cause_of frame ≡ cause
         → ((payload : List ℕ) × FrameCarries frame payload) ⊎ ((skip : Skip) × (skip_of frame ≡ Some skip))
     by None none = inl (udp_payload (ip_data frame), carries_from_none frame none)
-    by (Some cause) some = inr (skip_of_cause cause, skip-from_cause frame cause some)
+    by (Some cause) some = inr (skip_of_cause cause, skip_from_cause frame cause some)
 
 pub payload_not_skipped : (frame payload : List ℕ) (skip : Skip) → FrameCarries frame payload → skip_of frame ≡ Some skip → ⊥
 unfolding skip_of

@@ -139,6 +139,9 @@ pub TakesAtMost-more : (old new : Option (List ℕ)) (few many : ℕ) → few �
 TakesAtMost-more old new few many le takes = (takes.0, takes.1, omega (arith, takes.2))
 
 -- the bytes of a header and of a body are taken
-pub TakesAtMost-both : (old mid new : Option (List ℕ)) (n most : ℕ) (header : List ℕ) → length header ≡ 16 → most ≤ 262144
-    → Consumes old mid (take n header) → TakesAtMost mid new most → TakesAtMost old new 262160
-TakesAtMost-both old mid new n most header size few takes more = grind (arith, Consumes-trans, length-append, length-take)
+pub TakesAtMost-both : (old mid new : Option (List ℕ)) (n captured : ℕ) (header buffer : List ℕ) → length header ≡ 16
+    → captured ≤ 262144 → Consumes old mid (take n header) → TakesAtMost mid new (length (take captured buffer))
+    → TakesAtMost old new 262160
+TakesAtMost-both old mid new n captured header buffer size few takes more = grind (arith, Consumes-trans, length-append, length-take)
+
+pub ruleset for_read_packet = (IfSome-stop_came, IsPacketOrEnd-came, TakesAtMost-more, packet_by-undamaged, length-take-le)

@@ -1,6 +1,7 @@
 -- A range of a list, and the rest of it; reads that failed.
 use Rattle.std.proofs.Common.{rules, Result, Ok, Err, Option, IsErr, take-append-drop, drop-drop, ◌≡◌, ℕ, ◌+◌, ◌-◌}
-use Rattle.std.proofs.{Common.{◌≤◌, List, [], ◌++◌, take, drop, slice_range, ap, arith}, lemmas.List.{drop-take}}
+use Rattle.std.proofs.Common.{◌≤◌, List, [], ◌++◌, take, drop, slice_range, ap, arith, length-take, length-take-le}
+use Rattle.std.proofs.lemmas.{Grind.{common_steps}, List.{drop-take}}
 use Rattle.std.specs.Io.KnownBytes.{Keeps, ReadConsumes}
 
 -- a range up to an offset that isn't greater is empty
@@ -19,3 +20,5 @@ pub ReadConsumes-err : {E : Type 0} (old new : Option (List ℕ)) (r : Result �
     → Keeps old new → ReadConsumes old new r to
 ReadConsumes-err old new (Ok n) to failed kept = search rules
 ReadConsumes-err old new (Err e) to failed kept = kept
+
+pub ruleset for_give = (slice_range-split, slice_range, length-take, length-take-le, common_steps)

@@ -170,6 +170,7 @@ impl<R: Source> Capture<R> {
     }
 
     // Reads the next packet, if there is one. Inlined, as `next` is.
+    #[tactic(auto, using(crate::proofs::CaptureLemmas::for_advance))]
     #[inline(always)]
     fn advance(&mut self) -> Result<(), ReadFault>
         ensures { Advances self.old result self.new }
@@ -206,6 +207,7 @@ impl<R: Source> Capture<R> {
     /// `Long`. After the end every call returns `None`, and after a failed read the error, without reading. With a
     /// steady reader no read fails. A failed read isn't tried again.
     // A call would pass each packet through memory.
+    #[tactic(auto, using(std::proofs::lemmas::Result::err_from_is_err_and))]
     #[inline(always)]
     pub fn next(&mut self) -> Result<Option<Packet<'_>>, ReadFault>
         ensures* moves { sem 𝓛 (Rests (the_row R.row R.Source) self.entry (λ new.

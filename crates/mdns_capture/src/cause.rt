@@ -92,6 +92,7 @@ impl Cause {
 }
 
 // Checks that a chain of whole headers, each of which may come before a fragment header, leads to one (RFC 8200 section 4).
+#[tactic(auto, using(crate::proofs::ExtensionLemmas::for_leads_to_fragment))]
 fn leads_to_fragment(number: u8, bytes: &[u8]) -> bool
     ensures { result ≡ leads_to_fragment number 0 bytes.now }
 {

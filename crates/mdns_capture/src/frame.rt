@@ -61,6 +61,7 @@ const PORT: u16 = 5353;
 /// to 224.0.0.251 or over IPv6 (RFC 8200) to FF02::FB (RFC 6762 sections 3 and 6), with no IPv6 extension header.
 /// Bytes after the payload, Ethernet addresses, source addresses and checksums are ignored. A UDP length of 8 gives
 /// an empty payload. `Err` is the first check that fails, in the order of the headers.
+#[tactic(auto, using(crate::proofs::FrameLemmas::skip_from_cause))]
 pub fn payload_of(frame: &[u8]) -> Result<&[u8], Skip>
     ensures carried { IfOk result (λ payload. FrameCarries frame.now payload.now) }
     ensures found { (payload : List ℕ) → FrameCarries frame.now payload
@@ -74,6 +75,7 @@ pub fn payload_of(frame: &[u8]) -> Result<&[u8], Skip>
 }
 
 /// Returns the payload as `payload_of` does, or the first check that fails in place of its kind.
+#[tactic(auto, using(crate::proofs::FrameLemmas::given_carried))]
 pub(crate) fn payload_or_cause(frame: &[u8]) -> Result<&[u8], Cause>
     ensures carried { IfOk result (λ payload. FrameCarries frame.now payload.now) }
     ensures found { (payload : List ℕ) → FrameCarries frame.now payload

@@ -9,6 +9,7 @@ ghost use Rattle.mdns_capture.specs.{Frame.{FrameCarries, cause_of, skip_of, ski
 
 /// The bytes of a file have at most one reading, a list of packets and an ending. They have one
 /// exactly where the file header has no fault.
+#[tactic(auto, using(crate::proofs::OneReadingLemmas::some_reading))]
 pub fn one_reading()
     ensures unique { (bytes : List ℕ) (packets others : List PacketAt) (ending other : Ending)
         → CaptureReads bytes packets ending → CaptureReads bytes others other
@@ -44,6 +45,7 @@ pub fn skip_is_of_the_cause()
 /// packets between its parts. The first part has those before the cut and is whole. The second has
 /// those after it, at offsets counted anew but with the same moments and frames, and ends as the
 /// capture does. Not so where the capture ends as `Many`: its second part may go on.
+#[tactic(auto, using(crate::proofs::CutLemmas::for_cut_at_a_packet_header))]
 pub fn cut_at_a_packet_header()
     // The offset after some packets is that of the next packet's header.
     ensures offset { (bytes : List ℕ) (front back : List PacketAt) (packet : PacketAt) (ending : Ending)

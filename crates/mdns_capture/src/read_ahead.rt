@@ -72,6 +72,7 @@ impl<R: Source> ReadAhead<R> {
     }
 
     // Moves as many of the buffer's bytes as fit to the front of `to`, and returns how many.
+    #[tactic(auto, using(crate::proofs::ReadAheadLemmas::for_give))]
     fn give(&mut self, to: &mut [u8]) -> usize
         ensures count { result ≡ min (self.old.end - self.old.start) (length to.old) }
         ensures room { length to.new ≡ length to.old }

@@ -296,6 +296,7 @@ fn packet_by(head: PacketHeader, offset: u64, count: usize) -> PacketOrEnd
 }
 
 /// Reads a packet, its body into the front of `buffer`, and no byte past it.
+#[tactic(auto, using(crate::proofs::HeaderLemmas::for_read_packet))]
 pub(crate) fn read_packet<R: Source>(
     reader: &mut R,
     format: Format,

@@ -19,6 +19,7 @@ pub enum SourceAddress {
 /// Returns the payload of a frame, as `payload_of` does, and the source address in its IP header. `Err` is the first check
 /// that fails, in the order of the headers.
 // A call would pass each payload through memory.
+#[tactic(auto, using(crate::proofs::SourceLemmas::sent_from_there, crate::proofs::SourceLemmas::source_is_there))]
 #[inline(always)]
 pub fn payload_and_source(frame: &[u8]) -> Result<(&[u8], SourceAddress), Cause>
     ensures carried { IfOk result (λ sent. FrameCarries frame.now sent.0.now) }

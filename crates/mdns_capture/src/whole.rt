@@ -7,6 +7,7 @@ ghost use Rattle.mdns_capture.specs.{Calls.{ReadsWell, WritesWell}, Output.{Appe
 use crate::stream::{Broken, Sink, Source};
 
 /// Reads until `to` is full or the bytes end, and returns how many were read. Stops at the first failed read.
+#[tactic(auto, using(crate::proofs::FillLemmas::for_fill))]
 pub(crate) fn fill<R: Source>(reader: &mut R, to: &mut [u8]) -> Result<usize, Broken>
     ensures bound { ReadsAtMost result to.new }
     ensures bytes { IfOk result (λ count.

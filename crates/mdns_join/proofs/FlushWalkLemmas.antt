@@ -75,3 +75,5 @@ module _ {V : Type 0} where
                 ∙ ap (value_at set_key_cmp later) (sym is) ∙ l.later later n;
             sorted = sorted_rest set_key_cmp-total set_key_cmp-exact e rest sorted_is;
           })
+
+pub ruleset for_moments = (with_next-some, with_next-taken, none_left, none_of_set, next_of_set)

@@ -1,13 +1,14 @@
 -- Moments in no order: those that are kept depend only on which moments there are, however these are sorted or wait.
-use Rattle.std.proofs.Common.{rules, ◌≡◌, ℕ, suc, ◌<◌, ◌≤◌, Bool, true, false, ◌||◌, ◌==◌, List, [], ◌∷◌, ◌++◌}
+use Rattle.std.proofs.Common.{rules, ◌≡◌, ℕ, suc, ◌+◌, ◌<◌, ◌≤◌, Bool, true, false, ◌||◌, ◌==◌, List, [], ◌∷◌, ◌++◌}
 use Rattle.std.proofs.Common.{refl, sym, ap, ◌∙◌, subst, inl, inr, arith, true≢false, eqb-true}
 use Rattle.std.specs.{Ordering.{nat_cmp}, List.{Contains, dedup, dedup_from}, List.Sorted.{IsPermutation, IsSortedByKey, IsNonDecreasingBy}}
-use Rattle.std.proofs.lemmas.{Bool.{or_cases, cond_both, eqb-false as unequal}, List.{map-append}}
+use Rattle.std.proofs.lemmas.{Bool.{or_cases, cond_both, eqb-false as unequal}, List.{map-append}, Result.{on_err_weaker, on_ok_weaker}}
 use Rattle.std.proofs.lemmas.List.Sorted.{IsPermutation-map, IsPermutation-sym, Contains-permutation, IsNonDecreasingBy-from_sort}
-use Rattle.mdns_capture.specs.declared.moment.Moment.{Moment}
-use Rattle.mdns_join.specs.{Nanos.{nanos_of}, Kept.{has, IsAscending, IsAscendingAbove, union, kept, kept_union, IsKeptList}}
-use Rattle.mdns_join.specs.laws.Kept.{has-append, has-union, kept-kept, kept-same, kept_union-left}
-use Rattle.mdns_join.proofs.MomentLemmas.{has-get_or}
+use Rattle.mdns_capture.specs.{declared.moment.Moment.{Moment}, Limits.{second}}
+use Rattle.mdns_join.specs.Kept.{has, newest, IsAscending, IsAscendingAbove, IsKept, union, kept, kept_union, IsKeptList}
+use Rattle.mdns_join.specs.{Nanos.{nanos_of}, laws.Kept.{has-append, has-kept_iff, has-union, kept_kept, kept-one, kept-same}}
+use Rattle.mdns_join.specs.laws.Kept.{kept_union-kept, kept_union-left, struck-kept_iff, IsAscending-from_kept, IsAscending-kept}
+use Rattle.mdns_join.proofs.MomentLemmas.{has-get_or, absorbed}
 
 -- ---- moments that wait beside those that are kept
 
@@ -43,12 +44,12 @@ keeps_more ks ls xs = search (rules, kept_union-left, same_has, has_three, or_sw
 -- those that wait were joined into the kept ones, and then more moments
 pub none_waits_more : (ks ls xs held kept : List ℕ) (late : List Moment) → held ≡ kept_union ks ls → late ≡ []
     → kept ≡ kept_union held xs → kept_union kept (nanos_of late) ≡ kept_union (kept_union ks ls) xs
-none_waits_more ks ls xs held kept late e none f = grind (arith, none_waits, kept-kept)
+none_waits_more ks ls xs held kept late e none f = grind (arith, none_waits, kept_kept)
 
 -- those that wait were joined into the kept ones
 pub none_waits_after : (ks ls held kept : List ℕ) (late : List Moment) → held ≡ kept_union ks ls → late ≡ []
     → kept ≡ held → kept_union kept (nanos_of late) ≡ kept_union ks ls
-none_waits_after ks ls held kept late e none f = grind (arith, none_waits, kept-kept)
+none_waits_after ks ls held kept late e none f = grind (arith, none_waits, kept_kept)
 
 -- moments behind others are joined with them
 pub kept_nanos-append : (xs ys : List Moment) → kept (nanos_of (xs ++ ys)) ≡ kept_union (nanos_of xs) (nanos_of ys)
@@ -141,3 +142,17 @@ module _ (same : Moment → Moment → Bool) (is : (a b : Moment) → same a b �
         (λ q h. has-permutation (nanos_of sorted) (nanos_of items)
         (IsPermutation-sym (nanos_of items) (nanos_of sorted) nanos_moved) q (sym (has-unlike q) ∙ h))
         (λ q h. has-unlike q ∙ has-permutation (nanos_of items) (nanos_of sorted) nanos_moved q h)
+
+pub ruleset for_add = (waits_more, none_waits_after, none_waits_more, map-append, on_ok_weaker, on_err_weaker)
+
+pub ruleset one_kept = (kept-one)
+
+-- a kept moment that is a second or more older than the greatest is no earlier than another kept one that is
+pub latest_older : (xs : List ℕ) (m n : ℕ) → IsKept xs m → IsKept xs n → m + second ≤ newest xs → n + second ≤ newest xs → n ≤ m
+latest_older xs m n one other old also_old = grind arith
+
+pub ruleset for_kept_by_rule = (has-kept_iff, kept_union-kept, latest_older, IsAscending-kept)
+
+pub ruleset for_kept_strikes = (struck-kept_iff)
+
+pub ruleset for_add_many = (kept_nanos-append, absorbed, IsAscending-from_kept)

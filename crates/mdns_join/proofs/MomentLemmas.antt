@@ -1,5 +1,5 @@
 -- Ascending lists of moments: the place of a moment, inserting one, and the front that is dropped.
-use Rattle.std.proofs.Common.{◌≡◌, ◌≢◌, ℕ, zero, suc, ◌+◌, ◌-◌, ◌<◌, ◌≤◌, Bool, true, false, cond, ◌||◌, ◌==◌, nat_lt}
+use Rattle.std.proofs.Common.{◌≡◌, ◌≢◌, ℕ, zero, suc, ◌+◌, ◌-◌, ◌<◌, ◌≤◌, Bool, true, false, cond, ◌||◌, ◌==◌, nat_lt, leb-true}
 use Rattle.std.proofs.Common.{◌⊎◌, List, [], ◌∷◌, ◌++◌, length, get_or, take, drop, insert, refl, sym, ap, ◌∙◌, subst}
 use Rattle.std.proofs.Common.{inl, inr, arith, true≢false, ltb-true, ltb-false, eqb-true, lt-ltb, Result, Ok, Err, OnOk, OnErr}
 use Rattle.std.proofs.lemmas.{Bool.{or_cases, or_right, cases_Bool, cases_lt}, Bool.Decides.{nat_tests}, Grind.{take_at_read}}
@@ -10,8 +10,8 @@ use Rattle.mdns_capture.specs.{declared.moment.Moment.{Moment}, Limits.{second}}
 use Rattle.mdns_join.specs.{Nanos.{nanos_of}, Kept.{has, newest, IsAscending, IsAscendingAbove, IsGreatest, put, place_of, union, kept}}
 use Rattle.mdns_join.specs.{Kept.{kept_union, IsKeptList, IsStale, IsAbsorbed}, laws.Kept.{has-append, has-put, IsAscending-put}}
 use Rattle.mdns_join.specs.laws.Kept.{IsAscending-union, IsAscending-kept, IsAscending-from_above, IsAscendingAbove-has, IsStale-up}
-use Rattle.mdns_join.specs.laws.Kept.{has-le-newest, same_ascending, kept_between, kept_from_heard, heard_from_kept, kept-kept, has-newest}
-use Rattle.mdns_join.specs.laws.Kept.{not_stale_from_kept, union_left, union_right, union_parts}
+use Rattle.mdns_join.specs.laws.Kept.{has-le-newest, same_ascending, kept_between, kept_from_heard, heard_from_kept, kept_kept, has-newest}
+use Rattle.mdns_join.specs.laws.Kept.{not_stale_from_kept, union_left, union_right, union_parts, IsAscending-from_kept}
 
 -- ---- the place of a moment
 
@@ -389,7 +389,7 @@ absorbed_more xs others i x l e before here m h =
 pub kept_after : {E : Type 0} (r : Result (Unit {0}) E) (items new : List Moment) (ys : List ℕ)
     → IsKeptList (nanos_of items) → OnOk r (nanos_of new ≡ kept_union (nanos_of items) ys) → OnErr r (new ≡ items)
     → IsKeptList (nanos_of new)
-kept_after (Ok x) items new ys k ok err = subst IsKeptList (sym ok) (kept-kept (union (nanos_of items) ys))
+kept_after (Ok x) items new ys k ok err = subst IsKeptList (sym ok) (kept_kept (union (nanos_of items) ys))
 kept_after (Err x) items new ys k ok err = subst (λ (zs : List Moment). IsKeptList (nanos_of zs)) (sym err) k
 
 -- ---- equal lists
@@ -400,3 +400,11 @@ pointwise-nanos [] [] = refl
 pointwise-nanos [] (y ∷ ys) = refl
 pointwise-nanos (x ∷ xs) [] = refl
 pointwise-nanos (x ∷ xs) (y ∷ ys) = ap (λ b. (x.nanos == y.nanos) && b) (pointwise-nanos xs ys)
+
+pub ruleset for_add = (absorbed_one, kept_two, IsAscending-from_kept)
+
+pub ruleset ascending_if_kept = (IsAscending-from_kept)
+
+pub ruleset for_unkept = (kept_few, kept_second, kept_rest, last_item)
+
+pub ruleset for_absorbs = (absent_past, absent_apart, has_item, stale_here, on_true, on_false, leb-true)

@@ -53,6 +53,7 @@ impl<T: Copy> Deque<T> {
     }
 
     /// Inserts `item` at `at`, moving those after it. After `Want` the list is as before.
+    #[tactic(auto, using(crate::proofs::DequeLemmas::for_insert))]
     pub(crate) fn insert(&mut self, at: usize, item: T) -> Result<(), Want>
         requires { at ≤ length self.old }
         ensures ok { OnOk result (self.new ≡ insert self.old at item) }

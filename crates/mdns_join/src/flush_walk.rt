@@ -44,6 +44,7 @@ impl<'a, V: Semilattice + Drop> FlushWalk<'a, V> {
 
     /// Returns what is held of a record set, and drops the sets before it. `None` if nothing is held of it, or if it comes
     /// before a set that was asked for earlier.
+    #[tactic(auto, using(crate::proofs::FlushWalkLemmas::for_moments))]
     pub fn moments(&mut self, set: &SetKey) -> Option<&'a V>
         ensures value { option_copied result ≡ value_at set_key_cmp set.now self.old }
         ensures left { (later : RecordSet) → set_key_cmp set.now later ≢ Greater

@@ -2,7 +2,7 @@
 
 ghost use Rattle.std.specs.Prelude.{◌≡◌, [], ◌∷◌, true, IsOk, IfNone, IfOk, IfSome, OnOk, OnErr, nat_eq};
 ghost use Rattle.std.specs.{Cmp.{partial_equiv_from_equiv}, Cmp.Lexicographic.{pointwise, nat_list_eq_equiv}};
-ghost use Rattle.mdns_join.specs.{Kept.{has, kept_union, IsGreatest, IsKeptList}, laws.Kept.{kept_union-laws}, Nanos.{nanos_of}};
+ghost use Rattle.mdns_join.specs.{Kept.{has, kept_union, IsGreatest, IsKeptList}, laws.Kept.{kept_union_laws}, Nanos.{nanos_of}};
 
 use crate::moment_list::MomentList;
 use crate::prune::{add, add_all, last_of};
@@ -35,6 +35,7 @@ impl Model for Moments {
 
 impl Moments {
     /// Makes a list of one moment. It takes no memory, so it never fails.
+    #[tactic(auto, using(crate::specs::laws::Kept::kept_one_of))]
     pub fn of(_alloc: Global, moment: Moment) -> Result<Moments, Want>
         ensures value { IfOk result (λ moments. moments ≡ moment.nanos ∷ []) }
         ensures taken { IsOk result }
@@ -45,6 +46,7 @@ impl Moments {
     }
 
     /// Joins one moment, as `join_with` does the `Moments` of it. After `Want` the moments are as before.
+    #[tactic(auto, using(crate::proofs::MomentLemmas::kept_after))]
     pub fn add(&mut self, alloc: Global, moment: Moment) -> Result<(), Want>
         ensures ok { OnOk result (self.new ≡ kept_union self.old (moment.nanos ∷ [])) }
         ensures err { OnErr result (self.new ≡ self.old) }
@@ -56,6 +58,7 @@ impl Moments {
     }
 
     /// Joins moments in any order. After `Want` the moments are as before.
+    #[tactic(auto, using(crate::proofs::MomentLemmas::kept_after))]
     pub(crate) fn add_all(&mut self, alloc: Global, moments: &[Moment]) -> Result<(), Want>
         ensures ok { OnOk result (self.new ≡ kept_union self.old (nanos_of moments.now)) }
         ensures err { OnErr result (self.new ≡ self.old) }
@@ -64,6 +67,7 @@ impl Moments {
     }
 
     /// Returns the newest moment.
+    #[tactic(auto, using(crate::proofs::MomentLemmas::ascending_if_kept))]
     pub fn newest(&self) -> Option<Moment>
         ensures newest { IfSome result (λ newest. IsGreatest self.now newest.nanos) }
         ensures none { IfNone result (self.now ≡ []) }
@@ -89,7 +93,7 @@ impl Semilattice for Moments {
         let _items = &self.items;
     }
 
-    ghost laws = { kept_union-laws };
+    ghost laws = { kept_union_laws };
 }
 
 impl Join for Moments {
@@ -99,6 +103,7 @@ impl Join for Moments {
         })
     }
 
+    #[tactic(auto, using(crate::specs::laws::Kept::kept_union_laws, crate::proofs::RefusedLemmas::part_refused))]
     fn join_with(&mut self, alloc: Global, other: &Moments) -> Result<(), Want> {
         self.valid();
         other.valid();
@@ -113,12 +118,14 @@ impl Join for Moments {
 impl<'a> JoinInto<Moments> for BorrowedHearing<'a> {
     ghost value = { λ hearing. hearing.moment.nanos ∷ [] };
 
+    #[tactic(auto, using(crate::proofs::LateLemmas::one_kept))]
     fn to_value(&self, alloc: Global) -> Result<Moments, Want> {
         Moments::of(alloc, self.moment)
     }
 }
 
 impl<'a> JoinHeld<Moments> for BorrowedHearing<'a> {
+    #[tactic(auto, using(crate::proofs::RefusedLemmas::for_join_into))]
     fn join_into(&self, alloc: Global, held: &mut Moments) -> Result<(), Want> {
         held.valid();
         held.add(alloc, self.moment)

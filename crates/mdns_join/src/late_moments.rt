@@ -1,7 +1,7 @@
 //! Flush moments of a record set, added in any order.
 
 ghost use Rattle.std.specs.{Prelude.{◌≡◌, ◌+◌, ◌≤◌, [], ◌∷◌, length, IfOk, OnOk, OnErr}, Bool.{OnTrue}};
-ghost use Rattle.mdns_join.specs.{Kept.{kept_union, IsKeptList}, Nanos.{nanos_of}, laws.Kept.{kept_union-laws}};
+ghost use Rattle.mdns_join.specs.{Kept.{kept_union, IsKeptList}, Nanos.{nanos_of}, laws.Kept.{kept_union_laws}};
 
 use crate::kept_moments::Moments;
 use join_map::{Join, JoinInto, JoinOwn, Semilattice};
@@ -39,6 +39,7 @@ impl Model for LateMoments {
 
 impl LateMoments {
     /// Makes a list of one moment.
+    #[tactic(auto, using(crate::proofs::LateLemmas::one_kept, crate::proofs::LateLemmas::none_waits))]
     pub fn of(alloc: Global, moment: Moment) -> Result<LateMoments, Want>
         ensures { IfOk result (λ late. late ≡ moment.nanos ∷ []) }
     {
@@ -49,6 +50,7 @@ impl LateMoments {
     }
 
     /// Adds one moment. After `Want` the moments are as before.
+    #[tactic(auto, using(crate::proofs::LateLemmas::for_add))]
     pub fn add(&mut self, alloc: Global, moment: Moment) -> Result<(), Want>
         ensures ok { OnOk result (self.new ≡ kept_union self.old (moment.nanos ∷ [])) }
         ensures err { OnErr result (self.new ≡ self.old) }
@@ -62,6 +64,7 @@ impl LateMoments {
     }
 
     /// Adds the moments that another list keeps. After `Want` the moments are as before.
+    #[tactic(auto, using(crate::proofs::LateLemmas::for_add))]
     pub fn add_all(&mut self, alloc: Global, moments: &Moments) -> Result<(), Want>
         ensures ok { OnOk result (self.new ≡ kept_union self.old moments.now) }
         ensures err { OnErr result (self.new ≡ self.old) }
@@ -109,11 +112,12 @@ impl Semilattice for LateMoments {
 
     ghost join = { kept_union };
 
+    #[tactic(auto, using(crate::specs::laws::Kept::kept_kept))]
     fn valid(&self) {
         let _kept = &self.kept;
     }
 
-    ghost laws = { kept_union-laws };
+    ghost laws = { kept_union_laws };
 }
 
 impl Join for LateMoments {
@@ -124,6 +128,7 @@ impl Join for LateMoments {
         })
     }
 
+    #[tactic(auto, using(crate::proofs::RefusedLemmas::for_join_with))]
     fn join_with(&mut self, alloc: Global, other: &LateMoments) -> Result<(), Want> {
         self.valid();
         other.valid();
@@ -136,6 +141,7 @@ impl Join for LateMoments {
 impl<'a> JoinInto<LateMoments> for BorrowedHearing<'a> {
     ghost value = { λ hearing. hearing.moment.nanos ∷ [] };
 
+    #[tactic(auto, using(crate::proofs::LateLemmas::one_kept))]
     fn to_value(&self, alloc: Global) -> Result<LateMoments, Want> {
         LateMoments::of(alloc, self.moment)
     }
@@ -154,6 +160,7 @@ impl<'a> JoinOwn<SetKey, LateMoments> for BorrowedHearing<'a> {
         self.heard.set_key(alloc)
     }
 
+    #[tactic(auto, using(crate::proofs::LateLemmas::one_kept))]
     fn join_own(
         &self,
         alloc: Global,
@@ -178,6 +185,7 @@ pub struct Repeated<'a> {
 impl<'a> JoinInto<LateMoments> for Repeated<'a> {
     ghost value = { λ repeated. repeated.moments.now };
 
+    #[tactic(auto, using(crate::proofs::LateLemmas::none_waits))]
     fn to_value(&self, alloc: Global) -> Result<LateMoments, Want> {
         self.moments.valid();
         Ok(LateMoments {

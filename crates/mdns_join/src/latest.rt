@@ -38,6 +38,7 @@ impl Join for Latest {
         copy_parts(alloc, self.moment, self.ttl, &self.resource.borrowed())
     }
 
+    #[tactic(auto, using(crate::proofs::RefusedLemmas::for_latest))]
     fn join_with(&mut self, alloc: Global, other: &Latest) -> Result<(), Want> {
         join_parts(
             self,
@@ -62,6 +63,7 @@ impl<'a> JoinInto<Latest> for BorrowedHearing<'a> {
 }
 
 impl<'a> JoinHeld<Latest> for BorrowedHearing<'a> {
+    #[tactic(auto, using(crate::proofs::RefusedLemmas::for_latest))]
     fn join_into(&self, alloc: Global, held: &mut Latest) -> Result<(), Want> {
         join_parts(held, alloc, self.moment, self.ttl, &self.heard)
     }
@@ -146,6 +148,7 @@ fn time_cmp(held: &Latest, moment: Moment, ttl: u32) -> Ordering
 }
 
 // Returns whether `held` is less than a last hearing of the same spelling.
+#[tactic(auto, using(crate::proofs::OrderLemmas::for_is_older))]
 fn is_older(held: &Latest, moment: Moment, ttl: u32) -> bool
     ensures { result ≡ is_lt (latest_cmp held.now (latest moment ttl held.now.resource)) }
 {

@@ -15,6 +15,7 @@ pub fn latest_order()
 
 /// `kept` holds exactly the moments that the rule keeps, ascending and each once: of those that are a second or more older
 /// than the greatest there is at most one. Keeping two lists before they are joined changes nothing.
+#[tactic(auto, using(crate::proofs::LateLemmas::for_kept_by_rule))]
 pub fn kept_by_rule()
     ensures rule { (xs : List ℕ) (m : ℕ) → (has (kept xs) m ≡ true) ↔ IsKept xs m }
     ensures ascending { (xs : List ℕ) → IsAscending (kept xs) }
@@ -23,6 +24,7 @@ pub fn kept_by_rule()
 {}
 
 /// As of a moment no earlier than all flushes, one of them strikes exactly if one of those that are kept does.
+#[tactic(auto, using(crate::proofs::LateLemmas::for_kept_strikes))]
 pub fn kept_strikes()
     ensures { (xs : List ℕ) (t now : ℕ) → newest xs ≤ now → (IsStruckBy (kept xs) t now ↔ IsStruckBy xs t now) }
 {}

@@ -22,6 +22,7 @@ fn place(items: &[Moment], bound: u64) -> usize
 
 // Returns whether `moment`, whose place is `at`, is there already, or wouldn't be kept: a later one is a second or more
 // older than the greatest.
+#[tactic(auto, using(crate::proofs::MomentLemmas::for_absorbs))]
 fn absorbs(items: &[Moment], at: usize, moment: Moment) -> bool
     requires ascending { IsAscending (nanos_of items.now) }
     requires place { at ≡ place_of moment.nanos (nanos_of items.now) }
@@ -40,6 +41,7 @@ fn absorbs(items: &[Moment], at: usize, moment: Moment) -> bool
 }
 
 // Counts the moments at the front that aren't kept.
+#[tactic(auto, using(crate::proofs::MomentLemmas::for_unkept))]
 fn unkept(items: &[Moment]) -> usize
     requires { IsAscending (nanos_of items.now) }
     ensures front { kept (nanos_of items.now) ≡ drop result (nanos_of items.now) }
@@ -59,6 +61,7 @@ fn unkept(items: &[Moment]) -> usize
 }
 
 // Drops the moments that aren't kept.
+#[tactic(auto, using(crate::proofs::MomentLemmas::kept_dropped))]
 fn prune(items: &mut MomentList)
     requires { IsAscending (nanos_of items.old) }
     ensures { nanos_of items.new ≡ kept (nanos_of items.old) }
@@ -82,6 +85,7 @@ fn kept_of(alloc: Global, moments: Vec<Moment>) -> Result<MomentList, Want>
 }
 
 /// Joins one moment into the kept moments `items`. After `Want` they are as before.
+#[tactic(auto, using(crate::proofs::MomentLemmas::for_add))]
 pub(crate) fn add(items: &mut MomentList, alloc: Global, moment: Moment) -> Result<(), Want>
     requires { IsKeptList (nanos_of items.old) }
     ensures ok { OnOk result (nanos_of items.new ≡ kept_union (nanos_of items.old) (moment.nanos ∷ [])) }
@@ -111,6 +115,7 @@ pub(crate) fn last_of(items: &[Moment]) -> Option<Moment>
 }
 
 // Joins one moment, whose place is searched, into the kept moments `items`. After `Want` they are as before.
+#[tactic(auto, using(crate::proofs::MomentLemmas::ascending_if_kept, crate::proofs::MomentLemmas::absorbed_one))]
 fn add_at_place(items: &mut MomentList, alloc: Global, moment: Moment) -> Result<(), Want>
     requires { IsKeptList (nanos_of items.old) }
     ensures ok { OnOk result (nanos_of items.new ≡ kept_union (nanos_of items.old) (moment.nanos ∷ [])) }
@@ -161,6 +166,7 @@ fn with_one_more(few: &[Moment], at: usize, moment: Moment) -> [Moment; 3]
 }
 
 // Returns whether all `others` are absorbed by `items`, so that nothing has to be joined.
+#[tactic(auto, using(crate::proofs::MomentLemmas::absorbed_more))]
 fn absorbs_all(items: &[Moment], others: &[Moment]) -> bool
     requires { IsAscending (nanos_of items.now) }
     ensures { OnTrue result ((m : ℕ) → has (nanos_of others.now) m ≡ true → IsAbsorbed (nanos_of items.now) m) }
@@ -188,6 +194,7 @@ pub(crate) fn add_all(items: &mut MomentList, alloc: Global, others: &[Moment]) 
 }
 
 // Joins two moments without sorting all. After `Want` they are as before.
+#[tactic(auto, using(crate::specs::laws::Kept::kept_kept))]
 fn add_two(items: &mut MomentList, alloc: Global, one: Moment, two: Moment) -> Result<(), Want>
     requires { IsKeptList (nanos_of items.old) }
     ensures ok { OnOk result (nanos_of items.new ≡ kept_union (nanos_of items.old) (one.nanos ∷ two.nanos ∷ [])) }
@@ -203,6 +210,7 @@ fn add_two(items: &mut MomentList, alloc: Global, one: Moment, two: Moment) -> R
 }
 
 // Joins any number of moments by sorting all. After `Want` they are as before.
+#[tactic(auto, using(crate::proofs::LateLemmas::for_add_many))]
 fn add_many(items: &mut MomentList, alloc: Global, others: &[Moment]) -> Result<(), Want>
     requires { IsKeptList (nanos_of items.old) }
     ensures ok { OnOk result (nanos_of items.new ≡ kept_union (nanos_of items.old) (nanos_of others.now)) }

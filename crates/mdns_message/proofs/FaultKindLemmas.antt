@@ -2,6 +2,7 @@
 -- message can have.
 use Rattle.std.proofs.Common.{◌≡◌, ℕ, zero, suc, ◌+◌, ◌*◌, ◌<◌, ◌≤◌, List, Option, None, Some, length, get_or}
 use Rattle.std.proofs.{Common.{sym, ap, subst, inl, inr, arith, length-append, get_or-drop}, lemmas.List.{length-map}}
+use Rattle.std.proofs.lemmas.Result.{IfErr-at_err}
 use Rattle.mdns_capture.specs.{declared.moment.Moment.{Moment}, Frame.{word_at}, Savefile.{number_at}}
 use Rattle.mdns_message.specs.declared.{hearing.Hearing.{Hearing}, fault.MessageFault.{MessageFault}}
 use Rattle.mdns_message.specs.declared.fault.MessageFault.TheVariants.{Header, Query, Ignored, Cut, Label, Pointer, LongName, Memory}
@@ -186,3 +187,5 @@ few_hearings moment m hs fits reads =
       word_bound m 6 fits,
       word_bound m 10 fits,
     )
+
+pub ruleset for_read_message = (never_of_header, IfErr-at_err)

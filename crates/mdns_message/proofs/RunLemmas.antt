@@ -1,6 +1,6 @@
 -- How runs and pairs of items grow, and what is added to the hearings meanwhile.
 use Rattle.std.proofs.Common.{arith, ◌≡◌, ◌∙◌, ℕ, ◌+◌, ◌<◌, List, ◌++◌, map, refl, sym, ap, inl, inr, append_assoc, add-one}
-use Rattle.std.proofs.lemmas.List.{map-append}
+use Rattle.std.proofs.lemmas.{List.{map-append}, Result.{err_from_is_err_and}}
 use Rattle.mdns_capture.specs.declared.moment.Moment.{Moment}
 use Rattle.mdns_message.specs.declared.{hearing.Hearing.{Hearing}, fault.MessageFault.{MessageFault}}
 use Rattle.mdns_message.specs.{Message.{Run, RunFails, Pair, PairFails, Adds, hearing_of}, RecordAt.{HeardRecord, MemoryOr}}
@@ -41,3 +41,5 @@ pub second_fails : {A : Type 0} (First : ℕ → List A → ℕ → Type 0) (Fir
     → MemoryOr (SecondFails offset) f → MemoryOr (PairFails First FirstFails SecondFails start) f
 second_fails First FirstFails SecondFails start offset front f first (inl memory) = inl memory
 second_fails First FirstFails SecondFails start offset front f first (inr fails) = inr (inr (front, offset, first, fails))
+
+pub ruleset for_questions = (Run-more, run_fails, err_from_is_err_and)

@@ -12,12 +12,12 @@ strings_from-take zero (b ∷ bytes) = refl
 strings_from-take (suc n) (b ∷ bytes) = ap (with_first b) (strings_from-take n bytes)
 
 -- a whole string is the first, before the strings of the bytes after it
-pub strings_of-append : (string rest : List ℕ) → strings_of (length string ∷ (string ++ rest)) ≡ string ∷ strings_of rest
-strings_of-append string rest = grind (arith, strings_from-take, take-append_seam, drop-append_seam)
+pub strings_of_append : (string rest : List ℕ) → strings_of (length string ∷ (string ++ rest)) ≡ string ∷ strings_of rest
+strings_of_append string rest = grind (arith, strings_from-take, take-append_seam, drop-append_seam)
 
 -- a string that ends with the data, however much more its length octet says
-pub strings_of-cut : (count : ℕ) (string : List ℕ) → length string ≤ count → strings_of (count ∷ string) ≡ string ∷ []
-strings_of-cut count string short = grind (arith, strings_from-take, take_all, drop_all)
+pub strings_of_cut : (count : ℕ) (string : List ℕ) → length string ≤ count → strings_of (count ∷ string) ≡ string ∷ []
+strings_of_cut count string short = grind (arith, strings_from-take, take_all, drop_all)
 
 -- cutting at the octet's count, or at the end where that comes first, gives the first string and the rest
 pub strings_of-split : (bytes tail string after : List ℕ) (count mid : ℕ) → bytes ≡ count ∷ tail

@@ -58,6 +58,7 @@ fn known_at(known: &[KnownName], offset: usize) -> Option<ByteRange>
 
 // Appends the name at `at`, which begins at `offset` or with a pointer to there, to the bytes, and returns its range in
 // them and the offset after it in the message.
+#[tactic(auto, using(crate::proofs::KnownLemmas::known_kept))]
 #[inline(never)]
 fn new_name(
     names: &mut NameReader,

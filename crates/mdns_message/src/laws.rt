@@ -26,6 +26,7 @@ pub fn keys_tell_records()
 {}
 
 /// Keys that compare equal are the same value.
+#[tactic(auto, using(crate::specs::laws::Resource::set_keys_same))]
 pub fn equal_keys()
     ensures key { (a b : key) → (IsTrue (⟦<Key as PartialEq>⟧.eq a b) ↔ (a ≡ b)) }
     ensures set_key { (a b : RecordSet) → (IsTrue (⟦<SetKey as PartialEq>⟧.eq a b) ↔ (a ≡ b)) }
@@ -39,6 +40,7 @@ pub fn key_order()
 
 /// Resources are ordered by the owner's bytes, the type number and the data's bytes, all unfolded, and
 /// compare equal exactly where they are the same value.
+#[tactic(auto, using(crate::proofs::KeyLemmas::resources_same))]
 pub fn resource_order()
     ensures order { (a b : resource) → ⟦<Resource as Ord>⟧.cmp a b ≡ resource_cmp a b }
     ensures equal { (a b : resource) → (IsTrue (⟦<Resource as PartialEq>⟧.eq a b) ↔ (a ≡ b)) }
@@ -59,6 +61,7 @@ pub fn one_message_outcome()
 
 /// TXT data is a list of strings, each after its length octet (RFC 1035, section 3.3.14). The clauses
 /// give the strings of all data, by the ways in which data can begin.
+#[tactic(auto, using(crate::proofs::TextDataLemmas::strings_of_append, crate::proofs::TextDataLemmas::strings_of_cut))]
 pub fn strings_of_text()
     ensures none { strings_of [] ≡ [] }
     ensures whole { (string rest : List ℕ) → strings_of (length string ∷ (string ++ rest)) ≡ string ∷ strings_of rest }

@@ -41,6 +41,7 @@ const RESPONSE: u16 = 0x8000;
 const CODES: u16 = 0x780f;
 
 // Returns the offset after `count` questions from `start` on.
+#[tactic(auto, using(crate::proofs::RunLemmas::for_questions))]
 fn questions(
     reader: &mut RecordReader,
     message: &[u8],
@@ -100,6 +101,7 @@ fn records(
 }
 
 // Reads the four sections of a message with a good header, and adds the hearings of the wanted records.
+#[tactic(auto, using(crate::proofs::SectionLemmas::all_sections, crate::proofs::SectionLemmas::front_sections))]
 fn sections(
     reader: &mut RecordReader,
     moment: Moment,
@@ -122,6 +124,7 @@ fn sections(
 }
 
 // Reads a message, and adds the hearings of its wanted records.
+#[tactic(auto, using(crate::proofs::FaultKindLemmas::for_read_message))]
 fn read_message(
     reader: &mut RecordReader,
     moment: Moment,
@@ -192,6 +195,7 @@ impl MessageReader {
     /// allocation. `Memory` means that an allocation failed after a good header, whether or not the
     /// message has a fault. Each other error is the first fault in reading order, and refuses the
     /// whole message. After any error the reader holds no hearing, and can still be used.
+    #[tactic(auto, using(std::proofs::lemmas::Result::on_ok_weaker, crate::proofs::FaultKindLemmas::few_hearings))]
     pub fn read(&mut self, moment: Moment, message: &[u8]) -> Result<(), MessageFault>
         ensures header { IsErrOf result MessageFault.Header ↔ IsShort message.now }
         ensures query { IsErrOf result MessageFault.Query ↔ IsQuery message.now }

@@ -232,6 +232,7 @@ fn aaaa_address(message: &[u8], header: RecordHeader) -> Result<[u8; 16], Messag
 // Reads the data of a wanted record, and appends its name or text to the bytes. The data of PTR is a name (RFC 1035,
 // section 3.3.12), that of SRV ends with one (RFC 2782), and that of TXT is copied unchecked (RFC 1035, section
 // 3.3.14).
+#[tactic(auto, using(crate::proofs::KnownLemmas::known_kept))]
 fn flat_body(
     names: &mut NameReader,
     message: &[u8],

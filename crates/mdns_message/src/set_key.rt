@@ -182,11 +182,11 @@ impl Hash for SetKey {
     ghost use Rattle.std.specs.Prelude.{◌∷◌};
     ghost use Rattle.std.specs.Hash.{u16 as fed_number};
     ghost use Rattle.std.proofs.Common.{ap};
-    ghost use Rattle.mdns_message.specs.laws.Resource.{set_keys-same};
+    ghost use Rattle.mdns_message.specs.laws.Resource.{set_keys_same};
 
     ghost hash_input = { λ set. set.owner ∷ fed_number set.number };
 
-    ghost respects_eq = { λ a b equal. ap (λ set. set.owner ∷ fed_number set.number) ((set_keys-same a b).0 equal) };
+    ghost respects_eq = { λ a b equal. ap (λ set. set.owner ∷ fed_number set.number) ((set_keys_same a b).0 equal) };
 
     fn hash<H: Hasher>(&self, state: &mut H) {
         state.write(self.owner());

@@ -284,8 +284,8 @@ pub kept-same : (xs ys : List ℕ) → ((m : ℕ) → has xs m ≡ true → has 
     → ((m : ℕ) → has ys m ≡ true → has xs m ≡ true) → kept xs ≡ kept ys
 kept-same xs ys into back = kept_between xs ys into (λ m h. inl (back m h))
 
-pub kept-kept : (xs : List ℕ) → kept (kept xs) ≡ kept xs
-kept-kept xs = kept_between (kept xs) xs (heard_from_kept xs) (heard_is_kept_or_stale xs)
+pub kept_kept : (xs : List ℕ) → kept (kept xs) ≡ kept xs
+kept_kept xs = kept_between (kept xs) xs (heard_from_kept xs) (heard_is_kept_or_stale xs)
 
 -- ---- unions
 
@@ -344,13 +344,13 @@ union_assoc xs ys zs =
     ])
 
 -- joining moments obeys the laws of a join
-pub kept_union-laws : JoinLaws IsKeptList kept_union
-kept_union-laws = record {
+pub kept_union_laws : JoinLaws IsKeptList kept_union
+kept_union_laws = record {
   idempotent = λ xs k. kept-same (union xs xs) xs (λ m h. elim (union_parts xs xs m h) [ inl e ↦ e | inr e ↦ e ]) (union_left xs xs) ∙ k;
   commutative = λ xs ys k l. ap kept (union_comm xs ys);
   associative = λ xs ys zs k l m. kept_union-left (union xs ys) zs ∙ ap kept (union_assoc xs ys zs)
       ∙ sym (kept_union-right xs (union ys zs));
-  keeps = λ xs ys k l. kept-kept (union xs ys);
+  keeps = λ xs ys k l. kept_kept (union xs ys);
 }
 
 -- ---- nothing is lost
@@ -383,5 +383,5 @@ pub kept-one : (m : ℕ) → kept (m ∷ []) ≡ m ∷ []
 unfolding kept
 kept-one m = kept_filter m (is_kept (m ∷ []) m) (is_kept_from (m ∷ []) m (λ s. omega (arith, s.after, s.old)))
 
-pub kept-one_of : (m : Moment) (xs : List Moment) → xs ≡ m ∷ [] → IsKeptList (nanos_of xs)
-kept-one_of m xs e = subst (λ (ys : List Moment). IsKeptList (nanos_of ys)) (sym e) (kept-one m.nanos)
+pub kept_one_of : (m : Moment) (xs : List Moment) → xs ≡ m ∷ [] → IsKeptList (nanos_of xs)
+kept_one_of m xs e = subst (λ (ys : List Moment). IsKeptList (nanos_of ys)) (sym e) (kept-one m.nanos)

@@ -39,8 +39,8 @@ pub set_key_cmp-total : IsTotalOrder set_key_cmp
 set_key_cmp-total = then_total (on_total (λ k. k.owner) nat_list_cmp_total) (on_total (λ k. k.number) nat_cmp_total)
 
 -- set keys compare equal exactly where they are one value
-pub set_keys-same : (a b : RecordSet) → IsTrue (eq_by_cmp set_key_cmp a b) ↔ (a ≡ b)
-set_keys-same a b = (
+pub set_keys_same : (a b : RecordSet) → IsTrue (eq_by_cmp set_key_cmp a b) ↔ (a ≡ b)
+set_keys_same a b = (
   λ equal. set_key_cmp-exact a b ((Equal-is (set_key_cmp a b)).0 equal),
   λ same. ap (λ other. is_eq (set_key_cmp other b)) same ∙ ap is_eq (tied_itself set_key_cmp-total b),
 )

@@ -1,8 +1,5 @@
-use Rattle.mdns_capture.proofs.FrameLemmas.{given_carried, given_found}
+use Rattle.mdns_capture.proofs.FrameLemmas.{given_found}
 use Rattle.mdns_capture.proofs.frame.payload_or_cause.Goals as goal
-
-pub returns-clause-carried : goal.returns-clause-carried
-returns-clause-carried c = given_carried _ _ c.checked_payload.ensures
 
 pub returns-clause-found : goal.returns-clause-found
 returns-clause-found c = given_found _ _ c.checked_payload.ensures

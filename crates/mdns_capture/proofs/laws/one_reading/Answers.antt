@@ -1,4 +1,4 @@
-use Rattle.mdns_capture.proofs.OneReadingLemmas.{same_reading, some_reading, sound_reading}
+use Rattle.mdns_capture.proofs.OneReadingLemmas.{same_reading, sound_reading}
 use Rattle.mdns_capture.proofs.laws.one_reading.Goals as goal
 
 pub returns-clause-unique : goal.returns-clause-unique
@@ -6,6 +6,3 @@ returns-clause-unique c = same_reading
 
 pub returns-clause-sound : goal.returns-clause-sound
 returns-clause-sound c = sound_reading
-
-pub returns-clause-exists : goal.returns-clause-exists
-returns-clause-exists c = some_reading

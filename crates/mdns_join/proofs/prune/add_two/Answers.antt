@@ -1,11 +1,8 @@
-use Rattle.std.proofs.Common.{List, [], ◌∷◌, ap, ◌∙◌, sym, subst}
+use Rattle.std.proofs.Common.{List, [], ◌∷◌, ap, ◌∙◌, sym}
 use Rattle.mdns_capture.specs.declared.moment.Moment.{Moment}
-use Rattle.mdns_join.specs.{Kept.{IsKeptList, kept_union, union}, laws.Kept.{kept-kept}, Nanos.{nanos_of}}
+use Rattle.mdns_join.specs.{Kept.{kept_union}, Nanos.{nanos_of}}
 use Rattle.mdns_join.proofs.LateLemmas.{keeps_more, waits_more}
 use Rattle.mdns_join.proofs.prune.add_two.Goals as goal
-
-pub add-requires-2 : goal.add-requires-2
-add-requires-2 c = subst IsKeptList (sym c.in_ok-add.ensures.ok) (kept-kept (union (nanos_of c.in_ok-both.both) (c.args.two.nanos ∷ [])))
 
 pub returns-clause-ok : goal.returns-clause-ok
 returns-clause-ok c =

@@ -1,12 +1,12 @@
 use Rattle.std.proofs.Common.{arith, ap}
 use Rattle.std.specs.Cmp.Lexicographic.{bytes_decides}
-use Rattle.mdns_message.specs.{Resource.{folded_data_of, set_key_of}, laws.Resource.{set_keys-same}}
+use Rattle.mdns_message.specs.{Resource.{folded_data_of, set_key_of}, laws.Resource.{set_keys_same}}
 use Rattle.mdns_message.proofs.KeyLemmas.{both_true, true_both}
 use Rattle.mdns_message.proofs.laws.keys_tell_records.Goals as goal
 
 pub returns-clause-record : goal.returns-clause-record
 returns-clause-record c a b =
-    let sets = set_keys-same (set_key_of a) (set_key_of b) in
+    let sets = set_keys_same (set_key_of a) (set_key_of b) in
     let data_lists = bytes_decides (folded_data_of a.body) (folded_data_of b.body) in (
       λ equal.
           let parts = both_true _ _ equal in
@@ -19,4 +19,4 @@ returns-clause-record c a b =
     )
 
 pub returns-clause-set : goal.returns-clause-set
-returns-clause-set c a b = grind (arith, set_keys-same (set_key_of a) (set_key_of b))
+returns-clause-set c a b = grind (arith, set_keys_same (set_key_of a) (set_key_of b))

@@ -1,5 +1,5 @@
 use Rattle.std.proofs.{Common.{arith}, lemmas.Result.{err_from_is_err_and}}
-use Rattle.mdns_message.proofs.SectionLemmas.{all_sections, front_sections, last_section_fails}
+use Rattle.mdns_message.proofs.SectionLemmas.{front_sections, last_section_fails}
 use Rattle.mdns_message.proofs.message.sections.Goals as goal
 
 pub returns-in_err-records-clause-fault : goal.returns-in_err-records-clause-fault
@@ -9,6 +9,3 @@ returns-in_err-records-clause-fault c = grind (
   front_sections c.args.moment c.args.message.now _ _ _ _ c.args.heard.now.hearings c.records.new.heard.hearings c.records-2.new.heard.hearings c.word_at-asked.ensures c.requires.none c.in_ok-offset.ensures.stands c.in_ok-offset-2.ensures.stands c.in_ok-offset-3.ensures.stands,
   last_section_fails,
 )
-
-pub returns-clause-found : goal.returns-clause-found
-returns-clause-found c = grind (arith, front_sections, all_sections)
