@@ -113,7 +113,7 @@ pub(crate) fn time_left_len(
 
 /// What a report lists: the word for one, the word for more, and the header of comma-separated values.
 #[derive(Clone, Copy)]
-pub(crate) struct Called<'a> {
+pub(crate) struct Listing<'a> {
     pub(crate) one: &'a str,
     pub(crate) many: &'a str,
     pub(crate) header: &'a str,
@@ -124,17 +124,17 @@ pub(crate) fn begin(
     alloc: Global,
     form: Form,
     count: usize,
-    called: Called<'_>,
+    listing: Listing<'_>,
     now: Moment,
 ) -> Result<Objects, Want>
     ensures { IfOk result (λ to. string_bytes to.text
-        ≡ head form count called.entry.one.now called.entry.many.now called.entry.header.now now.nanos) }
+        ≡ head form count listing.entry.one.now listing.entry.many.now listing.entry.header.now now.nanos) }
 {
     let mut to = Objects::new(alloc);
     match form {
         Form::Lines | Form::Json => {}
-        Form::Pretty => push_heading(&mut to.text, count, called.one, called.many, now)?,
-        Form::Csv => to.text.push_str(called.header)?,
+        Form::Pretty => push_heading(&mut to.text, count, listing.one, listing.many, now)?,
+        Form::Csv => to.text.push_str(listing.header)?,
     }
     Ok(to)
 }

@@ -11,13 +11,13 @@ ghost use Rattle.mdns_browse.specs.{Json.{json_member, json_words, parted, text_
 ghost use Rattle.mdns_browse.specs.declared.report.Ask.TheVariants.{Hosts};
 
 use crate::about::Subject;
-use crate::columns::{Called, begin};
+use crate::columns::{Listing, begin};
 use crate::csv::{Field, push_csv_line};
 use crate::data_words::{Word, WordSink, push_words};
 use crate::host::{Host, HostService, host_source, is_same, kept_hosts};
 use crate::record_shown::{GAP, push_shown_words};
 use crate::report::Form;
-use crate::report_csv::join;
+use crate::report_csv::drop_first_space;
 use crate::report_json::Objects;
 use mdns_cache::{Cache, Last};
 use mdns_capture::Moment;
@@ -45,12 +45,12 @@ pub(crate) fn hosts_text(
         source.services.as_slice(),
     )?;
     let listed = hosts.as_slice();
-    let called = Called {
+    let listing = Listing {
         one: "host",
         many: "hosts",
         header: "host,addresses,instance,port\r\n",
     };
-    let mut to = begin(alloc, form, listed.len(), called, now)?;
+    let mut to = begin(alloc, form, listed.len(), listing, now)?;
     push_hosts(&mut to, form, listed)?;
     Ok(to.text)
 }
@@ -219,7 +219,7 @@ fn push_csv_host(to: &mut String, host: &Host<'_>) -> Result<(), Want>
     let mut addresses = String::new(alloc);
     push_shown_addresses(&mut addresses, " ", host.ipv4)?;
     push_shown_addresses(&mut addresses, " ", host.ipv6)?;
-    join(&mut addresses);
+    drop_first_space(&mut addresses);
     push_csv_services(to, name.as_str(), addresses.as_str(), host.services)
 }
 

@@ -16,7 +16,7 @@ use crate::instance::{Instance, Server};
 use crate::instance_columns::instances_columns;
 use crate::record_shown::{push_shown_instance, push_shown_strings, push_shown_words};
 use crate::report::Form;
-use crate::report_csv::join;
+use crate::report_csv::drop_first_space;
 use crate::report_json::Objects;
 use crate::report_walk::walk_given;
 use crate::services::instance;
@@ -131,7 +131,7 @@ fn push_instance(
     push_shown_name(&mut kind, &given.row.last.resource.owner.borrowed())?;
     let mut texts = String::new(alloc);
     push_texts(&mut texts, instance.texts.as_slice())?;
-    join(&mut texts);
+    drop_first_space(&mut texts);
     push_servers(
         to,
         name.as_str(),
@@ -193,7 +193,7 @@ fn push_server(
     push_shown_name(&mut host, &server.target.borrowed())?;
     let mut addresses = String::new(*to.allocator());
     push_addresses(&mut addresses, server.addresses.as_slice())?;
-    join(&mut addresses);
+    drop_first_space(&mut addresses);
     push_server_line(
         to,
         name,

@@ -9,7 +9,7 @@ ghost use Rattle.mdns_browse.specs.{Csv.{joined, record_csv}, Forms.{record_text
 ghost use Rattle.mdns_browse.specs.{Report.{IsReportIn, records_about}, Services.{IsOfLive}, declared.report.Ask.TheVariants.{Records}};
 
 use crate::about::{Subject, keeps_record};
-use crate::columns::{Called, begin};
+use crate::columns::{Listing, begin};
 use crate::csv::{Field, push_csv_line};
 use crate::record_columns::push_records_below;
 use crate::report::Form;
@@ -105,12 +105,12 @@ fn listed(
 {
     let rows = kept_records(alloc, about, cache.walk_live(now))?;
     let listed = rows.as_slice();
-    let called = Called {
+    let listing = Listing {
         one: "record",
         many: "records",
         header: "owner,type,data,ttl,heard,until\r\n",
     };
-    let mut to = begin(alloc, form, listed.len(), called, now)?;
+    let mut to = begin(alloc, form, listed.len(), listing, now)?;
     push_records(&mut to, form, now, listed)?;
     Ok(to.text)
 }

@@ -42,13 +42,13 @@ impl ResourceTexts {
         push_shown_name(&mut self.owner, &resource.owner)?;
         self.words.clear();
         push_shown_words(&mut self.words, " ", &resource.body)?;
-        join(&mut self.words);
+        drop_first_space(&mut self.words);
         Ok(())
     }
 }
 
-/// Leaves words that stand each after a space with one space between them.
-pub(crate) fn join(words: &mut String)
+/// Drops the space before the first of words that stand each after a space: one is left between two.
+pub(crate) fn drop_first_space(words: &mut String)
     ensures { (texts : List (List ℕ)) → string_bytes words.old ≡ spaced texts → string_bytes words.new ≡ joined texts }
 {
     if !words.is_empty() {

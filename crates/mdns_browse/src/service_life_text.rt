@@ -17,7 +17,7 @@ use crate::life_columns::{end_shown, push_heading, push_until};
 use crate::life_text::{Layout, end_word};
 use crate::record_shown::{GAP, push_shown_instance, push_shown_order, push_shown_target};
 use crate::report::Form;
-use crate::report_csv::join;
+use crate::report_csv::drop_first_space;
 use crate::report_json::Objects;
 use crate::report_lines::push_life;
 use mdns_capture::Moment;
@@ -262,7 +262,7 @@ fn push_csv(to: &mut String, end_of_captures: Moment, service: &ServiceLife<'_>)
     push_shown_name(&mut kind, &service.kind.borrowed())?;
     let mut servers = String::new(alloc);
     push_targets(&mut servers, service.servers.as_slice())?;
-    join(&mut servers);
+    drop_first_space(&mut servers);
     push_csv_life(
         to,
         end_of_captures,

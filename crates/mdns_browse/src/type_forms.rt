@@ -9,7 +9,7 @@ ghost use Rattle.mdns_browse.specs.{About.{keeps_type}, Columns.{type_row}, Csv.
 ghost use Rattle.mdns_browse.specs.{Report.{IsReportIn, types_about}, declared.report.Ask.TheVariants.{Types}};
 
 use crate::about::{Subject, keeps_type};
-use crate::columns::{Called, begin};
+use crate::columns::{Listing, begin};
 use crate::csv::{Field, push_csv_line};
 use crate::report::Form;
 use crate::report_json::Objects;
@@ -35,12 +35,12 @@ pub(crate) fn types_text(
     let names = type_names(alloc, about, cache.walk_live(now))?;
     let listed = names.as_slice();
     let count = listed.len();
-    let called = Called {
+    let listing = Listing {
         one: "service type",
         many: "service types",
         header: "type\r\n",
     };
-    let mut to = begin(alloc, form, count, called, now)?;
+    let mut to = begin(alloc, form, count, listing, now)?;
     push_gap(&mut to.text, form, count)?;
     push_types(&mut to, form, listed)?;
     Ok(to.text)

@@ -1,6 +1,6 @@
 use Rattle.std.proofs.Common.{rules}
 use Rattle.mdns_browse.proofs.CsvLemmas.{joined-none, joined-some}
-use Rattle.mdns_browse.proofs.report_csv.join.Goals as goal
+use Rattle.mdns_browse.proofs.report_csv.drop_first_space.Goals as goal
 
 pub returns-then-not-is_empty : goal.returns-then-not-is_empty
 returns-then-not-is_empty c texts is = joined-some texts _ _ (search rules) c.remove.ensures.ascii_bytes is
