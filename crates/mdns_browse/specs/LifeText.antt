@@ -1,6 +1,6 @@
 -- The lives of records as text.
-use Rattle.std.specs.Prelude.{◌≡◌, ℕ, true, false, nat_lt, ◌==◌, if◌then◌else◌, List, [], ◌∷◌, ◌++◌, length, map, codes, Option, option_map, unwrap_or}
-use Rattle.std.specs.{Fmt.{decimal}, List.{flat_map}}
+use Rattle.std.specs.Prelude.{◌≡◌, ℕ, true, false, nat_lt, ◌==◌, if◌then◌else◌, ◌∷◌, ◌++◌, length, map, codes, Option, None, Some, option_map}
+use Rattle.std.specs.{Prelude.{List, [], unwrap_or}, Fmt.{decimal}, List.{flat_map}}
 use Rattle.mdns_capture.specs.{Text.{moment_text}, declared.moment.Moment.{Moment}}
 use Rattle.mdns_message.specs.{Resource.{type_name, type_of}, declared.resource.Resource.{Resource}}
 use Rattle.mdns_join.specs.declared.latest.Latest.{Latest}
@@ -96,9 +96,13 @@ called Changes count =
     if count == 1 then codes " life of record sets that changed, between "
     else codes " lives of record sets that changed, between "
 
+-- the nanoseconds of a moment, if there is one
+abbrev pub nanos_if_some : Option Moment → Option ℕ
+nanos_if_some moment = option_map (λ (moment : Moment). moment.nanos) moment
+
 -- the moment that bounds the window, or else the captures
 unfoldable pub bound_shown : Option Moment → ℕ → ℕ
-bound_shown bound other = unwrap_or (option_map (λ (moment : Moment). moment.nanos) bound) other
+bound_shown bound other = unwrap_or (nanos_if_some bound) other
 
 abbrev pub bounds_shown : Window → (begin end : ℕ) → List ℕ
 bounds_shown window begin end =
@@ -110,15 +114,17 @@ heads_shown count width last =
     if count == 0 then []
     else 10 ∷ (codes "FROM                      UNTIL                     " ++ padded width (codes "END") ++ last)
 
--- how many lives there are, what they are called, and between which moments, and the heads of the columns
-unfoldable pub lives_heading : (called last : List ℕ) → Window → (count width begin end : ℕ) → List ℕ
-lives_heading called last window count width begin end =
+-- how many lives there are, what they are called, and between which moments, and the heads of the columns; nothing where there is no
+-- earliest moment, as in captures without packets
+unfoldable pub lives_heading : (called last : List ℕ) → Window → (count width : ℕ) → Option ℕ → ℕ → List ℕ
+lives_heading called last window count width None end = []
+lives_heading called last window count width (Some begin) end =
     decimal count ++ called ++ bounds_shown window begin end ++ 10 ∷ heads_shown count width last
 
 -- ---- forms
 
 -- what stands before the lives; in columns also the bounds, and the width of the column that says how they end
-abbrev pub lives_head : Which → Window → Form → (count width begin end : ℕ) → List ℕ
+abbrev pub lives_head : Which → Window → Form → (count width : ℕ) → Option ℕ → ℕ → List ℕ
 lives_head which window Pretty count width begin end =
     lives_heading (called which count) (codes "  TYPE  RECORD\n") window count width begin end
 lives_head which window Csv count width begin end = lives_header
@@ -135,8 +141,8 @@ life_text Csv width = life_csv
 abbrev pub lives_text : Form → ℕ → ℕ → Latest × List Life → List ℕ
 lives_text form width end row = flat_map (life_text form width end row.0.resource) row.1
 
--- all of it: `begin` is the earliest moment, and `end` the end of the captures
-abbrev pub lives_report : Which → Window → Form → (begin end : ℕ) → List (Latest × List Life) → List ℕ
+-- all of it: `begin` is the earliest moment, if there is one, and `end` the end of the captures
+abbrev pub lives_report : Which → Window → Form → Option ℕ → ℕ → List (Latest × List Life) → List ℕ
 lives_report which window form begin end rows =
     lives_head which window form (length (lives_in rows)) (end_width end rows) begin end
     ++ flat_map (lives_text form (end_width end rows) end) rows

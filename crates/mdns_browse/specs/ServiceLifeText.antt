@@ -1,5 +1,5 @@
 -- The lives of service instances as text (RFC 6763, sections 4 and 5).
-use Rattle.std.specs.Prelude.{ℕ, nat_lt, ◌==◌, if◌then◌else◌, max, List, [], ◌∷◌, ◌++◌, length, map, codes}
+use Rattle.std.specs.Prelude.{ℕ, nat_lt, ◌==◌, if◌then◌else◌, max, List, [], ◌∷◌, ◌++◌, length, map, codes, Option}
 use Rattle.std.specs.{Fmt.{decimal}, List.{flat_map}}
 use Rattle.dns_name.specs.Name.{name_text}
 use Rattle.mdns_message.specs.{declared.parts.Service.{Service}, Parts.{service_lent}}
@@ -99,7 +99,7 @@ abbrev pub services_called : ℕ → List ℕ
 services_called count = if count == 1 then codes " life of a service between " else codes " lives of services between "
 
 -- what is before the lives: in columns as many as there are, and the bounds of the window, or else of the captures
-abbrev pub services_head : Form → Window → (count width begin end : ℕ) → List ℕ
+abbrev pub services_head : Form → Window → (count width : ℕ) → Option ℕ → ℕ → List ℕ
 services_head Pretty window count width begin end =
     lives_heading (services_called count) (codes "  SERVICE\n") window count width begin end
 services_head Csv window count width begin end = codes "instance,type,servers,from,ttl,heard,until,end\r\n"
@@ -112,8 +112,8 @@ service_text Json width = service_json
 service_text Pretty width = service_row width
 service_text Csv width = service_csv
 
--- all of it: `begin` is the earliest moment, and `end` the end of the captures
-abbrev pub service_lives_text : Form → Window → (begin end : ℕ) → List ServiceLife → List ℕ
+-- all of it: `begin` is the earliest moment, if there is one, and `end` the end of the captures
+abbrev pub service_lives_text : Form → Window → Option ℕ → ℕ → List ServiceLife → List ℕ
 service_lives_text form window begin end services =
     services_head form window (length services) (service_width end services) begin end
     ++ flat_map (service_text form (service_width end services) end) services

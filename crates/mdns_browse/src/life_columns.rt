@@ -4,7 +4,8 @@ ghost use Rattle.std.specs.Prelude.{◌≡◌, ◌++◌, ◌∷◌, [], codes, l
 ghost use Rattle.std.specs.{List.{flat_map}, String.{string_bytes}};
 ghost use Rattle.mdns_message.specs.Resource.{type_name, type_of};
 ghost use Rattle.people_text.specs.MomentText.{millis_text};
-ghost use Rattle.mdns_browse.specs.LifeText.{bound_shown, bounds_shown, called, end_shown, heads_shown, life_row, lives_heading, open_text, until_shown};
+ghost use Rattle.mdns_browse.specs.LifeText.{bound_shown, bounds_shown, called, end_shown, heads_shown, life_row, lives_heading, nanos_if_some, open_text};
+ghost use Rattle.mdns_browse.specs.LifeText.{until_shown};
 ghost use Rattle.mdns_browse.specs.{Columns.{padded, widest}, RecordShown.{shown_record}};
 
 use crate::columns::{push_padded, wider, word_for};
@@ -28,7 +29,8 @@ pub(crate) fn end_width(end_of_captures: Moment, lives: &[Life]) -> usize
 }
 
 /// Appends how many lives there are, what they are called, and between which moments; then an empty line and the heads of the
-/// columns, of which `last` are those after END, unless there are none.
+/// columns, of which `last` are those after END, unless there are none. Appends nothing where there is no earliest moment, as in
+/// captures without packets.
 #[tactic(auto, unfolding(crate::specs::LifeText::lives_heading))]
 pub(crate) fn push_heading(
     text: &mut String,
@@ -36,12 +38,15 @@ pub(crate) fn push_heading(
     last: &str,
     window: Window,
     layout: Layout,
-    begin: Moment,
+    begin: Option<Moment>,
     end_of_captures: Moment,
 ) -> Result<(), Want>
     ensures { OnOk result (string_bytes text.new
-        ≡ string_bytes text.old ++ lives_heading called.now last.now window layout.count layout.width begin.nanos end_of_captures.nanos) }
+        ≡ string_bytes text.old ++ lives_heading called.now last.now window layout.count layout.width (nanos_if_some begin) end_of_captures.nanos) }
 {
+    let Some(begin) = begin else {
+        return Ok(());
+    };
     write!(text, "{}", layout.count)?;
     text.push_str(called)?;
     push_bounds(text, window, begin, end_of_captures)?;

@@ -3,7 +3,7 @@
 ghost use Rattle.std.specs.Prelude.{◌≡◌, ◌++◌, ◌∷◌, [], ◌≤◌, ℕ, IfOk, List, length, OnOk};
 ghost use Rattle.std.specs.{List.{flat_map}, String.{string_bytes}};
 ghost use Rattle.mdns_join.specs.declared.latest.Latest.{Latest};
-ghost use Rattle.mdns_browse.specs.LifeText.{IsLayout, end_text, life_json, life_rest, life_text, life_words, lives_head, reason_text};
+ghost use Rattle.mdns_browse.specs.LifeText.{IsLayout, end_text, life_json, life_rest, life_text, life_words, lives_head, nanos_if_some, reason_text};
 ghost use Rattle.mdns_browse.specs.RecordText.{resource_text};
 
 use crate::columns::wider;
@@ -50,19 +50,19 @@ impl Layout {
 
 /// Appends what stands before the lives of all records: nothing in `Form::Lines` and `Form::Json`, in `Form::Csv` the names of the
 /// fields, and in `Form::Pretty` how many lives there are, which those are, the bounds of the window, or else the earliest moment
-/// and the end of the captures, and, unless there are none, an empty line and the heads of the columns. `layout` is that of all
-/// lives that follow.
+/// and the end of the captures, and, unless there are none, an empty line and the heads of the columns: nothing where there is no
+/// earliest moment. `layout` is that of all lives that follow.
 pub fn push_lives_head(
     text: &mut String,
     which: Which,
     window: Window,
     form: Form,
     layout: Layout,
-    begin: Moment,
+    begin: Option<Moment>,
     end_of_captures: Moment,
 ) -> Result<(), Want>
     ensures { OnOk result (string_bytes text.new
-        ≡ string_bytes text.old ++ lives_head which window form layout.count layout.width begin.nanos end_of_captures.nanos) }
+        ≡ string_bytes text.old ++ lives_head which window form layout.count layout.width (nanos_if_some begin) end_of_captures.nanos) }
 {
     match form {
         Form::Pretty => {

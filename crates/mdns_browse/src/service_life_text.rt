@@ -5,7 +5,7 @@ ghost use Rattle.std.specs.{Prelude.{decimal}, List.{flat_map}, String.{string_b
 ghost use Rattle.dns_name.specs.Name.{name_text};
 ghost use Rattle.mdns_message.specs.Parts.{service_lent};
 ghost use Rattle.people_text.specs.Shown.{name_shown};
-ghost use Rattle.mdns_browse.specs.{Columns.{padded, widest}, Json.{json_array, json_member, parted, text_member}};
+ghost use Rattle.mdns_browse.specs.{Columns.{padded, widest}, Json.{json_array, json_member, parted, text_member}, LifeText.{nanos_if_some}};
 ghost use Rattle.mdns_browse.specs.RecordShown.{shown_instance, shown_order, spaced_by, spaced_wide};
 ghost use Rattle.mdns_browse.specs.ServiceLifeText.{ServiceLife as Shown, csv_life, server_object, server_words, service_csv, service_end, service_json};
 ghost use Rattle.mdns_browse.specs.ServiceLifeText.{service_life_lent, service_line, service_lives_text, service_row, service_text};
@@ -41,17 +41,17 @@ pub struct ServiceLife<'a> {
 }
 
 /// Returns the lives in a form. In `Form::Pretty` a heading comes first, with the bounds of the window, or else the earliest moment
-/// and the end of the captures; in `Form::Csv` the names of the fields.
+/// and the end of the captures, unless there is no earliest moment; in `Form::Csv` the names of the fields.
 pub fn service_lives_text(
     alloc: Global,
     form: Form,
     window: Window,
-    begin: Moment,
+    begin: Option<Moment>,
     end_of_captures: Moment,
     services: &[ServiceLife<'_>],
 ) -> Result<String, Want>
     ensures { IfOk result (λ text. string_bytes text
-        ≡ service_lives_text form window begin.nanos end_of_captures.nanos (map service_life_lent services.now)) }
+        ≡ service_lives_text form window (nanos_if_some begin) end_of_captures.nanos (map service_life_lent services.now)) }
 {
     let layout = Layout {
         count: services.len(),
@@ -95,11 +95,11 @@ fn push_head(
     form: Form,
     window: Window,
     layout: Layout,
-    begin: Moment,
+    begin: Option<Moment>,
     end_of_captures: Moment,
 ) -> Result<(), Want>
     ensures { OnOk result (string_bytes to.new
-        ≡ string_bytes to.old ++ services_head form window layout.count layout.width begin.nanos end_of_captures.nanos) }
+        ≡ string_bytes to.old ++ services_head form window layout.count layout.width (nanos_if_some begin) end_of_captures.nanos) }
 {
     match form {
         Form::Pretty => {

@@ -1,5 +1,5 @@
 -- The same hearings and moments have the same lives.
-use Rattle.std.proofs.Common.{◌≡◌, ◌∙◌, ℕ, ◌≤◌, List, [], ◌∷◌, refl, sym, ap, subst, inl, inr, arith}
+use Rattle.std.proofs.Common.{◌≡◌, ◌∙◌, ℕ, ◌≤◌, List, [], ◌∷◌, Option, Some, refl, sym, ap, subst, inl, inr, arith}
 use Rattle.std.specs.Prelude.{Contains}
 use Rattle.std.proofs.Math.Nat.{le-max_left, le-max_right, max-le}
 use Rattle.mdns_capture.specs.declared.moment.Moment.{Moment}
@@ -95,9 +95,16 @@ module _ (moments others : List Moment) (into : Within moments others) (back : W
   same_end (At moment) = refl
   same_end (Before moment) = refl
 
-  -- and the same beginning
-  pub same_begin : (as_of : AsOf) → captures_begin as_of moments ≡ captures_begin as_of others
-  same_begin as_of = ap (λ n. earliest_nanos n moments) (same_end as_of) ∙ same_earliest (captures_end as_of others)
+-- and the same beginning
+pub same_begin : (moments others : List Moment) → Within moments others → Within others moments → (as_of : AsOf)
+    → captures_begin as_of moments ≡ captures_begin as_of others
+same_begin [] [] into back as_of = refl
+same_begin [] (other ∷ others) into back as_of = absurd (omega (arith, (back other (Contains-head other others)).1))
+same_begin (moment ∷ moments) [] into back as_of = absurd (omega (arith, (into moment (Contains-head moment moments)).1))
+same_begin (moment ∷ moments) (other ∷ others) into back as_of =
+    let begin : ℕ → Option ℕ = λ n. Some n in
+    ap (λ n. begin (earliest_nanos n (moment ∷ moments))) (same_end (moment ∷ moments) (other ∷ others) into back as_of)
+    ∙ ap begin (same_earliest (moment ∷ moments) (other ∷ others) into back (captures_end as_of (other ∷ others)))
 
 -- THE TEXT
 
@@ -106,19 +113,20 @@ same_itself heard = record { into = λ hearing among. among; back = λ hearing a
 
 -- the lives by some hearings are those by the same hearings, between the same moments
 shared_lives : SharedLives → (which : Which) (window : Window) (form : Form) (about : List Subject) (heard others : List Hearing)
-    (begin begin_too end end_too : ℕ) (text : List ℕ) → SameHearings heard others → begin ≡ begin_too → end ≡ end_too
+    (begin begin_too : Option ℕ) (end end_too : ℕ) (text : List ℕ) → SameHearings heard others → begin ≡ begin_too → end ≡ end_too
     → WritesLives which window form about heard begin end text → WritesLives which window form about others begin_too end_too text
 shared_lives shared which window form about heard others begin begin_too end end_too text same begins ends writes = record {
   latest = λ hearing among. subst (λ n. hearing.moment.nanos ≤ n) ends (writes.latest hearing (same.back hearing among));
   rows = writes.rows;
   lives = shared heard others writes.rows same writes.lives;
-  lines = writes.lines ∙ ap (λ n. lives_report which window form n end (kept_rows about (chosen which window writes.rows))) begins
+  lines = writes.lines
+      ∙ ap (λ (b : Option ℕ). lives_report which window form b end (kept_rows about (chosen which window writes.rows))) begins
       ∙ ap (λ n. lives_report which window form begin_too n (kept_rows about (chosen which window writes.rows))) ends;
 }
 
 -- and there is one text of them
 one_text : OneLives → (which : Which) (window : Window) (form : Form) (about : List Subject) (heard : List Hearing)
-    (begin end : ℕ) (text other : List ℕ) → WritesLives which window form about heard begin end text
+    (begin : Option ℕ) (end : ℕ) (text other : List ℕ) → WritesLives which window form about heard begin end text
     → WritesLives which window form about heard begin end other → text ≡ other
 one_text one which window form about heard begin end text other first second = grind (arith, same_itself heard)
 

@@ -115,12 +115,12 @@ module _ {Heard : List (List PacketAt) → List (List Outcome) → Type 0} (left
 -- THE LAYOUT OF ROWS
 
 -- what stands before the lives of rows
-abbrev rows_head : Which → Window → Form → (begin end : ℕ) → List (Latest × List Life) → List ℕ
+abbrev rows_head : Which → Window → Form → Option ℕ → ℕ → List (Latest × List Life) → List ℕ
 rows_head which window form begin end rows = lives_head which window form (length (lives_in rows)) (end_width end rows) begin end
 
 module _ (end : ℕ) (rows : List (Latest × List Life)) (layout : Layout) where
   -- what stands before the rows needs a layout that fits the form
-  pub head-fits : (which : Which) (window : Window) (form : Form) (begin : ℕ) → FitsForm form end rows layout
+  pub head-fits : (which : Which) (window : Window) (form : Form) (begin : Option ℕ) → FitsForm form end rows layout
       → lives_head which window form layout.count layout.width begin end ≡ rows_head which window form begin end rows
   head-fits which window Lines begin fits = refl
   head-fits which window Json begin fits = refl
@@ -180,8 +180,8 @@ module _ (asked : Asked) (lefts : List (Option (List ℕ))) (preface : List ℕ)
 -- THE LIVES OF THE READERS LISTENED TO
 
 module _ {Heard : List (List PacketAt) → List (List Outcome) → Type 0} (request : LivesRequest) (lefts : List (Option (List ℕ)))
-    (readings : List Reading) (begin end : Moment) (hears : HearsReaders Heard lefts readings)
-    (begins : begin.nanos ≡ captures_begin request.as_of (all_moments hears.packets))
+    (readings : List Reading) (begin : Option ℕ) (end : Moment) (hears : HearsReaders Heard lefts readings)
+    (begins : begin ≡ captures_begin request.as_of (all_moments hears.packets))
     (ends : end.nanos ≡ captures_end request.as_of (all_moments hears.packets))
     (latest : (hearing : Hearing) → Contains (counted (filter_of request.as_of) hears.outcomes) hearing
     → hearing.moment.nanos ≤ end.nanos)
@@ -189,7 +189,7 @@ module _ {Heard : List (List PacketAt) → List (List Outcome) → Type 0} (requ
     (are : shown ≡ chosen request.which request.window rows) (layout : Layout)
     (fits : FitsForm request.form end.nanos (kept_rows request.about shown) layout) (preface head text : List ℕ)
     (heads : Heads request.form readings head)
-    (is : text ≡ (preface ++ head) ++ lives_head request.which request.window request.form layout.count layout.width begin.nanos end.nanos)
+    (is : text ≡ (preface ++ head) ++ lives_head request.which request.window request.form layout.count layout.width begin end.nanos)
     (out : Writing) where
   abbrev kept : List Row
   kept = kept_rows request.about (chosen request.which request.window rows)
@@ -198,14 +198,14 @@ module _ {Heard : List (List PacketAt) → List (List Outcome) → Type 0} (requ
   after = past preface out
 
   abbrev report : List ℕ
-  report = lives_report request.which request.window request.form begin.nanos end.nanos kept
+  report = lives_report request.which request.window request.form begin end.nanos kept
 
   all_kept : kept_rows request.about shown ≡ kept
   all_kept = ap (kept_rows request.about) are
 
   -- the text that stands before rows, and the text of some of them
   text-fits : (some : List Row) → text ++ flat_map (lives_text request.form layout.width end.nanos) some
-      ≡ preface ++ (head ++ (rows_head request.which request.window request.form begin.nanos end.nanos (kept_rows request.about shown)
+      ≡ preface ++ (head ++ (rows_head request.which request.window request.form begin end.nanos (kept_rows request.about shown)
       ++ flat_map (lives_text request.form (end_width end.nanos (kept_rows request.about shown)) end.nanos) some))
   text-fits some = grind (arith, head-fits, append_assoc, lines-fit)
 
@@ -220,7 +220,7 @@ module _ {Heard : List (List PacketAt) → List (List Outcome) → Type 0} (requ
       latest = λ hearing among. subst (λ n. hearing.moment.nanos ≤ n) ends (latest hearing among);
       rows = rows;
       lives = lives;
-      lines = ap (λ n. lives_report request.which request.window request.form n end.nanos kept) begins
+      lines = ap (λ (b : Option ℕ). lives_report request.which request.window request.form b end.nanos kept) begins
           ∙ ap (λ n.
           lives_report request.which request.window request.form (captures_begin request.as_of (all_moments hears.packets)) n kept) ends;
     };
@@ -258,8 +258,8 @@ module _ {Heard : List (List PacketAt) → List (List Outcome) → Type 0} (requ
         (λ n. WritesFirstRows head request.which request.window request.form
         (captures_begin request.as_of (all_moments hears.packets)) n kept after)
         ends
-        (subst (λ n. WritesFirstRows head request.which request.window request.form n end.nanos kept after) begins
-        (subst (λ (xs : List Row). WritesFirstRows head request.which request.window request.form begin.nanos end.nanos xs after) all_kept (
+        (subst (λ (b : Option ℕ). WritesFirstRows head request.which request.window request.form b end.nanos kept after) begins
+        (subst (λ (xs : List Row). WritesFirstRows head request.which request.window request.form begin end.nanos xs after) all_kept (
           stops.0,
           (
             stops.1.0,
@@ -275,7 +275,7 @@ module _ {Heard : List (List PacketAt) → List (List Outcome) → Type 0} (requ
       with-head captures known,
       subst
           (λ (xs : List Row). AppendsPrefix out.old out.new
-          (preface ++ (head ++ lives_report request.which request.window request.form begin.nanos end.nanos xs)))
+          (preface ++ (head ++ lives_report request.which request.window request.form begin end.nanos xs)))
           all_kept (subst (AppendsPrefix out.old out.new) (text-fits (kept_rows request.about shown)) stops),
     ),
   )

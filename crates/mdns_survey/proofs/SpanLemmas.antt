@@ -1,11 +1,12 @@
 -- Spans of packets, joined.
 use Rattle.std.proofs.Common.{rules, ◌≡◌, ◌∙◌, ℕ, ◌≤◌, Bool, true, false, nat_lt, max, min, List, [], ◌∷◌, ◌++◌, Option, Some, None}
-use Rattle.std.proofs.Common.{refl, sym, ap, arith, if◌then◌else◌}
+use Rattle.std.proofs.Common.{refl, sym, ap, arith, if◌then◌else◌, unwrap_or}
 use Rattle.std.proofs.lemmas.{Bool.{ltb-false, ltb-true}, List.Elements.{All-cons, All-nil, All-weaker, Contains-append_right}}
 use Rattle.std.specs.List.{Contains}
 use Rattle.mdns_capture.specs.{declared.moment.Moment.{Moment}, Savefile.{PacketAt}}
 use Rattle.mdns_capture.proofs.OneReadingLemmas.{same_moment}
 use Rattle.mdns_cache.specs.Contents.{later_moment}
+use Rattle.mdns_browse.specs.LifeText.{nanos_if_some}
 use Rattle.mdns_cache.proofs.ContentsLemmas.{nanos-later}
 use Rattle.mdns_survey.specs.declared.{reading.Reading.{Reading}, reading.Span.{Span}, request.AsOf.{AsOf}}
 use Rattle.mdns_survey.specs.{declared.request.AsOf.TheVariants.{Newest, At, Before}, Listen.{packet_moments}}
@@ -99,10 +100,31 @@ first-is : (end : ℕ) (moments : List Moment) → first_of (span_of moments) en
 first-is end [] = refl
 first-is end (moment ∷ moments) = first-joined moment (span_of moments) end ∙ ap (min moment.nanos) (first-is end moments)
 
--- the beginning of captures with this span
-pub begin-is : (as_of : AsOf) (span : Option Span) (begin end : Moment) (moments : List Moment) → span ≡ span_of moments
-    → end.nanos ≡ captures_end as_of moments → begin.nanos ≡ first_of span end.nanos → begin.nanos ≡ captures_begin as_of moments
-begin-is as_of span begin end moments is is_end is_first = grind (arith, first-is)
+-- the beginning of captures with this span, and without one
+pub begin_is : (as_of : AsOf) (span : Span) (begin end : Moment) (moments : List Moment) → span_of moments ≡ Some span
+    → end.nanos ≡ captures_end as_of moments → begin ≡ earlier_moment span.first end → nanos_if_some (Some begin) ≡ captures_begin as_of moments
+begin_is as_of span begin end [] is is_end is_first = absurd cc
+begin_is as_of span begin end (moment ∷ moments) is is_end is_first =
+    let first = ap (λ (m : Moment). m.nanos) is_first ∙ nanos-earlier span.first end ∙ ap (first_of (Some span)) is_end
+    ∙ ap (λ (s : Option Span). first_of s (captures_end as_of (moment ∷ moments))) (sym is)
+    ∙ first-is (captures_end as_of (moment ∷ moments)) (moment ∷ moments) in
+    ap (λ n. Some n) first
+
+joined-some : (a : Span) (span : Option Span) → joined_spans (Some a) span ≡ None → ⊥
+joined-some a None is = cc
+joined-some a (Some span) is = cc
+
+pub begin_none : (as_of : AsOf) (moments : List Moment) → span_of moments ≡ None → nanos_if_some None ≡ captures_begin as_of moments
+begin_none as_of [] is = refl
+begin_none as_of (moment ∷ moments) is = absurd (joined-some (span_at moment) (span_of moments) is)
+
+-- up to a moment, which is the beginning where there is none
+pub begin_or : (begin : Option Moment) (moment : Moment) (moments : List Moment) → nanos_if_some begin ≡ captures_begin (At moment) moments
+    → (unwrap_or begin moment).nanos ≡ earliest_nanos moment.nanos moments
+begin_or None moment [] is = refl
+begin_or None moment (first ∷ moments) is = absurd cc
+begin_or (Some begin) moment [] is = absurd cc
+begin_or (Some begin) moment (first ∷ moments) is = cc
 
 -- and their end, where a moment is given, and where none is
 pub end_given : (as_of : AsOf) (end : Moment) (moments : List Moment) → moment_of as_of ≡ Some end → end.nanos ≡ captures_end as_of moments

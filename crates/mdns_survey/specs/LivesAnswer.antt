@@ -1,5 +1,5 @@
 -- The text of the lives of all records of captures, and why a survey of them is refused.
-use Rattle.std.specs.Prelude.{◌≡◌, ℕ, ◌≤◌, max, min, List, [], ◌∷◌, ◌++◌, length, Contains}
+use Rattle.std.specs.Prelude.{◌≡◌, ℕ, ◌≤◌, max, min, List, [], ◌∷◌, ◌++◌, length, Contains, Option, None, Some}
 use Rattle.std.specs.{List.{filter, flat_map}, Io.KnownBytes.{Appends}}
 use Rattle.mdns_capture.specs.{declared.moment.Moment.{Moment}, Output.{Writing}, Savefile.{PacketAt}}
 use Rattle.mdns_message.specs.declared.hearing.Hearing.{Hearing}
@@ -30,10 +30,11 @@ abbrev pub earliest_nanos : ℕ → List Moment → ℕ
 earliest_nanos end [] = end
 earliest_nanos end (moment ∷ moments) = min moment.nanos (earliest_nanos end moments)
 
--- the earliest moment of captures with packets at these moments, or their end where that is earlier. Packets that aren't
--- earlier than the end, which don't count where the hearings before it do, make no difference.
-abbrev pub captures_begin : AsOf → List Moment → ℕ
-captures_begin as_of moments = earliest_nanos (captures_end as_of moments) moments
+-- The earliest moment of captures with packets at these moments, or their end where that is earlier; none without packets. Packets
+-- that aren't earlier than the end, which don't count where the hearings before it do, make no difference.
+abbrev pub captures_begin : AsOf → List Moment → Option ℕ
+captures_begin as_of [] = None
+captures_begin as_of (moment ∷ moments) = Some (earliest_nanos (captures_end as_of (moment ∷ moments)) (moment ∷ moments))
 
 -- THE TEXT
 
@@ -41,10 +42,10 @@ captures_begin as_of moments = earliest_nanos (captures_end as_of moments) momen
 abbrev pub kept_rows : List Subject → List (Latest × List Life) → List (Latest × List Life)
 kept_rows about rows = filter (λ (row : Latest × List Life). keeps_record about row.0.resource) rows
 
--- The text is that of those lives of all records about these subjects which are chosen, between the earliest moment and the
--- end of the captures, which no hearing is later than.
+-- The text is that of those lives of all records about these subjects which are chosen, between the earliest moment, if there is one,
+-- and the end of the captures, which no hearing is later than.
 pub record WritesLives (which : Which) (window : Window) (form : Form) (about : List Subject) (heard : List Hearing)
-    (begin end : ℕ) (text : List ℕ) : Type 0 where
+    (begin : Option ℕ) (end : ℕ) (text : List ℕ) : Type 0 where
   pub latest : (hearing : Hearing) → Contains heard hearing → hearing.moment.nanos ≤ end
   pub rows : List (Latest × List Life)
   pub lives : AreAllLives heard rows
@@ -68,7 +69,7 @@ SurveysLivesWithHead request captures summaries text =
 -- WHY A SURVEY IS REFUSED
 
 -- the head was written, what stands before the lives of all rows, the lines of some first rows, and of the others nothing
-abbrev pub WritesFirstRows : List ℕ → Which → Window → Form → (begin end : ℕ) → List (Latest × List Life) → Writing → Type 0
+abbrev pub WritesFirstRows : List ℕ → Which → Window → Form → Option ℕ → ℕ → List (Latest × List Life) → Writing → Type 0
 WritesFirstRows head which window form begin end rows out =
     (first : List (Latest × List Life)) × ((later : List (Latest × List Life)) × (rows ≡ first ++ later)
     × Appends out.old out.new (head ++ (lives_head which window form (length (lives_in rows)) (end_width end rows) begin end

@@ -8,7 +8,7 @@ ghost use Rattle.mdns_message.specs.declared.hearing.Hearing.{Hearing};
 ghost use Rattle.mdns_join.specs.declared.latest.Latest.{Latest};
 ghost use Rattle.mdns_cache.specs.Live.{IsNewest, NoneLater};
 ghost use Rattle.mdns_lives.specs.{Chronicle.{Chronicles}, LentLives.{row_lent}, declared.life.Life.{Life}};
-ghost use Rattle.mdns_browse.specs.LifeText.{IsLayout, lives_head, lives_text};
+ghost use Rattle.mdns_browse.specs.LifeText.{IsLayout, lives_head, lives_text, nanos_if_some};
 ghost use Rattle.mdns_survey.specs.{Chronicling.{Chronicled, FitsForm, IsTextOut, StopsRows}, Filter.{filter_of}, Head.{Heads}};
 ghost use Rattle.mdns_survey.specs.{LivesAnswer.{kept_rows}, ProgramLines.{IfFile}, Question.{HearsReaders, MissesOf, Refuses, WritesAnswer}};
 ghost use Rattle.mdns_survey.specs.{Question.{asked_after, asked_lives}, Readings.{summaries_of}, Refusals.{BlamesWriter, Leaves}};
@@ -185,12 +185,12 @@ fn text_before(
     request: &LivesRequest,
     readings: &[Reading],
     layout: Layout,
-    begin: Moment,
+    begin: Option<Moment>,
     end_of_captures: Moment,
 ) -> Result<String, Want>
     ensures { IfOk result (λ text. (head : List ℕ) × Heads request.now.form readings.now head
         × (string_bytes text ≡ (string_bytes preface ++ head)
-        ++ lives_head request.now.which request.now.window request.now.form layout.count layout.width begin.nanos end_of_captures.nanos)) }
+        ++ lives_head request.now.which request.now.window request.now.form layout.count layout.width (nanos_if_some begin) end_of_captures.nanos)) }
 {
     let mut text = preface;
     let head = head_in(*text.allocator(), request.form, readings)?;

@@ -181,7 +181,7 @@ pub fn read_capture<R: Source + Drop, C: Consumer>(
 }
 
 // Returns the earlier of two moments.
-fn earlier(one: Moment, other: Moment) -> Moment
+pub(crate) fn earlier(one: Moment, other: Moment) -> Moment
     ensures { result ≡ earlier_moment one other }
 {
     if other < one { other } else { one }

@@ -2,11 +2,12 @@
 
 ghost use Rattle.std.specs.Prelude.{◌≡◌, ◌+◌, IfOk, List, sum_by};
 ghost use Rattle.mdns_capture.specs.Savefile.{PacketAt};
+ghost use Rattle.mdns_browse.specs.LifeText.{nanos_if_some};
 ghost use Rattle.mdns_survey.specs.{LivesAnswer.{captures_begin, captures_end}, Readings.{CountLosses, HaveSpans, all_moments, lost_in}};
 ghost use Rattle.mdns_survey.specs.{Readings.{refused_in, skipped_in, summaries_of}, Reasons.{lost_frames}, Span.{span_of}};
 
 use crate::outcome::SkipReason;
-use crate::reading::{Reading, Span};
+use crate::reading::{Reading, Span, earlier};
 use crate::request::AsOf;
 use crate::summary::Summary;
 use mdns_capture::Moment;
@@ -89,14 +90,13 @@ pub fn captures_end(as_of: AsOf, readings: &[Reading]) -> Moment
     span.last
 }
 
-/// Returns the earliest packet's moment, or the end of the captures where that is earlier.
-pub fn captures_begin(as_of: AsOf, readings: &[Reading]) -> Moment
+/// Returns the earliest packet's moment, or the end of the captures where that is earlier; `None` where there are no packets.
+#[tactic(auto, using(crate::proofs::SpanLemmas::begin_none))]
+pub fn captures_begin(as_of: AsOf, readings: &[Reading]) -> Option<Moment>
     ensures { (packets : List (List PacketAt)) → HaveSpans packets readings.now
-        → result.nanos ≡ captures_begin as_of (all_moments packets) }
+        → nanos_if_some result ≡ captures_begin as_of (all_moments packets) }
 {
     let end = captures_end(as_of, readings);
-    match span_of(readings) {
-        Some(span) => { if span.first < end { span.first } else { end } }
-        None => end,
-    }
+    let span = span_of(readings)?;
+    Some(earlier(span.first, end))
 }

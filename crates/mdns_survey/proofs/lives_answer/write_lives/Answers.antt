@@ -2,7 +2,7 @@ use Rattle.std.proofs.Common.{◌∙◌, ◌++◌, List, option_map, string_byte
 use Rattle.std.specs.{Io.KnownBytes.{Appends}, List.{flat_map}}
 use Rattle.mdns_capture.specs.Output.{writing}
 use Rattle.mdns_lives.specs.Chronicle.{rows_of}
-use Rattle.mdns_browse.specs.{LifeText.{lives_text}, declared.about.Subject.{Subject}}
+use Rattle.mdns_browse.specs.{LifeText.{lives_text, nanos_if_some}, declared.about.Subject.{Subject}}
 use Rattle.mdns_survey.specs.{Chronicling.{FitsForm, StopsRows}, LivesAnswer.{kept_rows}, Filter.{counted, filter_of}, Missed.{Misses}}
 use Rattle.mdns_survey.proofs.{SurveyLemmas.{misses-heard}, KeptLemmas.{Row}, ListenedLemmas.{have-spans}, LivesLemmas.{early-ended, stops-lives, writes-lives}}
 use Rattle.mdns_survey.proofs.lives_answer.write_lives.Goals as goal
@@ -33,7 +33,7 @@ returns-in-Ok-write_rows-clause-written g c =
     subst (λ (about : List Subject). FitsForm request.form end.nanos (kept_rows about rows) layout) c.as_slice-about.ensures
     (subst (λ (shown : List Row). FitsForm request.form end.nanos (kept_rows c.as_slice-about.result.now shown) layout)
     (c.chosen-columns.ensures.left heard told ∙ sym (c.chosen-rows.ensures.left heard told)) c.in-Ok-layout_of.ensures) in
-    writes-lives request lefts readings c.captures_begin-begin.result end hears (c.captures_begin-begin.ensures hears.packets spans)
+    writes-lives request lefts readings (nanos_if_some c.captures_begin-begin.result) end hears (c.captures_begin-begin.ensures hears.packets spans)
     (c.captures_end-end_of_captures.ensures hears.packets spans) (c.in_default.ensures.none heard told) (rows_of c.in-Ok.lives) rows
     (c.chosen-rows.ensures.all heard told) (c.chosen-rows.ensures.left heard told) layout fits
     (string_bytes c.args.answer.preface) c.in-Ok-text_before.ensures.0 (string_bytes before) c.in-Ok-text_before.ensures.1 c.in-Ok-text_before.ensures.2 out
@@ -67,7 +67,7 @@ returns-clause-refused g c =
     subst (λ (about : List Subject). FitsForm request.form end.nanos (kept_rows about rows) layout) c.as_slice-about.ensures
     (subst (λ (shown : List Row). FitsForm request.form end.nanos (kept_rows c.as_slice-about.result.now shown) layout)
     (c.chosen-columns.ensures.left heard told ∙ sym (c.chosen-rows.ensures.left heard told)) c.in-Ok-layout_of.ensures) in
-    stops-lives request lefts readings c.captures_begin-begin.result end hears (c.captures_begin-begin.ensures hears.packets spans)
+    stops-lives request lefts readings (nanos_if_some c.captures_begin-begin.result) end hears (c.captures_begin-begin.ensures hears.packets spans)
     (c.captures_end-end_of_captures.ensures hears.packets spans) (c.in_default.ensures.none heard told) (rows_of c.in-Ok.lives) rows
     (c.chosen-rows.ensures.all heard told) (c.chosen-rows.ensures.left heard told) layout fits
     (string_bytes c.args.answer.preface) c.in-Ok-text_before.ensures.0 (string_bytes before) c.in-Ok-text_before.ensures.1 c.in-Ok-text_before.ensures.2 out c.in-Err-write_rows.fault
