@@ -18,7 +18,7 @@ from tests.captures.written import cells_of
 from tests.running.commands import TRACES
 from tests.running.measure import become_reaper, cost_of
 from tests.running.runs import WHOLE, fails, placed
-from tests.trials.page_packets import LOCAL, at, full
+from tests.trials.page_packets import LOCAL, at, full, says, server, service
 
 # How many mebibytes a long run may take beyond a short one, and any run in all.
 GROWTH, CEILING = 1.0, 16.0
@@ -43,6 +43,7 @@ class Pair(NamedTuple):
     program: str = "mdnsmerge"
     growth: float = GROWTH
     ceiling: float = CEILING
+    seconds: float = LIMIT
     place: str = ""
 
 
@@ -74,6 +75,9 @@ def captures():
     yield "again", unique(twice(records(10_000), 2 * SECOND))
     yield "repeated", twice(long_messages(40_000, 500), 0)
     yield "instances", instances(1, 300, "ascending")
+    # Each time they have run out.
+    gone = says(0, service(b"x"), server(b"x"), ttl=1)[1]
+    yield "gone", ((START + 3 * SECOND * number, gone) for number in range(100_000))
     for number, name in enumerate(scattered(SCATTERED)):
         yield name.removesuffix(".pcap"), [full(at(number), b"instance-%d" % number, host=(b"host-%d" % number, LOCAL))]
 
@@ -126,8 +130,8 @@ def write_long(folder, name, packets):
 
 def faults_of(pair, program, folder):
     """What is wrong with the peak of a long run."""
-    costs = [cost_of([program.with_name(pair.program), pair.asked, *(folder / name for name in names)], os.devnull, LIMIT)
-             for names in (pair.long, pair.short)]
+    words = [program.with_name(pair.program), *pair.asked.split("+")]
+    costs = [cost_of([*words, *(folder / name for name in names)], os.devnull, int(pair.seconds)) for names in (pair.long, pair.short)]
     if any(cost.status != WHOLE for cost in costs):
         return ["  a run failed"]
     long, short = (cost.mebibytes for cost in costs)

@@ -17,6 +17,7 @@ mod OnePageLemmas
 mod PartLemmas
 mod PathLemmas
 mod SameLists
+mod ServedLemmas
 mod ServerLemmas
 mod ServiceLifeLemmas
 mod SurveyLemmas

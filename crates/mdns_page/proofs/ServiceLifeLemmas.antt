@@ -11,14 +11,15 @@ use Rattle.mdns_page.specs.declared.service_lives.ServiceLivesRequest.{ServiceLi
 use Rattle.mdns_page.specs.ServiceLives.{WritesServiceLives, asked_service_lives}
 
 module _ {Heard : List (List PacketAt) → List (List Outcome) → Type 0} (request : ServiceLivesRequest) (lefts : List (Option (List ℕ)))
-    (readings : List Reading) (hears : HearsReaders Heard lefts readings) (begin end : Moment) (head report text : List ℕ)
+    (readings : List Reading) (hears : HearsReaders Heard lefts readings) (begin : Option ℕ) (end : Moment)
+    (head report text : List ℕ)
     (heads : Heads request.form readings head) (is : text ≡ head ++ report)
-    (begins : begin.nanos ≡ captures_begin request.as_of (all_moments hears.packets))
+    (begins : begin ≡ captures_begin request.as_of (all_moments hears.packets))
     (ends : end.nanos ≡ captures_end request.as_of (all_moments hears.packets))
     (latest : (hearing : Hearing) → Contains (counted (filter_of request.as_of) hears.outcomes) hearing → hearing.moment.nanos ≤ end.nanos)
     (written : ((hearing : Hearing) → Contains (counted (filter_of request.as_of) hears.outcomes) hearing
     → hearing.moment.nanos ≤ end.nanos)
-    → WritesServiceLives request (counted (filter_of request.as_of) hears.outcomes) begin.nanos end.nanos report) where
+    → WritesServiceLives request (counted (filter_of request.as_of) hears.outcomes) begin end.nanos report) where
   -- they are what is asked for
   pub surveys-services : IsAnswer (asked_service_lives request) lefts (summaries_of readings) text
   surveys-services captures known =
@@ -30,7 +31,7 @@ module _ {Heard : List (List PacketAt) → List (List Outcome) → Type 0} (requ
         head = head;
         is_head = known-head request.form lefts hears.packets hears.outcomes readings head heads hears.read captures known;
         lives = report;
-        writes = subst (λ (n : ℕ). WritesServiceLives request heard n (captures_end request.as_of (all_moments hears.packets)) report) begins
-            (subst (λ (n : ℕ). WritesServiceLives request heard begin.nanos n report) ends (written latest));
+        writes = subst (λ (b : Option ℕ). WritesServiceLives request heard b (captures_end request.as_of (all_moments hears.packets)) report) begins
+            (subst (λ (n : ℕ). WritesServiceLives request heard begin n report) ends (written latest));
         whole = is;
       }

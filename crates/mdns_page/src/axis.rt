@@ -3,7 +3,7 @@
 ghost use Rattle.std.specs.Prelude.{◌≡◌, ◌<◌, ◌+◌, ◌-◌, ◌/◌, ◌++◌, ◌&&◌, max, nat_le, List, Option, OnOk};
 ghost use Rattle.std.specs.String.{string_bytes};
 ghost use Rattle.mdns_capture.specs.Savefile.{PacketAt};
-ghost use Rattle.mdns_survey.specs.Readings.{HaveSpans, all_moments};
+ghost use Rattle.mdns_survey.specs.{LivesAnswer.{earliest_nanos}, Readings.{HaveSpans, all_moments}};
 ghost use Rattle.mdns_page.specs.Axis.{IsAxis, bound_or, dates_of, day_text, is_same_date, place, place_end, short_text};
 
 use mdns_capture::Moment;
@@ -55,9 +55,9 @@ pub(crate) fn axis_of(as_of: AsOf, window: Window, readings: &[Reading]) -> Axis
     let now = captures_end(as_of, readings);
     let latest = captures_end(AsOf::Newest, readings);
     let until = bound_or(now, window.until);
-    let start = bound_or(captures_begin(AsOf::At(until), readings), window.since);
+    let start = bound_or(earliest(until, readings), window.since);
     let end = later(start, until);
-    let first = captures_begin(AsOf::At(start), readings);
+    let first = earliest(start, readings);
     let last = later(end, later(now, latest));
     Axis {
         start,
@@ -66,6 +66,15 @@ pub(crate) fn axis_of(as_of: AsOf, window: Window, readings: &[Reading]) -> Axis
         window,
         dates: dates_of(first.nanos(), last.nanos()),
     }
+}
+
+// Returns the earliest packet's moment, or this moment where that is earlier or there are no packets.
+#[tactic(auto, using(mdns_survey::proofs::SpanLemmas::begin_or))]
+fn earliest(moment: Moment, readings: &[Reading]) -> Moment
+    ensures { (packets : List (List PacketAt)) → HaveSpans packets readings.now
+        → result.nanos ≡ earliest_nanos moment.nanos (all_moments packets) }
+{
+    captures_begin(AsOf::At(moment), readings).unwrap_or(moment)
 }
 
 // Returns a bound of a window, or this moment where there is no such bound.

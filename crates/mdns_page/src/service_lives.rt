@@ -1,15 +1,14 @@
 //! The lives of the service instances of captures.
 
-ghost use Rattle.std.specs.Prelude.{◌≡◌, ◌++◌, ◌&&◌, ◌≤◌, ◌∷◌, [], nat_lt, Contains, IfOk, List, OnOk, map, string_bytes};
-ghost use Rattle.std.specs.{List.{filter, flat_map, list_any}, List.Sorted.{IsStrictlySortedBy}};
-ghost use Rattle.mdns_message.specs.{Parts.{service_lent}, Resource.{key_cmp}, declared.hearing.Hearing.{Hearing}};
-ghost use Rattle.mdns_join.specs.declared.latest.Latest.{Latest};
-ghost use Rattle.mdns_cache.specs.Live.{key_of_last};
-ghost use Rattle.mdns_lives.specs.{Chronicle.{Chronicles}, LentLives.{row_lent}, Window.{meets}, declared.life.Life.{Life}};
-ghost use Rattle.mdns_browse.specs.ServiceLifeText.{service_life_lent};
+ghost use Rattle.std.specs.Prelude.{◌≡◌, ◌++◌, ◌&&◌, ◌≤◌, ◌∷◌, [], length, nat_le, true, Contains, IfOk, OnOk, map, string_bytes, List};
+ghost use Rattle.std.specs.List.{filter, flat_map, list_any};
+ghost use Rattle.mdns_message.specs.{Parts.{service_lent}, declared.hearing.Hearing.{Hearing}};
+ghost use Rattle.mdns_lives.specs.{Chronicle.{Chronicles}, LentLives.{row_lent}, Lives.{AreApart}, Window.{meets}};
+ghost use Rattle.mdns_browse.specs.{LifeText.{nanos_if_some}, ServiceLifeText.{service_life_lent}, declared.service_life_text.ServiceLife.{ServiceLife}};
 ghost use Rattle.mdns_page.specs.declared.kept_records.TimelinePart.TheVariants.{Instances};
-ghost use Rattle.mdns_page.specs.KeptRecords.{is_shown};
-ghost use Rattle.mdns_page.specs.ServiceLives.{WritesServiceLives, lives_given, lives_meet, lives_named, service_lives, servers_in};
+ghost use Rattle.mdns_page.specs.KeptRecords.{AllApart, is_shown};
+ghost use Rattle.mdns_page.specs.ServiceLives.{AreRecords, AreShownApart, IsRange, WritesServiceLives};
+ghost use Rattle.mdns_page.specs.ServiceLives.{lives_given, lives_meet, lives_named, served, served_if, service_lives};
 
 use crate::about_heard::heard_rows;
 use crate::kept_records::{TimelinePart, is_shown, kept_rows};
@@ -97,12 +96,12 @@ fn text_of(
     alloc: Global,
     request: &ServiceLivesRequest,
     lives: &Lives,
-    begin: Moment,
+    begin: Option<Moment>,
     end_of_captures: Moment,
 ) -> Result<String, Want>
     ensures { IfOk result (λ text. (heard : List Hearing) → Chronicles lives.now heard
         → ((hearing : Hearing) → Contains heard hearing → hearing.moment.nanos ≤ end_of_captures.nanos)
-        → WritesServiceLives request.now heard begin.nanos end_of_captures.nanos (string_bytes text)) }
+        → WritesServiceLives request.now heard (nanos_if_some begin) end_of_captures.nanos (string_bytes text)) }
 {
     let about = request.about.as_slice();
     let heard = heard_rows(alloc, lives.walk(), about)?;
@@ -124,7 +123,7 @@ fn service_lives<'a>(
     window: Window,
     kept: &'a [RecordLives<'a>],
 ) -> Result<Vec<ServiceLife<'a>>, Want>
-    ensures { IfOk result (λ services. IsStrictlySortedBy key_cmp (map (λ (row : Latest × List Life). key_of_last row.0) (map row_lent kept.now))
+    ensures { IfOk result (λ services. AreRecords (map row_lent kept.now)
         → map service_life_lent services.items ≡ service_lives window (map row_lent kept.now)) }
 {
     let mut services = Vec::new(alloc);
@@ -141,7 +140,7 @@ fn push_shown<'a>(
     record: &'a RecordLives<'a>,
     kept: &'a [RecordLives<'a>],
 ) -> Result<(), Want>
-    ensures { OnOk result (IsStrictlySortedBy key_cmp (map (λ (row : Latest × List Life). key_of_last row.0) (map row_lent kept.now))
+    ensures { OnOk result (AreRecords (map row_lent kept.now) → AreApart «record».now.lives.items
         → map service_life_lent to.new.items ≡ map service_life_lent to.old.items
         ++ flat_map (lives_given window (map row_lent kept.now)) (filter (is_shown Instances window) (row_lent «record».now ∷ []))) }
 {
@@ -158,31 +157,33 @@ fn push_given<'a>(
     record: &'a RecordLives<'a>,
     kept: &'a [RecordLives<'a>],
 ) -> Result<(), Want>
-    ensures { OnOk result (IsStrictlySortedBy key_cmp (map (λ (row : Latest × List Life). key_of_last row.0) (map row_lent kept.now))
+    ensures { OnOk result (AreRecords (map row_lent kept.now) → AreApart «record».now.lives.items
         → map service_life_lent to.new.items
         ≡ map service_life_lent to.old.items ++ lives_given window (map row_lent kept.now) (row_lent «record».now)) }
 {
     let Some(name) = instance_of(&record.last) else {
         return Ok(());
     };
-    let servers = servers_named(kept, name);
-    push_lives(to, window, record, name, servers)
+    let mut lives = lives_in(*to.allocator(), window, record, name)?;
+    add_servers(lives.as_mut_slice(), servers_named(kept, name))?;
+    Ok(to.append(&mut lives)?)
 }
 
-fn push_lives<'a>(
-    to: &mut Vec<ServiceLife<'a>>,
+// Collects the lives in the window of the instance of this name, which a record gives, without servers.
+fn lives_in<'a>(
+    alloc: Global,
     window: Window,
     record: &'a RecordLives<'a>,
     name: &'a Name,
-    servers: &'a [RecordLives<'a>],
-) -> Result<(), Want>
-    ensures { OnOk result (map service_life_lent to.new.items ≡ map service_life_lent to.old.items
-        ++ lives_named (row_lent «record».now).0 name.now (map row_lent servers.now) (filter (meets window) (row_lent «record».now).1)) }
+) -> Result<Vec<ServiceLife<'a>>, Want>
+    ensures { IfOk result (λ lives. map service_life_lent lives.items
+        ≡ lives_named (row_lent «record».now).0 name.now [] (filter (meets window) (row_lent «record».now).1)) }
 {
+    let mut lives = Vec::new(alloc);
     for life in record.lives.as_slice() {
-        push_life(to, window, record, name, servers, life)?;
+        push_life(&mut lives, window, record, name, life)?;
     }
-    Ok(())
+    Ok(lives)
 }
 
 // Appends a life if it meets the window.
@@ -191,16 +192,15 @@ fn push_life<'a>(
     window: Window,
     record: &'a RecordLives<'a>,
     name: &'a Name,
-    servers: &'a [RecordLives<'a>],
     life: &Life,
 ) -> Result<(), Want>
     ensures { OnOk result (map service_life_lent to.new.items ≡ map service_life_lent to.old.items
-        ++ lives_named (row_lent «record».now).0 name.now (map row_lent servers.now) (filter (meets window) (life.now ∷ []))) }
+        ++ lives_named (row_lent «record».now).0 name.now [] (filter (meets window) (life.now ∷ []))) }
 {
     if !window.meets(life) {
         return Ok(());
     }
-    let servers = servers_in(*to.allocator(), servers, life)?;
+    let servers = Vec::new(*to.allocator());
     Ok(to.push(ServiceLife {
         kind: &record.last.resource.owner,
         name,
@@ -209,42 +209,83 @@ fn push_life<'a>(
     })?)
 }
 
-// Collects the servers of an instance in a life of it, of its SRV records.
-fn servers_in<'a>(
-    alloc: Global,
-    named: &'a [RecordLives<'a>],
-    life: &Life,
-) -> Result<Vec<Service<&'a Name>>, Want>
-    ensures { IfOk result (λ servers. map service_lent servers.items ≡ servers_in (map row_lent named.now) life.now) }
+// Adds to lives of an instance their servers, by its SRV records.
+fn add_servers<'a>(lives: &mut [ServiceLife<'a>], named: &'a [RecordLives<'a>]) -> Result<(), Want>
+    ensures { OnOk result (AreShownApart (map service_life_lent lives.old) → AllApart (map row_lent named.now)
+        → map service_life_lent lives.new ≡ map (served (map row_lent named.now)) (map service_life_lent lives.old)) }
 {
-    let mut servers = Vec::new(alloc);
     for record in named {
-        push_server(&mut servers, record, life)?;
+        add_server(lives, record)?;
     }
-    Ok(servers)
+    Ok(())
 }
 
-// Appends the service of an SRV record if it has a life that meets another one.
-fn push_server<'a>(
-    to: &mut Vec<Service<&'a Name>>,
-    record: &'a RecordLives<'a>,
-    life: &Life,
-) -> Result<(), Want>
-    ensures { OnOk result (map service_lent to.new.items
-        ≡ map service_lent to.old.items ++ servers_in (row_lent «record».now ∷ []) life.now) }
+// Adds the service of an SRV record to the lives that meet one of the record's.
+fn add_server<'a>(lives: &mut [ServiceLife<'a>], record: &'a RecordLives<'a>) -> Result<(), Want>
+    ensures { OnOk result (AreShownApart (map service_life_lent lives.old) → AreApart «record».now.lives.items
+        → map service_life_lent lives.new ≡ map (served (row_lent «record».now ∷ [])) (map service_life_lent lives.old)) }
 {
-    if !meets_any(life, record.lives.as_slice()) {
-        return Ok(());
-    }
     // Every record is an SRV record: no other data has this type number.
     match record.last.resource.body.service() {
-        Some(service) => Ok(to.push(service)?),
+        Some(service) => add_service(lives, service, record.lives.as_slice()),
         None => Ok(()),
     }
 }
 
-fn meets_any(life: &Life, others: &[Life]) -> bool
-    ensures { result ≡ list_any (lives_meet life.now) others.now }
+// Adds a service to the lives that meet one of its record's.
+fn add_service<'a>(
+    lives: &mut [ServiceLife<'a>],
+    service: Service<&'a Name>,
+    others: &[Life],
+) -> Result<(), Want>
+    ensures { OnOk result (AreShownApart (map service_life_lent lives.old) → AreApart others.now
+        → map service_life_lent lives.new
+        ≡ map (served_if (λ life. list_any (lives_meet life) others.now) (service_lent service.entry)) (map service_life_lent lives.old)) }
 {
-    others.iter().any(|other| life.from.nanos() < other.until && other.from.nanos() < life.until)
+    // A life that begins before another one ends meets that one, or has ended before the next begins.
+    let mut ended = 0;
+    for other in others {
+        add_met(lives, service, other, ended)?;
+        ended = other.until;
+    }
+    Ok(())
+}
+
+// Adds a service to the lives that meet another one and begin no earlier than a moment.
+fn add_met<'a>(
+    lives: &mut [ServiceLife<'a>],
+    service: Service<&'a Name>,
+    other: &Life,
+    since: u64,
+) -> Result<(), Want>
+    ensures { OnOk result (AreShownApart (map service_life_lent lives.old)
+        → map service_life_lent lives.new
+        ≡ map (served_if (λ life. nat_le since life.from.nanos && lives_meet life other.now) (service_lent service.entry))
+        (map service_life_lent lives.old)) }
+{
+    let (first, end) = range_of(lives, other, since);
+    add_to_each(&mut lives[first..end], service)
+}
+
+// Finds by binary search the places of the lives that meet another one and begin no earlier than a moment.
+fn range_of(lives: &[ServiceLife<'_>], other: &Life, since: u64) -> (usize, usize)
+    ensures within { (result.0 ≤ result.1) × (result.1 ≤ length lives.now) }
+    ensures range { AreShownApart (map service_life_lent lives.now) → IsRange
+        (λ (shown : ServiceLife). nat_le since shown.life.from.nanos && lives_meet shown.life other.now) lives.now result.0 result.1 }
+{
+    let first = lives.partition_point(|shown| {
+        shown.life.from.nanos() < since || shown.life.until <= other.from.nanos()
+    });
+    let end = lives.partition_point(|shown| shown.life.from.nanos() < other.until);
+    (first.min(end), end)
+}
+
+fn add_to_each<'a>(lives: &mut [ServiceLife<'a>], service: Service<&'a Name>) -> Result<(), Want>
+    ensures { OnOk result (map service_life_lent lives.new
+        ≡ map (served_if (λ life. true) (service_lent service.entry)) (map service_life_lent lives.old)) }
+{
+    for shown in lives.iter_mut() {
+        shown.servers.push(service)?;
+    }
+    Ok(())
 }

@@ -7,7 +7,7 @@ pub returns : goal.returns
 returns c = λ packets have.
     let moments = all_moments packets in
     let until = c.bound_or-until.ensures in
-    let first = c.nanos.ensures ∙ c.captures_begin-first.ensures packets have in
+    let first = c.nanos.ensures ∙ c.earliest-first.ensures packets have in
     let last = c.nanos-2.ensures ∙ c.later-last.ensures
     ∙ ap (max c.later-end.result.nanos)
     (c.later.ensures ∙ ap (max c.captures_end-now.result.nanos) (c.captures_end-latest.ensures packets have)) in
@@ -16,7 +16,7 @@ returns c = λ packets have.
       now = c.captures_end-now.ensures packets have;
       begins = c.bound_or-start.ensures
           ∙ ap (λ n. bound_or n c.args.window.since)
-          (c.captures_begin.ensures packets have ∙ ap (λ n. earliest_nanos n moments) until);
+          (c.earliest.ensures packets have ∙ ap (λ n. earliest_nanos n moments) until);
       ends = c.later-end.ensures ∙ ap (max c.bound_or-start.result.nanos) until;
       dates = c.dates_of.ensures ∙ (λ i. dates_of (first i) (last i));
     }

@@ -32,7 +32,7 @@ returns c = λ each heard chronicled held latest.
     let sorted = looked_up-sorted heard walk lives about in
     let records = map row_lent c.as_slice-records.result.now in
     let kept : records ≡ kept_of about walk =
-    ap (map row_lent) c.as_slice-records.ensures.value ∙ c.in_ok-kept.ensures (subst Sorted (sym looked) sorted)
+    ap (map row_lent) c.as_slice-records.ensures.value ∙ c.in_ok-kept.ensures.rows (subst Sorted (sym looked) sorted)
     ∙ ap (λ (ls : List Latest). filter (λ (row : Latest × List Life). is_kept about ls row.0) walk) looked in
     let in_order = subst (λ (rs : List (Latest × List Life)). IsStrictlySortedBy key_cmp (map (λ (row : Latest × List Life). key_of_last row.0) rs))
     (sym kept)

@@ -1,5 +1,5 @@
 use Rattle.std.proofs.Common.{option_map, string_bytes, subst}
-use Rattle.mdns_browse.specs.declared.about.Subject.{Subject}
+use Rattle.mdns_browse.specs.{LifeText.{nanos_if_some}, declared.about.Subject.{Subject}}
 use Rattle.std.specs.Prelude.{List}
 use Rattle.mdns_survey.specs.{Filter.{counted, filter_of}, Missed.{Misses}}
 use Rattle.mdns_survey.proofs.{ListenedLemmas.{have-spans}, LivesLemmas.{early-ended}, SurveyLemmas.{misses-heard}}
@@ -21,7 +21,7 @@ returns-in-Ok-headed-clause-right c = λ lefts hears.
     let spans = have-spans lefts hears.packets hears.outcomes readings hears.read in
     let heard = counted (filter_of request.as_of) hears.outcomes in
     let held = c.in-Ok.ensures heard hears.heard in
-    surveys-services request lefts readings hears c.captures_begin-begin.result c.captures_end-end_of_captures.result
+    surveys-services request lefts readings hears (nanos_if_some c.captures_begin-begin.result) c.captures_end-end_of_captures.result
     c.in-Ok-headed.ensures.0 (string_bytes c.in-Ok-text_of.report) (string_bytes c.in-Ok-headed.text) c.in-Ok-headed.ensures.1
     c.in-Ok-headed.ensures.2 (c.captures_begin-begin.ensures hears.packets spans) (c.captures_end-end_of_captures.ensures hears.packets spans)
     (c.in_default.ensures.none heard held) (c.in-Ok-text_of.ensures heard held)
