@@ -79,8 +79,9 @@ class Basis:
         given = asked.before if asked.at is None else asked.at
         self.now = self.newest if given is None else given
         self.end = max(self.moments, default=0) if given is None else given
-        self.begin = min([self.end, *self.moments])
-        self.bounds = [one if given is None else given for one, given in ((self.begin, asked.since), (self.end, asked.until))]
+        # Captures without packets have no bounds.
+        begin = min([self.end, *self.moments])
+        self.bounds = self.moments and [one if given is None else given for one, given in ((begin, asked.since), (self.end, asked.until))]
         self.window = window_of(asked)
         self.rows = rows_of(self.hearings)
 
@@ -120,7 +121,7 @@ def texts_of(_, some):
 def lives_kind(choice):
     """What a command lists that chooses so from all lives."""
     def columns(basis, _, some):
-        return lives_columns(some, *basis.bounds, choice.words)
+        return lives_columns(some, basis.bounds, choice.words)
 
     return Kind(lambda basis: list(lives_in(lives_text(choice.of_rows(basis.rows, basis.window), basis.window, basis.end))),
                 lambda _, words, life: is_about(is_record_about, words, life.record),
@@ -203,7 +204,7 @@ def service_object(life, servers):
 def services_text(basis, services):
     form = basis.asked.form
     if form == "--pretty":
-        return head_text(basis) + services_columns(services, *basis.bounds)
+        return head_text(basis) + services_columns(services, basis.bounds)
     return OF_OBJECTS[form]("services", [service_object(*one) for one in services]) if form else "".join(
         life.text.split(" ", 2)[2] + "".join(f" server {words[3]} {words[2]}" for words in servers) + "\n" for life, servers in services)
 
@@ -214,7 +215,7 @@ def head_text(basis):
     captures = [capture for _, capture in basis.files]
     lost = sum(causes_of(capture)[cause] for capture in captures for cause in LOST)
     return "".join((
-        warnings_text(basis.files) if basis.asked.ask in CHOICES and not basis.asked.services else "",
+        warnings_text(basis.files) if basis.asked.ask in CHOICES else "",
         f"{lost} packet{'' if lost == 1 else 's'} could not be used: mdnswhy files FILE... says why\n" if lost else "",
         "" if any(held_in(capture)[1] for capture in captures) else "nothing was heard: mdnswhy files FILE... says what each file is\n"))
 

@@ -67,11 +67,11 @@ def words_below(line, sets):
     return (servers or [["unresolved"]]) + [words for words in texts if words]
 
 
-def lives_columns(lives, begin, end, chosen):
+def lives_columns(lives, bounds, chosen):
     """A table of lives, each a record's line, when it was live from and until, in parentheses where it goes on, and how it ended; and
     which are chosen."""
     rows = [(*ends_of(life), life.record.kind, shown_record(life.record)) for life in lives]
-    return lives_table(f"{'life' if len(rows) == 1 else 'lives'}{chosen}", begin, end, ("TYPE", "RECORD"), rows)
+    return lives_table(f"{'life' if len(rows) == 1 else 'lives'}{chosen}", bounds, ("TYPE", "RECORD"), rows)
 
 
 def ends_of(life):
@@ -81,18 +81,18 @@ def ends_of(life):
     return millis(life.start), millis(life.until), how
 
 
-def lives_table(called, begin, end, heads, rows):
+def lives_table(called, bounds, heads, rows):
     # The end of a life that goes on is a forecast, in parentheses.
     lines = re.sub(r"^(\S+)  (\S+)  (?=live)", r"\1 (\2) ", table(("FROM", "UNTIL", "END", *heads), rows), flags=re.M)
-    return f"{len(rows)} {called} between {millis(begin)} and {millis(end)}\n" + lines
+    return f"{len(rows)} {called} between {' and '.join(map(millis, bounds))}\n" + lines if bounds else ""
 
 
-def services_columns(services, begin, end):
+def services_columns(services, bounds):
     """A table of lives of services, each with its servers, and of a goodbye with the time of day at which it was said."""
     rows = [(*moments, re.sub("(?:said )?goodbye", f"goodbye at {millis(life.record.heard)[11:]}", how), "  ".join([
         shown_name(life.record.words[0]), *([word for server in servers for word in shown_words("SRV", server)] or ["unresolved"])]))
             for life, servers in services for *moments, how in [ends_of(life)]]
-    return lives_table("life of a service" if len(rows) == 1 else "lives of services", begin, end, ("SERVICE",), rows)
+    return lives_table("life of a service" if len(rows) == 1 else "lives of services", bounds, ("SERVICE",), rows)
 
 
 def heading(rows, one, many, now):

@@ -1,8 +1,7 @@
--- The lives of records after warnings of listeners whose clocks don't agree.
-use Rattle.std.specs.Prelude.{◌≡◌, ℕ, false, List}
+-- Lives after warnings of listeners whose clocks don't agree.
+use Rattle.std.specs.Prelude.{◌≡◌, ℕ, List}
 use Rattle.mdns_capture.specs.Savefile.{PacketAt}
-use Rattle.mdns_survey.specs.{declared.request.LivesRequest.{LivesRequest}, declared.summary.Summary.{Summary}, Outcomes.{AllRead, Outcome}}
-use Rattle.mdns_survey.specs.Question.{Asked, asked_after, asked_lives}
+use Rattle.mdns_survey.specs.{declared.summary.Summary.{Summary}, Outcomes.{AllRead, Outcome}, Question.{Asked, asked_after}}
 use Rattle.mdns_listeners.specs.{Groups.{Grouped}, Heard.{HeardRow}, Listeners.{AreRowsOf, spans_by}, Together.{pairs_together}}
 use Rattle.mdns_listeners.specs.Warnings.{warnings_text}
 
@@ -21,14 +20,14 @@ pub record AreWarnings (groups : Grouped) (captures : List (List ℕ)) (text : L
   pub read : AllRead captures packets outcomes summaries
   pub warns : WarnsOf groups packets outcomes text
 
--- Lives are asked for, after the warnings. When an allocation failed, none of the warnings were written, or all.
-abbrev pub asked_warned : Grouped → LivesRequest → Asked
-asked_warned groups lives = record {
+-- The same is asked for, after the warnings. When an allocation failed, none of the warnings were written, or all.
+abbrev pub asked_warned : Grouped → Asked → Asked
+asked_warned groups asked = record {
   Answers = λ captures summaries text. (warnings : List ℕ) × AreWarnings groups captures warnings
-      × (asked_after warnings (asked_lives lives)).Answers captures summaries text;
-  as_of = lives.as_of;
-  about = lives.about;
-  at_once = false;
+      × (asked_after warnings asked).Answers captures summaries text;
+  as_of = asked.as_of;
+  about = asked.about;
+  at_once = asked.at_once;
   Stops = λ captures out. (warnings : List ℕ) × AreWarnings groups captures warnings
-      × (asked_after warnings (asked_lives lives)).Stops captures out;
+      × (asked_after warnings asked).Stops captures out;
 }

@@ -31,13 +31,13 @@ pub struct WarnedLives<'a> {
 
 impl<'a> Question for WarnedLives<'a> {
     ghost use Rattle.mdns_survey.specs.Chronicling.{Chronicled};
-    ghost use Rattle.mdns_survey.specs.Filter.{filter_of};
+    ghost use Rattle.mdns_survey.specs.{Filter.{filter_of}, Question.{asked_lives}};
     ghost use Rattle.mdns_listeners.specs.Listeners.{Gathered};
     ghost use Rattle.mdns_listeners.specs.WarnedLives.{asked_warned};
 
     type Collector = Beside<Filtered<MessageChronicle>>;
 
-    ghost asked = { λ warned. asked_warned warned.groups.now warned.lives };
+    ghost asked = { λ warned. asked_warned warned.groups.now (asked_lives warned.lives) };
 
     // Groups of as many files.
     ghost Fits = { λ warned count. length warned.groups.now.of ≡ count };
@@ -77,8 +77,8 @@ impl<'a> Answer for WarnedLives<'a> {
     }
 }
 
-// Returns the warnings of listeners, of which a collector gathered the messages while captures were read, with these readings.
-fn warnings_of(
+/// Returns the warnings of listeners, of which a collector gathered the messages while captures were read, with these readings.
+pub fn warnings_of(
     alloc: Global,
     groups: &Groups,
     collector: MessageCollector,

@@ -40,3 +40,4 @@ mod style;
 mod ticks;
 mod timeline;
 mod timeline_rows;
+pub mod warned_services;

@@ -3,7 +3,7 @@ use Rattle.std.specs.Prelude.{ℕ, Bool, true, false, List, [], codes, length, m
 use Rattle.mdns_browse.specs.declared.report.{Form.{Form}, Form.TheVariants.{Pretty}}
 use Rattle.mdns_capture.specs.{declared.stream.Source.{Ghosts}, Output.{Writing}}
 use Rattle.mdns_survey.specs.{Answer.{IsRefusedOf, Reports}, Question.{Asked, asked_lives, asked_of}}
-use Rattle.mdns_survey.specs.declared.request.{LivesRequest.{LivesRequest}, Request.TheVariants.{Check, Lives}}
+use Rattle.mdns_survey.specs.declared.request.Request.TheVariants.{Check, Lives}
 use Rattle.mdns_listeners.specs.{Groups.{grouped}, Together.{are_compared}, WarnedLives.{asked_warned}}
 use Rattle.mdns_page.specs.{Page.{asked_page}, ServiceLives.{asked_service_lives}}
 use Rattle.command_line.specs.declared.words.{Task.{Task}, Task.TheVariants.{Survey, Services, Page}}
@@ -13,22 +13,27 @@ abbrev pub is_warned : Form → ℕ → Bool
 is_warned Pretty count = are_compared count
 is_warned _ count = false
 
--- what is asked for: the lives, after warnings of the files, each of which is a listener by itself, or without them
-abbrev pub asked_lives_if : Bool → LivesRequest → List (List ℕ) → Asked
-asked_lives_if true lives names = asked_warned (grouped [] names) lives
-asked_lives_if false lives names = asked_lives lives
+-- what is asked for: lives after warnings of the files, each of which is a listener by itself, or without them
+abbrev pub asked_if_warned : Bool → List (List ℕ) → Asked → Asked
+asked_if_warned true names lives = asked_warned (grouped [] names) lives
+asked_if_warned false names lives = lives
 
-abbrev pub asked_lives_of : LivesRequest → List (List ℕ) → Asked
-asked_lives_of lives names = asked_lives_if (is_warned lives.form (length names)) lives names
+abbrev pub asked_in : Form → List (List ℕ) → Asked → Asked
+asked_in form names lives = asked_if_warned (is_warned form (length names)) names lives
 
 -- what a task asks of files with these names
 abbrev pub asked_by : Task → List (List ℕ) → Asked
-asked_by (Survey (Lives lives)) names = asked_lives_of lives names
+asked_by (Survey (Lives lives)) names = asked_in lives.form names (asked_lives lives)
 asked_by (Survey request) names = asked_of request names
 asked_by (Services form as_of window about) names =
-    asked_service_lives (record { form = form; as_of = as_of; window = window; about = about })
+    asked_in form names (asked_service_lives (record { form = form; as_of = as_of; window = window; about = about }))
 asked_by (Page as_of window about listeners) names =
     asked_page names (grouped (map string_bytes listeners.items) names) about window as_of
+
+-- the prefixes of file names by which a task groups files
+abbrev pub prefixes_of : Task → List (List ℕ)
+prefixes_of (Page as_of window about listeners) = map string_bytes listeners.items
+prefixes_of task = []
 
 -- of all but a check, an error line is written for each capture that isn't whole
 abbrev pub says_endings : Task → Bool

@@ -2,8 +2,7 @@
 
 ghost use Rattle.std.specs.Prelude.{◌≡◌, ◌≢◌, ◌≤◌, ℕ, [], List, codes, length, map, string_bytes, true, Some};
 ghost use Rattle.mdns_capture.specs.Output.{writing};
-ghost use Rattle.mdns_survey.specs.Answer.{IsRefusedOf, Reports};
-ghost use Rattle.mdnsmerge.specs.Task.{AnswersTask, IsTaskRefused, asked_lives_of, is_warned};
+ghost use Rattle.mdnsmerge.specs.Task.{AnswersTask, IsTaskRefused, is_warned, prefixes_of};
 
 use command_line::Task;
 use mdns_browse::report::Form;
@@ -14,9 +13,10 @@ use mdns_listeners::warned_lives::WarnedLives;
 use mdns_message::Want;
 use mdns_page::page::PageRequest;
 use mdns_page::service_lives::ServiceLivesRequest;
+use mdns_page::warned_services::WarnedServices;
 use mdns_survey::answers::{NamedProgram, answer_request, answer_with};
 use mdns_survey::status::REFUSED;
-use mdns_survey::{LivesRequest, Request, SurveyFault, error_lines};
+use mdns_survey::{Request, SurveyFault, error_lines};
 use std::alloc::Global;
 
 /// Answers a task over files of these names, and returns the exit status. The error lines and the status of a page are those of
@@ -41,9 +41,22 @@ pub(crate) fn answer_task<R: Source + Drop, O: Sink, E: Sink>(
         (writing O.Sink out.old out.new) (writing E.Sink err.old err.new) }
     ensures unfailed { result ≢ REFUSED → O.failures out.new ≡ O.failures out.old }
 {
+    let groups = match Groups::new(alloc, names, prefixes_of(&task)) {
+        Ok(groups) => groups,
+        Err(Want) => {
+            return error_lines::refuse(alloc, "mdnsmerge", names, &SurveyFault::Memory, err);
+        }
+    };
     match task {
         Task::Survey(Request::Lives(lives)) => {
-            answer_lives(alloc, lives, names, readers, out, err)
+            if is_warned(lives.form, names.len()) {
+                let warned = WarnedLives {
+                    lives,
+                    groups: &groups,
+                };
+                return answer_with(warned, true, named(names), readers, out, err);
+            }
+            answer_with(lives, true, named(names), readers, out, err)
         }
         Task::Survey(Request::Report(report)) => {
             let request = Request::Report(report);
@@ -64,62 +77,40 @@ pub(crate) fn answer_task<R: Source + Drop, O: Sink, E: Sink>(
                 window,
                 about,
             };
+            if is_warned(form, names.len()) {
+                let warned = WarnedServices {
+                    services,
+                    groups: &groups,
+                };
+                return answer_with(warned, true, named(names), readers, out, err);
+            }
             answer_with(services, true, named(names), readers, out, err)
         }
         Task::Page {
             as_of,
             window,
             about,
-            listeners,
-        } => match Groups::new(alloc, names, listeners.as_slice()) {
-            Ok(groups) => {
-                let page = PageRequest {
-                    names,
-                    groups: &groups,
-                    as_of,
-                    window,
-                    about,
-                };
-                answer_with(page, true, named(names), readers, out, err)
-            }
-            Err(Want) => error_lines::refuse(alloc, "mdnsmerge", names, &SurveyFault::Memory, err),
-        },
+            listeners: _listeners,
+        } => {
+            let page = PageRequest {
+                names,
+                groups: &groups,
+                as_of,
+                window,
+                about,
+            };
+            answer_with(page, true, named(names), readers, out, err)
+        }
     }
 }
 
-// Answers a request for lives: for people, those of a few files come after warnings of these, each of which is a listener by
-// itself.
-fn answer_lives<R: Source + Drop, O: Sink, E: Sink>(
-    alloc: Global,
-    lives: LivesRequest,
-    names: &[String],
-    readers: Vec<R>,
-    out: &mut O,
-    err: &mut E,
-) -> u8
-    requires { length names.now ≡ length readers.items }
-    ensures status { result ≤ 2 }
-    ensures answers { result ≢ REFUSED → (captures : List (List ℕ))
-        → map R.remaining readers.items ≡ map Some captures
-        → Reports (asked_lives_of lives (map string_bytes names.now)) true (codes "mdnsmerge")
-        (map string_bytes names.now) captures (writing O.Sink out.old out.new) (writing E.Sink err.old err.new) result }
-    ensures refused { result ≡ REFUSED → IsRefusedOf R.Source (asked_lives_of lives (map string_bytes names.now))
-        (codes "mdnsmerge") (map string_bytes names.now) readers.items
-        (writing O.Sink out.old out.new) (writing E.Sink err.old err.new) }
-    ensures unfailed { result ≢ REFUSED → O.failures out.new ≡ O.failures out.old }
+// Returns the prefixes of file names by which a task groups files. Without one each file is a listener by itself.
+fn prefixes_of(task: &Task) -> &[String]
+    ensures { map string_bytes result.now ≡ prefixes_of task.now }
 {
-    if !is_warned(lives.form, names.len()) {
-        return answer_with(lives, true, named(names), readers, out, err);
-    }
-    match Groups::new(alloc, names, &[]) {
-        Ok(groups) => {
-            let warned = WarnedLives {
-                lives,
-                groups: &groups,
-            };
-            answer_with(warned, true, named(names), readers, out, err)
-        }
-        Err(Want) => error_lines::refuse(alloc, "mdnsmerge", names, &SurveyFault::Memory, err),
+    match task {
+        Task::Page { listeners, .. } => listeners.as_slice(),
+        Task::Survey(_) | Task::Services { .. } => &[],
     }
 }
 
