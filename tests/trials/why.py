@@ -18,7 +18,7 @@ misused = partial(command_lines.misused, program="mdnswhy")
 def file_line(name, ending="whole"):
     """What is said of the capture of one packet, in a file whose name is printed so."""
     line = f"{name} pcap {ending} packets 1 100.000000000 100.000000000 hearings 1\n"
-    cure = f"{name} ends early: later goodbyes are missing, so trust the answers --before 100.000000000\n"
+    cure = f"{name} ends early: later goodbyes are missing, so trust the answers --before 1970-01-01T00:01:40.000000000Z\n"
     return line if ending == "whole" else line + cure
 
 

@@ -3,7 +3,8 @@ use Rattle.std.specs.Prelude.{◌≡◌, ℕ, ◌==◌, ◌&&◌, Bool, IsTrue, 
 use Rattle.std.specs.{Prelude.{Option, Some, None, IfSome, codes, decimal}, List.{flat_map}}
 use Rattle.mdns_capture.specs.declared.savefile.{BeginFault.{BeginFault}, BeginFault.TheVariants.{Memory as BeginMemory, Read as BeginRead}}
 use Rattle.mdns_capture.specs.{declared.savefile.Ending.{Ending}, declared.stream.Source.{Ghosts as SourceGhosts}, Capture.{IsOver}}
-use Rattle.mdns_capture.specs.{Savefile.{PacketAt, header_fault}, Text.{ending_text, moment_text}}
+use Rattle.mdns_capture.specs.{Savefile.{PacketAt, header_fault}, Text.{ending_text}}
+use Rattle.people_text.specs.MomentText.{exact_text}
 use Rattle.mdns_survey.specs.declared.listen.{ListenFault.{ListenFault}, ListenFault.TheVariants.{Begin, Read, Memory}}
 use Rattle.mdns_survey.specs.declared.{reading.Reading.{Reading}, reading.Span.{Span}, summary.Tally.{Tally}}
 use Rattle.mdns_survey.specs.{Outcomes.{Outcome}, ProgramLines.{is_whole}, Listen.{IsReadingOf}}
@@ -57,7 +58,7 @@ capture_line file reading =
 -- what to do about a capture that ended before its packets did, by the span of those that it has
 abbrev pub early_cure : Option Span → List ℕ
 early_cure None = codes "no packet is whole"
-early_cure (Some span) = codes "later goodbyes are missing, so trust the answers --before " ++ moment_text span.last.nanos
+early_cure (Some span) = codes "later goodbyes are missing, so trust the answers --before " ++ exact_text span.last.nanos
 
 -- its line; nothing for a whole capture
 unfoldable pub early_text : List ℕ → Ending → Option Span → List ℕ
@@ -69,7 +70,9 @@ is_silent tally = not (tally.packets == 0) && (tally.hearings == 0)
 
 -- what to do about it
 abbrev pub silent_cure : List ℕ
-silent_cure = codes "mdnswhy packets tells what each packet is"
+silent_cure =
+    codes "no packet told a record; if none was lost, record on the services' link and browse meanwhile; "
+    ++ codes "mdnswhy packets tells what each packet is"
 
 unfoldable pub silent_text : List ℕ → Tally → List ℕ
 silent_text file tally = if is_silent tally then file ++ codes " heard nothing: " ++ silent_cure ++ 10 ∷ [] else []

@@ -10,7 +10,6 @@ use crate::flaw::{Flaw, cure_words, flaw_of, push_what};
 use crate::loss::{LOSSES, push_losses};
 use crate::peeked::{Peeked, read_head};
 use crate::span_line::{push_bounds, read_spanned};
-use mdns_browse::format::push_nanos;
 use mdns_capture::savefile::FILE_HEADER;
 use mdns_capture::{BeginFault, Broken, Ending, Source};
 use mdns_message::Want;
@@ -18,10 +17,13 @@ use mdns_survey::listen::ListenFault;
 use mdns_survey::reading::{Reading, Span};
 use mdns_survey::status::is_whole;
 use mdns_survey::summary::Tally;
+use people_text::moment_text::push_exact;
 use std::alloc::Global;
 
 /// What to do about a capture that has packets, but no hearings.
-pub(crate) const SILENT_CURE: &str = "mdnswhy packets tells what each packet is";
+pub(crate) const SILENT_CURE: &str =
+    "no packet told a record; if none was lost, record on the services' link and browse meanwhile; \
+     mdnswhy packets tells what each packet is";
 
 /// What to do about a file of which a read failed.
 pub(crate) const UNREAD_CURE: &str = "not a file, or a fault of its disk";
@@ -142,8 +144,7 @@ pub(crate) fn push_early_cure(to: &mut String, span: Option<Span>) -> Result<(),
         return Ok(());
     };
     to.push_str("later goodbyes are missing, so trust the answers --before ")?;
-    push_nanos(to, span.last.nanos())?;
-    Ok(())
+    push_exact(to, span.last.nanos())
 }
 
 #[tactic(auto, unfolding(crate::specs::Verdict::capture_front))]
