@@ -17,5 +17,5 @@ pub mod Sheet
 pub mod Table
 pub mod Together
 pub mod Values
-pub mod WarnedLives
+pub mod Warned
 pub mod Warnings

@@ -23,7 +23,7 @@ pub mod senders;
 mod sheet;
 pub mod together;
 mod values;
-pub mod warned_lives;
+pub mod warned;
 pub mod warnings;
 
 pub use beside::Beside;

@@ -40,4 +40,3 @@ mod style;
 mod ticks;
 mod timeline;
 mod timeline_rows;
-pub mod warned_services;

@@ -1,6 +1,6 @@
 -- The chronicle of the readers listened to, and the end of their captures.
 use Rattle.std.proofs.Common.{◌≡◌, ◌∙◌, ℕ, ◌<◌, ◌≤◌, List, [], ◌∷◌, ◌++◌, Option, None, Some, length, map}
-use Rattle.std.proofs.Common.{refl, ap, subst, sym, inl, inr, append_assoc, append-nil, arith, IsSomeAnd}
+use Rattle.std.proofs.Common.{refl, ap, subst, sym, inl, inr, append_assoc, arith, IsSomeAnd}
 use Rattle.std.proofs.{Math.Nat.{le-max_left, le-max_right}, lemmas.List.Elements.{Contains-append_cases}}
 use Rattle.std.specs.{Prelude.{Contains, option_map}, List.{flat_map}, Io.KnownBytes.{Appends}}
 use Rattle.mdns_capture.specs.{declared.moment.Moment.{Moment}, Output.{AppendsPrefix, Writing}, Savefile.{PacketAt}}
@@ -17,7 +17,7 @@ use Rattle.mdns_survey.specs.declared.{request.AsOf.{AsOf}, request.AsOf.TheVari
 use Rattle.mdns_survey.specs.{declared.survey.SurveyFault.TheVariants.{File, Early, Memory, Write}, Outcomes.{AllCome, ComesTo, Outcome}}
 use Rattle.mdns_survey.specs.{Outcomes.{heard, hearings_in, hearings_of_outcome, refused, skipped}, Chronicling.{FitsForm, StopsRows}}
 use Rattle.mdns_survey.specs.{Head.{Heads, IsHead}, Listen.{packet_moments}, LivesAnswer.{SurveysLives, WritesFirstRows, captures_begin}}
-use Rattle.mdns_survey.specs.{LivesAnswer.{captures_end, kept_rows, latest_nanos}, Question.{Asked, HearsReaders, IsAnswer, IsTooEarly}}
+use Rattle.mdns_survey.specs.{LivesAnswer.{captures_end, kept_rows, latest_nanos}, Question.{HearsReaders, IsAnswer, IsTooEarly}}
 use Rattle.mdns_survey.specs.{Question.{Refuses, WritesAnswer, asked_after, asked_lives, past}, Readings.{all_moments, summaries_of}}
 use Rattle.mdns_survey.specs.{Filter.{counted, filter_of}, Request.{moment_of}, Surveys.{AllLeft, all_hearings}}
 use Rattle.mdns_survey.proofs.{KeptLemmas.{Row}, SelectedLemmas.{counted-among}, SurveyLemmas.{too-early}}
@@ -142,40 +142,6 @@ appends-past : (old new : Option (List ℕ)) (first rest : List ℕ) → Appends
 appends-past None new first rest written = tt
 appends-past (Some text) None first rest written = absurd written
 appends-past (Some text) (Some more) first rest written = written ∙ sym (append_assoc text first rest)
-
--- where that is empty, it makes no difference
-past-nothing : (out : Writing) → past [] out ≡ out
-past-nothing out = ap (λ (old : Option (List ℕ)). record {
-  old = old;
-  new = out.new;
-  failures = out.failures;
-  new_failures = out.new_failures;
-  steady = out.steady;
-}) (same out.old) where
-  same : (old : Option (List ℕ)) → option_map (λ (written : List ℕ). written ++ []) old ≡ old
-  same None = refl
-  same (Some text) = ap (λ (t : List ℕ). Some t) (append-nil text)
-
-module _ (asked : Asked) (lefts : List (Option (List ℕ))) (preface : List ℕ) (none : preface ≡ []) (out : Writing) where
-  bare : (captures : List (List ℕ)) (summaries : List Summary) (text : List ℕ)
-      → (asked_after preface asked).Answers captures summaries text → asked.Answers captures summaries text
-  bare captures summaries text (rest, is, answers) =
-      subst (asked.Answers captures summaries) (sym (is ∙ ap (λ (p : List ℕ). p ++ rest) none)) answers
-
-  pub bare-written : (summaries : List Summary) → WritesAnswer (asked_after preface asked) lefts summaries out
-      → WritesAnswer asked lefts summaries out
-  bare-written summaries written = λ captures known.
-      let (text, answers, appends) = written captures known in (text, bare captures summaries text answers, appends)
-
-  pub bare-refused : (fault : SurveyFault) → Refuses (asked_after preface asked) lefts out fault → Refuses asked lefts out fault
-  bare-refused (File index fault) why = why
-  bare-refused (Early newest) why = why
-  bare-refused Memory (inl untouched) = inl untouched
-  bare-refused Memory (inr stops) = inr (λ captures known.
-      subst (asked.Stops captures) (ap (λ (p : List ℕ). past p out) none ∙ past-nothing out) (stops captures known))
-  bare-refused Write why = λ captures known.
-      let (summaries, (text, answers, prefix)) = why captures known in
-      (summaries, (text, bare captures summaries text answers, prefix))
 
 -- THE LIVES OF THE READERS LISTENED TO
 

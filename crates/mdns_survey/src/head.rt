@@ -86,11 +86,18 @@ pub fn headed(
     ensures { IfOk result (λ text. (head : List ℕ)
         × Heads form readings.now head × (string_bytes text ≡ head ++ string_bytes report)) }
 {
-    let mut text = head_in(alloc, form, readings)?;
-    // A report without a head isn't copied.
-    if text.is_empty() {
-        return Ok(report);
+    let head = head_in(alloc, form, readings)?;
+    prefaced(head, report)
+}
+
+/// Returns a text after a preface. Without one it isn't copied.
+pub(crate) fn prefaced(preface: String, text: String) -> Result<String, Want>
+    ensures { IfOk result (λ whole. string_bytes whole ≡ string_bytes preface ++ string_bytes text) }
+{
+    if preface.is_empty() {
+        return Ok(text);
     }
-    text.push_str(report.as_str())?;
-    Ok(text)
+    let mut whole = preface;
+    whole.push_str(text.as_str())?;
+    Ok(whole)
 }

@@ -1,7 +1,7 @@
 //! The lives of all records of several captures.
 
 ghost use Rattle.std.specs.Prelude.{◌≡◌, ◌<◌, ◌≤◌, ◌++◌, ◌∷◌, [], ℕ, Contains, IfNone, IfOk, IfErr, IfSome, List, OnErr, OnOk, Option, Some};
-ghost use Rattle.std.specs.Prelude.{false, is_ok, option_map, string_bytes};
+ghost use Rattle.std.specs.Prelude.{is_ok, string_bytes};
 ghost use Rattle.std.specs.{List.{flat_map}, Io.KnownBytes.{Appends}};
 ghost use Rattle.mdns_capture.specs.{Calls.{WritesWell}, Output.{AppendsPrefix, writing}};
 ghost use Rattle.mdns_message.specs.declared.hearing.Hearing.{Hearing};
@@ -9,9 +9,8 @@ ghost use Rattle.mdns_join.specs.declared.latest.Latest.{Latest};
 ghost use Rattle.mdns_cache.specs.Live.{IsNewest, NoneLater};
 ghost use Rattle.mdns_lives.specs.{Chronicle.{Chronicles}, LentLives.{row_lent}, declared.life.Life.{Life}};
 ghost use Rattle.mdns_browse.specs.LifeText.{IsLayout, lives_head, lives_text, nanos_if_some};
-ghost use Rattle.mdns_survey.specs.{Chronicling.{Chronicled, FitsForm, IsTextOut, StopsRows}, Filter.{filter_of}, Head.{Heads}};
-ghost use Rattle.mdns_survey.specs.{LivesAnswer.{kept_rows}, ProgramLines.{IfFile}, Question.{HearsReaders, MissesOf, Refuses, WritesAnswer}};
-ghost use Rattle.mdns_survey.specs.{Question.{asked_after, asked_lives}, Readings.{summaries_of}, Refusals.{BlamesWriter, Leaves}};
+ghost use Rattle.mdns_survey.specs.{Chronicling.{FitsForm, IsTextOut, StopsRows}, Head.{Heads}, LivesAnswer.{kept_rows}};
+ghost use Rattle.mdns_survey.specs.Refusals.{BlamesWriter};
 
 use crate::filter::Filtered;
 use crate::head::head_in;
@@ -61,95 +60,50 @@ impl Question for LivesRequest {
 ///
 /// The lines are written in pieces of 64 KiB or more, each of which ends with the last line of a record. In
 /// `Form::Pretty` all lives are found twice, first for the widths of the columns.
-/// After `Memory` nothing was written, or the head, the heading and all lines of some first records.
+/// After `Memory` nothing was written, or the preface, the head, the heading and all lines of some first records.
 impl Answer for LivesRequest {
     fn write<W: Sink>(
         self,
         alloc: Global,
+        preface: String,
         collector: Filtered<MessageChronicle>,
         readings: &[Reading],
         out: &mut W,
     ) -> Result<Option<String>, SurveyFault> {
-        let answer = LivesAnswer {
-            preface: String::new(alloc),
-            request: self,
-            collector,
+        let lives = match lives_of_chronicle(collector.hearer) {
+            Ok(lives) => lives,
+            Err(Want) => return Err(SurveyFault::Memory),
         };
-        write_lives(alloc, answer, readings, out)
-    }
-}
-
-/// The answer to a request for lives, and a text that is written before it, together with its first piece.
-#[derive(Drop)]
-pub struct LivesAnswer {
-    pub preface: String,
-    pub request: LivesRequest,
-    /// What was collected for the request.
-    pub collector: Filtered<MessageChronicle>,
-}
-
-/// Writes a preface, and then the lives that are asked for, as `LivesRequest` does, and returns what is missed. After `Memory`
-/// nothing was written, or the preface, the head, the heading and all lines of some first rows.
-pub fn write_lives<W: Sink>(
-    alloc: Global,
-    answer: LivesAnswer,
-    readings: &[Reading],
-    out: &mut W,
-) -> Result<Option<String>, SurveyFault>
-    ensures written { OnOk result ((lefts : List (Option (List ℕ)))
-        → HearsReaders (Chronicled (filter_of answer.request.as_of) answer.collector.hearer) lefts readings.now
-        → WritesAnswer (asked_after (string_bytes answer.preface) (asked_lives answer.request)) lefts
-        (summaries_of readings.now) (writing W.Sink out.old out.new)) }
-    ensures misses { IfOk result (λ missed. (lefts : List (Option (List ℕ)))
-        → HearsReaders (Chronicled (filter_of answer.request.as_of) answer.collector.hearer) lefts readings.now
-        → MissesOf (asked_lives answer.request) lefts (option_map string_bytes missed)) }
-    ensures refused { IfErr result (λ fault. (lefts : List (Option (List ℕ)))
-        → HearsReaders (Chronicled (filter_of answer.request.as_of) answer.collector.hearer) lefts readings.now
-        → Refuses (asked_after (string_bytes answer.preface) (asked_lives answer.request)) lefts
-        (writing W.Sink out.old out.new) fault) }
-    ensures listened { IfErr result (λ fault. IfFile fault (λ _ _. ⊥)) }
-    ensures untouched { IfErr result (Leaves false out.old out.new) }
-    ensures writer { IfErr result (BlamesWriter (writing W.Sink out.old out.new)) }
-    ensures unfailed { OnOk result (W.failures out.new ≡ W.failures out.old) }
-{
-    let LivesAnswer {
-        preface,
-        request,
-        collector,
-    } = answer;
-    let lives = match lives_of_chronicle(collector.hearer) {
-        Ok(lives) => lives,
-        Err(Want) => return Err(SurveyFault::Memory),
-    };
-    let begin = captures_begin(request.as_of, readings);
-    let end_of_captures = captures_end(request.as_of, readings);
-    if let Some(newest) = newest_after(&lives, end_of_captures) {
-        return Err(SurveyFault::Early { newest });
-    }
-    let about = request.about.as_slice();
-    let missed = match missed_in_lives(alloc, about, &lives) {
-        Ok(missed) => missed,
-        Err(Want) => return Err(SurveyFault::Memory),
-    };
-    let columns = lives.chosen(request.which, request.window);
-    let layout = match layout_of(alloc, columns, request.form, about, end_of_captures) {
-        Ok(layout) => layout,
-        Err(Want) => return Err(SurveyFault::Memory),
-    };
-    let text = match text_before(preface, &request, readings, layout, begin, end_of_captures) {
-        Ok(text) => text,
-        Err(Want) => return Err(SurveyFault::Memory),
-    };
-    let rows = lives.chosen(request.which, request.window);
-    let lines = RowLines {
-        form: request.form,
-        about,
-        width: layout.width,
-        end_of_captures,
-    };
-    match write_rows(text, rows, lines, out) {
-        Ok(()) => Ok(missed),
-        Err(fault) => Err(fault),
+        let begin = captures_begin(self.as_of, readings);
+        let end_of_captures = captures_end(self.as_of, readings);
+        if let Some(newest) = newest_after(&lives, end_of_captures) {
+            return Err(SurveyFault::Early { newest });
+        }
+        let about = self.about.as_slice();
+        let missed = match missed_in_lives(alloc, about, &lives) {
+            Ok(missed) => missed,
+            Err(Want) => return Err(SurveyFault::Memory),
+        };
+        let columns = lives.chosen(self.which, self.window);
+        let layout = match layout_of(alloc, columns, self.form, about, end_of_captures) {
+            Ok(layout) => layout,
+            Err(Want) => return Err(SurveyFault::Memory),
+        };
+        let text = match text_before(preface, &self, readings, layout, begin, end_of_captures) {
+            Ok(text) => text,
+            Err(Want) => return Err(SurveyFault::Memory),
+        };
+        let rows = lives.chosen(self.which, self.window);
+        let lines = RowLines {
+            form: self.form,
+            about,
+            width: layout.width,
+            end_of_captures,
+        };
+        match write_rows(text, rows, lines, out) {
+            Ok(()) => Ok(missed),
+            Err(fault) => Err(fault),
+        }
     }
 }
 

@@ -5,8 +5,9 @@ ghost use Rattle.mdns_capture.specs.{Output.{writing}, Savefile.{PacketAt}};
 ghost use Rattle.mdns_browse.specs.Report.{IfEarly};
 ghost use Rattle.mdns_survey.specs.{Outcomes.{Outcome}, ProgramLines.{IfFile}};
 ghost use Rattle.mdns_survey.specs.{Question.{Asked, HearsReaders, IsAnswer, IsTooEarly, MissesOf, Refuses, WritesAnswer}};
-ghost use Rattle.mdns_survey.specs.{Readings.{summaries_of}, Refusals.{BlamesReaders, BlamesWriter, Leaves}};
+ghost use Rattle.mdns_survey.specs.{Question.{asked_after}, Readings.{summaries_of}, Refusals.{BlamesReaders, BlamesWriter, Leaves}};
 
+use crate::head::prefaced;
 use crate::listen::Collector;
 use crate::reading::Reading;
 use crate::readings::summaries_of;
@@ -40,10 +41,11 @@ pub trait Question {
 
 /// A question that is answered once all captures, of these readings, were listened to.
 pub trait Answer: Question {
-    /// Writes the answer, and returns the subjects where nothing that was heard is about one of them.
+    /// Writes the preface and the answer, and returns the subjects where nothing that was heard is about one of them.
     fn write<W: Sink>(
         self,
         alloc: Global,
+        preface: String,
         collector: Self::Collector,
         readings: &[Reading],
         out: &mut W,
@@ -51,13 +53,14 @@ pub trait Answer: Question {
         requires { Self.Fits self (length readings.now) }
         ensures written { OnOk result ((lefts : List (Option (List ℕ)))
             → HearsReaders (Self.Heard self collector) lefts readings.now
-            → WritesAnswer (Self.asked self) lefts (summaries_of readings.now) (writing W.Sink out.old out.new)) }
+            → WritesAnswer (asked_after (string_bytes preface) (Self.asked self)) lefts (summaries_of readings.now)
+            (writing W.Sink out.old out.new)) }
         ensures misses { IfOk result (λ missed. (lefts : List (Option (List ℕ)))
             → HearsReaders (Self.Heard self collector) lefts readings.now
             → MissesOf (Self.asked self) lefts (option_map string_bytes missed)) }
         ensures refused { IfErr result (λ fault. (lefts : List (Option (List ℕ)))
             → HearsReaders (Self.Heard self collector) lefts readings.now
-            → Refuses (Self.asked self) lefts (writing W.Sink out.old out.new) fault) }
+            → Refuses (asked_after (string_bytes preface) (Self.asked self)) lefts (writing W.Sink out.old out.new) fault) }
         ensures listened { IfErr result (λ fault. IfFile fault (λ _ _. ⊥)) }
         ensures untouched { IfErr result (Leaves (Self.asked self).at_once out.old out.new) }
         ensures writer { IfErr result (BlamesWriter (writing W.Sink out.old out.new)) }
@@ -97,6 +100,7 @@ impl<Q: TextAnswer> Answer for Q {
     fn write<W: Sink>(
         self,
         alloc: Global,
+        preface: String,
         collector: Q::Collector,
         readings: &[Reading],
         out: &mut W,
@@ -106,7 +110,11 @@ impl<Q: TextAnswer> Answer for Q {
             Err(ReportFault::Early { newest }) => return Err(SurveyFault::Early { newest }),
             Err(ReportFault::Memory) => return Err(SurveyFault::Memory),
         };
-        match write_whole(out, answer.text.as_bytes()) {
+        let text = match prefaced(preface, answer.text) {
+            Ok(text) => text,
+            Err(Want) => return Err(SurveyFault::Memory),
+        };
+        match write_whole(out, text.as_bytes()) {
             Ok(()) => Ok(answer.missed),
             Err(Broken) => Err(SurveyFault::Write),
         }
@@ -161,7 +169,8 @@ pub fn survey_with<R: Source + Drop, Q: Answer + Drop, W: Sink>(
         Ok(summaries) => summaries,
         Err(Want) => return Err(SurveyFault::Memory),
     };
-    match question.write(alloc, collector, readings.as_slice(), out) {
+    let preface = String::new(alloc);
+    match question.write(alloc, preface, collector, readings.as_slice(), out) {
         Ok(missed) => Ok(Surveyed { summaries, missed }),
         Err(fault) => Err(fault),
     }

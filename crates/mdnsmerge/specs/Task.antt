@@ -4,7 +4,7 @@ use Rattle.mdns_browse.specs.declared.report.{Form.{Form}, Form.TheVariants.{Pre
 use Rattle.mdns_capture.specs.{declared.stream.Source.{Ghosts}, Output.{Writing}}
 use Rattle.mdns_survey.specs.{Answer.{IsRefusedOf, Reports}, Question.{Asked, asked_lives, asked_of}}
 use Rattle.mdns_survey.specs.declared.request.Request.TheVariants.{Check, Lives}
-use Rattle.mdns_listeners.specs.{Groups.{grouped}, Together.{are_compared}, WarnedLives.{asked_warned}}
+use Rattle.mdns_listeners.specs.{Groups.{grouped}, Together.{are_compared}, Warned.{asked_warned}}
 use Rattle.mdns_page.specs.{Page.{asked_page}, ServiceLives.{asked_service_lives}}
 use Rattle.command_line.specs.declared.words.{Task.{Task}, Task.TheVariants.{Survey, Services, Page}}
 
@@ -29,11 +29,6 @@ asked_by (Services form as_of window about) names =
     asked_in form names (asked_service_lives (record { form = form; as_of = as_of; window = window; about = about }))
 asked_by (Page as_of window about listeners) names =
     asked_page names (grouped (map string_bytes listeners.items) names) about window as_of
-
--- the prefixes of file names by which a task groups files
-abbrev pub prefixes_of : Task → List (List ℕ)
-prefixes_of (Page as_of window about listeners) = map string_bytes listeners.items
-prefixes_of task = []
 
 -- of all but a check, an error line is written for each capture that isn't whole
 abbrev pub says_endings : Task → Bool

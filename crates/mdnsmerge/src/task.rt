@@ -2,19 +2,22 @@
 
 ghost use Rattle.std.specs.Prelude.{◌≡◌, ◌≢◌, ◌≤◌, ℕ, [], List, codes, length, map, string_bytes, true, Some};
 ghost use Rattle.mdns_capture.specs.Output.{writing};
-ghost use Rattle.mdnsmerge.specs.Task.{AnswersTask, IsTaskRefused, is_warned, prefixes_of};
+ghost use Rattle.mdns_survey.specs.Answer.{IsRefusedOf, Reports};
+ghost use Rattle.mdnsmerge.specs.Task.{AnswersTask, IsTaskRefused, asked_in, is_warned};
 
 use command_line::Task;
 use mdns_browse::report::Form;
 use mdns_capture::{Sink, Source};
 use mdns_listeners::Groups;
 use mdns_listeners::together::are_compared;
-use mdns_listeners::warned_lives::WarnedLives;
+use mdns_listeners::warned::Warned;
+use mdns_lives::MessageChronicle;
 use mdns_message::Want;
 use mdns_page::page::PageRequest;
 use mdns_page::service_lives::ServiceLivesRequest;
-use mdns_page::warned_services::WarnedServices;
 use mdns_survey::answers::{NamedProgram, answer_request, answer_with};
+use mdns_survey::filter::Filtered;
+use mdns_survey::question::{Answer, Question};
 use mdns_survey::status::REFUSED;
 use mdns_survey::{Request, SurveyFault, error_lines};
 use std::alloc::Global;
@@ -41,30 +44,11 @@ pub(crate) fn answer_task<R: Source + Drop, O: Sink, E: Sink>(
         (writing O.Sink out.old out.new) (writing E.Sink err.old err.new) }
     ensures unfailed { result ≢ REFUSED → O.failures out.new ≡ O.failures out.old }
 {
-    let groups = match Groups::new(alloc, names, prefixes_of(&task)) {
-        Ok(groups) => groups,
-        Err(Want) => {
-            return error_lines::refuse(alloc, "mdnsmerge", names, &SurveyFault::Memory, err);
-        }
-    };
     match task {
         Task::Survey(Request::Lives(lives)) => {
-            if is_warned(lives.form, names.len()) {
-                let warned = WarnedLives {
-                    lives,
-                    groups: &groups,
-                };
-                return answer_with(warned, true, named(names), readers, out, err);
-            }
-            answer_with(lives, true, named(names), readers, out, err)
+            answer_lives(lives.form, lives, names, readers, out, err)
         }
-        Task::Survey(Request::Report(report)) => {
-            let request = Request::Report(report);
-            answer_request(alloc, request, names, readers, out, err)
-        }
-        Task::Survey(Request::Check) => {
-            answer_request(alloc, Request::Check, names, readers, out, err)
-        }
+        Task::Survey(request) => answer_request(alloc, request, names, readers, out, err),
         Task::Services {
             form,
             as_of,
@@ -77,40 +61,63 @@ pub(crate) fn answer_task<R: Source + Drop, O: Sink, E: Sink>(
                 window,
                 about,
             };
-            if is_warned(form, names.len()) {
-                let warned = WarnedServices {
-                    services,
-                    groups: &groups,
-                };
-                return answer_with(warned, true, named(names), readers, out, err);
-            }
-            answer_with(services, true, named(names), readers, out, err)
+            answer_lives(form, services, names, readers, out, err)
         }
         Task::Page {
             as_of,
             window,
             about,
-            listeners: _listeners,
-        } => {
-            let page = PageRequest {
-                names,
-                groups: &groups,
-                as_of,
-                window,
-                about,
-            };
-            answer_with(page, true, named(names), readers, out, err)
-        }
+            listeners,
+        } => match Groups::new(alloc, names, listeners.as_slice()) {
+            Ok(groups) => {
+                let page = PageRequest {
+                    names,
+                    groups: &groups,
+                    as_of,
+                    window,
+                    about,
+                };
+                answer_with(page, true, named(names), readers, out, err)
+            }
+            Err(Want) => error_lines::refuse(alloc, "mdnsmerge", names, &SurveyFault::Memory, err),
+        },
     }
 }
 
-// Returns the prefixes of file names by which a task groups files. Without one each file is a listener by itself.
-fn prefixes_of(task: &Task) -> &[String]
-    ensures { map string_bytes result.now ≡ prefixes_of task.now }
+// Answers a question for lives: for people, those of a few files come after warnings of these, each of which is a listener by
+// itself.
+fn answer_lives<
+    R: Source + Drop,
+    Q: Answer + Question<Collector = Filtered<MessageChronicle>> + Drop,
+    O: Sink,
+    E: Sink,
+>(form: Form, question: Q, names: &[String], readers: Vec<R>, out: &mut O, err: &mut E) -> u8
+    requires named { length names.now ≡ length readers.items }
+    requires fits { Q.Fits question (length readers.items) }
+    ensures status { result ≤ 2 }
+    ensures answers { result ≢ REFUSED → (captures : List (List ℕ))
+        → map R.remaining readers.items ≡ map Some captures
+        → Reports (asked_in form (map string_bytes names.now) (Q.asked question)) true (codes "mdnsmerge")
+        (map string_bytes names.now) captures (writing O.Sink out.old out.new) (writing E.Sink err.old err.new) result }
+    ensures refused { result ≡ REFUSED → IsRefusedOf R.Source
+        (asked_in form (map string_bytes names.now) (Q.asked question)) (codes "mdnsmerge")
+        (map string_bytes names.now) readers.items
+        (writing O.Sink out.old out.new) (writing E.Sink err.old err.new) }
+    ensures unfailed { result ≢ REFUSED → O.failures out.new ≡ O.failures out.old }
 {
-    match task {
-        Task::Page { listeners, .. } => listeners.as_slice(),
-        Task::Survey(_) | Task::Services { .. } => &[],
+    if !is_warned(form, names.len()) {
+        return answer_with(question, true, named(names), readers, out, err);
+    }
+    let alloc = *readers.allocator();
+    match Groups::new(alloc, names, &[]) {
+        Ok(groups) => {
+            let warned = Warned {
+                question,
+                groups: &groups,
+            };
+            answer_with(warned, true, named(names), readers, out, err)
+        }
+        Err(Want) => error_lines::refuse(alloc, "mdnsmerge", names, &SurveyFault::Memory, err),
     }
 }
 

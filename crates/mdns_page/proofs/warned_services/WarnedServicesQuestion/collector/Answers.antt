@@ -1,9 +1,0 @@
-use Rattle.std.proofs.Common.{◌∙◌, ℕ, List, subst}
-use Rattle.mdns_listeners.specs.Listeners.{Gathered}
-use Rattle.mdns_page.proofs.warned_services.WarnedServicesQuestion.collector.Goals as goal
-
-pub returns-clause-heard : goal.returns-clause-heard
-returns-clause-heard c = λ now packets outcomes both. (
-  c.in_ok-collector.ensures.heard now.hearer packets outcomes both.0,
-  subst (λ (of : List ℕ). Gathered of now.messages packets outcomes) (c.in_ok-new.ensures.listeners ∙ c.of.ensures.of) both.1,
-)
