@@ -7,8 +7,8 @@ use Rattle.std.proofs.Common.{◌≡◌, ℕ, suc, ◌+◌, ◌-◌, ◌<◌, �
 use Rattle.std.proofs.Common.{List, [], ◌∷◌, ◌++◌, length, map, get_or, set, refl, sym, ap, ◌∙◌, subst, arith, true≢false}
 use Rattle.std.specs.{Cmp.Lexicographic.{slice_cmp, nat_list_cmp_total}, List.{All, AllByRecursion}, List.Sorted.{IsStrictlySortedBy}}
 use Rattle.std.specs.Ordering.{nat_cmp, is_lt, ordering_reverse}
-use Rattle.mdns_listeners.specs.Heard.{HeardRow, messages_of}
-use Rattle.mdns_listeners.specs.Kept.{AddsRow, ArePlaced, AreSorted, IsNumbered, KeptMessage, filled, is_below, last_message}
+use Rattle.mdns_listeners.specs.HeardMessage.{HeardRow, messages_of}
+use Rattle.mdns_listeners.specs.KeptMessage.{AddsRow, ArePlaced, AreSorted, IsNumbered, KeptMessage, filled, is_below, last_message}
 use Rattle.mdns_listeners.proofs.RowLemmas.{all-front, all-middle}
 
 abbrev Ascend : List HeardRow → Type 0

@@ -5,8 +5,8 @@ use Rattle.std.proofs.Common.{◌≡◌, ℕ, zero, suc, ◌<◌, ◌⊎◌, inl
 use Rattle.std.specs.{Cmp.{unsigned_ties}, Cmp.Lexicographic.{slice_cmp, lists_ties, bytes_decides, nat_list_cmp_total}, List.{All}}
 use Rattle.std.specs.{List.Sorted.{IsStrictlySortedBy}, Map.{keys_of}, Ordering.{nat_cmp, is_eq}}
 use Rattle.join_map.specs.{Entries.{value_at, joined_at}, laws.Entries.{same_entries}}
-use Rattle.mdns_listeners.specs.declared.heard.HeardAt.{HeardAt}
-use Rattle.mdns_listeners.specs.Heard.{AreHeardIn, HasWholeAddress, HeardRow, Told, is_same, messages_of, row_at, some_times, times_of}
+use Rattle.mdns_listeners.specs.declared.heard_message.HeardAt.{HeardAt}
+use Rattle.mdns_listeners.specs.HeardMessage.{AreHeardIn, HasWholeAddress, HeardRow, Told, is_same, messages_of, row_at, some_times, times_of}
 
 -- ---- messages
 

@@ -16,9 +16,9 @@ use Rattle.dns_name.specs.Name.{folded}
 use Rattle.mdns_message.specs.{declared.hearing.Hearing.{Hearing}, laws.Resource.{bytes_cmp-exact, both_tie}}
 use Rattle.mdns_browse.proofs.SearchLemmas.{eq_is}
 use Rattle.mdns_cache.proofs.StandsPartLemmas.{not_greater as never_greater, Contains-nil, Contains-head, Contains-later, Contains-cases}
-use Rattle.mdns_listeners.specs.declared.names.SenderAddressName.{SenderAddressName}
-use Rattle.mdns_listeners.specs.Names.{AddsNames, Covers, HoldsNames, IsAtMost, SufficeFor, named, told_in, respelled, address_in}
-use Rattle.mdns_listeners.specs.Names.{address_bytes, address_cmp, by_name, by_spelling}
+use Rattle.mdns_listeners.specs.declared.sender_names.SenderAddressName.{SenderAddressName}
+use Rattle.mdns_listeners.specs.SenderNames.{AddsNames, Covers, HoldsNames, IsAtMost, SufficeFor, named, told_in, respelled, address_in}
+use Rattle.mdns_listeners.specs.SenderNames.{address_bytes, address_cmp, by_name, by_spelling}
 use Rattle.std.proofs.lemmas.Result.{IfOk-weaker}
 
 -- ---- orders

@@ -11,9 +11,9 @@ use Rattle.mdns_message.specs.{declared.hearing.Hearing.{Hearing}, Message.{Mess
 use Rattle.mdns_message.proofs.MessageLawLemmas.{one_hearing_list}
 use Rattle.mdns_cache.specs.Repeats.{ReadsAs}
 use Rattle.mdns_cache.proofs.{MemoryLemmas.{reads_as}, RepeatLemmas.{reads-at}}
-use Rattle.mdns_listeners.specs.{declared.kept.Noted.{Noted}, declared.names.SenderAddressName.{SenderAddressName}, Heard.{HasWholeAddress}}
-use Rattle.mdns_listeners.specs.Kept.{AreKept, ArePlaced, IsRead, KeptMessage, kept_messages, next_kept, payload_in, told_by}
-use Rattle.mdns_listeners.specs.Names.{SufficeFor, named_in, told_in}
+use Rattle.mdns_listeners.specs.{declared.kept_message.Noted.{Noted}, declared.sender_names.SenderAddressName.{SenderAddressName}, HeardMessage.{HasWholeAddress}}
+use Rattle.mdns_listeners.specs.KeptMessage.{AreKept, ArePlaced, IsRead, KeptMessage, kept_messages, next_kept, payload_in, told_by}
+use Rattle.mdns_listeners.specs.SenderNames.{SufficeFor, named_in, told_in}
 use Rattle.mdns_listeners.proofs.{HeldNameLemmas.{suffice-onward}, RowLemmas.{map-agree}}
 
 -- ---- whole addresses

@@ -5,8 +5,8 @@ use Rattle.std.proofs.Common.{◌++◌, map, Option, Some, refl, sym, ap, ◌∙
 use Rattle.std.specs.{Cmp.Lexicographic.{slice_cmp, nat_list_cmp_total}, List.{filter, sum_by}}
 use Rattle.std.specs.{List.Sorted.{IsPermutation, IsStrictlySortedBy}, Map.{keys_of}, Option.{option_map}, Ordering.{nat_cmp}}
 use Rattle.join_map.specs.{Entries.{value_at, joined, joined_at}, laws.Entries.{sorted-joined, value_at-join}}
-use Rattle.mdns_listeners.specs.{declared.heard.HeardAt.{HeardAt}, Heard.{AreHeardIn, HeardRow, Told, is_same, messages_of, row_at}}
-use Rattle.mdns_listeners.specs.{Heard.{some_times, times_of}, Parts.{joined_rows}}
+use Rattle.mdns_listeners.specs.{declared.heard_message.HeardAt.{HeardAt}, HeardMessage.{AreHeardIn, HeardRow, Told, is_same, messages_of, row_at}}
+use Rattle.mdns_listeners.specs.{HeardMessage.{some_times, times_of}, Parts.{joined_rows}}
 use Rattle.mdns_listeners.proofs.HeardLemmas.{Entry, entries_of, keys-entries, one-list, row_at-entries, row_of}
 use Rattle.mdns_listeners.proofs.HeardLemmas.{some_times-append, times_of-append}
 

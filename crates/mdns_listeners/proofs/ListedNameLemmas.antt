@@ -15,8 +15,8 @@ use Rattle.mdns_message.specs.{declared.hearing.Hearing.{Hearing}, laws.Resource
 use Rattle.mdns_cache.proofs.StandsPartLemmas.{Contains-nil, Contains-head, Contains-later, Contains-cases, Contains-map, from_map}
 use Rattle.mdns_lives.proofs.FilterLemmas.{from-filter, to-filter}
 use Rattle.mdns_browse.proofs.SearchLemmas.{NotAbove, below-before, eq_is, not_above-before}
-use Rattle.mdns_listeners.specs.{declared.names.SenderAddressName.{SenderAddressName}, Names.{IsNameOf, IsLeastName, AreNames, HoldsNames}}
-use Rattle.mdns_listeners.specs.Names.{address_in, by_folded, named, named_in, told_in, address_cmp, by_name}
+use Rattle.mdns_listeners.specs.{declared.sender_names.SenderAddressName.{SenderAddressName}, SenderNames.{IsNameOf, IsLeastName, AreNames, HoldsNames}}
+use Rattle.mdns_listeners.specs.SenderNames.{address_in, by_folded, named, named_in, told_in, address_cmp, by_name}
 use Rattle.mdns_listeners.proofs.HeldNameLemmas.{address_cmp-total, address_cmp-exact, by_name-total}
 
 -- ---- what hearings tell

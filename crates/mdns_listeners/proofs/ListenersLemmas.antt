@@ -10,11 +10,11 @@ use Rattle.mdns_browse.specs.declared.report.Form.{Form}
 use Rattle.mdns_survey.proofs.ListenedLemmas.{all_hearings-more}
 use Rattle.mdns_survey.specs.{Outcomes.{Outcome, heard, hearings_in, hearings_of_outcome}, declared.reading.Span.{Span}}
 use Rattle.mdns_listeners.specs.declared.{listeners.MessageCollector.{MessageCollector}, senders.SenderRow.{SenderRow}}
-use Rattle.mdns_listeners.specs.{declared.heard.HeardAt.{HeardAt}, Heard.{HeardRow, Told, message_bytes}}
-use Rattle.mdns_listeners.specs.{Numbers.{FileSpans, spans_of_listeners}, Kept.{HeardSoFar, HearsMessage}}
+use Rattle.mdns_listeners.specs.{declared.heard_message.HeardAt.{HeardAt}, HeardMessage.{HeardRow, Told, message_bytes}}
+use Rattle.mdns_listeners.specs.{Numbers.{FileSpans, spans_of_listeners}, KeptMessage.{HeardSoFar, HearsMessage}}
 use Rattle.mdns_listeners.specs.Listeners.{AreNamed, CapturesTell, Gathered, Gathers, NotesTime, SaysFacts, TellAll, Tells, heard_at}
-use Rattle.mdns_listeners.specs.{Listeners.{listener_at}, declared.named.NamedSender.{NamedSender as LentSender}}
-use Rattle.mdns_listeners.specs.{Named.{NamedSender, sender_lent}, Names.{AreNames, HoldsNames}}
+use Rattle.mdns_listeners.specs.{Listeners.{listener_at}, declared.named_sender.NamedSender.{NamedSender as LentSender}}
+use Rattle.mdns_listeners.specs.{NamedSender.{NamedSender, sender_lent}, SenderNames.{AreNames, HoldsNames}}
 use Rattle.std.proofs.lemmas.Bool.{false≢true}
 use Rattle.std.proofs.lemmas.List.{length-map}
 use Rattle.std.proofs.lemmas.Result.{IfOk-weaker}
@@ -72,18 +72,18 @@ told_by source payload at = record { message = message_bytes source payload; at 
 -- a packet that told its hearings was taken
 pub gathers-told : (begun old new : MessageCollector) (packets : List PacketAt) (outcomes : List Outcome) (packet : PacketAt)
     (source : SourceAddress) (payload : List ℕ) (hearings : List Hearing) → Gathers begun old packets outcomes
-    → new.of.items ≡ old.of.items → new.place ≡ old.place
+    → new.by_file.items ≡ old.by_file.items → new.place ≡ old.place
     → HearsMessage source payload (heard_at old packet.moment) hearings old.messages new.messages
     → IsSourceOf packet.frame source → FrameCarries packet.frame payload
     → (hearings ≡ [] → ⊥) → Gathers begun new (packets ++ packet ∷ []) (outcomes ++ heard hearings ∷ [])
 gathers-told begun old new packets outcomes packet source payload [] took of place hears sent carries some = absurd (some refl)
 gathers-told begun old new packets outcomes packet source payload (hearing ∷ hearings) took of place hears sent carries some =
-    let listener = listener_at begun.of.items begun.place in
+    let listener = listener_at begun.by_file.items begun.place in
     let one = told_by source payload (heard_at begun packet.moment) in
-    let same : listener_at old.of.items old.place ≡ listener =
-    ap (λ of. listener_at of old.place) took.of ∙ ap (listener_at begun.of.items) took.place in
+    let same : listener_at old.by_file.items old.place ≡ listener =
+    ap (λ of. listener_at of old.place) took.by_file ∙ ap (listener_at begun.by_file.items) took.place in
     record {
-      of = of ∙ took.of;
+      by_file = of ∙ took.by_file;
       place = place ∙ took.place;
       told = took.told ++ one;
       tell = grind (arith, tell-more);
@@ -96,7 +96,7 @@ gathers-told begun old new packets outcomes packet source payload (hearing ∷ h
 
 -- a packet that told nothing was taken
 pub gathers-nothing : (begun now : MessageCollector) (packets : List PacketAt) (outcomes : List Outcome) (packet : PacketAt)
-    (outcome : Outcome) → Gathers begun now packets outcomes → Tells (listener_at begun.of.items begun.place) packet outcome []
+    (outcome : Outcome) → Gathers begun now packets outcomes → Tells (listener_at begun.by_file.items begun.place) packet outcome []
     → hearings_of_outcome outcome ≡ [] → Gathers begun now (packets ++ packet ∷ []) (outcomes ++ outcome ∷ [])
 gathers-nothing begun now packets outcomes packet outcome took tells none =
     grind (arith, hearings-more outcomes outcome, append-nil (hearings_in outcomes), append-nil took.told, tell-more)
@@ -121,13 +121,13 @@ without-last xs x = grind (arith, length-snoc xs x, front xs x)
 
 pub forgets : (earlier old : MessageCollector) (messages : HeardSoFar) → NotesTime earlier old
     → messages.told ≡ take (length old.messages.told - 1) old.messages.told → messages.names ≡ old.messages.names
-    → record { of = old.of; place = old.place; messages = messages } ≡ earlier
+    → record { by_file = old.by_file; place = old.place; messages = messages } ≡ earlier
 forgets earlier old messages notes told names = grind (arith, without-last)
 
 -- one capture more was read
 pub gathered-more : (of : List ℕ) (old now new : MessageCollector) (packets : List (List PacketAt)) (outcomes : List (List Outcome))
     (next : List PacketAt) (come : List Outcome) → Gathered of old packets outcomes → Gathers old now next come
-    → new.of.items ≡ now.of.items → new.place ≡ min (suc now.place) (length now.of.items) → new.messages ≡ now.messages
+    → new.by_file.items ≡ now.by_file.items → new.place ≡ min (suc now.place) (length now.by_file.items) → new.messages ≡ now.messages
     → Gathered of new (packets ++ next ∷ []) (outcomes ++ come ∷ [])
 gathered-more of old now new packets outcomes next come gathered took same_of counted same_messages =
     grind (arith, at-min, min, min-suc, length-snoc, captures-more, all_hearings-more)

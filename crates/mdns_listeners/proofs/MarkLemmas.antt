@@ -3,9 +3,9 @@ use Rattle.std.proofs.Common.{◌≡◌, ℕ, ◌+◌, Bool, true, false, ◌&&�
 use Rattle.std.proofs.Common.{Option, Some, None, ℤ, arith, refl, ap, sym, ◌∙◌}
 use Rattle.std.proofs.lemmas.{List.{get_or-drop, drop-drop}, List.Sums.{sum_by-append, sum_by-cons}, List.Elements.{filter_map-append}}
 use Rattle.std.specs.List.{count_by, cons_option, filter, filter_map, list_any}
-use Rattle.mdns_listeners.specs.{Heard.{HeardRow}, Marks.{is_seen, mark_at, marks_by, marks_from, only_of, seen_by, seen_of}}
+use Rattle.mdns_listeners.specs.{HeardMessage.{HeardRow}, Marks.{is_seen, mark_at, marks_by, marks_from, only_of, seen_by, seen_of}}
 use Rattle.mdns_listeners.specs.{Numbers.{has, is_of}, Pairs.{common, difference, differences, nanos_ahead, once, only_moment}}
-use Rattle.mdns_listeners.specs.declared.{heard.HeardAt.{HeardAt}, marks.{Mark.{Mark}, Seen.{Seen}, Seen.TheVariants.{Never, Once, Often}}}
+use Rattle.mdns_listeners.specs.declared.{heard_message.HeardAt.{HeardAt}, marks.{Mark.{Mark}, Seen.{Seen}, Seen.TheVariants.{Never, Once, Often}}}
 
 -- ---- how often a message was heard
 

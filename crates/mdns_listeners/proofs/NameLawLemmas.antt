@@ -7,7 +7,7 @@ use Rattle.mdns_message.specs.declared.hearing.Hearing.{Hearing}
 use Rattle.mdns_cache.specs.Live.{SameHearings}
 use Rattle.mdns_cache.proofs.StandsPartLemmas.{same-back}
 use Rattle.mdns_browse.proofs.RowLemmas.{same_rows}
-use Rattle.mdns_listeners.specs.Names.{IsNameOf, IsLeastName, AreNames, by_folded}
+use Rattle.mdns_listeners.specs.SenderNames.{IsNameOf, IsLeastName, AreNames, by_folded}
 
 by_folded-total : IsTotalOrder by_folded
 by_folded-total = on_total folded nat_list_cmp_total

@@ -5,7 +5,7 @@ use Rattle.std.proofs.{Common.{◌∙◌}, lemmas.Bool.Decides.{nat_tests}, lemm
 use Rattle.std.proofs.lemmas.List.Sums.{fold_push, sum_by-cons, count_by-le-length}
 use Rattle.std.specs.{List.{count_by, list_any}, Option.{option_to_list}}
 use Rattle.mdns_survey.specs.{declared.reading.Span.{Span}, Span.{joined_spans}}
-use Rattle.mdns_listeners.specs.{Heard.{HeardRow}, Numbers.{is_of, is_alone, is_missed, listened, times_heard, FileSpans, file_spans}}
+use Rattle.mdns_listeners.specs.{HeardMessage.{HeardRow}, Numbers.{is_of, is_alone, is_missed, listened, times_heard, FileSpans, file_spans}}
 use Rattle.mdns_listeners.specs.Numbers.{span_of_file, whole_span, spans_of_listener}
 
 -- ---- counting the times of a listener

@@ -2,7 +2,7 @@
 use Rattle.std.proofs.Common.{arith, ◌≡◌, ℕ, ◌+◌, ◌<◌, Bool, List, [], ◌∷◌, ◌++◌, length, drop, get_or, ap, cond}
 use Rattle.std.proofs.{Common.{append_assoc}, lemmas.Bool.Decides.{nat_tests}, lemmas.List.{drop_more}}
 use Rattle.std.specs.List.{enumerate_from}
-use Rattle.mdns_listeners.specs.{Heard.{HeardRow}, Numbers.{FileSpans}}
+use Rattle.mdns_listeners.specs.{HeardMessage.{HeardRow}, Numbers.{FileSpans}}
 use Rattle.mdns_listeners.specs.{Pairs.{is_pair, pair_row, pair_rows_at, pair_rows_of, pair_rows_with}, declared.pairs.PairRow.{PairRow}}
 
 -- the listener at a place, and those behind it

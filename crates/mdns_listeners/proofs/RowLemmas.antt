@@ -6,9 +6,9 @@ use Rattle.std.proofs.Common.{Bool, true, false, cond, ◌||◌, List, [], ◌�
 use Rattle.std.proofs.Common.{Some, refl, sym, ap, ◌∙◌, subst, arith, true≢false, length-append, Less, Equal}
 use Rattle.std.specs.{Cmp.{tied_itself}, Cmp.Lexicographic.{slice_cmp, nat_list_cmp_total}, List.{All, AllByRecursion, filter, list_any}}
 use Rattle.std.specs.{List.Sorted.{IsStrictlySortedBy}, Ordering.{nat_cmp}}
-use Rattle.mdns_listeners.specs.declared.{heard.HeardAt.{HeardAt}, kept.Noted.{Noted}}
-use Rattle.mdns_listeners.specs.Heard.{AreHeardIn, HeardRow, Told, has_times, is_same, messages_of, row_at, some_times, times_of}
-use Rattle.mdns_listeners.specs.Kept.{ArePlaced, IsNumbered, KeptMessage, filled, told_by, told_of_rows}
+use Rattle.mdns_listeners.specs.declared.{heard_message.HeardAt.{HeardAt}, kept_message.Noted.{Noted}}
+use Rattle.mdns_listeners.specs.HeardMessage.{AreHeardIn, HeardRow, Told, has_times, is_same, messages_of, row_at, some_times, times_of}
+use Rattle.mdns_listeners.specs.KeptMessage.{ArePlaced, IsNumbered, KeptMessage, filled, told_by, told_of_rows}
 use Rattle.mdns_listeners.proofs.HeardLemmas.{same-is, same-itself, times_of-append}
 
 abbrev Ascend : List HeardRow → Type 0

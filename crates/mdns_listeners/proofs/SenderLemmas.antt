@@ -5,7 +5,7 @@ use Rattle.std.proofs.Common.{Less, arith, refl, ap, sym, ◌∙◌, subst, inl,
 use Rattle.std.proofs.lemmas.{Bool.Decides.{nat_tests}, List.{length-drop, length-take-le, take-append-drop}, Slice.Eq.{bytes_eq-Decides}}
 use Rattle.std.specs.{Cmp.Lexicographic.{slice_cmp}, List.{All, AllByRecursion, filter, flat_map, prefix_len}}
 use Rattle.std.specs.{List.Sorted.{IsStrictlySortedBy}, Ordering.{nat_cmp}, Str.{bytes_eq}}
-use Rattle.mdns_listeners.specs.{Heard.{HasWholeAddress, HeardRow, messages_of}, Numbers.{FileSpans}}
+use Rattle.mdns_listeners.specs.{HeardMessage.{HasWholeAddress, HeardRow, messages_of}, Numbers.{FileSpans}}
 use Rattle.mdns_listeners.specs.Senders.{is_from, rows_from, rows_of_sender, sender_in, sender_length, sender_rows, senders}
 use Rattle.mdns_listeners.specs.declared.senders.SenderRow.{SenderRow}
 use Rattle.std.proofs.lemmas.List.Elements.{All-drop}

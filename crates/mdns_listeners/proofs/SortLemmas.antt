@@ -5,7 +5,7 @@ use Rattle.std.proofs.lemmas.List.{Sorted.{sorted_far, sum_by-IsPermutation}, Su
 use Rattle.std.proofs.Common.{◌≡◌, ℕ, suc, zero, ◌+◌, Bool, true, false, cond, List, [], ◌∷◌, length, get_or}
 use Rattle.std.proofs.Common.{ℤ, arith, refl, ap, sym, ◌∙◌, subst}
 use Rattle.std.specs.{Ordering.{int_cmp, is_lt}, List.{AllByRecursion, count_by}, List.Sorted.{IsPermutation, IsSorted}, Prelude.{int_lt}}
-use Rattle.mdns_listeners.specs.{Heard.{HeardRow}, Pairs.{AreAhead, ascending_of, differences, with_number}}
+use Rattle.mdns_listeners.specs.{HeardMessage.{HeardRow}, Pairs.{AreAhead, ascending_of, differences, with_number}}
 
 -- ---- order
 

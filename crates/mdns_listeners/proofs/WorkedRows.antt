@@ -2,9 +2,9 @@
 use Rattle.std.proofs.Common.{◌≡◌, ◌≤◌, ◌%◌, ℕ, ℤ, pos, negsuc, true, false, List, [], ◌∷◌, Option, Some, None, refl, arith}
 use Rattle.mdns_capture.specs.{Limits.{greatest_moment}, declared.moment.Moment.{Moment}}
 use Rattle.mdns_survey.specs.declared.reading.Span.{Span}
-use Rattle.mdns_listeners.specs.{Heard.{HeardRow}, Numbers.{alone, heard, missed, spans_of_listeners}}
+use Rattle.mdns_listeners.specs.{HeardMessage.{HeardRow}, Numbers.{alone, heard, missed, spans_of_listeners}}
 use Rattle.mdns_listeners.specs.{Pairs.{ascending_of, common, differences, meet, pair_rows, quartiles_of}, Senders.{heard_span, senders}}
-use Rattle.mdns_listeners.specs.declared.{heard.HeardAt.{HeardAt}, pairs.Quartiles.{Quartiles}}
+use Rattle.mdns_listeners.specs.declared.{heard_message.HeardAt.{HeardAt}, pairs.Quartiles.{Quartiles}}
 
 small : (nanos : ℕ) → nanos % 100 ≤ greatest_moment
 small nanos = omega arith

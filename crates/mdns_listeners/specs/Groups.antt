@@ -87,7 +87,7 @@ pub record HasBegun (prefixes files : List (List ℕ)) (names : List (List ℕ))
 -- the listeners' names, and the position of each file's listener
 pub record Grouped : Type 0 where
   pub names : List (List ℕ)
-  pub of : List ℕ
+  pub by_file : List ℕ
 
 abbrev pub grouped : List (List ℕ) → List (List ℕ) → Grouped
-grouped prefixes files = record { names = listener_names prefixes files; of = listener_positions prefixes files }
+grouped prefixes files = record { names = listener_names prefixes files; by_file = listener_positions prefixes files }

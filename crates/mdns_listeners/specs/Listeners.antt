@@ -7,10 +7,10 @@ use Rattle.mdns_browse.specs.declared.report.Form.{Form}
 use Rattle.mdns_survey.specs.declared.{request.AsOf.TheVariants.{Newest}, reading.Span.{Span}, summary.Summary.{Summary}}
 use Rattle.mdns_survey.specs.{Listen.{packet_moments}, Outcomes.{AllRead, Outcome, heard, hearings_in}, Question.{Asked, asked_at_once}}
 use Rattle.mdns_survey.specs.{Span.{span_of}, Surveys.{all_hearings}}
-use Rattle.mdns_listeners.specs.{Facts.{listeners_text}, Named.{NamedSender}, Groups.{Grouped}}
-use Rattle.mdns_listeners.specs.{Heard.{AreHeardIn, HeardRow, Told, message_bytes}, Names.{AreNames, HoldsNames, ListsNames}}
+use Rattle.mdns_listeners.specs.{AllRows.{listeners_text}, NamedSender.{NamedSender}, Groups.{Grouped}}
+use Rattle.mdns_listeners.specs.{HeardMessage.{AreHeardIn, HeardRow, Told, message_bytes}, SenderNames.{AreNames, HoldsNames, ListsNames}}
 use Rattle.mdns_listeners.specs.{Numbers.{FileSpans, listener_rows, spans_of_listeners}, Pairs.{pair_rows}, Senders.{sender_rows}}
-use Rattle.mdns_listeners.specs.declared.{heard.HeardAt.{HeardAt}, listeners.HeardByListeners.{HeardByListeners}}
+use Rattle.mdns_listeners.specs.declared.{heard_message.HeardAt.{HeardAt}, listeners.HeardByListeners.{HeardByListeners}}
 use Rattle.mdns_listeners.specs.declared.{listeners.MessageCollector.{MessageCollector}, senders.SenderRow.{SenderRow}}
 
 -- ---- which messages were told
@@ -79,13 +79,13 @@ pub record AreRowsOf (of : List ℕ) (packets : List (List PacketAt)) (outcomes 
 
 -- the time spans of listeners whose captures have these packets
 abbrev pub spans_by : Grouped → List (List PacketAt) → List FileSpans
-spans_by groups packets = spans_of_listeners (length groups.names) groups.of (capture_spans packets)
+spans_by groups packets = spans_of_listeners (length groups.names) groups.by_file (capture_spans packets)
 
 -- The text says this of captures that have these packets, which came to these outcomes.
 pub record IsTextOf (groups : Grouped) (form : Form) (packets : List (List PacketAt)) (outcomes : List (List Outcome))
     (text : List ℕ) : Type 0 where
   pub rows : List HeardRow
-  pub are_rows : AreRowsOf groups.of packets outcomes rows
+  pub are_rows : AreRowsOf groups.by_file packets outcomes rows
   pub says : SaysFacts groups.names form rows (spans_by groups packets) (all_hearings outcomes) text
 
 -- The text says this of captures.
@@ -104,32 +104,32 @@ asked_listeners groups form = asked_at_once (λ captures. AreListeners groups fo
 
 -- when the listener whose capture a collector reads hears a packet of that moment
 abbrev pub heard_at : MessageCollector → Moment → HeardAt
-heard_at collector moment = record { listener = listener_at collector.of.items collector.place; moment = moment }
+heard_at collector moment = record { listener = listener_at collector.by_file.items collector.place; moment = moment }
 
 -- A collector took these packets, with their outcomes, of the capture that it reads.
 pub record Gathers (begun now : MessageCollector) (packets : List PacketAt) (outcomes : List Outcome) : Type 0 where
-  pub of : now.of.items ≡ begun.of.items
+  pub by_file : now.by_file.items ≡ begun.by_file.items
   pub place : now.place ≡ begun.place
   pub told : List Told
-  pub tell : TellAll (listener_at begun.of.items begun.place) packets outcomes told
+  pub tell : TellAll (listener_at begun.by_file.items begun.place) packets outcomes told
   pub messages : now.messages.told ≡ begun.messages.told ++ told
   pub names : (earlier : List Hearing) → HoldsNames begun.messages.names earlier
       → HoldsNames now.messages.names (earlier ++ hearings_in outcomes)
 
 -- A collector that had read nothing took these captures, whose listeners these are.
 pub record Gathered (of : List ℕ) (now : MessageCollector) (packets : List (List PacketAt)) (outcomes : List (List Outcome)) : Type 0 where
-  pub listeners : now.of.items ≡ of
+  pub listeners : now.by_file.items ≡ of
   pub place : now.place ≡ min (length packets) (length of)
   pub tell : CapturesTell of 0 packets outcomes now.messages.told
   pub names : HoldsNames now.messages.names (all_hearings outcomes)
 
 -- the same from a first state to a second
 abbrev pub GathersAll : MessageCollector → MessageCollector → List (List PacketAt) → List (List Outcome) → Type 0
-GathersAll begun now packets outcomes = Gathered begun.of.items now packets outcomes
+GathersAll begun now packets outcomes = Gathered begun.by_file.items now packets outcomes
 
 -- A collector noted one more time at which a message was heard, and nothing else.
 pub record NotesTime (old new : MessageCollector) : Type 0 where
-  pub of : new.of ≡ old.of
+  pub by_file : new.by_file ≡ old.by_file
   pub place : new.place ≡ old.place
   pub one : Told
   pub told : new.messages.told ≡ old.messages.told ++ one ∷ []
@@ -140,6 +140,6 @@ pub record NotesTime (old new : MessageCollector) : Type 0 where
 -- What the listeners of captures heard that have these packets, which came to these outcomes.
 pub record IsHeardBy (groups : Grouped) (packets : List (List PacketAt)) (outcomes : List (List Outcome)) (heard_by : HeardByListeners)
     : Type 0 where
-  pub are_rows : AreRowsOf groups.of packets outcomes heard_by.messages.items
+  pub are_rows : AreRowsOf groups.by_file packets outcomes heard_by.messages.items
   pub spans : heard_by.spans.items ≡ spans_by groups packets
   pub names : ListsNames heard_by.names (all_hearings outcomes)

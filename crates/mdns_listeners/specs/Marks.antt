@@ -1,7 +1,7 @@
 -- Whether a listener heard a message once, and when. What listeners heard, without the bytes of the messages.
 use Rattle.std.specs.{Prelude.{ℕ, ◌+◌, Bool, true, false, List, [], ◌∷◌, ◌++◌, map, Option, Some, None}, List.{filter}}
 use Rattle.mdns_capture.specs.declared.moment.Moment.{Moment}
-use Rattle.mdns_listeners.specs.{Heard.{HeardRow}, Numbers.{is_of}, declared.heard.HeardAt.{HeardAt}, declared.marks.Seen.{Seen}}
+use Rattle.mdns_listeners.specs.{HeardMessage.{HeardRow}, Numbers.{is_of}, declared.heard_message.HeardAt.{HeardAt}, declared.marks.Seen.{Seen}}
 use Rattle.mdns_listeners.specs.declared.marks.{Seen.TheVariants.{Never, Once, Often}, Mark.{Mark}}
 
 -- how often these times are

@@ -3,7 +3,7 @@ use Rattle.std.specs.Prelude.{ℕ, ◌==◌, ◌&&◌, nat_le, not, if◌then◌
 use Rattle.std.specs.{Option.{option_to_list}, List.{count_by, enumerate_from, flat_map, fold, list_any, range_with_len, sum_by, zip}}
 use Rattle.mdns_capture.specs.declared.moment.Moment.{Moment}
 use Rattle.mdns_survey.specs.{declared.reading.Span.{Span}, Span.{joined_spans}}
-use Rattle.mdns_listeners.specs.{Heard.{HeardRow}, declared.heard.HeardAt.{HeardAt}, declared.numbers.ListenerRow.{ListenerRow}}
+use Rattle.mdns_listeners.specs.{HeardMessage.{HeardRow}, declared.heard_message.HeardAt.{HeardAt}, declared.numbers.ListenerRow.{ListenerRow}}
 
 -- whether the listener heard it then
 abbrev pub is_of : ℕ → HeardAt → Bool

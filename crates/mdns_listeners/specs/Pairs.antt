@@ -4,7 +4,7 @@ use Rattle.std.specs.Prelude.{List, [], ◌∷◌, ◌++◌, length, slice_index
 use Rattle.std.specs.{List.{count_by, enumerate_from, filter, filter_map}, List.Sorted.{IsPermutation, IsSorted}, Ordering.{int_cmp}}
 use Rattle.mdns_capture.specs.declared.moment.Moment.{Moment}
 use Rattle.mdns_survey.specs.declared.reading.Span.{Span}
-use Rattle.mdns_listeners.specs.{Heard.{HeardRow}, Numbers.{FileSpans, has, is_of}, declared.heard.HeardAt.{HeardAt}}
+use Rattle.mdns_listeners.specs.{HeardMessage.{HeardRow}, Numbers.{FileSpans, has, is_of}, declared.heard_message.HeardAt.{HeardAt}}
 use Rattle.mdns_listeners.specs.declared.pairs.{Quartiles.{Quartiles}, PairRow.{PairRow}}
 
 -- how many different messages both heard

@@ -1,7 +1,7 @@
 -- The rows of what was told in two parts.
 use Rattle.std.specs.{Prelude.{List, ◌++◌, map}, Cmp.Lexicographic.{slice_cmp}, Ordering.{nat_cmp}}
 use Rattle.join_map.specs.Entries.{joined}
-use Rattle.mdns_listeners.specs.{declared.heard.HeardAt.{HeardAt}, Heard.{HeardRow}}
+use Rattle.mdns_listeners.specs.{declared.heard_message.HeardAt.{HeardAt}, HeardMessage.{HeardRow}}
 
 -- The rows of both lists, in order: a message that has a row in each has the times of the first, and then those of the second.
 abbrev pub joined_rows : List HeardRow → List HeardRow → List HeardRow

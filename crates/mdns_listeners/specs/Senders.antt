@@ -3,7 +3,7 @@ use Rattle.std.specs.Prelude.{ℕ, ◌==◌, not, if◌then◌else◌, Bool, Lis
 use Rattle.std.specs.{Prelude.{Option, Some, None}, List.{enumerate_from, filter, flat_map, fold}, Str.{bytes_eq}}
 use Rattle.mdns_capture.specs.declared.source_address.{SourceAddress.{SourceAddress}, SourceAddress.TheVariants.{V4, V6}}
 use Rattle.mdns_survey.specs.{declared.reading.Span.{Span}, Span.{joined_spans, span_at}}
-use Rattle.mdns_listeners.specs.{Heard.{HeardRow}, Numbers.{FileSpans, heard, is_of, missed}, declared.heard.HeardAt.{HeardAt}}
+use Rattle.mdns_listeners.specs.{HeardMessage.{HeardRow}, Numbers.{FileSpans, heard, is_of, missed}, declared.heard_message.HeardAt.{HeardAt}}
 use Rattle.mdns_listeners.specs.declared.senders.SenderRow.{SenderRow}
 
 -- how many bytes at the front of a message name its sender: the version of IP and the address

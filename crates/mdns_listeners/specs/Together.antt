@@ -2,7 +2,7 @@
 use Rattle.std.specs.Prelude.{ℕ, ◌-◌, ◌*◌, ◌&&◌, max, min, nat_le, nat_lt, Bool, false, List, [], slice_index_or, Option, Some, None}
 use Rattle.std.specs.List.{filter}
 use Rattle.mdns_survey.specs.declared.reading.Span.{Span}
-use Rattle.mdns_listeners.specs.{Heard.{HeardRow}, Numbers.{FileSpans}, Pairs.{meet, pair_rows}, declared.pairs.PairRow.{PairRow}}
+use Rattle.mdns_listeners.specs.{HeardMessage.{HeardRow}, Numbers.{FileSpans}, Pairs.{meet, pair_rows}, declared.pairs.PairRow.{PairRow}}
 
 -- how long the time span is, in nanoseconds
 abbrev pub nanos_of : Span → ℕ

@@ -2,14 +2,14 @@
 use Rattle.std.specs.Prelude.{◌≡◌, ℕ, List}
 use Rattle.mdns_capture.specs.Savefile.{PacketAt}
 use Rattle.mdns_survey.specs.{declared.summary.Summary.{Summary}, Outcomes.{AllRead, Outcome}, Question.{Asked, asked_after}}
-use Rattle.mdns_listeners.specs.{Groups.{Grouped}, Heard.{HeardRow}, Listeners.{AreRowsOf, spans_by}, Together.{pairs_together}}
+use Rattle.mdns_listeners.specs.{Groups.{Grouped}, HeardMessage.{HeardRow}, Listeners.{AreRowsOf, spans_by}, Together.{pairs_together}}
 use Rattle.mdns_listeners.specs.Warnings.{warnings_text}
 
 -- The text warns of the listeners that recorded together, by captures that have these packets, which came to these outcomes: all
 -- packets count.
 pub record WarnsOf (groups : Grouped) (packets : List (List PacketAt)) (outcomes : List (List Outcome)) (text : List ℕ) : Type 0 where
   pub rows : List HeardRow
-  pub are_rows : AreRowsOf groups.of packets outcomes rows
+  pub are_rows : AreRowsOf groups.by_file packets outcomes rows
   pub lines : text ≡ warnings_text groups.names (pairs_together rows (spans_by groups packets))
 
 -- The text warns of the listeners of captures.

@@ -3,7 +3,7 @@ use Rattle.std.specs.Prelude.{ℕ, ◌==◌, ◌||◌, Bool, false, not, if◌th
 use Rattle.std.specs.List.{flat_map}
 use Rattle.mdns_message.specs.TextData.{string_text}
 use Rattle.mdns_listeners.specs.Clock.{is_one_clock, is_steady, nothing_words, steady_words, unknown_words, unsteady_words}
-use Rattle.mdns_listeners.specs.{Named.{listener_name_at}, declared.pairs.PairRow.{PairRow}, declared.pairs.Quartiles.{Quartiles}}
+use Rattle.mdns_listeners.specs.{NamedSender.{listener_name_at}, declared.pairs.PairRow.{PairRow}, declared.pairs.Quartiles.{Quartiles}}
 
 -- the clocks agree by messages that were heard once in both
 abbrev pub agree : Option Quartiles → Bool

@@ -12,7 +12,7 @@ use std::marker::Model;
 #[derive(Drop)]
 pub struct Groups {
     names: Vec<String>,
-    of: Vec<usize>,
+    by_file: Vec<usize>,
 }
 
 impl Model for Groups {
@@ -22,9 +22,9 @@ impl Model for Groups {
 
     ghost Value = { Grouped };
 
-    ghost view = { λ a. record { names = map string_bytes a.names.items; of = a.of.items } };
+    ghost view = { λ a. record { names = map string_bytes a.names.items; by_file = a.by_file.items } };
 
-    ghost invariant = { λ a. All (λ listener. listener < length a.names.items) a.of.items };
+    ghost invariant = { λ a. All (λ listener. listener < length a.names.items) a.by_file.items };
 }
 
 impl Groups {
@@ -33,16 +33,16 @@ impl Groups {
     #[tactic(auto, using(crate::proofs::GroupLemmas::positions_push, crate::proofs::GroupLemmas::nothing_begun))]
     pub fn new(alloc: Global, files: &[String], prefixes: &[String]) -> Result<Groups, Want>
         ensures groups { IfOk result (λ groups. groups ≡ grouped (map string_bytes prefixes.now) (map string_bytes files.now)) }
-        ensures each { IfOk result (λ groups. length groups.of ≡ length files.now) }
+        ensures each { IfOk result (λ groups. length groups.by_file ≡ length files.now) }
     {
         let mut names = Vec::new(alloc);
-        let mut of = Vec::new(alloc);
+        let mut by_file = Vec::new(alloc);
         let mut begun = vec![in alloc; None; prefixes.len()]?;
         for file in files {
             let listener = listener_of(prefixes, begun.as_mut_slice(), &mut names, file.as_str())?;
-            of.push(listener)?;
+            by_file.push(listener)?;
         }
-        Ok(Groups { names, of })
+        Ok(Groups { names, by_file })
     }
 
     /// Returns the listeners' names: the prefix, or the file that no prefix fits.
@@ -53,11 +53,11 @@ impl Groups {
     }
 
     /// Returns for each file the position of its listener among the names.
-    pub fn of(&self) -> &[usize]
-        ensures of { result.now ≡ self.now.of }
+    pub fn by_file(&self) -> &[usize]
+        ensures by_file { result.now ≡ self.now.by_file }
         ensures within { All (λ listener. listener < length self.now.names) result.now }
     {
-        self.of.as_slice()
+        self.by_file.as_slice()
     }
 }
 

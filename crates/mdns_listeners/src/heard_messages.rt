@@ -5,14 +5,14 @@ ghost use Rattle.std.specs.Prelude.{◌≡◌, ◌≢◌, ◌<◌, ◌-◌, ◌+
 ghost use Rattle.std.specs.List.{All};
 ghost use Rattle.mdns_message.specs.{declared.hearing.Hearing.{Hearing}, Message.{MessageReads}};
 ghost use Rattle.mdns_cache.specs.Repeats.{ReadsAs};
-ghost use Rattle.mdns_listeners.specs.{Heard.{message_bytes, AreHeardIn, HasWholeAddress}, Kept.{HearsMessage, kept_messages, next_kept}};
-ghost use Rattle.mdns_listeners.specs.{Kept.{payload_in, told_again}, Names.{HoldsNames, ListsNames}};
+ghost use Rattle.mdns_listeners.specs.{HeardMessage.{message_bytes, AreHeardIn, HasWholeAddress}, KeptMessage.{HearsMessage, kept_messages, next_kept}};
+ghost use Rattle.mdns_listeners.specs.{KeptMessage.{payload_in, told_again}, SenderNames.{HoldsNames, ListsNames}};
 
-use crate::heard::{HeardAt, HeardMessage};
-use crate::kept::{Kept, Noted};
-use crate::names::{Names, SenderNames};
+use crate::heard_message::{HeardAt, HeardMessage};
+use crate::kept_message::{Kept, Noted};
 use crate::order::sort;
 use crate::rows::rows_of;
+use crate::sender_names::{Names, SenderNames};
 use join_map::index::{Index, REACH, Slot};
 use mdns_capture::SourceAddress;
 use mdns_message::MessageReader;
@@ -43,7 +43,7 @@ pub struct HeardMessages {
 }
 
 impl Model for HeardMessages {
-    ghost use Rattle.mdns_listeners.specs.Kept.{told_by, kept_messages, AreKept, HeardSoFar};
+    ghost use Rattle.mdns_listeners.specs.KeptMessage.{told_by, kept_messages, AreKept, HeardSoFar};
 
     ghost Value = { HeardSoFar };
 

@@ -1,9 +1,9 @@
 //! Laws of the definitions. Each function does nothing: its contract is the law.
 
 ghost use Rattle.std.specs.{Prelude.{◌≡◌, ◌++◌, [], ℕ, List}, List.{All, sum_by}, List.Sorted.{IsPermutation}};
-ghost use Rattle.mdns_listeners.specs.declared.heard.HeardAt.{HeardAt};
-ghost use Rattle.mdns_listeners.specs.Heard.{AreHeardIn, HasWholeAddress, HeardRow, Told, messages_of, times_of};
-ghost use Rattle.mdns_listeners.specs.{Pairs.{AreAhead, ascending_of, differences}, Parts.{joined_rows}, Names.{AreNames}};
+ghost use Rattle.mdns_listeners.specs.declared.heard_message.HeardAt.{HeardAt};
+ghost use Rattle.mdns_listeners.specs.HeardMessage.{AreHeardIn, HasWholeAddress, HeardRow, Told, messages_of, times_of};
+ghost use Rattle.mdns_listeners.specs.{Pairs.{AreAhead, ascending_of, differences}, Parts.{joined_rows}, SenderNames.{AreNames}};
 ghost use Rattle.mdns_capture.specs.declared.source_address.SourceAddress.{SourceAddress};
 ghost use Rattle.mdns_message.specs.declared.hearing.Hearing.{Hearing};
 ghost use Rattle.mdns_cache.specs.Live.{SameHearings};

@@ -1,24 +1,24 @@
 //! Which listener heard which messages, and whether their clocks agree and their captures come from one link.
 #![tactic(auto)]
 
+pub mod all_rows;
 pub mod beside;
 pub mod clock;
-pub mod facts;
 mod fields;
 pub mod groups;
-pub mod heard;
+pub mod heard_message;
 pub mod heard_messages;
-mod kept;
+mod kept_message;
 pub mod laws;
 pub mod listeners;
 mod marks;
-pub mod named;
-pub mod names;
+pub mod named_sender;
 pub mod numbers;
 mod order;
 pub mod pairs;
 mod rows;
 pub mod seconds;
+pub mod sender_names;
 pub mod senders;
 mod sheet;
 pub mod together;
@@ -26,13 +26,13 @@ mod values;
 pub mod warned;
 pub mod warnings;
 
+pub use all_rows::{AllRows, listeners_text};
 pub use beside::Beside;
-pub use facts::{Facts, listeners_text};
 pub use groups::Groups;
-pub use heard::{HeardAt, HeardMessage};
+pub use heard_message::{HeardAt, HeardMessage};
 pub use heard_messages::HeardMessages;
-pub use named::NamedSender;
-pub use names::{Names, SenderNames};
+pub use named_sender::NamedSender;
 pub use numbers::{ListenerRow, ListenerSpans, listener_rows, spans_of};
 pub use pairs::{PairRow, Quartiles, pair_rows};
+pub use sender_names::{Names, SenderNames};
 pub use senders::{SenderRow, sender_rows};

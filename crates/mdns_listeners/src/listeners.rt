@@ -6,18 +6,18 @@ ghost use Rattle.mdns_capture.specs.{Capture.{packet_lent}, Frame.{FrameCarries}
 ghost use Rattle.mdns_message.specs.{declared.hearing.Hearing.{Hearing}, Message.{MessageReads}};
 ghost use Rattle.mdns_cache.specs.Repeats.{ReadsAs};
 ghost use Rattle.mdns_survey.specs.{Outcomes.{Outcome, heard}, Readings.{HaveSpans}};
-ghost use Rattle.mdns_listeners.specs.Heard.{HasWholeAddress, messages_of};
+ghost use Rattle.mdns_listeners.specs.HeardMessage.{HasWholeAddress, messages_of};
 ghost use Rattle.mdns_listeners.specs.Listeners.{AreNamed, Gathered, Gathers, IsHeardBy, IsTextOf, NotesTime, SaysFacts, heard_at};
-ghost use Rattle.mdns_listeners.specs.{Named.{sender_lent}, Names.{ListsNames}, declared.listeners.MessageCollector.{MessageCollector}};
+ghost use Rattle.mdns_listeners.specs.{NamedSender.{sender_lent}, SenderNames.{ListsNames}, declared.listeners.MessageCollector.{MessageCollector}};
 
-use crate::facts::{Facts, listeners_text};
+use crate::all_rows::{AllRows, listeners_text};
 use crate::groups::Groups;
-use crate::heard::{HeardAt, HeardMessage};
+use crate::heard_message::{HeardAt, HeardMessage};
 use crate::heard_messages::HeardMessages;
-use crate::named::NamedSender;
-use crate::names::Names;
+use crate::named_sender::NamedSender;
 use crate::numbers::{ListenerSpans, listener_rows, spans_of};
 use crate::pairs::pair_rows;
+use crate::sender_names::Names;
 use crate::senders::{SenderRow, sender_rows};
 use mdns_browse::report::{Form, ReportFault};
 use mdns_capture::{Moment, Packet, Source, payload_and_source};
@@ -39,7 +39,7 @@ pub struct ListenersRequest<'a> {
 #[derive(Drop)]
 pub struct MessageCollector {
     // The listener of each capture.
-    of: Vec<usize>,
+    by_file: Vec<usize>,
     // How many captures were read, or how many there are, if that is less.
     place: usize,
     messages: HeardMessages,
@@ -47,11 +47,11 @@ pub struct MessageCollector {
 
 impl MessageCollector {
     /// Makes a collector of captures with these listeners, which has read none.
-    pub fn new(alloc: Global, of: &[usize]) -> Result<MessageCollector, Want>
-        ensures { IfOk result (λ collector. Gathered of.now collector [] []) }
+    pub fn new(alloc: Global, by_file: &[usize]) -> Result<MessageCollector, Want>
+        ensures { IfOk result (λ collector. Gathered by_file.now collector [] []) }
     {
         Ok(MessageCollector {
-            of: Vec::from_slice(alloc, of)?,
+            by_file: Vec::from_slice(alloc, by_file)?,
             place: 0,
             messages: HeardMessages::new(alloc),
         })
@@ -61,7 +61,7 @@ impl MessageCollector {
     fn heard_at(&self, moment: Moment) -> HeardAt
         ensures { result ≡ heard_at self.now moment }
     {
-        let listener = match self.of.get(self.place) {
+        let listener = match self.by_file.get(self.place) {
             Some(listener) => *listener,
             None => 0,
         };
@@ -80,9 +80,9 @@ impl MessageCollector {
 
     // Returns the place of the next capture, or how many captures there are.
     fn next_place(&self) -> usize
-        ensures { result ≡ min (suc self.now.place) (length self.now.of.items) }
+        ensures { result ≡ min (suc self.now.place) (length self.now.by_file.items) }
     {
-        let len = self.of.len();
+        let len = self.by_file.len();
         if self.place < len {
             self.place + 1
         } else {
@@ -178,12 +178,12 @@ impl<'a> Question for ListenersRequest<'a> {
     ghost asked = { λ listeners. asked_listeners listeners.groups.now listeners.form };
 
     // Groups of as many files.
-    ghost Fits = { λ listeners count. length listeners.groups.now.of ≡ count };
+    ghost Fits = { λ listeners count. length listeners.groups.now.by_file ≡ count };
 
-    ghost Heard = { λ listeners. Gathered listeners.groups.now.of };
+    ghost Heard = { λ listeners. Gathered listeners.groups.now.by_file };
 
     fn collector(&self, alloc: Global) -> Result<MessageCollector, Want> {
-        MessageCollector::new(alloc, self.groups.of())
+        MessageCollector::new(alloc, self.groups.by_file())
     }
 }
 
@@ -211,7 +211,7 @@ fn text_of(
     readings: &[Reading],
 ) -> Result<String, Want>
     ensures { IfOk result (λ text. (packets : List (List PacketAt)) (outcomes : List (List Outcome))
-        → Gathered groups.now.of collector packets outcomes → HaveSpans packets readings.now
+        → Gathered groups.now.by_file collector packets outcomes → HaveSpans packets readings.now
         → IsTextOf groups.now form packets outcomes (string_bytes text)) }
 {
     let heard = heard_by(alloc, groups, collector, readings)?;
@@ -247,14 +247,14 @@ pub fn heard_by(
     ensures ascending { IfOk result (λ heard. IsStrictlySortedBy (slice_cmp nat_cmp) (messages_of heard.messages.items)) }
     ensures addressed { IfOk result (λ heard. All (λ row. HasWholeAddress row.message) heard.messages.items) }
     ensures heard { IfOk result (λ heard. (packets : List (List PacketAt)) (outcomes : List (List Outcome))
-        → Gathered groups.now.of collector packets outcomes → HaveSpans packets readings.now
+        → Gathered groups.now.by_file collector packets outcomes → HaveSpans packets readings.now
         → IsHeardBy groups.now packets outcomes heard) }
 {
     let MessageCollector { messages, .. } = collector;
     let (messages, names) = messages.finish()?;
     let files = spans_in(alloc, readings)?;
     let count = groups.names().len();
-    let spans = spans_of(alloc, count, groups.of(), files.as_slice())?;
+    let spans = spans_of(alloc, count, groups.by_file(), files.as_slice())?;
     Ok(HeardByListeners {
         messages,
         spans,
@@ -280,13 +280,13 @@ fn facts_text(
     let pairs = pair_rows(alloc, rows, spans)?;
     let senders = sender_rows(alloc, rows, spans)?;
     let senders = with_names(alloc, senders.as_slice(), names)?;
-    let facts = Facts {
+    let all = AllRows {
         listener_names: groups.names(),
         listeners: listeners.as_slice(),
         pairs: pairs.as_slice(),
         senders: senders.as_slice(),
     };
-    listeners_text(alloc, form, &facts)
+    listeners_text(alloc, form, &all)
 }
 
 // Returns the time span of each capture's packets.

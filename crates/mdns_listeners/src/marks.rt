@@ -3,7 +3,7 @@
 ghost use Rattle.std.specs.{Prelude.{◌≡◌, ◌++◌, ◌∷◌, [], map, IfOk, OnOk}, List.{filter}};
 ghost use Rattle.mdns_listeners.specs.{Marks.{is_seen, marks_by, seen_by, seen_more, seen_of}, Numbers.{is_of}};
 
-use crate::heard::{HeardAt, HeardMessage};
+use crate::heard_message::{HeardAt, HeardMessage};
 use mdns_capture::Moment;
 use memory::Want;
 use std::alloc::Global;

@@ -6,7 +6,7 @@ ghost use Rattle.mdns_survey.specs.Span.{joined_spans};
 ghost use Rattle.mdns_listeners.specs.Numbers.{alone, heard, is_alone, is_missed, is_of, is_within, listened, listener_row, listener_rows};
 ghost use Rattle.mdns_listeners.specs.Numbers.{missed, span_of_file, spans_of_listener, spans_of_listeners, times_heard};
 
-use crate::heard::{HeardAt, HeardMessage};
+use crate::heard_message::{HeardAt, HeardMessage};
 use mdns_capture::Moment;
 use mdns_survey::reading::Span;
 use memory::Want;
@@ -95,14 +95,14 @@ impl ListenerSpans {
 pub fn spans_of(
     alloc: Global,
     count: usize,
-    of: &[usize],
+    by_file: &[usize],
     spans_by_file: &[Option<Span>],
 ) -> Result<Vec<ListenerSpans>, Want>
-    ensures { IfOk result (λ all. all.items ≡ spans_of_listeners count of.now spans_by_file.now) }
+    ensures { IfOk result (λ all. all.items ≡ spans_of_listeners count by_file.now spans_by_file.now) }
 {
     let mut all = Vec::new(alloc);
     for listener in 0..count {
-        let spans = spans_of_one(alloc, listener, of, spans_by_file)?;
+        let spans = spans_of_one(alloc, listener, by_file, spans_by_file)?;
         all.push(spans)?;
     }
     Ok(all)
@@ -112,13 +112,13 @@ pub fn spans_of(
 fn spans_of_one(
     alloc: Global,
     listener: usize,
-    of: &[usize],
+    by_file: &[usize],
     spans_by_file: &[Option<Span>],
 ) -> Result<ListenerSpans, Want>
-    ensures { IfOk result (λ spans. spans ≡ spans_of_listener of.now spans_by_file.now listener) }
+    ensures { IfOk result (λ spans. spans ≡ spans_of_listener by_file.now spans_by_file.now listener) }
 {
     let mut spans = ListenerSpans::new(alloc);
-    for (file, of_file) in of.iter().enumerate() {
+    for (file, of_file) in by_file.iter().enumerate() {
         spans.push(span_of_file(listener, *of_file, span_at(spans_by_file, file)))?;
     }
     Ok(spans)

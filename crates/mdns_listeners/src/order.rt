@@ -1,9 +1,9 @@
 //! Sorting messages by their bytes.
 
 ghost use Rattle.std.specs.{Prelude.{◌≡◌, ◌<◌, ◌≤◌, length}, List.Sorted.{IsPermutation}};
-ghost use Rattle.mdns_listeners.specs.Kept.{AreSorted};
+ghost use Rattle.mdns_listeners.specs.KeptMessage.{AreSorted};
 
-use crate::kept::Kept;
+use crate::kept_message::Kept;
 use byteorder::{BigEndian, ByteOrder};
 
 // The bytes of a word.

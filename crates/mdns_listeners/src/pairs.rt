@@ -3,11 +3,11 @@
 ghost use Rattle.std.specs.Prelude.{◌≡◌, ◌+◌, ◌++◌, ◌∷◌, ◌<◌, nat_lt, ◌||◌, [], List, ℕ, pos, ◌-ℤ◌, drop, length, map, slice_index_or};
 ghost use Rattle.std.specs.Prelude.{IfOk, OnOk};
 ghost use Rattle.std.specs.List.{count_by, enumerate_from, filter_map, range_with_len};
-ghost use Rattle.mdns_listeners.specs.{Heard.{HeardRow}, Marks.{is_seen, marks_by, only_of, seen_by}, Numbers.{FileSpans}};
+ghost use Rattle.mdns_listeners.specs.{HeardMessage.{HeardRow}, Marks.{is_seen, marks_by, only_of, seen_by}, Numbers.{FileSpans}};
 ghost use Rattle.mdns_listeners.specs.Pairs.{ascending_of, meet, nanos_ahead, pair_row, pair_rows, pair_rows_with, quartiles_of};
 ghost use Rattle.mdns_listeners.specs.declared.marks.{Seen.{Seen}, Seen.TheVariants.{Never}};
 
-use crate::heard::HeardMessage;
+use crate::heard_message::HeardMessage;
 use crate::marks::{Mark, Marks, Seen, all_seen, is_seen};
 use crate::numbers::ListenerSpans;
 use mdns_capture::Moment;

@@ -2,11 +2,11 @@
 
 ghost use Rattle.std.specs.Prelude.{◌≡◌, ◌↔◌, ◌<◌, ◌+◌, [], ℕ, List, length, map, slice_index, IsTrue, IfOk, OnOk};
 ghost use Rattle.std.specs.{List.{All}, List.Sorted.{IsStrictlySortedBy}, Cmp.Lexicographic.{slice_cmp}, Ordering.{nat_cmp}};
-ghost use Rattle.mdns_listeners.specs.Heard.{AreHeardIn, messages_of};
-ghost use Rattle.mdns_listeners.specs.Kept.{told_by, told_of_rows, filled, last_message, ArePlaced, AddsRow, AreSorted, IsNumbered};
+ghost use Rattle.mdns_listeners.specs.HeardMessage.{AreHeardIn, messages_of};
+ghost use Rattle.mdns_listeners.specs.KeptMessage.{told_by, told_of_rows, filled, last_message, ArePlaced, AddsRow, AreSorted, IsNumbered};
 
-use crate::heard::HeardMessage;
-use crate::kept::{Kept, Noted};
+use crate::heard_message::HeardMessage;
+use crate::kept_message::{Kept, Noted};
 use memory::{Want, same_bytes};
 use std::alloc::Global;
 

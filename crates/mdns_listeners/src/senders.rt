@@ -3,10 +3,10 @@
 ghost use Rattle.std.specs.Prelude.{◌≡◌, ◌≤◌, ◌++◌, [], length, None, IfOk, OnOk, slice_index, ◌==◌, if◌then◌else◌};
 ghost use Rattle.std.specs.{Cmp.Lexicographic.{slice_cmp}, List.{All, filter, fold, prefix_len}, List.Sorted.{IsStrictlySortedBy}};
 ghost use Rattle.std.specs.Ordering.{nat_cmp};
-ghost use Rattle.mdns_listeners.specs.{Heard.{HasWholeAddress, messages_of}, Numbers.{is_of}, Senders.{heard_span, is_from}};
+ghost use Rattle.mdns_listeners.specs.{HeardMessage.{HasWholeAddress, messages_of}, Numbers.{is_of}, Senders.{heard_span, is_from}};
 ghost use Rattle.mdns_listeners.specs.Senders.{rows_of_sender, sender_in, sender_row, sender_rows, source_of, with_time};
 
-use crate::heard::{HeardAt, HeardMessage};
+use crate::heard_message::{HeardAt, HeardMessage};
 use crate::numbers::{ListenerSpans, numbers_of};
 use mdns_capture::SourceAddress;
 use mdns_survey::reading::Span;

@@ -4,7 +4,7 @@
 ghost use Rattle.std.specs.{Prelude.{◌≡◌, ◌-◌, ◌*◌, ◌≤◌, max, min, IfOk}, List.{filter}};
 ghost use Rattle.mdns_listeners.specs.Together.{are_compared, is_together, nanos_of, nanos_of_both, pairs_together, recorded_together, span_at};
 
-use crate::heard::HeardMessage;
+use crate::heard_message::HeardMessage;
 use crate::numbers::ListenerSpans;
 use crate::pairs::{PairRow, meet, pair_rows};
 use mdns_survey::reading::Span;

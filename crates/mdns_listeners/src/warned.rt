@@ -35,15 +35,15 @@ impl<'a, Q: Question<Collector = Filtered<MessageChronicle>>> Question for Warne
     ghost asked = { λ warned. asked_warned warned.groups.now (Q.asked warned.question) };
 
     // Groups of as many files.
-    ghost Fits = { λ warned count. (length warned.groups.now.of ≡ count) × Q.Fits warned.question count };
+    ghost Fits = { λ warned count. (length warned.groups.now.by_file ≡ count) × Q.Fits warned.question count };
 
     ghost Heard = { λ warned now packets outcomes. Q.Heard warned.question now.hearer packets outcomes
-        × Gathered warned.groups.now.of now.messages packets outcomes };
+        × Gathered warned.groups.now.by_file now.messages packets outcomes };
 
     fn collector(&self, alloc: Global) -> Result<Beside<Filtered<MessageChronicle>>, Want> {
         Ok(Beside {
             hearer: self.question.collector(alloc)?,
-            messages: MessageCollector::new(alloc, self.groups.of())?,
+            messages: MessageCollector::new(alloc, self.groups.by_file())?,
         })
     }
 }
@@ -77,7 +77,7 @@ fn warn(
     readings: &[Reading],
 ) -> Result<(), Want>
     ensures { OnOk result ((packets : List (List PacketAt)) (outcomes : List (List Outcome))
-        → Gathered groups.now.of collector packets outcomes → HaveSpans packets readings.now
+        → Gathered groups.now.by_file collector packets outcomes → HaveSpans packets readings.now
         → (warnings : List ℕ) × WarnsOf groups.now packets outcomes warnings
         × (string_bytes to.new ≡ string_bytes to.old ++ warnings)) }
 {

@@ -8,7 +8,7 @@ ghost use Rattle.mdns_listeners.specs.Warnings.{warnings_text, warns};
 use crate::clock::{
     is_one_clock, is_steady, push_nothing, push_steady, push_unknown, push_unsteady, push_words,
 };
-use crate::named::listener_name_at;
+use crate::named_sender::listener_name_at;
 use crate::pairs::{PairRow, Quartiles};
 use mdns_message::Want;
 use mdns_message::text_data::push_string;

@@ -128,29 +128,29 @@ length-more [] x = refl
 length-more (y ∷ ys) x = ap suc (length-more ys x)
 
 pub adds-file : (old new : ListenerLives) (file : Accounts) (heard : List Hearing) → Chronicles file heard
-    → new.of ≡ old.of → new.place ≡ min (suc old.place) (length old.of.items)
+    → new.by_file ≡ old.by_file → new.place ≡ min (suc old.place) (length old.by_file.items)
     → (length old.captures.items ≢ 1 → AddsTo old.joined file new.joined)
-    → AddsAt (listener_at old.of.items old.place) old.captures.items file new.captures.items → AddsFile heard old new
+    → AddsAt (listener_at old.by_file.items old.place) old.captures.items file new.captures.items → AddsFile heard old new
 adds-file old new file heard told same counted joins adds = λ groups each holds.
     let count = length groups.names in
-    let at : listener_at old.of.items old.place ≡ listener_at groups.of (length each) =
-    ap (λ of. listener_at of old.place) holds.of ∙ ap (listener_at groups.of) holds.place ∙ at-min groups.of (length each) in
+    let at : listener_at old.by_file.items old.place ≡ listener_at groups.by_file (length each) =
+    ap (λ of. listener_at of old.place) holds.by_file ∙ ap (listener_at groups.by_file) holds.place ∙ at-min groups.by_file (length each) in
     let adds_at = subst (λ (l : ℕ). AddsAt l old.captures.items file new.captures.items) at adds in
-    let captures = captures-more groups.of each heard file told old.captures.items new.captures.items adds_at count holds.captures in
+    let captures = captures-more groups.by_file each heard file told old.captures.items new.captures.items adds_at count holds.captures in
     let long : length new.captures.items ≡ count =
-    adds.count ∙ count-old groups.of each heard file told old.captures.items new.captures.items adds_at count holds.captures in
-    let files : length old.of.items ≡ length groups.of = ap length holds.of in
+    adds.count ∙ count-old groups.by_file each heard file told old.captures.items new.captures.items adds_at count holds.captures in
+    let files : length old.by_file.items ≡ length groups.by_file = ap length holds.by_file in
     let more = length-more each heard in
     record {
       within = holds.within;
-      of = ap (λ of. of.items) same ∙ holds.of;
+      by_file = ap (λ of. of.items) same ∙ holds.by_file;
       place = omega (arith, counted, holds.place, files, more);
       captures = captures;
       all =
-          all-in new.captures.items new.joined groups.of (each ++ heard ∷ [])
-          (subst (λ (n : ℕ). All (λ l. l < n) groups.of) (sym long) holds.within)
+          all-in new.captures.items new.joined groups.by_file (each ++ heard ∷ [])
+          (subst (λ (n : ℕ). All (λ l. l < n) groups.by_file) (sym long) holds.within)
           (subst (λ (n : ℕ). AreEach Chronicles new.captures.items
-          (map (hearings_of groups.of (each ++ heard ∷ [])) (range_with_len 0 n))) (sym long) captures)
+          (map (hearings_of groups.by_file (each ++ heard ∷ [])) (range_with_len 0 n))) (sym long) captures)
           (λ many.
           let was : length old.captures.items ≢ 1 = λ e. many (adds.count ∙ e) in
           subst (Chronicles new.joined) (sym (flat-more each heard))

@@ -4,7 +4,7 @@ use Rattle.mdns_capture.specs.Savefile.{PacketAt}
 use Rattle.mdns_capture.proofs.SourceLemmas.{source_is_there}
 use Rattle.mdns_survey.proofs.OutcomeLemmas.{OnePayload}
 use Rattle.mdns_survey.specs.Outcomes.{Outcome, heard, refused, skipped}
-use Rattle.mdns_listeners.specs.{Heard.{AreHeardIn, HeardRow, Told}, Listeners.{CapturesTell, Gathers, IsHeardBy}}
+use Rattle.mdns_listeners.specs.{HeardMessage.{AreHeardIn, HeardRow, Told}, Listeners.{CapturesTell, Gathers, IsHeardBy}}
 use Rattle.mdns_listeners.specs.{Listeners.{TellAll, Tells}, Numbers.{listener_rows, FileSpans}, declared.pairs.PairRow.{PairRow}}
 use Rattle.mdns_listeners.specs.{Together.{pairs_together}, declared.listeners.MessageCollector.{MessageCollector}, Groups.{Grouped}}
 use Rattle.mdns_listeners.specs.declared.{listeners.HeardByListeners.{HeardByListeners}, numbers.ListenerRow.{ListenerRow}}
@@ -52,7 +52,7 @@ module _ (payload : OnePayload) where
   one-comparison one groups packets outcomes a b (inl (off, listeners, pairs)) (inr (on, some)) = absurd (cc)
   one-comparison one groups packets outcomes a b (inr (on, some)) (inl (off, listeners, pairs)) = absurd (cc)
   one-comparison one groups packets outcomes a b (inr some) (inr too) =
-      let told = one-captures_tell groups.of 0 packets outcomes some.1.are_rows.told too.1.are_rows.told some.1.are_rows.tell
+      let told = one-captures_tell groups.by_file 0 packets outcomes some.1.are_rows.told too.1.are_rows.told some.1.are_rows.tell
       too.1.are_rows.tell in
       let rows = one too.1.are_rows.told some.1.rows too.1.rows
       (subst (λ (all : List Told). AreHeardIn all some.1.rows) told some.1.are_rows.are_heard) too.1.are_rows.are_heard in

@@ -123,8 +123,8 @@ facts-same name readings others alike = grind (arith, sums-alike, maps-alike)
 pub facts-alike : (groups : Grouped) (readings others : List Reading) → AreEach IsAlike readings others
     → facts_by groups readings ≡ facts_by groups others
 facts-alike groups readings others alike i =
-    map (λ (listener : ℕ). facts-same (get_or groups.names listener []) (files_of groups.of 0 listener readings)
-    (files_of groups.of 0 listener others) (files-alike groups.of 0 listener readings others alike) i)
+    map (λ (listener : ℕ). facts-same (get_or groups.names listener []) (files_of groups.by_file 0 listener readings)
+    (files_of groups.by_file 0 listener others) (files-alike groups.by_file 0 listener readings others alike) i)
     (range_with_len 0 (length groups.names))
 
 pub endings-alike : (names : List (List ℕ)) (readings others : List Reading) → AreEach IsAlike readings others

@@ -46,7 +46,7 @@ facts_of name readings =
 
 -- of each listener, in order
 abbrev pub facts_at : Grouped → List Reading → (listener : ℕ) → Facts
-facts_at groups readings listener = facts_of (slice_index_or groups.names listener []) (files_of groups.of 0 listener readings)
+facts_at groups readings listener = facts_of (slice_index_or groups.names listener []) (files_of groups.by_file 0 listener readings)
 
 abbrev pub facts_by : Grouped → List Reading → List Facts
 facts_by groups readings = map (facts_at groups readings) (range_with_len 0 (length groups.names))
@@ -59,7 +59,7 @@ hearings_of of each listener = flat_map (λ (hearings : List Hearing). hearings)
 
 -- the same of each listener
 abbrev pub hearings_by : Grouped → List (List Hearing) → List (List Hearing)
-hearings_by groups each = map (hearings_of groups.of each) (range_with_len 0 (length groups.names))
+hearings_by groups each = map (hearings_of groups.by_file each) (range_with_len 0 (length groups.names))
 
 -- ---- while files are read
 
@@ -84,9 +84,9 @@ pub record AddsAt (listener : ℕ) (old : List Accounts) (file : Accounts) (new 
 
 -- The first files heard these hearings, and each listener's are those of its files.
 pub record HoldsLives (groups : Grouped) (each : List (List Hearing)) (lives : ListenerLives) : Type 0 where
-  pub within : All (λ listener. listener < length groups.names) groups.of
-  pub of : lives.of.items ≡ groups.of
-  pub place : lives.place ≡ min (length each) (length groups.of)
+  pub within : All (λ listener. listener < length groups.names) groups.by_file
+  pub by_file : lives.by_file.items ≡ groups.by_file
+  pub place : lives.place ≡ min (length each) (length groups.by_file)
   pub captures : AreEach Chronicles lives.captures.items (hearings_by groups each)
   pub all : Chronicles (all_of lives) (flat_map (λ (hearings : List Hearing). hearings) each)
 

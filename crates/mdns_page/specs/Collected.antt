@@ -2,7 +2,7 @@
 use Rattle.std.specs.Prelude.{◌≡◌, ◌⊎◌, ℕ, true, false, List, [], ◌∷◌, ◌++◌, length, Option, None, Some}
 use Rattle.mdns_capture.specs.Savefile.{PacketAt}
 use Rattle.mdns_survey.specs.Outcomes.{Outcome}
-use Rattle.mdns_listeners.specs.{Groups.{Grouped}, Heard.{HeardRow}, Listeners.{AreRowsOf, Gathered, Gathers, GathersAll, spans_by}}
+use Rattle.mdns_listeners.specs.{Groups.{Grouped}, HeardMessage.{HeardRow}, Listeners.{AreRowsOf, Gathered, Gathers, GathersAll, spans_by}}
 use Rattle.mdns_listeners.specs.{Numbers.{listener_rows}, Together.{are_compared, pairs_together}}
 use Rattle.mdns_listeners.specs.declared.listeners.MessageCollector.{MessageCollector}
 use Rattle.mdns_page.specs.{ByListener.{HearsFiles}, Captures.{Comparison}, declared.collector.ComparisonRows.{ComparisonRows}}
@@ -12,7 +12,7 @@ use Rattle.mdns_page.specs.declared.collector.PageCollector.{PageCollector}
 pub record AreCompared (groups : Grouped) (packets : List (List PacketAt)) (outcomes : List (List Outcome)) (comparison : Comparison)
     : Type 0 where
   pub rows : List HeardRow
-  pub are_rows : AreRowsOf groups.of packets outcomes rows
+  pub are_rows : AreRowsOf groups.by_file packets outcomes rows
   pub listeners : comparison.listeners ≡ listener_rows rows (spans_by groups packets)
   pub pairs : comparison.pairs ≡ pairs_together rows (spans_by groups packets)
 
@@ -32,7 +32,7 @@ rows_lent rows = record { listeners = rows.listeners.items; pairs = rows.pairs.i
 abbrev pub AreGathered : Grouped → Option MessageCollector → List (List PacketAt) → List (List Outcome) → Type 0
 AreGathered groups None packets outcomes = are_compared (length groups.names) ≡ false
 AreGathered groups (Some messages) packets outcomes =
-    (are_compared (length groups.names) ≡ true) × Gathered groups.of messages packets outcomes
+    (are_compared (length groups.names) ≡ true) × Gathered groups.by_file messages packets outcomes
 
 -- those of these captures were, from a first state to a second
 abbrev pub GathersIf : Option MessageCollector → Option MessageCollector → List (List PacketAt) → List (List Outcome) → Type 0

@@ -23,17 +23,17 @@ pub(crate) fn facts_by<'a>(
     let names = groups.names();
     let mut facts = Vec::with_capacity(alloc, names.len())?;
     for (listener, name) in names.iter().enumerate() {
-        let own = readings_of(alloc, listener, groups.of(), readings)?;
+        let own = readings_of(alloc, listener, groups.by_file(), readings)?;
         facts.push(facts_of(name.as_str(), own.as_slice()))?;
     }
     Ok(facts)
 }
 
 /// Returns the listener of the file at a place, by the list of all files' listeners; 0 if there is no such file.
-pub(crate) fn listener_at(of: &[usize], place: usize) -> usize
-    ensures { result ≡ listener_at of.now place }
+pub(crate) fn listener_at(by_file: &[usize], place: usize) -> usize
+    ensures { result ≡ listener_at by_file.now place }
 {
-    match of.get(place) {
+    match by_file.get(place) {
         Some(listener) => *listener,
         None => 0,
     }
@@ -43,14 +43,14 @@ pub(crate) fn listener_at(of: &[usize], place: usize) -> usize
 fn readings_of<'r>(
     alloc: Global,
     listener: usize,
-    of: &[usize],
+    by_file: &[usize],
     readings: &'r [Reading],
 ) -> Result<Vec<&'r Reading>, Want>
-    ensures { IfOk result (λ own. map (λ reading. reading.now) own.items ≡ files_of of.now 0 listener readings.now) }
+    ensures { IfOk result (λ own. map (λ reading. reading.now) own.items ≡ files_of by_file.now 0 listener readings.now) }
 {
     let mut own = Vec::new(alloc);
     for (place, reading) in readings.iter().enumerate() {
-        if listener_at(of, place) == listener {
+        if listener_at(by_file, place) == listener {
             own.push(reading)?;
         }
     }

@@ -104,7 +104,7 @@ fn messages_of(alloc: Global, groups: &Groups) -> Result<Option<MessageCollector
     if !are_compared(groups.names().len()) {
         return Ok(None);
     }
-    let messages = MessageCollector::new(alloc, groups.of())?;
+    let messages = MessageCollector::new(alloc, groups.by_file())?;
     Ok(Some(messages))
 }
 
@@ -155,7 +155,7 @@ fn compared_by(
     readings: &[Reading],
 ) -> Result<ComparisonRows, Want>
     ensures { IfOk result (λ rows. (packets : List (List PacketAt)) (outcomes : List (List Outcome))
-        → Gathered groups.now.of messages packets outcomes → HaveSpans packets readings.now
+        → Gathered groups.now.by_file messages packets outcomes → HaveSpans packets readings.now
         → AreCompared groups.now packets outcomes (rows_lent rows)) }
 {
     let heard = heard_by(alloc, groups, messages, readings)?;

@@ -28,7 +28,7 @@ pub struct ListenerLives {
     // Those of all, unless there is only one listener.
     joined: Lives,
     // The listener of each file.
-    of: Vec<usize>,
+    by_file: Vec<usize>,
     // The place of the file that is read next.
     place: usize,
 }
@@ -41,7 +41,7 @@ impl ListenerLives {
         Ok(ListenerLives {
             captures: unheard(alloc, groups.names().len())?,
             joined: no_lives(alloc)?,
-            of: Vec::from_slice(alloc, groups.of())?,
+            by_file: Vec::from_slice(alloc, groups.by_file())?,
             place: 0,
         })
     }
@@ -89,9 +89,9 @@ impl ListenerLives {
     {
         let lives = lives_of_chronicle(file)?;
         join_unless_one(&mut self.joined, self.captures.len(), &lives)?;
-        let listener = listener_at(self.of.as_slice(), self.place);
+        let listener = listener_at(self.by_file.as_slice(), self.place);
         add_at(&mut self.captures, listener, lives)?;
-        self.place = next_place(self.place, self.of.len());
+        self.place = next_place(self.place, self.by_file.len());
         Ok(())
     }
 }

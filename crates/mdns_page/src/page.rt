@@ -67,7 +67,7 @@ impl<'a> Question for PageRequest<'a> {
     ghost asked = { λ page. asked_page (map string_bytes page.names.now) page.groups.now page.about page.window page.as_of };
 
     // A name and a listener for each file.
-    ghost Fits = { λ page count. (length page.names.now ≡ count) × (length page.groups.now.of ≡ count) };
+    ghost Fits = { λ page count. (length page.names.now ≡ count) × (length page.groups.now.by_file ≡ count) };
 
     ghost Heard = { λ page now packets outcomes. HoldsLives page.groups.now (counted_each (filter_of page.as_of) outcomes) now.lives
         × AreGathered page.groups.now now.messages packets outcomes };

@@ -93,7 +93,7 @@ fn status_of<R: Source + Drop>(
     out: &mut SlowWriter,
     err: &mut SlowWriter,
 ) -> Option<u8> {
-    if names.len() != readers.len() || groups.of().len() != readers.len() {
+    if names.len() != readers.len() || groups.by_file().len() != readers.len() {
         return None;
     }
     let named = NamedProgram {

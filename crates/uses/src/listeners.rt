@@ -7,8 +7,8 @@ ghost use Rattle.mdns_cache.specs.Live.{SameHearings};
 ghost use Rattle.mdns_capture.specs.Output.{writing};
 ghost use Rattle.mdns_message.specs.declared.hearing.Hearing.{Hearing};
 ghost use Rattle.mdns_survey.specs.Answer.{Reports};
-ghost use Rattle.mdns_listeners.specs.{Clock.{is_one_clock}, Groups.{grouped}, Heard.{AreHeardIn, HasWholeAddress, HeardRow, Told}};
-ghost use Rattle.mdns_listeners.specs.{Heard.{times_of}, Listeners.{AreListeners, asked_listeners}, Names.{AreNames, ListsNames}, Numbers.{is_of}};
+ghost use Rattle.mdns_listeners.specs.{Clock.{is_one_clock}, Groups.{grouped}, HeardMessage.{AreHeardIn, HasWholeAddress, HeardRow, Told}};
+ghost use Rattle.mdns_listeners.specs.{HeardMessage.{times_of}, Listeners.{AreListeners, asked_listeners}, SenderNames.{AreNames, ListsNames}, Numbers.{is_of}};
 ghost use Rattle.mdns_listeners.specs.{Numbers.{listener_rows}, Pairs.{pair_rows}, Parts.{joined_rows}, Senders.{sender_rows}};
 
 use mdns_browse::Form;
@@ -64,7 +64,7 @@ pub fn compare<R: Source + Drop, O: Sink, E: Sink>(
     err: &mut E,
 ) -> u8
     requires named { length names.now ≡ length readers.items }
-    requires grouped { length groups.now.of ≡ length readers.items }
+    requires grouped { length groups.now.by_file ≡ length readers.items }
     ensures { result ≢ REFUSED → (captures : List (List ℕ)) → map R.remaining readers.items ≡ map Some captures
         → Reports (asked_listeners groups.now Form.Pretty) true (codes "mdnswhy") (map string_bytes names.now) captures
         (writing O.Sink out.old out.new) (writing E.Sink err.old err.new) result }
@@ -82,12 +82,12 @@ pub fn compare<R: Source + Drop, O: Sink, E: Sink>(
 
 /// Returns the name of the listener that a file belongs to; `None` where there is no such file.
 pub fn listener_of(groups: &Groups, file: usize) -> Option<&str>
-    ensures some { IfSome result (λ name. name.now ≡ slice_index_or groups.now.names (slice_index groups.now.of file) []) }
-    ensures none { IfNone result (length groups.now.of ≤ file) }
+    ensures some { IfSome result (λ name. name.now ≡ slice_index_or groups.now.names (slice_index groups.now.by_file file) []) }
+    ensures none { IfNone result (length groups.now.by_file ≤ file) }
 {
-    let of = groups.of();
-    if file < of.len() {
-        Some(groups.names()[of[file]].as_str())
+    let by_file = groups.by_file();
+    if file < by_file.len() {
+        Some(groups.names()[by_file[file]].as_str())
     } else {
         None
     }

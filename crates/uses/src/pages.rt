@@ -23,7 +23,7 @@ pub fn page_of<R: Source + Drop>(
     as_of: AsOf,
 ) -> Result<(Vec<Summary>, Vec<u8>), SurveyFault>
     requires names { length names.now ≡ length captures.items }
-    requires groups { length groups.now.of ≡ length captures.items }
+    requires groups { length groups.now.by_file ≡ length captures.items }
     ensures { IfOk result (λ told. (bytes : List (List ℕ)) → map R.remaining captures.items ≡ map Some bytes
         → SurveysPage (map string_bytes names.now) groups.now [] window as_of bytes told.0.items told.1.items) }
 {

@@ -12,7 +12,7 @@ use std::alloc::Global;
 use test_values::streams::{SlowWriter, slow_writer};
 
 fn has_groups(groups: &Groups) -> bool {
-    are_names(groups.names(), &["w", "w/e.pcap"]) && matches!(groups.of(), [0, 1, 0])
+    are_names(groups.names(), &["w", "w/e.pcap"]) && matches!(groups.by_file(), [0, 1, 0])
 }
 
 // Returns whether the first and the last of three files are one listener, and the other one is another: `w` begins the name of

@@ -1,5 +1,5 @@
 use Rattle.std.proofs.{Common.{◌∙◌, List, ap, map, subst}, lemmas.Result.{IfOk-weaker}}
-use Rattle.mdns_listeners.specs.{declared.senders.SenderRow.{SenderRow}, Facts.{listeners_text}, Listeners.{AreNamed}, Named.{sender_lent}}
+use Rattle.mdns_listeners.specs.{declared.senders.SenderRow.{SenderRow}, AllRows.{listeners_text}, Listeners.{AreNamed}, NamedSender.{sender_lent}}
 use Rattle.mdns_listeners.proofs.listeners.facts_text.Goals as goal
 
 pub returns : goal.returns

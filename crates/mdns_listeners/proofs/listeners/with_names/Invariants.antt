@@ -1,6 +1,6 @@
 use Rattle.std.proofs.Common.{List, map, take}
 use Rattle.mdns_message.specs.declared.hearing.Hearing.{Hearing}
-use Rattle.mdns_listeners.specs.{Listeners.{AreNamed}, Named.{sender_lent}, Names.{ListsNames}}
+use Rattle.mdns_listeners.specs.{Listeners.{AreNamed}, NamedSender.{sender_lent}, SenderNames.{ListsNames}}
 use Rattle.mdns_listeners.proofs.listeners.with_names.Given as goal
 
 -- the rows so far, with their names

@@ -7,7 +7,7 @@ use Rattle.mdns_listeners.proofs.numbers.spans_of_one.Goals as goal
 pub loop-file-preserved : goal.loop-file-preserved
 loop-file-preserved c =
     let listener = c.args.listener in
-    let of = c.args.of.now in
+    let of = c.args.by_file.now in
     let files = c.args.spans_by_file.now in
     let i = c.loop-file.file in
     let here : option_to_list c.span_of_file.result ≡ span_of_file listener (get_or of i 0, get_or files i None) =

@@ -1,6 +1,6 @@
 use Rattle.std.proofs.Common.{◌≡◌, ◌+◌, List, ◌++◌, drop, get_or, length, map}
 use Rattle.std.specs.List.{enumerate_from, range_with_len}
-use Rattle.mdns_listeners.specs.{Heard.{HeardRow}, Marks.{marks_by, seen_by}, Numbers.{FileSpans}, Pairs.{pair_rows_with}}
+use Rattle.mdns_listeners.specs.{HeardMessage.{HeardRow}, Marks.{marks_by, seen_by}, Numbers.{FileSpans}, Pairs.{pair_rows_with}}
 use Rattle.mdns_listeners.proofs.pairs.push_pairs.Given as goal
 
 -- the rows with the listeners before the other were appended

@@ -1,5 +1,5 @@
 use Rattle.std.proofs.Common.{◌≡◌, map, take}
-use Rattle.mdns_listeners.specs.Kept.{told_of_rows, filled}
+use Rattle.mdns_listeners.specs.KeptMessage.{told_of_rows, filled}
 use Rattle.mdns_listeners.proofs.rows.fill.Given as goal
 
 abbrev pub invariant-loop-noted : goal.invariant-loop-noted

@@ -1,6 +1,6 @@
 use Rattle.std.proofs.{Common.{◌≡◌, ap, ◌∙◌, length, map, rules, subst, sym}, lemmas.{List.{take_at}, List.Elements.{filter_from_retain}}}
 use Rattle.std.specs.List.{filter}
-use Rattle.mdns_listeners.specs.{Heard.{AreHeardIn, has_times}, Kept.{filled, told_by, told_of_rows}}
+use Rattle.mdns_listeners.specs.{HeardMessage.{AreHeardIn, has_times}, KeptMessage.{filled, told_by, told_of_rows}}
 use Rattle.mdns_listeners.proofs.RowLemmas.{numbered-times, rows-heard}
 use Rattle.mdns_listeners.proofs.rows.rows_of.Goals as goal
 use Rattle.std.proofs.Common.{arith}

@@ -1,6 +1,6 @@
 use Rattle.std.proofs.Common.{◌≡◌, ◌++◌, length}
 use Rattle.std.specs.{Cmp.Lexicographic.{slice_cmp}, List.{All}, List.Sorted.{IsStrictlySortedBy}, Ordering.{nat_cmp}}
-use Rattle.mdns_listeners.specs.{Heard.{HasWholeAddress, messages_of}, Senders.{sender_rows}}
+use Rattle.mdns_listeners.specs.{HeardMessage.{HasWholeAddress, messages_of}, Senders.{sender_rows}}
 use Rattle.mdns_listeners.proofs.senders.sender_rows.Given as goal
 
 -- the rows of the senders whose messages are before the rest were appended

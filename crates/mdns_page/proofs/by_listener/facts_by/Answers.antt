@@ -15,9 +15,9 @@ loop-listener-preserved c =
     let named : string_bytes name ≡ get_or groups.names i [] =
     ap string_bytes c.index-names-listener.is ∙ sym (get_or-map string_bytes names i name [] c.loop-listener-test.true)
     ∙ ap (λ (ns : List (List ℕ)). get_or ns i []) c.names-names.ensures in
-    let own : map (λ (reading : Bor Reading). reading.now) c.as_slice.result.now ≡ files_of groups.of 0 i readings =
+    let own : map (λ (reading : Bor Reading). reading.now) c.as_slice.result.now ≡ files_of groups.by_file 0 i readings =
     ap (map (λ (reading : Bor Reading). reading.now)) c.as_slice.ensures.value ∙ c.in_ok-own.ensures
-    ∙ ap (λ (of : List ℕ). files_of of 0 i readings) c.of.ensures.of in
+    ∙ ap (λ (of : List ℕ). files_of of 0 i readings) c.by_file.ensures.by_file in
     let made : facts_lent c.facts_of.result ≡ facts_at groups readings i =
     c.facts_of.ensures ∙ (λ k. facts_of ((c.as_str.ensures.value ∙ named) k) (own k)) in
     ap (map facts_lent) c.in_ok-push.ensures.items ∙ map-append facts_lent c.loop-listener.facts.items (c.facts_of.result ∷ [])

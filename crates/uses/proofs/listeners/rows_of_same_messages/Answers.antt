@@ -1,5 +1,5 @@
 use Rattle.std.proofs.Common.{subst}
-use Rattle.mdns_listeners.specs.Heard.{AreHeardIn}
+use Rattle.mdns_listeners.specs.HeardMessage.{AreHeardIn}
 use Rattle.uses.proofs.listeners.rows_of_same_messages.Goals as goal
 
 pub returns-clause-same : goal.returns-clause-same

@@ -13,6 +13,6 @@ returns-in-Ok-clause-heard g c =
       is_reading = taken.is_reading;
       hears = λ begun earlier before both. (
         hears-capture Stands begun.hearer old.hearer c.listen_with.new.consumer.hearer before taken.packets taken.outcomes took.0 both.0,
-        c.go_on.ensures begun.messages.of.items old.messages earlier before taken.packets taken.outcomes both.1 took.1,
+        c.go_on.ensures begun.messages.by_file.items old.messages earlier before taken.packets taken.outcomes both.1 took.1,
       );
     }

@@ -20,10 +20,10 @@ loop-file-preserved c =
     let step = c.in_ok-listener.ensures.listener earlier has in
     let back = take-back prefixes earlier (earlier ++ file ∷ []) c.loop-file.begun.len c.loop-file.begun.items c.listener_of.new.begun
     _ names old.0 step.1 (search rules) in
-    let of : c.push.new.self.items ≡ c.loop-file.of.items ++ c.in_ok-listener.listener ∷ [] = search rules in (
+    let of : c.push.new.self.items ≡ c.loop-file.by_file.items ++ c.in_ok-listener.listener ∷ [] = search rules in (
       rw (next, back) step.1,
       rw (next, of, old.1, step.0) (sym (positions_push prefixes earlier file)),
-      subst (All Inside) (sym of) (All-push Inside c.loop-file.of.items c.in_ok-listener.listener
+      subst (All Inside) (sym of) (All-push Inside c.loop-file.by_file.items c.in_ok-listener.listener
           (λ k d within. omega (arith, old.2 k d within, c.in_ok-listener.ensures.grows)) step.2),
     )
 

@@ -8,5 +8,5 @@ abbrev pub invariant-loop-file : goal.invariant-loop-file
 invariant-loop-file l =
     let prefixes = map string_bytes l.prefixes in
     let files = map string_bytes (take l.file-index l.files) in
-    HasBegun prefixes files (map string_bytes l.names.items) l.begun.items × (l.of.items ≡ listener_positions prefixes files)
-    × All (λ listener. listener < length l.names.items) l.of.items
+    HasBegun prefixes files (map string_bytes l.names.items) l.begun.items × (l.by_file.items ≡ listener_positions prefixes files)
+    × All (λ listener. listener < length l.names.items) l.by_file.items

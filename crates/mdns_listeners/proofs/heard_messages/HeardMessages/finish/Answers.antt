@@ -1,6 +1,6 @@
 use Rattle.std.proofs.{Common.{◌≡◌, ◌∙◌, ap, length, rules, subst, sym}, lemmas.List.{take_at}}
 use Rattle.std.specs.{List.{All}, List.Sorted.{IsPermutation}}
-use Rattle.mdns_listeners.specs.{Heard.{AreHeardIn, HasWholeAddress}, Kept.{ArePlaced, HeardSoFar, kept_messages, told_by}}
+use Rattle.mdns_listeners.specs.{HeardMessage.{AreHeardIn, HasWholeAddress}, KeptMessage.{ArePlaced, HeardSoFar, kept_messages, told_by}}
 use Rattle.mdns_listeners.proofs.{HeardLemmas.{heard-whole}, KeptLemmas.{placed-permuted, told-whole}}
 use Rattle.mdns_listeners.proofs.heard_messages.HeardMessages.finish.Goals as goal
 

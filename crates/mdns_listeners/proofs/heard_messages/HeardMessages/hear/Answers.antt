@@ -1,7 +1,7 @@
 use Rattle.std.proofs.{Common.{◌≡◌, ◌<◌, ◌∙◌, List, [], ◌∷◌, ◌++◌, ap, arith, get_or, length, rules, subst, sym}, lemmas.List.{length_push}}
 use Rattle.mdns_cache.proofs.BetweenLemmas.{on_err_any}
-use Rattle.mdns_listeners.specs.{declared.kept.Noted.{Noted}, Heard.{message_bytes}}
-use Rattle.mdns_listeners.specs.{Kept.{AreKept, HeardSoFar, KeptMessage, kept_messages, next_kept, told_by}, Names.{AddsNames, told_in}}
+use Rattle.mdns_listeners.specs.{declared.kept_message.Noted.{Noted}, HeardMessage.{message_bytes}}
+use Rattle.mdns_listeners.specs.{KeptMessage.{AreKept, HeardSoFar, KeptMessage, kept_messages, next_kept, told_by}, SenderNames.{AddsNames, told_in}}
 use Rattle.mdns_listeners.proofs.HeldNameLemmas.{HoldsNames-more, adds-suffice}
 use Rattle.mdns_listeners.proofs.KeptLemmas.{kept_more, kept-names, kept-noted, message-push, told-noted, told-push}
 use Rattle.mdns_listeners.proofs.heard_messages.HeardMessages.hear.Goals as goal

@@ -1,5 +1,5 @@
 use Rattle.std.proofs.{Common.{◌≡◌, ◌<◌, ◌∙◌, [], ap, get_or, length, rules, subst, sym, arith}, lemmas.List.{get_or-map}}
-use Rattle.mdns_listeners.specs.{Kept.{HeardSoFar, KeptMessage, kept_messages, payload_in}, Names.{AddsNames, told_in}}
+use Rattle.mdns_listeners.specs.{KeptMessage.{HeardSoFar, KeptMessage, kept_messages, payload_in}, SenderNames.{AddsNames, told_in}}
 use Rattle.mdns_listeners.proofs.{HeldNameLemmas.{HoldsNames-more, suffice-adds}, KeptLemmas.{known-named, known-some, told-noted}}
 use Rattle.mdns_listeners.proofs.heard_messages.HeardMessages.hear_again.Goals as goal
 use Rattle.std.proofs.lemmas.Grind.{common_steps}

@@ -9,6 +9,6 @@ returns-in-Ok-clause-heard g c =
       outcomes = taken.outcomes;
       is_reading = taken.is_reading;
       hears = λ begun earlier before gathered.
-          c.go_on.ensures begun.of.items c.args.self.now earlier before taken.packets taken.outcomes gathered
+          c.go_on.ensures begun.by_file.items c.args.self.now earlier before taken.packets taken.outcomes gathered
           (taken.took c.args.self.now (gathers-none c.args.self.now));
     }

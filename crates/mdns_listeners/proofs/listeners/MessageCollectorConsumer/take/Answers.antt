@@ -1,7 +1,7 @@
 use Rattle.std.proofs.{Common.{◌∙◌, ◌++◌, ◌∷◌, [], ap, refl, subst, sym}, lemmas.{Bool.{false≢true}, Result.{on_ok_weaker}}}
 use Rattle.mdns_survey.specs.{declared.outcome.PacketOutcome.{PacketOutcome}, Why.{IsPayloadOf, SaysWhy}, Listen.{outcome_of}}
 use Rattle.mdns_survey.specs.Outcomes.{Outcome}
-use Rattle.mdns_listeners.specs.{declared.listeners.MessageCollector.{MessageCollector}, Kept.{HearsMessage}, Listeners.{Gathers}}
+use Rattle.mdns_listeners.specs.{declared.listeners.MessageCollector.{MessageCollector}, KeptMessage.{HearsMessage}, Listeners.{Gathers}}
 use Rattle.mdns_capture.specs.Capture.{packet_lent}
 use Rattle.mdns_listeners.proofs.ListenersLemmas.{gathers-told}
 use Rattle.mdns_listeners.proofs.listeners.MessageCollectorConsumer.take.Goals as goal
@@ -13,7 +13,7 @@ returns-else-is_empty-clause-took c =
     let source = c.in-Heard.source in
     let message = c.in-Heard.message.now in
     let old = c.args.self.now in
-    let new : MessageCollector = record { of = old.of; place = old.place; messages = c.hear.new.self } in
+    let new : MessageCollector = record { by_file = old.by_file; place = old.place; messages = c.hear.new.self } in
     on_ok_weaker c.hear.result (λ hears begun packets outcomes took.
     subst (λ (o : Outcome). Gathers begun new (packets ++ packet_lent c.args.packet.now ∷ []) (outcomes ++ o ∷ []))
     (sym (ap outcome_of c.in-Heard.is))

@@ -11,11 +11,11 @@ returns c = λ heard recorded.
     let new : ListenerLives = record {
       captures = c.add_at.new.captures;
       joined = c.join_unless_one.new.joined;
-      of = old.of;
+      by_file = old.by_file;
       place = c.next_place-self.result;
     } in
     let at = c.listener_at-listener.ensures ∙ (λ i. listener_at (c.as_slice.ensures.value i) old.place) in
     adds-file old new c.in_ok-lives.lives heard (c.in_ok-lives.ensures heard recorded) refl
-    (c.next_place-self.ensures ∙ ap (λ (n : ℕ). min (suc old.place) n) (c.len-2.ensures ∙ old.of.ok.0))
+    (c.next_place-self.ensures ∙ ap (λ (n : ℕ). min (suc old.place) n) (c.len-2.ensures ∙ old.by_file.ok.0))
     (λ many. c.in_ok-join_unless_one.ensures (λ e. many (sym old.captures.ok.0 ∙ sym c.len.ensures ∙ e)))
     (subst (λ (l : ℕ). AddsAt l old.captures.items c.in_ok-lives.lives c.add_at.new.captures.items) at c.in_ok-add_at.ensures)

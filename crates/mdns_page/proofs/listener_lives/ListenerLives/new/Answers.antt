@@ -19,14 +19,14 @@ returns c =
     let long : length captures ≡ length groups.names =
     each-count Chronicles captures (map none (range_with_len 0 (length groups.names))) each
     ∙ length-map-range_with_len none 0 (length groups.names) in
-    let within : All (λ listener. listener < length groups.names) groups.of =
-    subst (All (λ listener. listener < length groups.names)) c.of.ensures.of c.of.ensures.within in
+    let within : All (λ listener. listener < length groups.names) groups.by_file =
+    subst (All (λ listener. listener < length groups.names)) c.by_file.ensures.by_file c.by_file.ensures.within in
     record {
       within = within;
-      of = c.in_ok-from_slice.ensures.items ∙ c.of.ensures.of;
+      by_file = c.in_ok-from_slice.ensures.items ∙ c.by_file.ensures.by_file;
       place = omega arith;
       captures = each;
-      all = holds-nothing captures c.in_ok-no_lives.field-0 groups.of
-          (subst (λ (n : ℕ). All (λ listener. listener < n) groups.of) (sym long) within)
+      all = holds-nothing captures c.in_ok-no_lives.field-0 groups.by_file
+          (subst (λ (n : ℕ). All (λ listener. listener < n) groups.by_file) (sym long) within)
           (subst (λ (n : ℕ). AreEach Chronicles captures (map none (range_with_len 0 n))) (sym long) each) c.in_ok-no_lives.ensures;
     }

@@ -1,0 +1,313 @@
+//! The names that a sender goes by: the owners of the A and AAAA records whose data is its address.
+
+ghost use Rattle.std.specs.Prelude.{◌≡◌, ◌↔◌, ◌<◌, ◌++◌, ◌∷◌, [], List, length, map, IfOk, IfSome, IsTrue, OnOk};
+ghost use Rattle.std.specs.{Prelude.{OnErr, HoldsAt, slice_set, slice_index_or}, List.Sorted.{IsPermutation, IsSorted, IsStrictlySortedBy}};
+ghost use Rattle.dns_name.specs.Name.{folded};
+ghost use Rattle.mdns_message.specs.{declared.hearing.Hearing.{Hearing}, Borrowed.{body_lent, hearing_lent}};
+ghost use Rattle.mdns_listeners.specs.SenderNames.{AddsNames, AreNames, Covers, HoldsNames, ListsNames, SufficeFor};
+ghost use Rattle.mdns_listeners.specs.SenderNames.{address_cmp, address_in, by_name, by_spelling, named, respelled, told_in};
+
+use dns_name::BorrowedName;
+use dns_name::fold::is_folded;
+use join_map::index::{Index, REACH, Slot};
+use mdns_capture::SourceAddress;
+use mdns_message::{BorrowedBody, BorrowedHearing, MessageReader, Name};
+use memory::{ByteList, Want};
+use std::alloc::Global;
+use std::cmp::Ordering;
+use std::marker::Model;
+
+/// An address, and a name that a record gives it.
+#[derive(Drop)]
+pub(crate) struct SenderAddressName {
+    source: SourceAddress,
+
+    /// The name folded: most comparisons are of these bytes.
+    folded: ByteList,
+
+    name: Name,
+}
+
+/// Collects the names of all senders from hearings.
+#[derive(Drop)]
+pub struct SenderNames {
+    alloc: Global,
+    held: Vec<SenderAddressName>,
+
+    // Where each of them is, by the hash of its record.
+    places: Index,
+}
+
+impl Model for SenderNames {
+    ghost use Rattle.std.specs.Prelude.{List};
+    ghost use Rattle.mdns_listeners.specs.declared.sender_names.SenderAddressName.{SenderAddressName};
+
+    ghost Value = { List SenderAddressName };
+
+    ghost view = { λ a. a.held.items };
+}
+
+/// The names of all senders.
+#[derive(Drop)]
+pub struct Names {
+    // The address of each name, ascending.
+    sources: Vec<SourceAddress>,
+
+    // The names of one address ascend by their folded wire forms.
+    names: Vec<Name>,
+}
+
+impl Model for Names {
+    ghost use Rattle.std.specs.Prelude.{◌≡◌, ℕ, List, length};
+    ghost use Rattle.mdns_capture.specs.declared.source_address.SourceAddress.{SourceAddress};
+
+    ghost Value = { List SourceAddress × List (List ℕ) };
+
+    ghost view = { λ a. (a.sources.items, a.names.items) };
+
+    ghost invariant = { λ a. length a.sources.items ≡ length a.names.items };
+}
+
+impl SenderNames {
+    /// Makes a collection of no names. It allocates nothing yet.
+    pub fn new(alloc: Global) -> SenderNames
+        ensures { HoldsNames result [] }
+    {
+        SenderNames {
+            alloc,
+            held: Vec::new(alloc),
+            places: Index::new(alloc),
+        }
+    }
+
+    /// Takes the name of an A or AAAA record; other records are ignored. A name that is known in a spelling no greater
+    /// allocates nothing. After `Want` the names are as before.
+    #[tactic(auto, using(std::proofs::lemmas::Result::on_ok_weaker, crate::proofs::HeldNameLemmas::adds_untold))]
+    pub fn hear(&mut self, hearing: &BorrowedHearing<'_>) -> Result<(), Want>
+        ensures ok { OnOk result (AddsNames self.old self.new (told_in (hearing_lent hearing.now ∷ []))) }
+        ensures err { OnErr result (self.new ≡ self.old) }
+    {
+        match address_in(&hearing.heard.body) {
+            Some(source) => self.put(source, &hearing.heard.owner, hearing.hashes.record),
+            None => Ok(()),
+        }
+    }
+
+    /// Takes the names of all hearings of a message. After `Want` the names still suffice for those that were taken before.
+    pub fn hear_all(&mut self, message: &MessageReader) -> Result<(), Want>
+        ensures ok { OnOk result (AddsNames self.old self.new (told_in message.now)) }
+        ensures keeps { SufficeFor self.new self.old }
+    {
+        for hearing in message {
+            self.hear(&hearing)?;
+        }
+        Ok(())
+    }
+
+    /// Sorts the names. After `Want` they are lost.
+    #[tactic(auto, using(crate::proofs::HeldNameLemmas::for_finish))]
+    pub fn finish(self) -> Result<Names, Want>
+        ensures { IfOk result (λ names. (heard : List Hearing) → HoldsNames self heard → ListsNames names heard) }
+    {
+        let SenderNames {
+            alloc,
+            held,
+            places: _,
+        } = self;
+        split(alloc, distinct(held))
+    }
+
+    // Takes a name of an address.
+    fn put(
+        &mut self,
+        source: SourceAddress,
+        owner: &BorrowedName<'_>,
+        hash: u64,
+    ) -> Result<(), Want>
+        ensures ok { OnOk result (AddsNames self.old self.new (named source owner.now ∷ [])) }
+        ensures err { OnErr result (self.new ≡ self.old) }
+    {
+        match self.find(&source, owner, hash) {
+            Some(place) => self.respell(place, owner),
+            None => self.push(source, owner, hash),
+        }
+    }
+
+    // Returns the place of a name of an address, in whatever spelling.
+    fn find(&self, source: &SourceAddress, owner: &BorrowedName<'_>, hash: u64) -> Option<usize>
+        ensures within { IfSome result (λ place. place < length self.now) }
+        ensures found { IfSome result (HoldsAt (λ one. (one.source ≡ source.now) × (one.folded ≡ folded owner.now)) self.now) }
+    {
+        for tried in 0..REACH {
+            match self.places.slot(hash, tried) {
+                Slot::Free => return None,
+                Slot::Other => {}
+                Slot::Place(place) => {
+                    if let Some(held) = self.held.get(place)
+                        && held.is_of(source, owner)
+                    {
+                        return Some(place);
+                    }
+                }
+            }
+        }
+        None
+    }
+
+    // Spells a name that is held as `owner`, if that is less.
+    fn respell(&mut self, place: usize, owner: &BorrowedName<'_>) -> Result<(), Want>
+        requires { place < length self.old }
+        ensures ok { OnOk result ((d : SenderAddressName) →
+            self.new ≡ slice_set self.old place (respelled (slice_index_or self.old place d) owner.now)) }
+        ensures err { OnErr result (self.new ≡ self.old) }
+    {
+        let alloc = self.alloc;
+        self.held[place].respell(alloc, owner)
+    }
+
+    // Adds a name of an address.
+    fn push(
+        &mut self,
+        source: SourceAddress,
+        owner: &BorrowedName<'_>,
+        hash: u64,
+    ) -> Result<(), Want>
+        ensures ok { OnOk result (self.new ≡ self.old ++ named source owner.now ∷ []) }
+        ensures err { OnErr result (self.new ≡ self.old) }
+    {
+        let new = SenderAddressName::new(self.alloc, source, owner)?;
+        let place = self.held.len();
+        self.places.note(self.alloc, hash, place)?;
+        self.held.push(new)?;
+        Ok(())
+    }
+}
+
+impl SenderAddressName {
+    // Copies a name of an address.
+    fn new(
+        alloc: Global,
+        source: SourceAddress,
+        owner: &BorrowedName<'_>,
+    ) -> Result<SenderAddressName, Want>
+        ensures { IfOk result (λ one. one ≡ named source owner.now) }
+    {
+        let mut folded = ByteList::from_slice(alloc, owner.wire())?;
+        folded.make_ascii_lowercase_from(0);
+        let name = owner.to_name(alloc)?;
+        Ok(SenderAddressName {
+            source,
+            folded,
+            name,
+        })
+    }
+
+    // Spells the name as `owner`, if that is less.
+    fn respell(&mut self, alloc: Global, owner: &BorrowedName<'_>) -> Result<(), Want>
+        ensures ok { OnOk result (self.new ≡ respelled self.old owner.now) }
+        ensures err { OnErr result (self.new ≡ self.old) }
+    {
+        if owner.wire().cmp(&self.name.wire()).is_lt() {
+            self.name = owner.to_name(alloc)?;
+        }
+        Ok(())
+    }
+
+    // Checks that this is the name of that address, in whatever spelling.
+    fn is_of(&self, source: &SourceAddress, owner: &BorrowedName<'_>) -> bool
+        ensures { IsTrue result ↔ ((self.now.source ≡ source.now) × (self.now.folded ≡ folded owner.now)) }
+    {
+        self.source == *source && is_folded(self.folded.as_slice(), owner.wire())
+    }
+
+    // Compares by address and folded name.
+    fn name_order(&self, other: &SenderAddressName) -> Ordering
+        ensures { result ≡ by_name self.now other.now }
+    {
+        let by_address = address_order(&self.source, &other.source);
+        if by_address.is_ne() {
+            return by_address;
+        }
+        self.folded.as_slice().cmp(&other.folded.as_slice())
+    }
+
+    // Compares by address, folded name and spelling.
+    fn spelling_order(&self, other: &SenderAddressName) -> Ordering
+        ensures { result ≡ by_spelling self.now other.now }
+    {
+        let by_name = self.name_order(other);
+        if by_name.is_ne() {
+            return by_name;
+        }
+        self.name.wire().cmp(&other.name.wire())
+    }
+}
+
+// Returns the address that is the data of an A or AAAA record.
+fn address_in(body: &BorrowedBody<'_>) -> Option<SourceAddress>
+    ensures { result ≡ address_in (body_lent body.now) }
+{
+    match body {
+        BorrowedBody::A(octets) => Some(SourceAddress::V4(*octets)),
+        BorrowedBody::Aaaa(octets) => Some(SourceAddress::V6(*octets)),
+        _ => None,
+    }
+}
+
+// Compares two addresses, IPv4 before IPv6.
+fn address_order(one: &SourceAddress, other: &SourceAddress) -> Ordering
+    ensures { result ≡ address_cmp one.now other.now }
+{
+    match (one, other) {
+        (SourceAddress::V4(one), SourceAddress::V4(other)) => one.as_slice().cmp(&other.as_slice()),
+        (SourceAddress::V6(one), SourceAddress::V6(other)) => one.as_slice().cmp(&other.as_slice()),
+        (SourceAddress::V4(_), SourceAddress::V6(_)) => Ordering::Less,
+        (SourceAddress::V6(_), SourceAddress::V4(_)) => Ordering::Greater,
+    }
+}
+
+// Sorts names by address, folded name and spelling.
+fn sort(names: &mut Vec<SenderAddressName>)
+    ensures permutation { IsPermutation names.old.items names.new.items }
+    ensures sorted { IsSorted by_spelling names.new.items }
+{
+    names.sort_unstable_by(|one, other| one.spelling_order(other));
+}
+
+// Sorts names, and keeps the least spelling of each.
+fn distinct(names: Vec<SenderAddressName>) -> Vec<SenderAddressName>
+    ensures ascending { IsStrictlySortedBy by_name result.items }
+    ensures covers { Covers result.items names.items }
+{
+    let mut names = names;
+    sort(&mut names);
+    names.dedup_by(|next, held| next.name_order(held).is_eq());
+    names
+}
+
+// Lists the addresses and the names.
+fn split(alloc: Global, held: Vec<SenderAddressName>) -> Result<Names, Want>
+    ensures { IfOk result (λ names. (names.0 ≡ map (λ one. one.source) held.items) × (names.1 ≡ map (λ one. one.name) held.items)) }
+{
+    let mut sources = Vec::with_capacity(alloc, held.len())?;
+    let mut names = Vec::with_capacity(alloc, held.len())?;
+    for one in held {
+        sources.push(one.source)?;
+        names.push(one.name)?;
+    }
+    Ok(Names { sources, names })
+}
+
+impl Names {
+    /// Returns the names that a sender goes by, in the order of their folded wire forms, each in its least spelling.
+    pub fn names_of(&self, sender: &SourceAddress) -> &[Name]
+        ensures { (heard : List Hearing) → ListsNames self.now heard → AreNames sender.now heard result.now }
+    {
+        let sources = self.sources.as_slice();
+        let first = sources.partition_point(|source| address_order(source, sender).is_lt());
+        let after = &sources[first..];
+        let count = after.partition_point(|source| address_order(source, sender).is_le());
+        let names = self.names.as_slice();
+        &names[first..first + count]
+    }
+}
