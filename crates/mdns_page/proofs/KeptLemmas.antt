@@ -2,16 +2,16 @@
 use Rattle.std.proofs.Common.{◌≡◌, refl, sym, ◌∙◌, ap, subst, ℕ, ◌+◌, ◌<◌, ◌≤◌, Bool, true, false, cond, arith}
 use Rattle.std.proofs.Common.{if◌then◌else◌, List, [], ◌∷◌, ◌++◌, append_assoc, get_or, is_some, length, map, option_map}
 use Rattle.std.proofs.{Common.{take, Option, None, Some}, lemmas.Bool.{cond_both}}
-use Rattle.std.proofs.lemmas.{List.{append-nil, map-append, take_all, take_more}, List.Elements.{All-push, filter-append}, Simd.{map-map}}
+use Rattle.std.proofs.lemmas.{List.{append-nil, map-append, take_all, take_more}, List.Elements.{filter-append}, Simd.{map-map}}
 use Rattle.std.specs.{List.{AllByRecursion, filter}, List.Sorted.{IsStrictlySortedBy}, declared.cmp.Ordering.{Ordering}}
 use Rattle.std.specs.declared.cmp.Ordering.TheVariants.{Less}
 use Rattle.mdns_message.specs.{declared.hearing.Hearing.{Hearing}, Resource.{key_cmp}}
 use Rattle.mdns_join.specs.declared.latest.Latest.{Latest}
 use Rattle.mdns_cache.specs.Live.{key_of_last}
-use Rattle.mdns_lives.specs.{Chronicle.{AreAllLives}, LentLives.{row_lent}, Lives.{AreApart}}
+use Rattle.mdns_lives.specs.{Chronicle.{AreAllLives}, LentLives.{row_lent}}
 use Rattle.mdns_lives.specs.declared.{life.Life.{Life}, lives.RecordLives.{RecordLives}}
 use Rattle.mdns_browse.specs.{declared.about.Subject.{Subject}, Services.{name_if}}
-use Rattle.mdns_page.specs.KeptRecords.{AllApart, looked_up}
+use Rattle.mdns_page.specs.KeptRecords.{looked_up}
 use Rattle.std.proofs.lemmas.Result.{IfOk-weaker}
 
 -- ---- names that a record gives
@@ -63,13 +63,6 @@ module _ {X Y : Type 0} (keep : Y → Bool) (f : X → Y) where
   pub kept-all : (xs rows : List X) (i : ℕ) (kept : List Y) → length xs ≤ i → xs ≡ rows → kept ≡ filter keep (map f (take i xs))
       → kept ≡ filter keep (map f rows)
   kept-all xs rows i kept enough same are = grind (arith, take_all)
-
--- each with lives that are apart
-pub kept_apart : (old new : List RecordLives) (row : RecordLives) → new ≡ old ++ row ∷ [] → AllApart (map row_lent old)
-    → AreApart row.lives.items → AllApart (map row_lent new)
-kept_apart old new row pushed all apart =
-    subst AllApart (sym (ap (map row_lent) pushed ∙ map-append row_lent old (row ∷ [])))
-    (All-push (λ (r : Latest × List Life). AreApart r.1) (map row_lent old) (row_lent row) all apart)
 
 module _ {X Y : Type 0} (f : X → Y) where
   -- the values of one element more of a list, and of all of them
@@ -124,7 +117,7 @@ pub ruleset for_is_drawn = (named, unnamed, IfOk-weaker)
 
 pub ruleset for_is_kept = (some_mapped, IfOk-weaker)
 
-pub ruleset for_push_kept = (filtered_left, filtered_taken, kept_apart)
+pub ruleset for_push_kept = (filtered_left, filtered_taken)
 
 pub ruleset for_live_of = (kept-all, kept_more, map-more, map-whole, map-append, map-map)
 

@@ -2,7 +2,7 @@
 use Rattle.std.specs.{Prelude.{◌≡◌, Bool, ◌&&◌, ◌||◌, if◌then◌else◌, is_some, List, [], ◌∷◌, map}, List.{All, filter, list_any}}
 use Rattle.mdns_message.specs.{Parts.{address_of, service_of}, declared.hearing.Hearing.{Hearing}}
 use Rattle.mdns_join.specs.declared.latest.Latest.{Latest}
-use Rattle.mdns_lives.specs.{Lives.{AreApart}, Window.{meets}, declared.life.Life.{Life}, declared.window.Window.{Window}}
+use Rattle.mdns_lives.specs.{Window.{meets}, declared.life.Life.{Life}, declared.window.Window.{Window}}
 use Rattle.mdns_browse.specs.{declared.about.Subject.{Subject}, About.{keeps_heard, keeps_record}}
 use Rattle.mdns_browse.specs.Services.{body_of, instance_given, name_if, other_given}
 use Rattle.mdns_page.specs.declared.kept_records.{TimelinePart.{TimelinePart}, TimelinePart.TheVariants.{Addresses, Instances, Names}}
@@ -28,10 +28,6 @@ is_kept about lasts last =
 -- of the records that were heard those that the page keeps
 abbrev pub kept_of : List Subject → List (Latest × List Life) → List (Latest × List Life)
 kept_of about rows = filter (λ row. is_kept about (looked_up about rows) row.0) rows
-
--- the lives of each record are in order and apart
-abbrev pub AllApart : List (Latest × List Life) → Type 0
-AllApart rows = All (λ (row : Latest × List Life). AreApart row.1) rows
 
 -- the record has its row in this part of the timeline
 abbrev pub is_of : TimelinePart → Latest → Bool

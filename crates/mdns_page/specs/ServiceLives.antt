@@ -1,19 +1,19 @@
 -- The lives of the service instances of captures (RFC 6763, sections 4 and 5).
-use Rattle.std.specs.Prelude.{◌≡◌, ℕ, ◌≤◌, ◌&&◌, if◌then◌else◌, Bool, true, false, nat_lt, List, ◌++◌, [], ◌∷◌, length, map, Contains}
+use Rattle.std.specs.Prelude.{◌≡◌, ℕ, ◌≤◌, ◌&&◌, Bool, nat_lt, List, ◌++◌, [], map, Contains}
 use Rattle.std.specs.Prelude.{Option, option_map, unwrap_or}
-use Rattle.std.specs.{List.{AllWithin, filter, filter_map, flat_map, list_any}, List.Sorted.{IsStrictlySortedBy}}
+use Rattle.std.specs.{List.{filter, filter_map, flat_map, list_any}, List.Sorted.{IsStrictlySortedBy}}
 use Rattle.mdns_capture.specs.Savefile.{PacketAt}
 use Rattle.mdns_message.specs.{declared.{hearing.Hearing.{Hearing}, parts.Service.{Service}}, Parts.{service_of}, Resource.{key_cmp}}
 use Rattle.mdns_join.specs.declared.latest.Latest.{Latest}
 use Rattle.mdns_cache.specs.Live.{key_of_last}
-use Rattle.mdns_lives.specs.{Chronicle.{AreAllLives}, Lives.{AreApart}, Window.{meets}}
+use Rattle.mdns_lives.specs.{Chronicle.{AreAllLives}, Window.{meets}}
 use Rattle.mdns_lives.specs.declared.{life.Life.{Life}, window.Window.{Window}}
 use Rattle.mdns_browse.specs.{Services.{body_of, instance_given}, ServiceLifeText.{ServiceLife, service_lives_text}}
 use Rattle.mdns_survey.specs.declared.{summary.Summary.{Summary}}
 use Rattle.mdns_survey.specs.{Filter.{counted, filter_of}, Head.{IsHead}, LivesAnswer.{captures_begin, captures_end}}
 use Rattle.mdns_survey.specs.{Outcomes.{AllRead, Outcome}, Question.{Asked, asked_at_once}, Readings.{all_moments}}
 use Rattle.mdns_page.specs.declared.{kept_records.TimelinePart.TheVariants.{Instances}, service_lives.ServiceLivesRequest.{ServiceLivesRequest}}
-use Rattle.mdns_page.specs.{KeptRecords.{AllApart, is_shown, kept_of}, Servers.{servers_named}}
+use Rattle.mdns_page.specs.{KeptRecords.{is_shown, kept_of}, Servers.{servers_named}}
 
 -- each of two lives begins before the other ends
 abbrev pub lives_meet : Life → Life → Bool
@@ -39,36 +39,18 @@ lives_given window kept row =
 abbrev pub service_lives : Window → List (Latest × List Life) → List ServiceLife
 service_lives window kept = flat_map (lives_given window kept) (filter (is_shown Instances window) kept)
 
--- ---- servers that are added to lives
+-- ---- the walk
 
--- the records are in key order, and the lives of each apart
+-- the records are in key order
 abbrev pub AreRecords : List (Latest × List Life) → Type 0
-AreRecords rows = IsStrictlySortedBy key_cmp (map (λ (row : Latest × List Life). key_of_last row.0) rows) × AllApart rows
+AreRecords rows = IsStrictlySortedBy key_cmp (map (λ (row : Latest × List Life). key_of_last row.0) rows)
 
--- the lives are in order and apart
-abbrev pub AreShownApart : List ServiceLife → Type 0
-AreShownApart lives = AreApart (map (λ (shown : ServiceLife). shown.life) lives)
+-- the life begins before the span ends, and the span before the life ends
+abbrev pub meets_span : ℕ × ℕ → Life → Bool
+meets_span span life = nat_lt span.0 life.until && nat_lt life.from.nanos span.1
 
--- a life with those servers, too, that are of these SRV records
-abbrev pub served : List (Latest × List Life) → ServiceLife → ServiceLife
-served named shown =
-    record { kind = shown.kind; name = shown.name; life = shown.life; servers = shown.servers ++ servers_in named shown.life }
-
--- a life with one server more, if it passes
-abbrev pub served_if : (Life → Bool) → Service (List ℕ) → ServiceLife → ServiceLife
-served_if passes service shown =
-    record {
-      kind = shown.kind;
-      name = shown.name;
-      life = shown.life;
-      servers = shown.servers ++ (if passes shown.life then service ∷ [] else []);
-    }
-
--- those that pass are those from `first` until before `end`
-abbrev pub IsRange : {X : Type 0} → (X → Bool) → List X → (first end : ℕ) → Type 0
-IsRange passes xs first end =
-    AllWithin (λ x. passes x ≡ false) xs 0 first × AllWithin (λ x. passes x ≡ true) xs first end
-    × AllWithin (λ x. passes x ≡ false) xs end (length xs)
+abbrev pub IsWithin : ℕ × ℕ → Life → Type 0
+IsWithin span life = (span.0 ≤ life.from.nanos) × (life.until ≤ span.1)
 
 -- ---- the text
 

@@ -4,9 +4,9 @@ ghost use Rattle.std.specs.Prelude.{◌≡◌, ◌++◌, ◌||◌, ◌∷◌, []
 ghost use Rattle.std.specs.{List.{filter, list_any}, List.Sorted.{IsStrictlySortedBy}};
 ghost use Rattle.mdns_message.specs.{Parts.{address_of}, Resource.{key_cmp}};
 ghost use Rattle.mdns_cache.specs.{Live.{key_of_last}, LentRecords.{last_lent}};
-ghost use Rattle.mdns_lives.specs.{LentLives.{row_lent}, Lives.{AreApart}, Window.{meets}};
+ghost use Rattle.mdns_lives.specs.{LentLives.{row_lent}, Window.{meets}};
 ghost use Rattle.mdns_browse.specs.Services.{body_of, other_given};
-ghost use Rattle.mdns_page.specs.KeptRecords.{AllApart, is_drawn, is_kept, is_of, is_shown};
+ghost use Rattle.mdns_page.specs.KeptRecords.{is_drawn, is_kept, is_of, is_shown};
 
 use crate::other_rows::has_address;
 use crate::servers::is_server;
@@ -37,7 +37,6 @@ pub(crate) fn kept_rows<'a>(
 ) -> Result<Vec<RecordLives<'a>>, Want>
     ensures rows { IfOk result (λ kept. IsStrictlySortedBy key_cmp (map key_of_last (map last_lent heard.now))
         → map row_lent kept.items ≡ filter (λ row. is_kept about.now (map last_lent heard.now) row.0) rows.entry) }
-    ensures apart { IfOk result (λ kept. AllApart (map row_lent kept.items)) }
 {
     let mut kept = Vec::new(alloc);
     let mut scratch = String::new(alloc);
@@ -56,11 +55,9 @@ fn push_kept<'a>(
     about: &[Subject],
     scratch: &mut String,
 ) -> Result<(), Want>
-    ensures rows { OnOk result (IsStrictlySortedBy key_cmp (map key_of_last (map last_lent heard.now))
+    ensures { OnOk result (IsStrictlySortedBy key_cmp (map key_of_last (map last_lent heard.now))
         → map row_lent to.new.items ≡ map row_lent to.old.items
         ++ filter (λ row. is_kept about.now (map last_lent heard.now) row.0) (row_lent row.entry ∷ [])) }
-    ensures apart { OnOk result (AllApart (map row_lent to.old.items) → AreApart row.entry.lives.items
-        → AllApart (map row_lent to.new.items)) }
 {
     if is_kept(&row.last, heard, about, scratch)? {
         to.push(row)?;

@@ -1,14 +1,14 @@
 //! The lives of the service instances of captures.
 
-ghost use Rattle.std.specs.Prelude.{◌≡◌, ◌++◌, ◌&&◌, ◌≤◌, ◌∷◌, [], length, nat_le, true, Contains, IfOk, OnOk, map, string_bytes, List};
-ghost use Rattle.std.specs.List.{filter, flat_map, list_any};
+ghost use Rattle.std.specs.Prelude.{◌≡◌, ◌++◌, ◌≤◌, ◌∷◌, [], Contains, IfOk, OnOk, map, string_bytes, List};
+ghost use Rattle.std.specs.List.{All, filter, flat_map, list_any};
 ghost use Rattle.mdns_message.specs.{Parts.{service_lent}, declared.hearing.Hearing.{Hearing}};
-ghost use Rattle.mdns_lives.specs.{Chronicle.{Chronicles}, LentLives.{row_lent}, Lives.{AreApart}, Window.{meets}};
-ghost use Rattle.mdns_browse.specs.{LifeText.{nanos_if_some}, ServiceLifeText.{service_life_lent}, declared.service_life_text.ServiceLife.{ServiceLife}};
+ghost use Rattle.mdns_lives.specs.{Chronicle.{Chronicles}, LentLives.{row_lent}, Window.{meets}, declared.life.Life.{Life}};
+ghost use Rattle.mdns_browse.specs.{LifeText.{nanos_if_some}, ServiceLifeText.{service_life_lent}};
 ghost use Rattle.mdns_page.specs.declared.kept_records.TimelinePart.TheVariants.{Instances};
-ghost use Rattle.mdns_page.specs.KeptRecords.{AllApart, is_shown};
-ghost use Rattle.mdns_page.specs.ServiceLives.{AreRecords, AreShownApart, IsRange, WritesServiceLives};
-ghost use Rattle.mdns_page.specs.ServiceLives.{lives_given, lives_meet, lives_named, served, served_if, service_lives};
+ghost use Rattle.mdns_page.specs.KeptRecords.{is_shown};
+ghost use Rattle.mdns_page.specs.ServiceLives.{AreRecords, IsWithin, WritesServiceLives};
+ghost use Rattle.mdns_page.specs.ServiceLives.{lives_given, lives_meet, lives_named, meets_span, servers_in, service_lives};
 
 use crate::about_heard::heard_rows;
 use crate::kept_records::{TimelinePart, is_shown, kept_rows};
@@ -140,7 +140,7 @@ fn push_shown<'a>(
     record: &'a RecordLives<'a>,
     kept: &'a [RecordLives<'a>],
 ) -> Result<(), Want>
-    ensures { OnOk result (AreRecords (map row_lent kept.now) → AreApart «record».now.lives.items
+    ensures { OnOk result (AreRecords (map row_lent kept.now)
         → map service_life_lent to.new.items ≡ map service_life_lent to.old.items
         ++ flat_map (lives_given window (map row_lent kept.now)) (filter (is_shown Instances window) (row_lent «record».now ∷ []))) }
 {
@@ -157,50 +157,85 @@ fn push_given<'a>(
     record: &'a RecordLives<'a>,
     kept: &'a [RecordLives<'a>],
 ) -> Result<(), Want>
-    ensures { OnOk result (AreRecords (map row_lent kept.now) → AreApart «record».now.lives.items
-        → map service_life_lent to.new.items
+    ensures { OnOk result (AreRecords (map row_lent kept.now) → map service_life_lent to.new.items
         ≡ map service_life_lent to.old.items ++ lives_given window (map row_lent kept.now) (row_lent «record».now)) }
 {
     let Some(name) = instance_of(&record.last) else {
         return Ok(());
     };
-    let mut lives = lives_in(*to.allocator(), window, record, name)?;
-    add_servers(lives.as_mut_slice(), servers_named(kept, name))?;
-    Ok(to.append(&mut lives)?)
+    let lives = lives_shown(*to.allocator(), window, record.lives.as_slice())?;
+    push_lives(
+        to,
+        record,
+        name,
+        lives.as_slice(),
+        servers_named(kept, name),
+    )
 }
 
-// Collects the lives in the window of the instance of this name, which a record gives, without servers.
-fn lives_in<'a>(
-    alloc: Global,
-    window: Window,
+// Collects the lives that meet the window.
+fn lives_shown(alloc: Global, window: Window, lives: &[Life]) -> Result<Vec<Life>, Want>
+    ensures { IfOk result (λ shown. shown.items ≡ filter (meets window) lives.now) }
+{
+    Ok(
+        lives
+            .iter()
+            .copied()
+            .filter(|life| window.meets(life))
+            .collect(alloc)?,
+    )
+}
+
+// Appends lives of the instance of this name, which a record gives, with the servers in each. Each half of the lives is given only what
+// of the SRV records meets its time, so that not every life is compared with every one of a record's.
+fn push_lives<'a>(
+    to: &mut Vec<ServiceLife<'a>>,
     record: &'a RecordLives<'a>,
     name: &'a Name,
-) -> Result<Vec<ServiceLife<'a>>, Want>
-    ensures { IfOk result (λ lives. map service_life_lent lives.items
-        ≡ lives_named (row_lent «record».now).0 name.now [] (filter (meets window) (row_lent «record».now).1)) }
+    lives: &[Life],
+    named: &[RecordLives<'a>],
+) -> Result<(), Want>
+    ensures { OnOk result (map service_life_lent to.new.items ≡ map service_life_lent to.old.items
+        ++ lives_named (row_lent «record».now).0 name.now (map row_lent named.now) lives.now) }
 {
-    let mut lives = Vec::new(alloc);
-    for life in record.lives.as_slice() {
-        push_life(&mut lives, window, record, name, life)?;
+    match lives {
+        [] => Ok(()),
+        [life] => push_life(to, record, name, life, named),
+        _ => {
+            let found = live_in(*to.allocator(), named, span_of(lives))?;
+            let near = found.as_slice();
+            let (front, back) = lives.split_at(lives.len() / 2);
+            push_lives(to, record, name, front, near)?;
+            push_lives(to, record, name, back, near)
+        }
     }
-    Ok(lives)
 }
 
-// Appends a life if it meets the window.
+// Returns the earliest beginning of lives and their latest end.
+fn span_of(lives: &[Life]) -> (u64, u64)
+    ensures { All (IsWithin result) lives.now }
+{
+    let mut from = u64::MAX;
+    let mut until: u64 = 0;
+    for life in lives {
+        from = from.min(life.from.nanos());
+        until = until.max(life.until);
+    }
+    (from, until)
+}
+
+// Appends a life, with the servers in it.
 fn push_life<'a>(
     to: &mut Vec<ServiceLife<'a>>,
-    window: Window,
     record: &'a RecordLives<'a>,
     name: &'a Name,
     life: &Life,
+    named: &[RecordLives<'a>],
 ) -> Result<(), Want>
     ensures { OnOk result (map service_life_lent to.new.items ≡ map service_life_lent to.old.items
-        ++ lives_named (row_lent «record».now).0 name.now [] (filter (meets window) (life.now ∷ []))) }
+        ++ lives_named (row_lent «record».now).0 name.now (map row_lent named.now) (life.now ∷ [])) }
 {
-    if !window.meets(life) {
-        return Ok(());
-    }
-    let servers = Vec::new(*to.allocator());
+    let servers = servers_in(*to.allocator(), named, life)?;
     Ok(to.push(ServiceLife {
         kind: &record.last.resource.owner,
         name,
@@ -209,83 +244,75 @@ fn push_life<'a>(
     })?)
 }
 
-// Adds to lives of an instance their servers, by its SRV records.
-fn add_servers<'a>(lives: &mut [ServiceLife<'a>], named: &'a [RecordLives<'a>]) -> Result<(), Want>
-    ensures { OnOk result (AreShownApart (map service_life_lent lives.old) → AllApart (map row_lent named.now)
-        → map service_life_lent lives.new ≡ map (served (map row_lent named.now)) (map service_life_lent lives.old)) }
+// Collects the servers in a life.
+#[tactic(auto, using(crate::proofs::ServedLemmas::one_more))]
+fn servers_in<'a>(
+    alloc: Global,
+    named: &[RecordLives<'a>],
+    life: &Life,
+) -> Result<Vec<Service<&'a Name>>, Want>
+    ensures { IfOk result (λ servers. map service_lent servers.items ≡ servers_in (map row_lent named.now) life.now) }
 {
+    let mut servers = Vec::new(alloc);
     for record in named {
-        add_server(lives, record)?;
+        if !meets_one(life, record.lives.as_slice()) {
+            continue;
+        }
+        // Every record is an SRV record: no other data has this type number.
+        let Some(service) = record.last.resource.body.service() else {
+            continue;
+        };
+        servers.push(service)?;
     }
-    Ok(())
+    Ok(servers)
 }
 
-// Adds the service of an SRV record to the lives that meet one of the record's.
-fn add_server<'a>(lives: &mut [ServiceLife<'a>], record: &'a RecordLives<'a>) -> Result<(), Want>
-    ensures { OnOk result (AreShownApart (map service_life_lent lives.old) → AreApart «record».now.lives.items
-        → map service_life_lent lives.new ≡ map (served (row_lent «record».now ∷ [])) (map service_life_lent lives.old)) }
+// Checks that a life meets one of others.
+fn meets_one(life: &Life, others: &[Life]) -> bool
+    ensures { result ≡ list_any (lives_meet life.now) others.now }
 {
-    // Every record is an SRV record: no other data has this type number.
-    match record.last.resource.body.service() {
-        Some(service) => add_service(lives, service, record.lives.as_slice()),
-        None => Ok(()),
+    let span = (life.from.nanos(), life.until);
+    others.iter().any(|other| meets_span(span, other))
+}
+
+// Checks that a life meets a span of time.
+fn meets_span(span: (u64, u64), life: &Life) -> bool
+    ensures { result ≡ meets_span span life.now }
+{
+    span.0 < life.until && life.from.nanos() < span.1
+}
+
+// Collects the records that were live in a span of time, with their lives that meet it.
+#[tactic(auto, using(crate::proofs::ServedLemmas::one_more))]
+fn live_in<'a>(
+    alloc: Global,
+    named: &[RecordLives<'a>],
+    span: (u64, u64),
+) -> Result<Vec<RecordLives<'a>>, Want>
+    ensures { IfOk result (λ near. (life : Life) → IsWithin span life
+        → servers_in (map row_lent near.items) life ≡ servers_in (map row_lent named.now) life) }
+{
+    let mut near = Vec::new(alloc);
+    for record in named {
+        let lives = lives_in(alloc, record.lives.as_slice(), span)?;
+        if lives.is_empty() {
+            continue;
+        }
+        let last = record.last;
+        near.push(RecordLives { last, lives })?;
     }
+    Ok(near)
 }
 
-// Adds a service to the lives that meet one of its record's.
-fn add_service<'a>(
-    lives: &mut [ServiceLife<'a>],
-    service: Service<&'a Name>,
-    others: &[Life],
-) -> Result<(), Want>
-    ensures { OnOk result (AreShownApart (map service_life_lent lives.old) → AreApart others.now
-        → map service_life_lent lives.new
-        ≡ map (served_if (λ life. list_any (lives_meet life) others.now) (service_lent service.entry)) (map service_life_lent lives.old)) }
+// Collects the lives that meet a span of time.
+fn lives_in(alloc: Global, lives: &[Life], span: (u64, u64)) -> Result<Vec<Life>, Want>
+    ensures { IfOk result (λ met. met.items ≡ filter (meets_span span) lives.now) }
 {
-    // A life that begins before another one ends meets that one, or has ended before the next begins.
-    let mut ended = 0;
-    for other in others {
-        add_met(lives, service, other, ended)?;
-        ended = other.until;
-    }
-    Ok(())
-}
-
-// Adds a service to the lives that meet another one and begin no earlier than a moment.
-fn add_met<'a>(
-    lives: &mut [ServiceLife<'a>],
-    service: Service<&'a Name>,
-    other: &Life,
-    since: u64,
-) -> Result<(), Want>
-    ensures { OnOk result (AreShownApart (map service_life_lent lives.old)
-        → map service_life_lent lives.new
-        ≡ map (served_if (λ life. nat_le since life.from.nanos && lives_meet life other.now) (service_lent service.entry))
-        (map service_life_lent lives.old)) }
-{
-    let (first, end) = range_of(lives, other, since);
-    add_to_each(&mut lives[first..end], service)
-}
-
-// Finds by binary search the places of the lives that meet another one and begin no earlier than a moment.
-fn range_of(lives: &[ServiceLife<'_>], other: &Life, since: u64) -> (usize, usize)
-    ensures within { (result.0 ≤ result.1) × (result.1 ≤ length lives.now) }
-    ensures range { AreShownApart (map service_life_lent lives.now) → IsRange
-        (λ (shown : ServiceLife). nat_le since shown.life.from.nanos && lives_meet shown.life other.now) lives.now result.0 result.1 }
-{
-    let first = lives.partition_point(|shown| {
-        shown.life.from.nanos() < since || shown.life.until <= other.from.nanos()
-    });
-    let end = lives.partition_point(|shown| shown.life.from.nanos() < other.until);
-    (first.min(end), end)
-}
-
-fn add_to_each<'a>(lives: &mut [ServiceLife<'a>], service: Service<&'a Name>) -> Result<(), Want>
-    ensures { OnOk result (map service_life_lent lives.new
-        ≡ map (served_if (λ life. true) (service_lent service.entry)) (map service_life_lent lives.old)) }
-{
-    for shown in lives.iter_mut() {
-        shown.servers.push(service)?;
-    }
-    Ok(())
+    Ok(
+        lives
+            .iter()
+            .copied()
+            .filter(|life| meets_span(span, life))
+            .collect(alloc)?,
+    )
 }

@@ -3,9 +3,9 @@ use Rattle.std.specs.{List.{filter}, List.Sorted.{IsStrictlySortedBy}}
 use Rattle.mdns_message.specs.Resource.{key_cmp}
 use Rattle.mdns_cache.specs.{Live.{key_of_last}, LentRecords.{last_lent}}
 use Rattle.mdns_join.specs.declared.latest.Latest.{Latest}
-use Rattle.mdns_lives.specs.{LentLives.{row_lent}, declared.{life.Life.{Life}, lives.RecordLives.{RecordLives}}}
+use Rattle.mdns_lives.specs.{LentLives.{row_lent}, declared.life.Life.{Life}}
 use Rattle.mdns_browse.specs.{LifeText.{nanos_if_some}, ServiceLifeText.{service_life_lent, service_lives_text}, declared.about.Subject.{Subject}}
-use Rattle.mdns_page.specs.{KeptRecords.{AllApart, is_kept, kept_of, looked_up}, ServiceLives.{service_lives}}
+use Rattle.mdns_page.specs.{KeptRecords.{is_kept, kept_of, looked_up}, ServiceLives.{service_lives}}
 use Rattle.mdns_page.proofs.KeptLemmas.{looked_up-sorted, some-sorted}
 use Rattle.mdns_page.proofs.service_lives.text_of.Goals as goal
 
@@ -27,9 +27,8 @@ returns c = λ heard held latest.
     let in_order = subst (λ (rs : List (Latest × List Life)). IsStrictlySortedBy key_cmp (map (λ (row : Latest × List Life). key_of_last row.0) rs))
     (sym kept)
     (some-sorted heard walk lives (λ (row : Latest × List Life). is_kept about (looked_up about walk) row.0)) in
-    let apart = subst (λ (rows : List RecordLives). AllApart (map row_lent rows)) (sym c.as_slice-2.ensures.value) c.in_ok-kept.ensures.apart in
     let services : map service_life_lent c.as_slice-3.result.now ≡ service_lives request.window (kept_of request.about walk) =
-    ap (map service_life_lent) c.as_slice-3.ensures.value ∙ c.in_ok-services.ensures (in_order, apart)
+    ap (map service_life_lent) c.as_slice-3.ensures.value ∙ c.in_ok-services.ensures in_order
     ∙ ap (service_lives request.window) kept ∙ ap (λ (subjects : List Subject). service_lives request.window (kept_of subjects walk)) c.as_slice-about.ensures in
     record {
       latest = latest;
