@@ -1,29 +1,27 @@
 -- Times, offsets and date-times are read as their grammar says.
-use Rattle.std.proofs.Common.{◌≡◌, ◌∙◌, ◌<◌, ◌+◌, ◌*◌, ◌++◌, ◌∷◌, ◌==◌, ℕ, Bool, true, false, cond}
-use Rattle.std.proofs.Common.{IfSome, eqb-true, nat_lt, subst, List, [], get_or, drop, Option, Some, None, option_and_then, option_map}
-use Rattle.std.proofs.{Common.{refl, sym, ap, arith, inl, inr, Result, Ok, Err}, lemmas.Bool.Decides.{nat_tests}}
-use Rattle.std.proofs.lemmas.{Grind.{common_steps}, Option.{none-some, same_Some}, List.{append_assoc, append-nil}}
+use Rattle.std.proofs.Common.{◌≡◌, ◌∙◌, ◌<◌, ◌+◌, ◌*◌, ◌++◌, ◌∷◌, ◌==◌, ℕ, Bool, true, false, cond, IfSome, eqb-true, nat_lt, subst, List}
+use Rattle.std.proofs.Common.{[], get_or, drop, Option, Some, None, option_and_then, option_map, refl, sym, ap, arith, inl, inr, Result}
+use Rattle.std.proofs.{lemmas.Bool.Decides.{nat_tests}, lemmas.Grind.{common_steps}, lemmas.Option.{none-some, same_Some}}
+use Rattle.std.proofs.lemmas.List.{append_assoc, append-nil}
 use Rattle.std.specs.Result.{OkIff, result_ok}
 use Rattle.mdns_capture.specs.{declared.moment.Moment.{Moment}, Limits.{second}}
 use Rattle.command_line.specs.{declared.moments.Offset.{Offset}, declared.moments.Offset.TheVariants.{Ahead, Behind}, Moments.{IsClock}}
 use Rattle.command_line.specs.Moments.{IsDateTime, IsLocal, IsOffset, IsOptionalFraction, IsOptionalSecond, IsSeparator, IsTime, day_length}
-use Rattle.command_line.specs.MomentReading as reading
 use Rattle.people_text.specs.{Calendar.{days_of_years}, MomentText.{two_digits}}
-use Rattle.command_line.proofs.GrammarLemmas.{Stops, clock-complete, clock-sound, cond-some, date-complete, date-sound}
-use Rattle.command_line.proofs.GrammarLemmas.{dotted-complete, dotted-sound, map-some, same-parts, then-some, two-complete, two-sound}
+use Rattle.command_line.proofs.GrammarLemmas.{Stops, clock-complete, clock-sound, cond-some, date-complete, date-sound, dotted-complete}
+use Rattle.command_line.proofs.GrammarLemmas.{dotted-sound, map-some, same-parts, then-some, two-complete, two-sound}
 use Rattle.people_text.proofs.CalendarLemmas.{days_of_years_1970}
+use Rattle.command_line.specs.MomentReading as reading
 
 -- ---- seconds
 
 second-complete : (more rest : List ℕ) (seconds nanos : ℕ) → IsOptionalSecond more seconds nanos → Stops rest
     → reading.read_second (more ++ rest) ≡ Some ((seconds, nanos), rest)
 unfolding reading.read_second
-second-complete more rest seconds nanos (inl none) stops = grind (arith, nat_tests)
-second-complete more rest seconds nanos (inr is) stops = grind (arith, nat_lt, nat_tests, dotted-complete, two-complete)
+second-complete more rest seconds nanos is stops = grind (arith, nat_tests, dotted-complete, two-complete)
 
 colon-first : (text : List ℕ) → get_or text 0 0 ≡ 58 → text ≡ 58 ∷ drop 1 text
-colon-first [] is = absurd (omega arith)
-colon-first (c ∷ text) is = rw is refl
+colon-first text is = grind arith
 
 small-second : (n : ℕ) → nat_lt n 60 ≡ true → n < 60
 small-second n small = grind (arith, nat_tests)
@@ -42,9 +40,7 @@ second-sound text rest seconds nanos e = go (get_or text 0 0 == 58) refl e
     go : (b : Bool) → (get_or text 0 0 == 58) ≡ b
         → cond b (option_and_then with_fraction (reading.read_two_digits (drop 1 text))) (Some ((0, 0), text)) ≡ Some ((seconds, nanos), rest)
         → HasSecond text rest seconds nanos
-    go false is read =
-        let (values, left) = same-parts (0, 0) (seconds, nanos) text rest read in
-        ([], inl (refl, sym (ap (λ p. p.0) values), sym (ap (λ p. p.1) values)), left)
+    go false is read = grind (arith, same-parts)
     go true is read =
         then-some with_fraction (reading.read_two_digits (drop 1 text)) _ read λ digits read_digits e₁. below (nat_lt digits.0 60) digits refl read_digits e₁
       where
@@ -109,11 +105,7 @@ time-sound text rest seconds nanos e =
 -- ---- offsets
 
 pub offset-stops : (zone : List ℕ) (offset : Offset) → IsOffset zone offset → Stops zone
-offset-stops [] offset is = absurd is
-offset-stops (sign ∷ text) (Ahead minutes) (inl (inl upper, none, zero_is)) = rw upper (λ e. absurd (omega arith), λ e. absurd (omega arith), refl)
-offset-stops (sign ∷ text) (Ahead minutes) (inl (inr lower, none, zero_is)) = rw lower (λ e. absurd (omega arith), λ e. absurd (omega arith), refl)
-offset-stops (sign ∷ text) (Ahead minutes) (inr is) = rw is.0 (λ e. absurd (omega arith), λ e. absurd (omega arith), refl)
-offset-stops (sign ∷ text) (Behind minutes) is = rw is.0 (λ e. absurd (omega arith), λ e. absurd (omega arith), refl)
+offset-stops zone offset is = grind arith
 
 clock-whole : (text : List ℕ) (minutes : ℕ) → IsClock text minutes → reading.whole (reading.read_minutes text) ≡ Some minutes
 clock-whole text minutes is = grind (arith, append-nil text, clock-complete text [] minutes is)
@@ -127,32 +119,22 @@ offset-complete (sign ∷ text) (Ahead minutes) (inr is) = rw (is.0, clock-whole
 offset-complete (sign ∷ text) (Behind minutes) is = rw (is.0, clock-whole text minutes is.1) refl
 
 whole-some : {A : Type 0} (read : Option (A × List ℕ)) (a : A) → reading.whole read ≡ Some a → read ≡ Some (a, [])
-whole-some None a e = absurd (none-some _ e)
-whole-some (Some (x, [])) a e = ap (λ y. Some (y, [])) (same_Some _ _ e)
-whole-some (Some (x, c ∷ rest)) a e = absurd (none-some _ e)
+whole-some read a e = grind (arith, none-some, same_Some)
 
 whole-clock : (text : List ℕ) (minutes : ℕ) → reading.whole (reading.read_minutes text) ≡ Some minutes → IsClock text minutes
 whole-clock text minutes e = grind (arith, clock-sound, whole-some, append-nil)
 
 pub offset-sound : (zone : List ℕ) (offset : Offset) → reading.read_offset zone ≡ Some offset → IsOffset zone offset
 unfolding reading.read_offset
-offset-sound [] offset e = absurd (none-some _ e)
-offset-sound (sign ∷ text) offset e =
-    grind (arith, option_map, none-some, map-some, eqb-true, whole-clock, nat_tests, whole-some, same-parts)
+offset-sound zone offset e = grind (arith, none-some, map-some, eqb-true, whole-clock, nat_tests, whole-some, same-parts)
 
 -- ---- date-times
 
 separator-complete : (separator : ℕ) (rest : List ℕ) → IsSeparator separator → reading.after_separator (separator ∷ rest) ≡ Some rest
-separator-complete separator rest (inl is) = rw is refl
-separator-complete separator rest (inr (inl is)) = rw is refl
-separator-complete separator rest (inr (inr is)) = rw is refl
+separator-complete separator rest is = grind arith
 
 separator-sound : (text rest : List ℕ) → reading.after_separator text ≡ Some rest → (separator : ℕ) × IsSeparator separator × (text ≡ separator ∷ rest)
-separator-sound [] rest e = absurd (none-some _ e)
-separator-sound (c ∷ text) rest e =
-    let (test, same) = cond-some _ _ _ e in
-    let is : IsSeparator c = grind (arith, nat_tests) in
-    (c, is, ap (λ t. c ∷ t) same)
+separator-sound text rest e = grind (arith, none-some, cond-some, nat_tests)
 
 pub date_time-complete : (text : List ℕ) (moment : Moment) (is : IsDateTime text moment)
     → reading.read_date_time text ≡ Some (is.days * 86400 + is.seconds, is.nanos, is.offset)
@@ -203,9 +185,7 @@ date_time-sound text local nanos offset e since moment is_local is_moment =
 pub moments-told : (text : List ℕ) (local nanos : ℕ) (offset : Offset) → reading.read_date_time text ≡ Some (local, nanos, offset)
     → (since : ℕ) → IsLocal offset (days_of_years 1970 * day_length + since) local
     → (found : Option Moment) → IfSome found (λ moment. moment.nanos ≡ since * second + nanos) → IfSome found (IsDateTime text)
-moments-told text local nanos offset read since is_local None made = tt
-moments-told text local nanos offset read since is_local (Some moment) made =
-    date_time-sound text local nanos offset read since moment is_local made
+moments-told text local nanos offset read since is_local found made = grind (arith, date_time-sound)
 
 -- no moment is that of a date-time whose second 32 bits don't hold
 pub unread-told : (text : List ℕ) (local nanos : ℕ) (offset : Offset) → reading.read_date_time text ≡ Some (local, nanos, offset)
@@ -222,14 +202,11 @@ unread-told text local nanos offset read never moment is =
 
 -- a clock with an offset shows one moment of UTC
 pub same-utc : (offset : Offset) (utc other local : ℕ) → IsLocal offset utc local → IsLocal offset other local → utc ≡ other
-same-utc (Ahead minutes) utc other local one two = omega (arith, one, two)
-same-utc (Behind minutes) utc other local one two = omega (arith, one, two)
+same-utc offset utc other local one two = grind arith
 
 pub since-told : {E : Type 0} (offset : Offset) (utc since local : ℕ) (r : Result ℕ E) (found : Option ℕ) → OkIff r (since < 4294967296) since
     → found ≡ result_ok r → IsLocal offset utc local → utc ≡ days_of_years 1970 * day_length + since
     → IfSome found (λ s. IsLocal offset (days_of_years 1970 * day_length + s) local)
-since-told offset utc since local (Err e) found only is has same = rw is tt
-since-told offset utc since local (Ok x) found only is has same =
-    rw (is, only.1) (subst (λ n. IsLocal offset n local) same has)
+since-told offset utc since local r found only is has same = grind arith
 
 pub ruleset for_since_1970 = (same-utc, since-told, common_steps, nat_tests, days_of_years_1970)

@@ -1,5 +1,5 @@
 -- Lemmas on words that a dot ends, and on those that none does.
-use Rattle.std.proofs.Common.{◌≡◌, ◌≢◌, ◌++◌, ◌∷◌, ap, arith, refl, subst, sym, inl, inr, List, [], Some, None, option_map}
+use Rattle.std.proofs.Common.{◌≡◌, ◌≢◌, ◌++◌, ◌∷◌, ap, arith, refl, List, [], Some, None, option_map}
 use Rattle.clap.specs.Words.{Row, Text}
 use Rattle.command_line.specs.{FinalDot.{asked_words, before_dot}, Line.{HasPrinters}}
 
@@ -18,5 +18,6 @@ no-dot (x ∷ y ∷ rest) never =
 
 -- no type of printers ends in a dot
 pub printers-asked : (rows : List Row) (words : List Text) → HasPrinters rows words → asked_words words ≡ words
-printers-asked rows words (inl given) = subst (λ (all : List Text). asked_words all ≡ all) (sym given.1) refl
-printers-asked rows words (inr none) = subst (λ (all : List Text). asked_words all ≡ all) (sym none.1) refl
+printers-asked rows words is = grind arith
+
+pub ruleset for_without_final_dot = (before-dot, no-dot)

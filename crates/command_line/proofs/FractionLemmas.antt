@@ -1,8 +1,9 @@
 -- The digits of a fraction.
-use Rattle.std.proofs.Common.{◌≡◌, ◌∙◌, ℕ, ◌-◌, ◌*◌, ◌^◌, ◌+◌, ◌<◌, ◌≤◌, true, List, length, None}
-use Rattle.std.proofs.{Common.{Some, ap, arith, sym}, Math.Nat.{mul-lt-mul_of_pos_right, one-le-pow}, lemmas.Bool.{and_parts}}
-use Rattle.std.proofs.lemmas.{Bool.Decides.{nat_tests}, Nat.{pow-add}}
-use Rattle.std.proofs.lemmas.Str.Parse.{IsNumeralModel, digits_value_short, numerals_by_value, tells_all_ascii_digits}
+use Rattle.std.proofs.Common.{◌≡◌, ◌∙◌, ℕ, ◌-◌, ◌*◌, ◌^◌, ◌+◌, ◌<◌, ◌≤◌, true, List, length, None, Some, ap, arith, sym}
+use Rattle.std.proofs.{Math.Nat.{mul-lt-mul_of_pos_right, one-le-pow}, lemmas.Bool.{and_parts}, lemmas.Bool.Decides.{nat_tests}}
+use Rattle.std.proofs.{lemmas.Nat.{pow-add}, lemmas.Str.Parse.{IsNumeralModel, digits_value_short, numerals_by_value}}
+use Rattle.std.proofs.lemmas.Str.Parse.{tells_all_ascii_digits, not_in_digits, parse_digits, parse_plain}
+use Rattle.std.proofs.{lemmas.Fmt.{IsAscii-from_digits}, lemmas.Str.{IsUtf8-from_ascii}}
 use Rattle.std.specs.{Str.{all_ascii_digits}, Str.Parse.{digits_value}}
 use Rattle.command_line.specs.MomentReading.{fraction_of}
 
@@ -29,3 +30,5 @@ read ds n all some few is = grind (arith, nat_tests, below-second)
 pub unread : (ds : List ℕ) → (all_ascii_digits ds ≡ true → 0 < length ds → length ds ≤ 9 → ⊥) → None ≡ fraction_of ds
 unfolding fraction_of
 unread ds never = grind (arith, and_parts, nat_tests)
+
+pub ruleset for_fraction_of = (own, read, unread, digits_value_short, not_in_digits, parse_digits, parse_plain, IsUtf8-from_ascii, IsAscii-from_digits)

@@ -1,30 +1,26 @@
 -- Each reader reads its rule of the grammar, and nothing else.
-use Rattle.std.proofs.Common.{◌≡◌, ◌≢◌, ◌∙◌, ◌<◌, ◌+◌, ◌*◌, ◌/◌, ◌%◌, ◌++◌, ◌∷◌, ◌&&◌}
-use Rattle.std.proofs.Common.{◌==◌, ℕ, suc, Bool, true, false, cond, List, [], length, get_or, take, drop, Option, Some, None}
-use Rattle.std.proofs.Common.{option_and_then, option_map, refl, sym, ap, arith, eqb-true, take_at, drop_at, take-append-drop, nat_lt}
-use Rattle.std.proofs.{Common.{nat_le, subst}, lemmas.Bool.{and_parts}, lemmas.Bool.Decides.{nat_tests}}
+use Rattle.std.proofs.Common.{◌≡◌, ◌≢◌, ◌∙◌, ◌<◌, ◌+◌, ◌*◌, ◌/◌, ◌%◌, ◌++◌, ◌∷◌, ◌==◌, ℕ, Bool, true, false, cond, List, [], length, get_or}
+use Rattle.std.proofs.Common.{take, drop, Option, Some, None, option_and_then, option_map, refl, sym, ap, arith, eqb-true, take_at, drop_at}
+use Rattle.std.proofs.{Common.{take-append-drop, nat_lt, nat_le, subst}, lemmas.Bool.{and_parts}, lemmas.Bool.Decides.{nat_tests}}
 use Rattle.std.proofs.lemmas.Option.{none-some, same_Some}
 use Rattle.std.specs.{List.{prefix_len}, Char.{is_ascii_digit}, Str.{all_ascii_digits}}
-use Rattle.command_line.specs.MomentReading as reading
 use Rattle.command_line.specs.Moments.{IsClock, IsDate, IsFraction, IsOptionalFraction}
-use Rattle.people_text.specs.Calendar as calendar
 use Rattle.people_text.specs.MomentText.{date_written, four_digits, two_digits}
 use Rattle.people_text.proofs.CalendarLemmas.{month_length-few}
 use Rattle.command_line.proofs.FractionLemmas.{own}
+use Rattle.command_line.specs.MomentReading as reading
+use Rattle.people_text.specs.Calendar as calendar
 
 -- ---- what a chain of reads went through
 
 pub cond-some : {A : Type 0} (b : Bool) (x y : A) → cond b (Some x) None ≡ Some y → (b ≡ true) × (x ≡ y)
-cond-some true x y e = (refl, same_Some x y e)
-cond-some false x y e = absurd (none-some y e)
+cond-some b x y e = grind (arith, same_Some, none-some)
 
 pub then-some : {A B P : Type 0} (f : A → Option B) (o : Option A) (y : B) → option_and_then f o ≡ Some y → ((x : A) → o ≡ Some x → f x ≡ Some y → P) → P
-then-some f None y e k = absurd (none-some y e)
-then-some f (Some x) y e k = k x refl e
+then-some f o y e k = grind (arith, none-some)
 
 pub map-some : {A B : Type 0} (f : A → B) (o : Option A) (y : B) → option_map f o ≡ Some y → (x : A) × (o ≡ Some x) × (f x ≡ y)
-map-some f None y e = absurd (none-some y e)
-map-some f (Some x) y e = (x, refl, same_Some _ _ e)
+map-some f o y e = grind (arith, none-some, same_Some)
 
 pub same-parts : {A B : Type 0} (a x : A) (b y : B) → ◌≡◌ {A = Option (A × B)} (Some (a, b)) (Some (x, y)) → (a ≡ x) × (b ≡ y)
 same-parts a x b y e = let same = same_Some _ _ e in (ap (λ p. p.0) same, ap (λ p. p.1) same)
@@ -37,13 +33,10 @@ two-complete n rest h = grind (arith, nat_tests)
 
 pub two-sound : (text rest : List ℕ) (n : ℕ) → reading.read_two_digits text ≡ Some (n, rest) → (n < 100) × (text ≡ two_digits n ++ rest)
 unfolding reading.read_two_digits
-two-sound [] rest n e = absurd (none-some _ e)
-two-sound (high ∷ []) rest n e = absurd (none-some _ e)
-two-sound (high ∷ low ∷ text) rest n e = grind (arith, cond-some, nat_tests)
+two-sound text rest n e = grind (arith, none-some, cond-some, nat_tests)
 
 after-sound : (byte : ℕ) (text rest : List ℕ) → reading.after_byte byte text ≡ Some rest → text ≡ byte ∷ rest
-after-sound byte [] rest e = absurd (none-some _ e)
-after-sound byte (c ∷ text) rest e = grind (arith, cond-some, eqb-true)
+after-sound byte text rest e = grind (arith, none-some, cond-some, eqb-true)
 
 -- a byte and then two digits
 marked-sound : {P : Type 0} (byte : ℕ) (text : List ℕ) (x : ℕ × List ℕ) → option_and_then reading.read_two_digits (reading.after_byte byte text) ≡ Some x
@@ -147,23 +140,15 @@ prefix-none (c ∷ rest) stops = rw stops refl
 prefix-digits : (digits rest : List ℕ) → all_ascii_digits digits ≡ true → is_ascii_digit (get_or rest 0 0) ≡ false
     → prefix_len is_ascii_digit (digits ++ rest) ≡ length digits
 prefix-digits [] rest all stops = prefix-none rest stops
-prefix-digits (d ∷ ds) rest all stops = go (is_ascii_digit d) all (λ e. prefix-digits ds rest e stops)
-  where
-    go : (b : Bool) → (b && all_ascii_digits ds) ≡ true → (all_ascii_digits ds ≡ true → prefix_len is_ascii_digit (ds ++ rest) ≡ length ds)
-        → cond b (1 + prefix_len is_ascii_digit (ds ++ rest)) 0 ≡ suc (length ds)
-    go true e more = omega (arith, more e)
-    go false e more = absurd cc
+prefix-digits (d ∷ ds) rest all stops = grind (arith, prefix-digits ds rest)
 
 pub dotted-complete : (fraction rest : List ℕ) (nanos : ℕ) → IsOptionalFraction fraction nanos → Stops rest
     → reading.read_fraction (fraction ++ rest) ≡ Some (nanos, rest)
 unfolding reading.read_fraction
-dotted-complete [] rest nanos is stops = grind (arith, nat_tests)
-dotted-complete (dot ∷ digits) rest nanos is stops =
-    grind (arith, own, prefix-digits, take_at digits rest _ refl, drop_at digits rest _ refl, fraction-complete digits nanos is.1)
+dotted-complete fraction rest nanos is stops = grind (arith, nat_tests, own, prefix-digits, take_at, drop_at, fraction-complete)
 
 dot-first : (text : List ℕ) → get_or text 0 0 ≡ 46 → text ≡ 46 ∷ drop 1 text
-dot-first [] is = absurd (omega arith)
-dot-first (c ∷ text) is = rw is refl
+dot-first text is = grind arith
 
 pub dotted-sound : (text rest : List ℕ) (nanos : ℕ) → reading.read_fraction text ≡ Some (nanos, rest)
     → (fraction : List ℕ) × IsOptionalFraction fraction nanos × (text ≡ fraction ++ rest)
@@ -176,9 +161,7 @@ dotted-sound text rest nanos e = go (get_or text 0 0 == 46) refl e
     go : (b : Bool) → (get_or text 0 0 == 46) ≡ b
         → cond b (option_map {U = ℕ × List ℕ} (λ n. (n, drop len (drop 1 text))) (reading.fraction_of (take len (drop 1 text)))) (Some (0, text)) ≡ Some (nanos, rest)
         → (fraction : List ℕ) × IsOptionalFraction fraction nanos × (text ≡ fraction ++ rest)
-    go false is read =
-        let (value, left) = same-parts 0 nanos text rest read in
-        ([], sym value, left)
+    go false is read = grind (arith, same-parts)
     go true is read =
         let (found, fraction, same) = map-some _ (reading.fraction_of (take len (drop 1 text))) _ read in
         let value : found ≡ nanos = ap (λ p. p.0) same in

@@ -1,19 +1,18 @@
 -- Lemmas on what the subcommands of `mdnsmerge` ask for.
-use Rattle.std.proofs.Common.{◌≡◌, ◌∙◌, ◌⊎◌, ap, ap₂, sym, subst, subst₂, refl, inl, inr, codes, false, map, string_bytes}
-use Rattle.std.proofs.Common.{Bool, List, Option, Some, None, true}
+use Rattle.std.proofs.Common.{◌≡◌, ◌⊎◌, ap, subst, subst₂, refl, inl, inr, codes, false, map, string_bytes, List, Option, Some, None, arith}
 use Rattle.clap.specs.Words.{Row, Text, all_of}
 use Rattle.mdns_lives.specs.declared.window.Window.{Window}
-use Rattle.mdns_browse.specs.declared.report.{Ask.{Ask}, Form.{Form}}
+use Rattle.mdns_browse.specs.{declared.report.Ask.{Ask}, declared.report.Form.{Form}}
 use Rattle.mdns_survey.specs.declared.request.AsOf.{AsOf}
 use Rattle.mdns_listeners.specs.Groups.{unfit_prefix}
-use Rattle.command_line.specs.declared.{lists.Lists.{Lists}, mdnsmerge.Asks.{Asks}, mdnsmerge.Scope.{Scope}, options.Options.{Options}}
-use Rattle.command_line.specs.{declared.option_fault.OptionFault.{OptionFault}, Line.{AsksWithLists, Flags, HasOneForm, HasOptions}}
-use Rattle.command_line.specs.CommandLine.{AsksJob, AsksWhat, GivesAsOf, GivesBoth, GivesNoMoment, GivesNoTask, GivesWindow, HasFitting}
-use Rattle.command_line.specs.CommandLine.{MakesJob, MakesWhat, at_flag, before_flag, both_given, job_of, no_moment, task_of, tasks}
+use Rattle.command_line.specs.{declared.lists.Lists.{Lists}, declared.mdnsmerge.Asks.{Asks}, declared.mdnsmerge.Scope.{Scope}}
+use Rattle.command_line.specs.{declared.options.Options.{Options}, declared.option_fault.OptionFault.{OptionFault}, Line.{AsksWithLists}}
+use Rattle.command_line.specs.{Line.{Flags, HasOneForm, HasOptions}, CommandLine.{AsksJob, AsksWhat, GivesAsOf, GivesBoth, GivesNoMoment}}
+use Rattle.command_line.specs.CommandLine.{GivesNoTask, GivesWindow, HasFitting, MakesJob, at_flag, before_flag, job_of, task_of, tasks}
 use Rattle.command_line.specs.{CommandLine.{what_of, whats}, OptionFault.{MakesBounds, MakesNoAsOf, MakesNoTask, option_fault_text}}
+use Rattle.command_line.proofs.TableLemmas.{IsOneOf, Known, all-known, inquiry-refused, one-asked}
 use Rattle.command_line.specs.declared.mdnsmerge.Asks.TheVariants as asks
 use Rattle.command_line.specs.declared.option_fault.OptionFault.TheVariants as option_fault
-use Rattle.command_line.proofs.TableLemmas.{IsOneOf, Known, all-known, inquiry-refused, one-asked}
 
 abbrev pub AsksTold : Text → List Row → (Option Ask × Options) × Lists → Type 0
 AsksTold = AsksWithLists (IsOneOf whats)
@@ -23,12 +22,7 @@ AsksAsked = AsksWithLists (IsOneOf tasks)
 
 pub what-asked : (asked : (Option Ask × Options) × Lists) (name : Text) (rows : List Row) → AsksTold name rows asked
     → AsksWhat name rows (what_of asked.0.0 asked.0.1.seconds)
-what-asked asked name rows is_told =
-    one-asked MakesWhat (what_of asked.0.0 asked.0.1.seconds) whats name rows asked.0 makes is_told.0
-  where
-    makes : (flags : Flags) (own : Option Ask) → asked.0.0 ≡ own → HasOptions flags rows asked.0.1
-        → MakesWhat flags rows own (what_of asked.0.0 asked.0.1.seconds)
-    makes flags own same has = (asked.0.1.seconds, has.0, ap (λ (ask : Option Ask). what_of ask asked.0.1.seconds) same)
+what-asked asked name rows is_told = grind (arith, one-asked)
 
 abbrev pub scope_of : Options → Lists → Form × Window × AsOf → Scope
 scope_of options lists made =
@@ -67,14 +61,7 @@ job-asked asked made gives name rows is_asked =
 -- where each prefix fits a file, those of the task do
 pub task-fits : (own : Asks) (scope : Scope) (names : List Text) → unfit_prefix (map string_bytes scope.lists.listeners.items) names ≡ None
     → HasFitting (task_of own scope) names
-task-fits (asks.Report ask) scope names fit = tt
-task-fits (asks.Lives which) scope names fit = either scope.services
-  where
-    either : (services : Bool) → HasFitting (task_of (asks.Lives which) (record scope { services = services })) names
-    either true = tt
-    either false = tt
-task-fits asks.Page scope names fit = fit
-task-fits asks.Check scope names fit = tt
+task-fits own scope names fit = grind arith
 
 -- ---- refusals
 
@@ -85,12 +72,9 @@ merge = codes "mdnsmerge"
 as-of-refused : (options : Options) (option_fault : OptionFault) → MakesNoAsOf options option_fault → (rows : List Row) → Known rows options
     → (line : Text) → line ≡ option_fault_text merge option_fault
     → GivesBoth merge at_flag before_flag rows line ⊎ GivesNoMoment merge rows line
-as-of-refused options (option_fault.ConflictingFlags both) none rows has line is =
-    inl ((λ absent. none.2 (has.0 ∙ absent)), (λ absent. none.3 (has.1 ∙ absent)), is ∙ ap₂ (both_given merge) none.0 none.1)
-as-of-refused options (option_fault.NoMoment name text) (inl at, never) rows has line is =
-    inr (inl (text.now, (sym has.0 ∙ at.1, sym has.1 ∙ at.2, never, is ∙ ap (λ (n : Text). no_moment merge n text.now) at.0)))
-as-of-refused options (option_fault.NoMoment name text) (inr before, never) rows has line is =
-    inr (inr (text.now, (sym has.1 ∙ before.2, sym has.0 ∙ before.1, never, is ∙ ap (λ (n : Text). no_moment merge n text.now) before.0)))
+as-of-refused options (option_fault.ConflictingFlags both) none rows has line is = grind arith
+as-of-refused options (option_fault.NoMoment name text) (inl at, never) rows has line is = grind arith
+as-of-refused options (option_fault.NoMoment name text) (inr before, never) rows has line is = grind arith
 as-of-refused options option_fault.EmptyWindow none rows has line is = absurd none
 as-of-refused options (option_fault.NoFile name prefix) none rows has line is = absurd none
 

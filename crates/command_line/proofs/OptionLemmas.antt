@@ -1,21 +1,20 @@
 -- Lemmas on the values of options, as clap reads them.
-use Rattle.std.proofs.Common.{◌≡◌, ◌∙◌, codes, ◌≤◌, ◌*◌, ◌+◌, ◌↔◌, refl, subst, arith, true, false, Bool, ℕ, Option, Some, None}
-use Rattle.std.proofs.Common.{◌∷◌, ap, map, option_map, unwrap_or, List, [], Result, Ok, Err, IfSome, inl, inr}
-use Rattle.std.proofs.lemmas.Slice.Eq.{bytes_eq-Decides}
+use Rattle.std.proofs.Common.{◌≡◌, codes, ◌≤◌, ◌*◌, ◌+◌, ◌↔◌, refl, subst, arith, true, false, Bool, ℕ, Option, Some, None, ◌∷◌, map}
+use Rattle.std.proofs.{Common.{option_map, unwrap_or, List, [], Result, Ok, Err, IfSome, inl, inr}, lemmas.Slice.Eq.{bytes_eq-Decides}}
 use Rattle.std.specs.{Borrow.{Bor}, Str.{bytes_eq}, Str.Parse.{ParsesUnsigned}}
 use Rattle.clap.specs.Words.{Row, Text, TriesOne, one_of}
 use Rattle.mdns_capture.specs.declared.moment.Moment.{Moment}
-use Rattle.mdns_browse.specs.declared.report.{Form.{Form}, Form.TheVariants.{Lines}}
+use Rattle.mdns_browse.specs.{declared.report.Form.{Form}, declared.report.Form.TheVariants.{Lines}}
 use Rattle.command_line.specs.{Line.{AsksForm, Flags, GivesForm, HasNoForm, HasOneForm, IsFlag, IsMomentOf}, declared.line.Takes.{Takes}}
 use Rattle.command_line.specs.declared.options.ConflictingFlags.{ConflictingFlags}
-use Rattle.command_line.specs.declared.line.Takes.TheVariants as takes
 use Rattle.clap.proofs.WalkLemmas.{first_value-rows, one_text-rows, raw_values-rows}
+use Rattle.command_line.proofs.FinalDotLemmas.{printers-asked}
+use Rattle.command_line.specs.declared.line.Takes.TheVariants as takes
 
 -- what a flag is read as
 pub flag-told : (flag : Bool) (text rows : Option Text) → text ≡ rows → (text ≡ None → flag ≡ false)
     → (text ≡ Some (codes "true") → flag ≡ true) → (text ≡ Some (codes "false") → flag ≡ false) → IsFlag rows flag
-flag-told true text rows same none value other = grind arith
-flag-told false text rows same none value other = λ given. let yes = value (same ∙ given) in absurd cc
+flag-told flag text rows same none is other = grind arith
 
 -- the moment of a number that was read is that number of seconds
 pub moment-told : {E : Type 0} (G : Text → Result ℕ E → Type 0) → ((t : Text) (x : Result ℕ E) → G t x → ParsesUnsigned 32 10 t x)
@@ -117,14 +116,12 @@ pair f g b = (f b, g b)
 pub both-parts : {B : Type 0} (f : B → Text) (g : B → List Row) (o : Option B) (name : Text) (rows : List Row)
     → option_map f o ≡ Some name → option_map (λ (p : Text × List Row). p.1) (option_map (pair f g) o) ≡ Some rows
     → option_map (pair f g) o ≡ Some (name, rows)
-both-parts f g None name rows named found = absurd cc
-both-parts f g (Some x) name rows named found = cc
+both-parts f g o name rows named found = grind arith
 
 -- the words of an option, or none where it isn't given
 pub lent-words : (words : Option (Bor (List (Bor Text)))) (none : Bor (List (Bor Text))) → none.now ≡ []
     → map (λ word. word.now) (unwrap_or words none).now ≡ unwrap_or (option_map (λ s. map (λ word. word.now) s.now) words) []
-lent-words None none is = ap (map (λ (word : Bor Text). word.now)) is
-lent-words (Some words) none is = refl
+lent-words words none is = grind arith
 
 pub ruleset for_moment_of = (moment-told, none-told, unread-told, one_text-rows)
 
@@ -133,3 +130,5 @@ pub ruleset for_is_given = (flag-told, one_text-rows)
 pub ruleset for_options_of = (first_value-rows)
 
 pub ruleset for_matched = (both-parts, raw_values-rows)
+
+pub ruleset for_lists_of = (raw_values-rows, lent-words, printers-asked)

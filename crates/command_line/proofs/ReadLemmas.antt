@@ -1,26 +1,26 @@
 -- Where clap finds no fault in the words of a command line, its matches ask for something, of one file or more.
-use Rattle.std.proofs.Common.{rules, ◌≡◌, ◌≢◌, ◌++◌, ◌*◌, ◌&&◌, refl, subst, sym, inl, inr, not, cond, arith, true, false}
-use Rattle.std.proofs.Common.{codes, is_some, Bool, ℕ, List, [], ◌∷◌, Option, Some, None, Result, Err, IfSome, map, option_map}
+use Rattle.std.proofs.Common.{rules, ◌≡◌, ◌≢◌, ◌++◌, ◌*◌, ◌&&◌, refl, subst, sym, inl, inr, not, cond, arith, true, false, codes, is_some}
+use Rattle.std.proofs.Common.{Bool, ℕ, List, [], ◌∷◌, Option, Some, None, Result, Err, IfSome, map, option_map}
 use Rattle.std.proofs.lemmas.Slice.Eq.{bytes_eq-Decides}
 use Rattle.std.specs.{Prelude.{find, slice_get, option_and_then, ⊤, IsSomeAnd}, Borrow.{Bor}, List.{list_all, list_any}}
 use Rattle.std.specs.{Option.{option_map_or}, Str.{bytes_eq}, Str.Parse.{ParsesUnsigned, digits_value, without_leading_plus}}
 use Rattle.clap.proofs.{CallerReads.{signed_reads}, ValueTestLemmas.{accepts-Accepts}, WalkLemmas.{both}}
-use Rattle.clap.specs.Facts.{explicit_source}
-use Rattle.clap.specs.Faults.{check_fault, defaults_fault, entered_fault, fault_of, level_fault, settle_fault, walk_fault}
-use Rattle.clap.specs.{Lexer.{without_minus}, Simple.{App, Shape, argument_words, built, built_leaf, entered, filled_from, help_rule}}
-use Rattle.clap.specs.{Simple.{inherited, marked_built, names_of, on_top, rows_at, subcommand_of, with_leaf_noted}, Takes.{is_given}}
-use Rattle.clap.specs.{Values.{read_as}, ValueTests.{accepts}, Walk.{Row, Text, first_of, all_of, finished, nothing_held, one_of, row_text}}
-use Rattle.clap.specs.{Walk.{rows_after, settled, stop_after, walk, walk_from}, declared.builder.value_parser.Reading.{Reading}}
-use Rattle.clap.specs.declared.builder.value_parser.Reading.TheVariants as reading
-use Rattle.clap.specs.declared.error.kind.ErrorKind.TheVariants as kind
+use Rattle.clap.specs.{Facts.{explicit_source}, Faults.{check_fault, defaults_fault, entered_fault, fault_of, level_fault, settle_fault}}
+use Rattle.clap.specs.{Faults.{walk_fault}, Lexer.{without_minus}, Simple.{App, Shape, argument_words, built, built_leaf, entered}}
+use Rattle.clap.specs.Simple.{filled_from, help_rule, inherited, marked_built, names_of, on_top, rows_at, subcommand_of, with_leaf_noted}
+use Rattle.clap.specs.{Takes.{is_given}, Values.{read_as}, ValueTests.{accepts}, Walk.{Row, Text, first_of, all_of, finished, nothing_held}}
+use Rattle.clap.specs.Walk.{one_of, row_text, rows_after, settled, stop_after, walk, walk_from}
+use Rattle.clap.specs.declared.builder.value_parser.Reading.{Reading}
 use Rattle.mdns_capture.specs.declared.moment.Moment.{Moment}
 use Rattle.command_line.specs.Line.{AsksIn, Flags, HasOptions, HasSeconds, IsMomentOf, Matches, SecondsBy, app_of_line, are_sound}
 use Rattle.command_line.specs.Line.{file_rule, flags_of, is_counted, is_readable, line_of, rules_of, shape_of, table_of, takes_seconds}
-use Rattle.command_line.specs.declared.line.{CommandTable.{CommandTable}, Subcommand.{Subcommand}, Takes.{Takes}}
-use Rattle.command_line.specs.declared.options.Options.{Options}
-use Rattle.command_line.specs.declared.line.Takes.TheVariants as takes
+use Rattle.command_line.specs.{declared.line.CommandTable.{CommandTable}, declared.line.Subcommand.{Subcommand}}
+use Rattle.command_line.specs.{declared.line.Takes.{Takes}, declared.options.Options.{Options}}
 use Rattle.command_line.proofs.{OptionLemmas.{flag-given, form-told, lent}, WalkKeepsLemmas.{Each, each-find, in-level, split}}
 use Rattle.command_line.proofs.SoundLemmas.{AreCounted, AreSound, all-counted, file-other, flags-keep, number}
+use Rattle.clap.specs.declared.builder.value_parser.Reading.TheVariants as reading
+use Rattle.clap.specs.declared.error.kind.ErrorKind.TheVariants as kind
+use Rattle.command_line.specs.declared.line.Takes.TheVariants as takes
 
 -- ---- the matches
 
@@ -74,8 +74,7 @@ files-given rows is = go (find (λ r. bytes_eq r.id (codes "FILE")) rows) is
 
 -- without a fault a file is given
 unwanted : (wants : Bool) → cond wants (kind.MissingRequiredArgument ∷ []) [] ≡ [] → wants ≡ false
-unwanted true none = absurd cc
-unwanted false none = refl
+unwanted wants none = grind arith
 
 file-wanted : (rows : List Row) (flags : Flags)
     → list_any (λ a. a.required && not (is_given a.id rows)) (filled_from 1 ((rules_of flags ++ file_rule ∷ []) ++ help_rule ∷ [])) ≡ false
@@ -109,8 +108,7 @@ lent_option None = None
 lent_option (Some text) = Some (lent text)
 
 lent-text : (o : Option Text) → option_map (λ t. t.now) (lent_option o) ≡ o
-lent-text None = refl
-lent-text (Some text) = refl
+lent-text o = grind arith
 
 -- sound rows give options
 options-told : (counted : Text → Bool) (flags : Flags) (rows : List Row) → AreCounted counted flags → AreSound counted rows
@@ -149,8 +147,7 @@ module _ (P : Text × List Row → Type 0) where
   below : (o : Option Shape) (words : List Text) → IfSome o Reaches
       → option_map_or (λ s. level_fault s [] nothing_held words false []) o [] ≡ []
       → is_some (option_map (λ s. rows_at s words) o) ≡ true → IsSomeAnd (option_map (λ s. rows_at s words) o) P
-  below None words reaches none is = absurd cc
-  below (Some s) words reaches none is = reaches words none
+  below o words reaches none is = grind arith
 
   after : (line : App) → Each Reaches (built line).subs → (stop : Option (Text × List Text)) → entered_fault (built line) stop ≡ []
       → is_some (entered (built line) stop) ≡ true → IsSomeAnd (entered (built line) stop) P
@@ -180,15 +177,12 @@ shapes_of = map (λ subcommand. shape_of subcommand.0 subcommand.1)
 
 subs-built : (name : Text) (has_version : Bool) (table : List (Text × Flags)) → map built_leaf
     (map (inherited (above name has_version table)) (shapes_of table)) ≡ (built (line_of name has_version table)).subs
-subs-built name has_version [] = refl
-subs-built name has_version (x ∷ xs) = refl
+subs-built name has_version table = grind arith
 
 -- words without a subcommand have a fault
 wants : (name : Text) (has_version : Bool) (table : List (Text × Flags)) (has : Bool) (rows : List Row)
     → check_fault (built (line_of name has_version table)).top rows has ≡ [] → has ≡ true
-wants name has_version table true rows none = refl
-wants name has_version [] false rows none = absurd cc
-wants name has_version (x ∷ xs) false rows none = absurd cc
+wants name has_version table has rows none = grind arith
 
 module _ {T : Type 0} where
   -- the matches are those of a subcommand of the table, with values that can be read and one file or more
@@ -247,5 +241,4 @@ module _ {T : Type 0} where
   -- of one file or more
   pub good-files : {A : Type 0} (Asks : Text → List Row → A → Type 0) (table : List (Subcommand T)) (matched : Option (Text × List Row))
       → IsSomeAnd matched (IsGood table) → (what : A) (names : List Text) → Matches Asks matched what names → names ≢ []
-  good-files Asks table None good what names asks none = good
-  good-files Asks table (Some m) good what names asks none = files-some good.counted m.1 names good.sound asks.1 none
+  good-files Asks table matched good what names asks none = grind (arith, files-some)

@@ -1,8 +1,8 @@
 -- Seconds since 1970 are read as their grammar says: the first dot parts them from the fraction.
-use Rattle.std.proofs.Common.{◌≡◌, ◌∙◌, ◌<◌, ◌+◌, ◌++◌, ◌∷◌, ◌==◌, ℕ, Bool, List, [], length, get_or}
-use Rattle.std.proofs.Common.{take, drop, Option, Some, None, IfSome, refl, sym, ap, arith, eqb-true, take_at, drop_at, subst}
-use Rattle.std.proofs.lemmas.{Bool.Decides.{nat_tests}, List.{append_assoc, append-nil, length-append}}
-use Rattle.std.proofs.lemmas.{List.Sums.{passes_at_first, split_at_first}, Str.Parse.{digit_from_value}}
+use Rattle.std.proofs.Common.{◌≡◌, ◌∙◌, ◌<◌, ◌+◌, ◌++◌, ◌∷◌, ◌==◌, ℕ, Bool, List, [], length, get_or, take, drop, Option, Some, None}
+use Rattle.std.proofs.{Common.{IfSome, refl, sym, ap, arith, eqb-true, take_at, drop_at, subst}, lemmas.Bool.Decides.{nat_tests}}
+use Rattle.std.proofs.{lemmas.List.{append_assoc, append-nil, length-append}, lemmas.List.Sums.{passes_at_first, split_at_first}}
+use Rattle.std.proofs.lemmas.Str.Parse.{digit_from_value}
 use Rattle.std.specs.{List.{after_first, before_first, position_or_len}, Str.Parse.{AllDigits, IsNumeral, without_leading_plus}}
 use Rattle.mdns_capture.specs.declared.moment.Moment.{Moment}
 use Rattle.command_line.specs.{MomentReading.{IsAtSecond}, Moments.{IsFraction, IsOptionalFraction, IsSeconds}}
@@ -17,8 +17,7 @@ digits-pass (c ∷ digits) rest all = grind (arith, digit_from_value, nat_tests,
 -- a number has no dot
 whole-pass : (whole rest : List ℕ) → IsNumeral 10 (without_leading_plus whole)
     → position_or_len is_dot (whole ++ rest) ≡ length whole + position_or_len is_dot rest
-whole-pass [] rest is = omega arith
-whole-pass (c ∷ digits) rest is = grind (arith, digits-pass, eqb-true)
+whole-pass whole rest is = grind (arith, digits-pass, eqb-true)
 
 -- the first dot is at this place
 pub record SplitsAt (text whole digits : List ℕ) : Type 0 where
@@ -80,16 +79,7 @@ dotted-parts text whole digits at moment is = go is.fraction is.fraction_is is.w
 -- ---- without a dot
 
 pub whole-told : (text : List ℕ) (found : Option Moment) → IfSome found (IsAtSecond text 0) → IfSome found (IsSeconds text)
-whole-told text None is = tt
-whole-told text (Some moment) is = record {
-  whole = text;
-  whole_is = is.0;
-  fraction = [];
-  nanos = 0;
-  fraction_is = refl;
-  written = sym (append-nil text);
-  moment_is = is.1;
-}
+whole-told text found is = grind (arith, append-nil)
 
 pub whole-parts : (text : List ℕ) → position_or_len is_dot text ≡ length text → (moment : Moment) → IsSeconds text moment → IsAtSecond text 0 moment
 whole-parts text dotless moment is = grind (arith, append-nil, whole-pass, length-append)

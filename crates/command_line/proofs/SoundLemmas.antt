@@ -1,18 +1,18 @@
 -- Words in which clap finds no fault leave sound rows: seconds that are numbers, and a file at least.
-use Rattle.std.proofs.Common.{arith, ◌≡◌, ◌≢◌, ◌++◌, ◌&&◌, ◌||◌, refl, subst, sym, not, cond, true, false, codes}
-use Rattle.std.proofs.{Common.{Bool, List, [], ◌∷◌}, lemmas.Slice.Eq.{bytes_eq-Decides}}
+use Rattle.std.proofs.Common.{arith, ◌≡◌, ◌≢◌, ◌++◌, ◌&&◌, ◌||◌, refl, subst, sym, not, true, false, codes, Bool, List, [], ◌∷◌}
+use Rattle.std.proofs.lemmas.Slice.Eq.{bytes_eq-Decides}
 use Rattle.std.specs.{Prelude.{pos}, List.{list_all}, Str.{bytes_eq}}
 use Rattle.clap.proofs.WalkLemmas.{both}
-use Rattle.clap.specs.{Kinds.{values_kinds}, Simple.{filled, filled_from, help_rule, with_index}, ValueTests.{accepts}}
-use Rattle.clap.specs.{Walk.{Row, Rule, Text, at_row, more_values, with_values, without}, declared.builder.value_parser.Reading.{Reading}}
-use Rattle.clap.specs.declared.{builder.value_parser.ValueParser.{ValueParser}, parser.matches.ValueSource.{ValueSource}}
+use Rattle.clap.specs.{Kinds.{values_kinds}, Simple.{filled, filled_from, help_rule, with_index}, ValueTests.{accepts}, Walk.{Row, Rule}}
+use Rattle.clap.specs.{Walk.{Text, at_row, more_values, with_values, without}, declared.builder.value_parser.Reading.{Reading}}
+use Rattle.clap.specs.{declared.builder.value_parser.ValueParser.{ValueParser}, declared.parser.matches.ValueSource.{ValueSource}}
+use Rattle.command_line.specs.Line.{Flags, file_rule, flag_rule, is_counted, is_sound, rules_of, takes_seconds}
+use Rattle.command_line.specs.declared.line.Takes.{Takes}
+use Rattle.command_line.proofs.WalkKeepsLemmas.{Each, Keeps, KeepsDefault, each-append, split, undefaulted}
 use Rattle.clap.specs.declared.builder.value_parser.Reading.TheVariants as reading
 use Rattle.clap.specs.declared.builder.value_parser.ValueParser.TheVariants as parser
 use Rattle.clap.specs.declared.error.kind.ErrorKind.TheVariants as kind
-use Rattle.command_line.specs.Line.{Flags, file_rule, flag_rule, is_counted, is_sound, rules_of, takes_seconds}
-use Rattle.command_line.specs.declared.line.Takes.{Takes}
 use Rattle.command_line.specs.declared.line.Takes.TheVariants as takes
-use Rattle.command_line.proofs.WalkKeepsLemmas.{Each, Keeps, KeepsDefault, each-append, split, undefaulted}
 
 -- ---- the rows of seconds and of files
 
@@ -41,13 +41,7 @@ in-row P id change missing (r ∷ rows) changes gives h = grind (arith, each-app
 
 accepted : (values : List Text) → values_kinds false number values ≡ [] → Each (λ v. accepts false number v ≡ true) values
 accepted [] none = tt
-accepted (v ∷ values) none =
-    let parts = split _ _ none in
-    (go (accepts false number v) parts.0, accepted values parts.1)
-  where
-    go : (b : Bool) → cond b [] (kind.ValueValidation ∷ []) ≡ [] → b ≡ true
-    go true e = refl
-    go false e = absurd cc
+accepted (v ∷ values) none = grind (arith, split, accepted values)
 
 -- a row of this name may hold the values, and may add them to those that it holds
 abbrev Adds : (Text → Bool) → Text → Reading → List Text → Type 0
@@ -68,8 +62,7 @@ without-keeps : (counted : Text → Bool) (id : Text) (rows : List Row) → AreS
 without-keeps counted id rows sound = in-row (IsSoundRow counted) id (λ _. []) [] rows (λ r same is. tt) tt sound
 
 no : (b : Bool) → not b ≡ true → b ≡ true → ⊥
-no true is_not is = absurd cc
-no false is_not is = absurd cc
+no b is_not is = grind arith
 
 not-none : (xs : List Text) (y : Text) (ys : List Text) → xs ++ y ∷ ys ≢ []
 not-none [] y ys none = absurd cc
@@ -97,11 +90,7 @@ KeepsSound counted a = Keeps (AreSound counted) false a × KeepsDefault (AreSoun
 
 flag-keeps : (counted : Text → Bool) (name : Text) (takes : Takes) → is_sound counted name takes ≡ true
     → KeepsSound counted (flag_built name takes)
-flag-keeps counted name (takes.Nothing form) sound = grind (arith, values-keep, others-add, without-keeps)
-flag-keeps counted name takes.Switch sound = grind (arith, values-keep, others-add, without-keeps)
-flag-keeps counted name takes.Moment sound = grind (arith, values-keep, others-add, without-keeps, undefaulted)
-flag-keeps counted name takes.Words sound = grind (arith, values-keep, others-add, undefaulted)
-flag-keeps counted name takes.Seconds sound = grind (arith, split, accepted, values-keep, no, each-append, without-keeps, undefaulted)
+flag-keeps counted name takes sound = grind (arith, values-keep, others-add, without-keeps, undefaulted, split, accepted, no, each-append)
 
 file-keeps : (counted : Text → Bool) → counted (codes "FILE") ≡ false → KeepsSound counted file_built
 file-keeps counted other = grind (arith, undefaulted, values-keep, not-none)
@@ -113,37 +102,13 @@ pub flags-keep : (counted : Text → Bool) → counted (codes "FILE") ≡ false 
     → list_all (λ flag. is_sound counted flag.0 flag.1) flags ≡ true
     → Each (KeepsSound counted) (filled_from 1 ((rules_of flags ++ file_rule ∷ []) ++ help_rule ∷ []))
 flags-keep counted other [] sound = (file-keeps counted other, (help-keeps counted, tt))
-flags-keep counted other (flag ∷ flags) sound =
-    let parts = both _ _ sound in
-    with-flag flag.0 flag.1 _ parts.0 (flags-keep counted other flags parts.1)
-  where
-    with-flag : (name : Text) (takes : Takes) (rest : List Rule) → is_sound counted name takes ≡ true
-        → Each (KeepsSound counted) (filled_from 1 rest) → Each (KeepsSound counted) (filled_from 1 (flag_rule name takes ∷ rest))
-    with-flag name (takes.Nothing form) rest sound keep = (flag-keeps counted name (takes.Nothing form) sound, keep)
-    with-flag name takes.Switch rest sound keep = (flag-keeps counted name takes.Switch sound, keep)
-    with-flag name takes.Seconds rest sound keep = (flag-keeps counted name takes.Seconds sound, keep)
-    with-flag name takes.Moment rest sound keep = (flag-keeps counted name takes.Moment sound, keep)
-    with-flag name takes.Words rest sound keep = (flag-keeps counted name takes.Words sound, keep)
+flags-keep counted other (flag ∷ flags) sound = grind (arith, both, flag-keeps, flags-keep counted other flags)
 
 -- no file is named as a flag that takes seconds
 pub file-other : (all flags : Flags) → list_all (λ flag. is_sound (is_counted all) flag.0 flag.1) flags ≡ true
     → is_counted flags (codes "FILE") ≡ false
 file-other all [] sound = refl
-file-other all (flag ∷ flags) sound =
-    let parts = both _ _ sound in
-    go flag.0 flag.1 parts.0 (file-other all flags parts.1)
-  where
-    unnamed : (b : Bool) → not b ≡ true → b ≡ false
-    unnamed true is_not = absurd cc
-    unnamed false is_not = refl
-
-    go : (name : Text) (takes : Takes) → is_sound (is_counted all) name takes ≡ true → is_counted flags (codes "FILE") ≡ false
-        → ((takes_seconds takes && bytes_eq name (codes "FILE")) || is_counted flags (codes "FILE")) ≡ false
-    go name takes.Seconds is rest = rw (unnamed _ is, rest) refl
-    go name (takes.Nothing form) is rest = rest
-    go name takes.Switch is rest = rest
-    go name takes.Moment is rest = rest
-    go name takes.Words is rest = rest
+file-other all (flag ∷ flags) sound = grind (arith, both, file-other all flags)
 
 -- each flag that takes seconds has the name of one
 own-counted : (name : Text) (flags : Flags) → ((takes_seconds takes.Seconds && bytes_eq name name) || is_counted flags name) ≡ true

@@ -1,18 +1,17 @@
 -- Lemmas on tables of subcommands, on the flags that ask for forms, and on the refusals of these.
-use Rattle.std.proofs.Common.{◌≡◌, ◌∙◌, ◌⊎◌, ◌++◌, ◌∷◌, ap, ap₂, subst, subst₂, sym, inl, inr, map, codes, ℕ, List, [], Option}
-use Rattle.std.proofs.Common.{Some, None, Err, drop, get_or, length, string_bytes, take, take-append-drop, unwrap_or}
+use Rattle.std.proofs.Common.{◌≡◌, ◌⊎◌, ◌++◌, ◌∷◌, ap, subst, subst₂, sym, inl, inr, map, codes, ℕ, List, [], Option, Some, Err, drop}
+use Rattle.std.proofs.Common.{get_or, length, string_bytes, take, take-append-drop, unwrap_or, arith}
 use Rattle.std.specs.Prelude.{IsSomeAnd}
 use Rattle.clap.specs.Words.{App, Row, Text, all_of, fault_of, one_of, subcommand_of}
 use Rattle.mdns_browse.specs.declared.report.Form.{Form}
 use Rattle.mdns_listeners.specs.Groups.{unfit_prefix}
-use Rattle.command_line.specs.declared.{line.Takes.{Takes}, lists.Lists.{Lists}, option_fault.OptionFault.{OptionFault}}
+use Rattle.command_line.specs.{declared.line.Takes.{Takes}, declared.lists.Lists.{Lists}, declared.option_fault.OptionFault.{OptionFault}}
 use Rattle.command_line.specs.{declared.options.ConflictingFlags.{ConflictingFlags}, declared.options.Options.{Options}, Line.{AsksForm}}
-use Rattle.command_line.specs.Line.{AsksOneOf, Flags, GivesForm, GivesForms, HasLists, HasOneForm, HasOptions, HasText, IsFlag, IsGiven, Matches}
-use Rattle.command_line.specs.{Line.{Table, words_of}, CommandLine.{GivesAfter, GivesNoInquiry, GivesNoWindow, GivesTwo, HasUnfit}}
-use Rattle.command_line.specs.{CommandLine.{IsRefusedFor, both_given, form_flags, no_file}, Faults.{IsRefusal, IsUnasked}}
-use Rattle.command_line.specs.OptionFault.{MakesNoForm, MakesNoInquiry, MakesNoWindow, option_fault_text, text_of}
-use Rattle.command_line.specs.declared.words.{WordsFault.{WordsFault}, WordsFault.TheVariants.{Memory, Help, Refused}}
-use Rattle.command_line.specs.declared.words.AskFault.TheVariants.{Words}
+use Rattle.command_line.specs.Line.{AsksOneOf, Flags, GivesForm, GivesForms, HasLists, HasOptions, HasText, IsFlag, IsGiven, Matches, Table}
+use Rattle.command_line.specs.{Line.{words_of}, CommandLine.{GivesAfter, GivesNoInquiry, GivesNoWindow, GivesTwo, HasUnfit, IsRefusedFor}}
+use Rattle.command_line.specs.{CommandLine.{both_given, form_flags, no_file}, Faults.{IsRefusal, IsUnasked}, OptionFault.{MakesNoForm}}
+use Rattle.command_line.specs.OptionFault.{MakesNoInquiry, MakesNoWindow, option_fault_text, text_of}
+use Rattle.command_line.specs.{declared.words.WordsFault.{WordsFault}, declared.words.AskFault.TheVariants.{Words}}
 use Rattle.command_line.specs.declared.line.Takes.TheVariants as takes
 use Rattle.command_line.specs.declared.option_fault.OptionFault.TheVariants as option_fault
 
@@ -20,8 +19,7 @@ use Rattle.command_line.specs.declared.option_fault.OptionFault.TheVariants as o
 pub asks-also : {A B : Type 0} (P : Text → List Row → A → Type 0) (Q : Text → List Row → B → Type 0) (a : A) (b : B)
     → ((name : Text) (rows : List Row) → P name rows a → Q name rows b)
     → (matched : Option (Text × List Row)) (names : List Text) → Matches P matched a names → Matches Q matched b names
-asks-also P Q a b also None names asks = asks
-asks-also P Q a b also (Some m) names asks = (also m.0 m.1 asks.0, asks.1)
+asks-also P Q a b also matched names asks = grind arith
 
 -- a row of the table is named so and asked for, with the options of the flags that it takes
 abbrev pub IsOneOf : {T : Type 0} → Table T → Text → List Row → T × Options → Type 0
@@ -51,26 +49,19 @@ forms-more (flag ∷ flags) more rows both (inl (one, asks, later)) = inl (one, 
 forms-more (flag ∷ flags) more rows both (inr gives) = inr (forms-more flags more rows both gives)
 
 is-given : (own : Takes) (name : Text) (rows : List Row) (form : Form) → AsksForm own (one_of name rows) (Some form) → IsGiven own name rows
-is-given (takes.Nothing own) name rows form asks = asks.0
-is-given takes.Switch name rows form asks = absurd asks
-is-given takes.Seconds name rows form asks = absurd asks
-is-given takes.Moment name rows form asks = absurd asks
-is-given takes.Words name rows form asks = absurd asks
+is-given own name rows form asks = grind arith
 
 gives-after : (program : Text) (one : Text × Takes) (flags : Flags) (rows : List Row) (name line : Text) → IsGiven one.1 one.0 rows
     → GivesForm flags rows name → line ≡ both_given program one.0 name → GivesAfter program one flags rows line
 gives-after program one [] rows name line given gives is = absurd gives
-gives-after program one (flag ∷ flags) rows name line given (inl (same, (form, asks))) is =
-    inl (given, is-given flag.1 flag.0 rows form asks, is ∙ ap (both_given program one.0) same)
+gives-after program one (flag ∷ flags) rows name line given (inl (same, (form, asks))) is = grind (arith, is-given)
 gives-after program one (flag ∷ flags) rows name line given (inr gives) is =
-    inr (gives-after program one flags rows name line given gives is)
+    grind (arith, gives-after program one flags rows name line given gives is)
 
 pub gives-two : (program : Text) (flags : Flags) (rows : List Row) (both : ConflictingFlags) → GivesForms flags rows both → (line : Text)
     → line ≡ both_given program both.one.now both.other.now → GivesTwo program flags rows line
 gives-two program [] rows both gives line is = absurd gives
-gives-two program (flag ∷ flags) rows both (inl (one, (form, asks), later)) line is =
-    inl (gives-after program flag flags rows both.other.now line (is-given flag.1 flag.0 rows form asks) later
-    (is ∙ ap (λ (name : Text). both_given program name both.other.now) one))
+gives-two program (flag ∷ flags) rows both (inl (one, (form, asks), later)) line is = grind (arith, gives-after, is-given)
 gives-two program (flag ∷ flags) rows both (inr gives) line is = inr (gives-two program flags rows both gives line is)
 
 -- the texts of the moments, which flags two forms are of, the texts of the bounds, and whether unusable files are left out
@@ -82,8 +73,7 @@ Known rows options = HasText (codes "at") rows options.at × HasText (codes "bef
 
 known : (rows : List Row) (flags : Flags) (options : Options) → ((both : ConflictingFlags) → GivesForms flags rows both → GivesForms form_flags rows both)
     → HasOptions flags rows options → Known rows options
-known rows flags options within has =
-    (has.1, has.2, (λ both is. within both (subst (HasOneForm flags rows) is has.3)), has.5, has.6, has.4)
+known rows flags options within has = grind arith
 
 -- ---- tables of which each subcommand takes the first of the flags that ask for forms, after its other flags
 
@@ -98,20 +88,7 @@ from_forms (flag ∷ flags) = unless_form flag.1 ((flag.0, flag.1) ∷ flags) (f
 
 from-forms : (flags : Flags) (rows : List Row) (both : ConflictingFlags) → GivesForms flags rows both → GivesForms (from_forms flags) rows both
 from-forms [] rows both gives = gives
-from-forms (flag ∷ flags) rows both gives = go flag.1 gives (from-forms flags rows both)
-  where
-    go : (own : Takes) → GivesForms ((flag.0, own) ∷ flags) rows both
-        → (GivesForms flags rows both → GivesForms (from_forms flags) rows both)
-        → GivesForms (unless_form own ((flag.0, own) ∷ flags) (from_forms flags)) rows both
-    go (takes.Nothing form) here rest = here
-    go takes.Switch (inl here) rest = absurd here.1.1
-    go takes.Switch (inr more) rest = rest more
-    go takes.Seconds (inl here) rest = absurd here.1.1
-    go takes.Seconds (inr more) rest = rest more
-    go takes.Moment (inl here) rest = absurd here.1.1
-    go takes.Moment (inr more) rest = rest more
-    go takes.Words (inl here) rest = absurd here.1.1
-    go takes.Words (inr more) rest = rest more
+from-forms (flag ∷ flags) rows both gives = grind (arith, from-forms flags rows both)
 
 -- the first of all flags that ask for forms, as many as these have
 abbrev pub first_forms : Flags → Flags
@@ -131,8 +108,7 @@ AreFirst {T} table = map (λ (row : Text × Flags × T). from_forms row.1) table
 pub all-known : {T : Type 0} (table : Table T) → AreFirst table → (name : Text) (rows : List Row) (asked : T × Options)
     → IsOneOf table name rows asked → Known rows asked.1
 all-known [] are name rows asked is = absurd is
-all-known (row ∷ table) are name rows asked (inl own) =
-    known rows row.1 asked.1 (within rows row.1 (ap (λ (all : List Flags). get_or all 0 []) are)) own.2
+all-known (row ∷ table) are name rows asked (inl own) = grind (arith, known, within)
 all-known (row ∷ table) are name rows asked (inr own) = all-known table (ap (λ (all : List Flags). drop 1 all) are) name rows asked own
 
 -- ---- options that make no inquiry
@@ -141,8 +117,7 @@ all-known (row ∷ table) are name rows asked (inr own) = all-known table (ap (�
 unfit-line : (program : Text) (prefixes : List Text) (at : Option ℕ) (name prefix line : Text)
     → IsSomeAnd at (λ i. (name ≡ codes "listener") × (prefix ≡ get_or prefixes i [])) → line ≡ no_file program name prefix
     → HasUnfit program prefixes at line
-unfit-line program prefixes None name prefix line unfit is = absurd unfit
-unfit-line program prefixes (Some i) name prefix line unfit is = is ∙ ap₂ (no_file program) unfit.0 unfit.1
+unfit-line program prefixes at name prefix line unfit is = grind arith
 
 -- two flags that ask for forms are refused, and a prefix that fits no file
 form-refused : (program : Text) (options : Options) (lists : Lists) (names : List Text) (option_fault : OptionFault)
@@ -185,12 +160,4 @@ pub refused-for : {A : Type 0} (Asks : Text → List Row → A → Type 0) (Why 
     → ((name : Text) (rows : List Row) → Asks name rows asked → all_of (codes "FILE") rows ≡ Some names → (text : Text) → text ≡ why
     → Why rows text)
     → IsRefusal why fault → IsUnasked (fault_of line words) (Words fault) ⊎ IsRefusedFor Why line words (Words fault)
-refused-for Asks Why why line words asked names Memory none is_asked refuses is = inl tt
-refused-for Asks Why why line words asked names (Help text) none is_asked refuses is = absurd is
-refused-for Asks Why why line words asked names (Refused text) none is_asked refuses is =
-    inr (none, go (subcommand_of line words) is_asked)
-  where
-    go : (matched : Option (Text × List Row)) → Matches Asks matched asked names
-        → IsSomeAnd matched (λ (m : Text × List Row). Why m.1 (string_bytes text))
-    go None is_asked = absurd is_asked
-    go (Some m) is_asked = refuses m.0 m.1 is_asked.0 is_asked.1 (string_bytes text) is
+refused-for Asks Why why line words asked names fault none is_asked refuses is = grind arith

@@ -1,15 +1,14 @@
 -- A property of the rows that each use of an argument keeps is kept by clap's parse without a fault.
-use Rattle.std.proofs.Common.{arith, ◌≡◌, ◌++◌, refl, subst, cond, fold, true, false, is_some, Bool, ℕ, zero, suc, List}
-use Rattle.std.proofs.Common.{[], ◌∷◌, Option, Some, None, IfSome}
+use Rattle.std.proofs.Common.{arith, ◌≡◌, ◌++◌, subst, cond, fold, true, false, is_some, Bool, ℕ, zero, suc, List, [], ◌∷◌, Option, Some}
+use Rattle.std.proofs.Common.{None, IfSome, rules}
 use Rattle.std.specs.{Prelude.{find, length, ⊤}, Option.{option_map_or}}
 use Rattle.clap.specs.Faults.{bundle_step_fault, flag_word_fault, flags_fault, level_fault, long_fault, option_fault, other_fault}
 use Rattle.clap.specs.Faults.{positional_fault, react_fault, settle_fault, short_fault, step_fault, stray_fault, turn_fault, use_fault}
-use Rattle.clap.specs.{Faults.{walk_fault, word_fault}, Kinds.{Kinds, or_else}, Lexer.{short_of}, Simple.{Shape}}
-use Rattle.clap.specs.Walk.{Held, Names, Outcome, Row, Rule, Step, Text, Waiting, Walk, after_flag, after_step, arg_by_index, arg_by_long}
-use Rattle.clap.specs.Walk.{attached_value, bundle_met, bundle_step, done, flag_met, idle, long_met, long_or_other, next, nothing_held}
-use Rattle.clap.specs.Walk.{option, option_met, plain, plain_word, positional, reacted, refused, rows_after, settled, short_met}
-use Rattle.clap.specs.Walk.{short_or_plain, subcommand, subcommand_met, subcommand_or_other, takes_values, to_positional, trailing, used}
-use Rattle.clap.specs.Walk.{used_by_id, value, waits, walk, walk_from, walked, with_default, word_met}
+use Rattle.clap.specs.{Faults.{walk_fault, word_fault}, Kinds.{Kinds, or_else}, Simple.{Shape}, Walk.{Held, Names, Outcome, Row, Rule}}
+use Rattle.clap.specs.Walk.{Step, Text, Waiting, Walk, after_flag, after_step, attached_value, bundle_met, bundle_step, flag_met, long_met}
+use Rattle.clap.specs.Walk.{long_or_other, nothing_held, option_met, plain_word, reacted, rows_after, settled, short_met, short_or_plain}
+use Rattle.clap.specs.Walk.{subcommand_or_other, takes_values, to_positional, used, used_by_id, walk, walk_from, walked, with_default}
+use Rattle.clap.specs.Walk.{word_met}
 use Rattle.clap.specs.declared.error.kind.ErrorKind.TheVariants as kind
 
 -- each element has the property
@@ -30,8 +29,7 @@ each-weaker P Q [] weaker h = tt
 each-weaker P Q (x ∷ xs) weaker h = (weaker x h.0, each-weaker P Q xs weaker h.1)
 
 pub split : (a b : Kinds) → or_else a b ≡ [] → (a ≡ []) × (b ≡ [])
-split [] b e = (refl, e)
-split (k ∷ ks) b e = absurd cc
+split a b e = grind arith
 
 -- ---- a property that each use of an argument keeps is kept by a walk without a fault
 
@@ -42,8 +40,7 @@ Keeps P again a = (values : List Text) (rows : List Row) → use_fault again a v
 module _ (s : Shape) (P : List Row → Type 0) (all : Each (Keeps P s.args_override_self) s.rules) where
   by-id : (o : Option Rule) (values : List Text) (rows : List Row) → IfSome o (Keeps P s.args_override_self)
       → option_map_or (λ a. use_fault s.args_override_self a values rows) o [] ≡ [] → P rows → P (used_by_id o values rows)
-  by-id None values rows keeps none p = p
-  by-id (Some a) values rows keeps none p = keeps values rows none p
+  by-id o values rows keeps none p = grind arith
 
   in-settled : (h : Held) → settle_fault s.rules s.args_override_self h ≡ [] → P h.rows → P (settled s.rules h).rows
   in-settled h none p = grind (arith, by-id, each-find)
@@ -65,8 +62,7 @@ module _ (s : Shape) (P : List Row → Type 0) (all : Each (Keeps P s.args_overr
 
   in-long : (o : Option Rule) (v : Option Text) (h : Held) → IfSome o (Keeps P s.args_override_self)
       → long_fault s.rules s.args_override_self o v h ≡ [] → P h.rows → P (long_met s.rules o v h).0.rows
-  in-long None v h keeps none p = p
-  in-long (Some a) v h keeps none p = grind (arith, is_some, in-option, in-flag)
+  in-long o v h keeps none p = grind (arith, in-option, in-flag)
 
   in-short : (o : Option Rule) (rest : Text) (h : Held) (then : Held → Held × Outcome) (faults : Held → Kinds)
       → ((k : Held) → faults k ≡ [] → P k.rows → P (then k).0.rows) → IfSome o (Keeps P s.args_override_self)
@@ -85,9 +81,7 @@ module _ (s : Shape) (P : List Row → Type 0) (all : Each (Keeps P s.args_overr
       → (o : Option ℕ) (flags : Text) (skip : ℕ) (so_far : Outcome) (h : Held)
       → bundle_step_fault s.rules s.args_override_self o flags skip h faults ≡ []
       → P h.rows → P (bundle_step s.rules o flags skip so_far h then).0.rows
-  in-bundle-step then faults more None flags skip so_far h none p = p
-  in-bundle-step then faults more (Some x) flags zero so_far h none p = grind (arith, in-short, each-find)
-  in-bundle-step then faults more (Some x) flags (suc skip) so_far h none p = more _ skip so_far h none p
+  in-bundle-step then faults more o flags skip so_far h none p = grind (arith, in-short, each-find)
 
   in-bundle : (k : ℕ) (flags : Text) (skip : ℕ) (so_far : Outcome) (h : Held) → flags_fault s.rules s.args_override_self k flags skip h ≡ []
       → P h.rows → P (bundle_met s.rules k flags skip so_far h).0.rows
@@ -96,52 +90,37 @@ module _ (s : Shape) (P : List Row → Type 0) (all : Each (Keeps P s.args_overr
   in-bundle (suc k) flags skip so_far h none p = grind (arith, in-bundle-step, in-bundle k)
 
   plain-rows : (waiting : Waiting) (word : Text) (h : Held) → h.rows ≡ (plain_word s.rules waiting word h).0.rows
-  plain-rows idle word h = refl
-  plain-rows positional word h = refl
-  plain-rows (option id) word h = grind arith
+  plain-rows waiting word h = grind arith
 
   flag-rows : (waiting : Waiting) (word : Text) (h : Held) (o : Outcome) → h.rows ≡ (after_flag s.rules waiting word h o).0.rows
-  flag-rows waiting word h done = refl
-  flag-rows waiting word h (waits id) = refl
-  flag-rows waiting word h plain = plain-rows waiting word h
-  flag-rows waiting word h refused = plain-rows waiting word h
+  flag-rows waiting word h o = grind (arith, plain-rows)
 
   in-short-word : (waiting : Waiting) (word : Text) (o : Option Text) (h : Held)
       → option_map_or (λ flags. flags_fault s.rules s.args_override_self (length flags) flags h.skip (record h { skip = 0 })) o [] ≡ []
       → P h.rows → P (short_or_plain s.rules waiting word o h).0.rows
-  in-short-word waiting word None h none p = subst P (plain-rows waiting word h) p
-  in-short-word waiting word (Some flags) h none p =
-      subst P (flag-rows waiting word _ _) (in-bundle (length flags) flags h.skip plain (record h { skip = 0 }) none p)
+  in-short-word waiting word o h none p = grind (arith, plain-rows, flag-rows, in-bundle)
 
   in-flag-word : (waiting : Waiting) (word : Text) (o : Option (Text × Option Text)) (h : Held)
       → flag_word_fault s.rules s.args_override_self o word h ≡ [] → P h.rows → P (long_or_other s.rules waiting word o h).0.rows
-  in-flag-word waiting word None h none p = in-short-word waiting word (short_of word) h none p
-  in-flag-word waiting word (Some q) h none p =
-      subst P (flag-rows waiting word _ _) (in-long (arg_by_long s.rules q.0) q.1 h (each-find _ _ s.rules all) none p)
+  in-flag-word waiting word o h none p = grind (arith, in-short-word, flag-rows, in-long, each-find)
 
   in-other : (o : Option Text) (waiting : Waiting) (position : ℕ) (word : Text) (h : Held)
       → other_fault s o word h ≡ [] → P h.rows → P (subcommand_or_other s.rules o waiting position word h).0.rows
-  in-other (Some name) waiting position word h none p = p
-  in-other None waiting position word h none p = grind (arith, in-flag-word)
+  in-other o waiting position word h none p = grind (arith, in-flag-word)
 
   in-word : (names : Names) (is_trailing : Bool) (waiting : Waiting) (position : ℕ) (word : Text) (h : Held)
       → word_fault s names is_trailing waiting word h ≡ []
       → P h.rows → P (word_met s.rules names is_trailing waiting position word h).0.rows
-  in-word names true waiting position word h none p = p
-  in-word names false waiting position word h none p = in-other (subcommand_met names waiting word) waiting position word h none p
+  in-word names is_trailing waiting position word h none p = grind (arith, in-other)
 
   in-positional : (o : Option Rule) (word : Text) (w : Walk) (h : Held)
       → option_map_or (λ a. positional_fault s.rules s.args_override_self a h) o (stray_fault s) ≡ []
       → P h.rows → P (to_positional s.rules o word w h).held.rows
-  in-positional None word w h none p = p
-  in-positional (Some a) word w h none p = grind (arith, in-settled)
+  in-positional o word w h none p = grind (arith, in-settled)
 
   in-step : (word : Text) (w : Walk) (h : Held) (step : Step) → step_fault s w.position h step ≡ [] → P h.rows
       → P (after_step s.rules word w h step).held.rows
-  in-step word w h (next waiting) none p = p
-  in-step word w h (trailing position) none p = p
-  in-step word w h (subcommand name) none p = p
-  in-step word w h value none p = in-positional (arg_by_index s.rules w.position) word w h none p
+  in-step word w h step none p = grind (arith, in-positional)
 
   in-turn : (names : Names) (w : Walk) (word : Text) → turn_fault s names w word ≡ []
       → P w.held.rows → P (walked s.rules names w word).held.rows
@@ -152,9 +131,7 @@ module _ (s : Shape) (P : List Row → Type 0) (all : Each (Keeps P s.args_overr
       → P (fold (walked s.rules names) w words).held.rows
   unfolding walk_fault
   in-walk names [] w none p = p
-  in-walk names (word ∷ rest) w none p =
-      let parts = split _ _ none in
-      in-walk names rest (walked s.rules names w word) parts.1 (in-turn names w word parts.0 p)
+  in-walk names (word ∷ rest) w none p = grind (arith, split, in-turn, in-walk names rest)
 
 no-default : (a : Rule) (rows : List Row) → a.defaults ≡ [] → rows ≡ with_default rows a
 no-default a rows none = grind arith

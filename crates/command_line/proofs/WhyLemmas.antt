@@ -1,12 +1,12 @@
 -- What the subcommands of `mdnswhy` ask for.
-use Rattle.std.proofs.Common.{◌≡◌, ap, subst, subst₂, refl, false, List, Option}
+use Rattle.std.proofs.Common.{◌≡◌, subst₂, refl, false, List, Option, arith}
 use Rattle.clap.specs.Words.{Row, Text}
 use Rattle.mdns_lives.specs.declared.window.Window.{Window}
 use Rattle.mdns_browse.specs.declared.report.Form.{Form}
 use Rattle.mdns_trace.specs.declared.inquiry.Inquiry.{Inquiry}
-use Rattle.command_line.specs.declared.{lists.Lists.{Lists}, options.Options.{Options}, words.WhyAsks.{WhyAsks}}
-use Rattle.command_line.specs.{Line.{AsksWithLists, Flags, HasOneForm, HasOptions}, OptionFault.{MakesFormWindow}}
-use Rattle.command_line.specs.CommandLine.{AsksWhy, GivesWindow, MakesInquiry, in_form, inquiries}
+use Rattle.command_line.specs.{declared.lists.Lists.{Lists}, declared.options.Options.{Options}, declared.words.WhyAsks.{WhyAsks}}
+use Rattle.command_line.specs.{Line.{AsksWithLists, Flags, HasOptions}, OptionFault.{MakesFormWindow}, CommandLine.{AsksWhy, GivesWindow}}
+use Rattle.command_line.specs.CommandLine.{MakesInquiry, in_form, inquiries}
 use Rattle.command_line.proofs.TableLemmas.{IsOneOf, all-known, one-asked}
 
 abbrev pub AsksRead : Text → List Row → (Inquiry × Options) × Lists → Type 0
@@ -27,5 +27,4 @@ inquiry-asked what made gives name rows told =
   where
     makes : (flags : Flags) (own : Inquiry) → what.0.0 ≡ own → HasOptions flags rows what.0.1
         → MakesInquiry flags rows own (in_form what.0.0 made.0)
-    makes flags own same has =
-        (made.0, subst (HasOneForm flags rows) gives.0 has.3, ap (λ (inquiry : Inquiry). in_form inquiry made.0) same)
+    makes flags own same has = grind arith

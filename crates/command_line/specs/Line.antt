@@ -15,23 +15,14 @@ use Rattle.command_line.specs.declared.line.Takes.TheVariants as takes
 
 -- `--NAME`; or `--NAME SECONDS`, a number of 32 bits; or `--NAME MOMENT`, any text; or `--NAME WORD`, any but the empty one, repeatedly
 abbrev pub flag_rule : Text → Takes → Rule
-flag_rule name (takes.Nothing form) = record (new_rule name) {
-  long = Some name;
-  action = Some action.SetTrue;
-}
-flag_rule name takes.Switch = record (new_rule name) {
-  long = Some name;
-  action = Some action.SetTrue;
-}
+flag_rule name (takes.Nothing form) = record (new_rule name) { long = Some name; action = Some action.SetTrue }
+flag_rule name takes.Switch = record (new_rule name) { long = Some name; action = Some action.SetTrue }
 flag_rule name takes.Seconds = record (new_rule name) {
   long = Some name;
   value_names = 1;
   parser = Some (parser.Signed (pos 0) (pos 4294967295));
 }
-flag_rule name takes.Moment = record (new_rule name) {
-  long = Some name;
-  value_names = 1;
-}
+flag_rule name takes.Moment = record (new_rule name) { long = Some name; value_names = 1 }
 flag_rule name takes.Words = record (new_rule name) {
   long = Some name;
   action = Some action.Append;

@@ -6,6 +6,7 @@ ghost use Rattle.command_line.specs.FinalDot.{escapes_next, without_final_dot};
 /// Returns a word without its final dot. `None` where it has none: that of `\.` is escaped, and that of `.` is all of it.
 ///
 /// A name that ends in a dot is absolute (RFC 1035, section 5.1), as all names of Multicast DNS are; outputs write them without it.
+#[tactic(auto, using(crate::proofs::FinalDotLemmas::for_without_final_dot))]
 pub(crate) fn without_final_dot(word: &str) -> Option<&str>
     ensures { option_map (λ front. front.now) result ≡ without_final_dot word.now }
 {

@@ -20,9 +20,8 @@ pub(crate) const AT_SECONDS: Flag = Flag {
 
 pub(crate) const BEFORE: Flag = Flag {
     name: "before",
-    takes: Takes::Moment,
-    value: "MOMENT",
     help: "Only what was heard before that moment, as of it",
+    ..AT
 };
 
 pub(crate) const SINCE: Flag = Flag {
@@ -65,25 +64,23 @@ pub(crate) const PRINTER_TYPES: &[&str] = &[
 /// The files whose names begin so are of one listener.
 pub(crate) const LISTENER: Flag = Flag {
     name: "listener",
-    takes: Takes::Words,
     value: "PREFIX",
     help: "Files named PREFIX... are one listener; repeatable",
+    ..ABOUT
 };
 
 /// Without it one file that can't be used is a refusal.
 pub(crate) const SKIP_UNUSABLE: Flag = Flag {
     name: "skip-unusable",
-    takes: Takes::Switch,
-    value: "",
     help: "Leave out files that can't be used, and say why",
+    ..PRINTERS
 };
 
 /// Lists the lives of service instances in place of those of records.
 pub(crate) const SERVICES: Flag = Flag {
     name: "services",
-    takes: Takes::Switch,
-    value: "",
     help: "Lives of service instances, with their servers",
+    ..PRINTERS
 };
 
 /// A list of flags: the first ones, `--json`, and the last ones.

@@ -55,6 +55,20 @@ pub enum Takes {
     Words,
 }
 
+/// The subcommands of a command line: of each its name, its page of help, its flags and what it asks for.
+macro_rules! subcommands {
+    ($($name:literal, $page:ident, $flags:expr, $asks:expr;)*) => {
+        &[$(Subcommand {
+            name: $name,
+            page: help::$page,
+            flags: $flags,
+            asks: $asks,
+        }),*]
+    };
+}
+
+pub(crate) use subcommands;
+
 /// Returns the command of the table.
 pub(crate) fn command_of<'a, T>(
     alloc: Global,

@@ -25,6 +25,7 @@ pub struct Lists {
 }
 
 /// Copies of the words that are given.
+#[tactic(auto, using(crate::proofs::OptionLemmas::for_lists_of))]
 pub(crate) fn lists_of(alloc: Global, given: &ArgMatches<'_>) -> Result<Lists, Want>
     ensures { IfOk result (HasLists (rows_of (found_of given.now))) }
 {

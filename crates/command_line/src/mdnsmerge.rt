@@ -11,7 +11,7 @@ use crate::flags::{
     AT, AT_SECONDS, BEFORE, CHANGES_FLAGS, CHECK_FLAGS, LIVES_FLAGS, PAGE_FLAGS, REPORT_FLAGS,
 };
 use crate::help;
-use crate::line::{CommandTable, Subcommand};
+use crate::line::{CommandTable, Subcommand, subcommands};
 use crate::lists::Lists;
 use crate::moments::moment_of_text;
 use crate::option_fault::{OptionFault, refusal_of};
@@ -44,46 +44,17 @@ struct Scope {
     services: bool,
 }
 
-/// The subcommands: the reports of `told`, which take `$flags`, the `$other` ones, and `check`, which takes `$check_flags`. `$report` turns
-/// an `Ask` into what the subcommand asks for.
-macro_rules! subcommands {
-    ($flags:expr, $report:path, [$($other:expr),*], $check_flags:expr, $check:expr) => {
-        &[
-            Subcommand {
-                name: "records",
-                page: help::RECORDS,
-                flags: $flags,
-                asks: $report(Ask::Records),
-            },
-            Subcommand {
-                name: "types",
-                page: help::TYPES,
-                flags: $flags,
-                asks: $report(Ask::Types),
-            },
-            Subcommand {
-                name: "instances",
-                page: help::INSTANCES,
-                flags: $flags,
-                asks: $report(Ask::Instances),
-            },
-            $($other,)*
-            Subcommand {
-                name: "check",
-                page: help::CHECK,
-                flags: $check_flags,
-                asks: $check,
-            },
-        ]
-    };
-}
-
 /// The command line of `told`.
 const TOLD: CommandTable<Option<Ask>> = CommandTable {
     name: "mdnsmerge",
     page: help::PROGRAM,
     has_version: false,
-    subcommands: subcommands!(&[AT_SECONDS], Some, [], &[], None),
+    subcommands: subcommands! {
+        "records", RECORDS, &[AT_SECONDS], Some(Ask::Records);
+        "types", TYPES, &[AT_SECONDS], Some(Ask::Types);
+        "instances", INSTANCES, &[AT_SECONDS], Some(Ask::Instances);
+        "check", CHECK, &[], None;
+    },
 };
 
 /// The command line of `asked`.
@@ -91,38 +62,16 @@ const ASKED: CommandTable<Asks> = CommandTable {
     name: "mdnsmerge",
     page: help::PROGRAM,
     has_version: true,
-    subcommands: subcommands!(
-        REPORT_FLAGS,
-        Asks::Report,
-        [
-            Subcommand {
-                name: "hosts",
-                page: help::HOSTS,
-                flags: REPORT_FLAGS,
-                asks: Asks::Report(Ask::Hosts),
-            },
-            Subcommand {
-                name: "lives",
-                page: help::LIVES,
-                flags: LIVES_FLAGS,
-                asks: Asks::Lives(Which::All),
-            },
-            Subcommand {
-                name: "changes",
-                page: help::CHANGES,
-                flags: CHANGES_FLAGS,
-                asks: Asks::Lives(Which::Changes),
-            },
-            Subcommand {
-                name: "page",
-                page: help::HTML_PAGE,
-                flags: PAGE_FLAGS,
-                asks: Asks::Page,
-            }
-        ],
-        CHECK_FLAGS,
-        Asks::Check
-    ),
+    subcommands: subcommands! {
+        "records", RECORDS, REPORT_FLAGS, Asks::Report(Ask::Records);
+        "types", TYPES, REPORT_FLAGS, Asks::Report(Ask::Types);
+        "instances", INSTANCES, REPORT_FLAGS, Asks::Report(Ask::Instances);
+        "hosts", HOSTS, REPORT_FLAGS, Asks::Report(Ask::Hosts);
+        "lives", LIVES, LIVES_FLAGS, Asks::Lives(Which::All);
+        "changes", CHANGES, CHANGES_FLAGS, Asks::Lives(Which::Changes);
+        "page", HTML_PAGE, PAGE_FLAGS, Asks::Page;
+        "check", CHECK, CHECK_FLAGS, Asks::Check;
+    },
 };
 
 /// Reads the words of a command line on which a report takes `--at` alone. The first is the program's name.

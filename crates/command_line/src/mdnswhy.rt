@@ -8,7 +8,7 @@ ghost use Rattle.mdns_listeners.specs.Groups.{unfit_prefix};
 
 use crate::flags::{FILES_FLAGS, HEARINGS_FLAGS, LISTENERS_FLAGS, PACKETS_FLAGS, SPANS_FLAGS};
 use crate::help;
-use crate::line::{CommandTable, Subcommand};
+use crate::line::{CommandTable, Subcommand, subcommands};
 use crate::option_fault::refusal_of;
 use crate::read::read;
 use crate::window::form_and_window;
@@ -22,38 +22,13 @@ const WHY_ASKED: CommandTable<Inquiry> = CommandTable {
     name: "mdnswhy",
     page: help::WHY,
     has_version: true,
-    subcommands: &[
-        Subcommand {
-            name: "hearings",
-            page: help::HEARINGS,
-            flags: HEARINGS_FLAGS,
-            asks: Inquiry::Trace(Trace::Hearings(Form::Lines)),
-        },
-        Subcommand {
-            name: "packets",
-            page: help::PACKETS,
-            flags: PACKETS_FLAGS,
-            asks: Inquiry::Trace(Trace::Packets(Form::Lines)),
-        },
-        Subcommand {
-            name: "spans",
-            page: help::SPANS,
-            flags: SPANS_FLAGS,
-            asks: Inquiry::Trace(Trace::Spans(Form::Lines)),
-        },
-        Subcommand {
-            name: "files",
-            page: help::FILES,
-            flags: FILES_FLAGS,
-            asks: Inquiry::Files(Form::Lines),
-        },
-        Subcommand {
-            name: "listeners",
-            page: help::LISTENERS,
-            flags: LISTENERS_FLAGS,
-            asks: Inquiry::Listeners(Form::Lines),
-        },
-    ],
+    subcommands: subcommands! {
+        "hearings", HEARINGS, HEARINGS_FLAGS, Inquiry::Trace(Trace::Hearings(Form::Lines));
+        "packets", PACKETS, PACKETS_FLAGS, Inquiry::Trace(Trace::Packets(Form::Lines));
+        "spans", SPANS, SPANS_FLAGS, Inquiry::Trace(Trace::Spans(Form::Lines));
+        "files", FILES, FILES_FLAGS, Inquiry::Files(Form::Lines);
+        "listeners", LISTENERS, LISTENERS_FLAGS, Inquiry::Listeners(Form::Lines);
+    },
 };
 
 /// Reads the words of a command line of `mdnswhy`, of which the first is the program's name.

@@ -173,6 +173,7 @@ fn digits_len(text: &[u8]) -> usize
 }
 
 // Returns the nanoseconds of one to nine digits of a fraction.
+#[tactic(auto, using(crate::proofs::FractionLemmas::for_fraction_of))]
 fn fraction_of(digits: &[u8]) -> Option<u32>
     ensures value { result ≡ reading.fraction_of digits.now }
     ensures small { IfSome result (λ nanos. nanos < second) }

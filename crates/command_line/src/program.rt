@@ -228,6 +228,7 @@ fn print_error<E: Sink>(line: Result<String, Want>, lines: ErrorLines, err: &mut
 }
 
 // Writes a text with exactly one line feed at its end, and returns `true` if all of it was written.
+#[tactic(auto, using(crate::proofs::PrintLemmas::for_print_line))]
 fn print_line<S: Sink>(text: &str, to: &mut S) -> bool
     ensures whole { OnTrue result (Appends (S.written to.old) (S.written to.new) (trimmed text.now ++ 10 ∷ [])) }
     ensures prefix { OnFalse result (AppendsPrefix (S.written to.old) (S.written to.new) (trimmed text.now ++ 10 ∷ [])) }
