@@ -1,12 +1,11 @@
--- Names that are held suffice for those that hearings tell: one more name, a lesser spelling, and sorted names of which each is
--- kept once.
-use Rattle.std.proofs.lemmas.{Bool.Decides.{nat_tests}, Bool.{false≢true, cases_eq}, Cmp.{nat_list_cmp_total, on_total, then_total}}
-use Rattle.std.proofs.lemmas.{Cmp.{tied_itself, upto}, List.{length-set, get_or-set_same, get_or-set_other, get_or_default, set-get_or}}
+-- Names that are held suffice for those that hearings tell: one more name, and sorted names of which each is kept once.
+use Rattle.std.proofs.lemmas.{Bool.Decides.{nat_tests}, Bool.{false≢true}, Cmp.{nat_list_cmp_total, on_total, then_total}}
+use Rattle.std.proofs.lemmas.{Cmp.{tied_itself, upto}}
 use Rattle.std.proofs.lemmas.List.Elements.{Contains-append_left, Contains-append_right, Contains-append_cases, Contains-push}
-use Rattle.std.proofs.lemmas.List.Elements.{Contains-push_cases, Contains-get_or, All-head, All-tail, filter_map-append}
+use Rattle.std.proofs.lemmas.{List.Elements.{Contains-push_cases, Contains-get_or, All-head, All-tail}, List.Concat.{flat_map-append}}
 use Rattle.std.proofs.lemmas.List.{Kept.{IsStrictlySortedBy-dedup, Contains-from_dedup}, Sorted.{IsPermutation-sym, Contains-permutation}}
 use Rattle.std.proofs.{lemmas.List.Sorted.{sorted_far, ranks_by}, Common.{◌≡◌, ◌≢◌, ℕ, suc, ◌<◌, ◌≤◌, ◌⊎◌}}
-use Rattle.std.proofs.Common.{⊎_elim, Bool, true, false, cond, List, [], ◌∷◌, ◌++◌, length, get_or, set, Contains, None}
+use Rattle.std.proofs.Common.{⊎_elim, Bool, true, false, cond, List, [], ◌∷◌, ◌++◌, length, get_or, Contains, None}
 use Rattle.std.proofs.Common.{append-nil, append_assoc, refl, sym, ap, subst, ◌∙◌, arith}
 use Rattle.std.specs.{List.{All, dedup, dedup_from}, declared.cmp.Ordering.TheVariants.{Less, Equal, Greater}}
 use Rattle.std.specs.{List.Sorted.{IsPermutation, IsSorted, IsStrictlySortedBy}, Cmp.{IsTotalOrder}, Cmp.Lexicographic.{slice_cmp}}
@@ -17,9 +16,9 @@ use Rattle.mdns_message.specs.{declared.hearing.Hearing.{Hearing}, laws.Resource
 use Rattle.mdns_browse.proofs.SearchLemmas.{eq_is}
 use Rattle.mdns_cache.proofs.StandsPartLemmas.{not_greater as never_greater, Contains-nil, Contains-head, Contains-later, Contains-cases}
 use Rattle.mdns_listeners.specs.declared.sender_names.SenderAddressName.{SenderAddressName}
-use Rattle.mdns_listeners.specs.SenderNames.{AddsNames, Covers, HoldsNames, IsAtMost, SufficeFor, named, told_in, respelled, address_in}
+use Rattle.mdns_listeners.specs.SenderNames.{AddsNames, Covers, HoldsNames, IsAtMost, SufficeFor, told_in, address_in}
 use Rattle.mdns_listeners.specs.SenderNames.{address_bytes, address_cmp, by_name, by_spelling}
-use Rattle.std.proofs.lemmas.Result.{IfOk-weaker}
+use Rattle.std.proofs.lemmas.Result.{IfOk-weaker, on_ok_weaker}
 
 -- ---- orders
 
@@ -73,48 +72,6 @@ Covers-onward a b c p q = record {
   among = λ x m. q.among x (p.among x m);
   each = λ x m. (let w = q.each x m in let v = p.each w.0 w.1 in (v.0, v.1, IsAtMost-onward v.0 w.0 x v.2 w.2));
 }
-
--- ---- a lesser spelling
-
-from_set : (xs : List SenderAddressName) (i : ℕ) (v x : SenderAddressName) → i < length xs → Contains (set xs i v) x → (v ≡ x) ⊎ Contains xs x
-from_set xs i v x within m = grind (arith, nat_tests, cases_eq, get_or-set_other, get_or-set_same, length-set)
-
-in_set : (xs : List SenderAddressName) (i : ℕ) (v x d : SenderAddressName) → i < length xs → Contains xs x → (get_or xs i d ≡ x) ⊎ Contains (set xs i v) x
-in_set xs i v x d within m = grind (arith, nat_tests, cases_eq, get_or-set_other, get_or_default, length-set)
-
-at_set : (xs : List SenderAddressName) (i : ℕ) (v : SenderAddressName) → i < length xs → Contains (set xs i v) v
-at_set xs i v within = (i, omega (arith, length-set xs i v), get_or-set_same xs i v v within)
-
--- the name at a place in its spelling, which is no greater than that of `one`
-kept_spelling : (held told : List SenderAddressName) (place : ℕ) (d one : SenderAddressName) → place < length held → IsAtMost (get_or held place d) one
-    → Covers held told → Covers held (told ++ one ∷ [])
-kept_spelling held told place d one within le covers = record {
-  among = λ x m. Contains-append_left told (one ∷ []) x (covers.among x m);
-  each = λ x m. ⊎_elim (λ h. covers.each x h)
-      (λ e. (get_or held place d, Contains-get_or held place d within, subst (IsAtMost (get_or held place d)) e le))
-      (Contains-push_cases told one x m);
-}
-
--- the name at a place replaced by `one`, which is at most it
-less_spelling : (held told : List SenderAddressName) (place : ℕ) (d one : SenderAddressName) → place < length held → IsAtMost one (get_or held place d)
-    → Covers held told → Covers (set held place one) (told ++ one ∷ [])
-less_spelling held told place d one within le covers = record {
-  among = λ x m. ⊎_elim (λ e. subst (Contains (told ++ one ∷ [])) e (Contains-push told one))
-      (λ h. Contains-append_left told (one ∷ []) x (covers.among x h)) (from_set held place one x within m);
-  each = λ x m. ⊎_elim (λ h. before x (covers.each x h))
-      (λ e. (one, at_set held place one within, subst (IsAtMost one) e (IsAtMost-itself one))) (Contains-push_cases told one x m);
-}
-  where
-    before : (x : SenderAddressName) → (f : SenderAddressName) × Contains held f × IsAtMost f x → (f : SenderAddressName) × Contains (set held place one) f × IsAtMost f x
-    before x w = ⊎_elim
-        (λ same. (one, at_set held place one within, IsAtMost-onward one w.0 x (subst (IsAtMost one) same le) w.2))
-        (λ there. (w.0, there, w.2)) (in_set held place one w.0 d within w.1)
-
-pub Covers-respelled : (held told : List SenderAddressName) (place : ℕ) (d : SenderAddressName) (source : SourceAddress) (owner : List ℕ) → place < length held
-    → (get_or held place d).source ≡ source → (get_or held place d).folded ≡ folded owner → Covers held told
-    → Covers (set held place (respelled (get_or held place d) owner)) (told ++ named source owner ∷ [])
-Covers-respelled held told place d source owner within same_source same_folded covers =
-    grind (arith, less_spelling, set-get_or, kept_spelling, not_less)
 
 -- ---- sorted names, of which the first of each is kept
 
@@ -205,7 +162,7 @@ adds_untold held h none = grind (arith, adds-none)
 
 pub adds_next : (a b c : List SenderAddressName) (heard : List Hearing) (h : Hearing) → AddsNames a b (told_in heard)
     → AddsNames b c (told_in (h ∷ [])) → AddsNames a c (told_in (heard ++ h ∷ []))
-adds_next a b c heard h p q told covers = grind (arith, nat_tests, append_assoc, filter_map-append)
+adds_next a b c heard h p q told covers = grind (arith, nat_tests, append_assoc, flat_map-append)
 
 -- names suffice for those that were held before, and for those that were added
 pub adds_keeps : (old new more : List SenderAddressName) → AddsNames old new more → SufficeFor new old
@@ -225,11 +182,19 @@ suffice-adds held more suffice told covers = record {
 
 pub HoldsNames-more : (old new : List SenderAddressName) (heard more : List Hearing) → AddsNames old new (told_in more) → HoldsNames old heard
     → HoldsNames new (heard ++ more)
-HoldsNames-more old new heard more adds holds = grind (arith, filter_map-append)
+HoldsNames-more old new heard more adds holds = grind (arith, flat_map-append)
 
 pub HoldsNames-kept : (kept held : List SenderAddressName) (heard : List Hearing) → Covers kept held → HoldsNames held heard → HoldsNames kept heard
 HoldsNames-kept kept held heard covers holds = record { covers = Covers-onward kept held (told_in heard) covers holds.covers }
 
+-- a name that is held in a spelling no greater suffices
+pub at_most_suffices : (held : List SenderAddressName) (place : ℕ) (d other : SenderAddressName) → place < length held
+    → IsAtMost (get_or held place d) other → SufficeFor held (other ∷ [])
+at_most_suffices held place d other within le x m =
+    grind (arith, Contains-get_or held place d within, Contains-cases, Contains-nil)
+
 -- WHAT FUNCTIONS ARE PROVED BY
+
+pub ruleset for_put = (suffice-adds, Covers-push, on_ok_weaker)
 
 pub ruleset for_finish = (HoldsNames-kept, IfOk-weaker)

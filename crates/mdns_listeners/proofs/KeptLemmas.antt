@@ -5,7 +5,7 @@ use Rattle.std.proofs.lemmas.List.Elements.{All-map, All-push, All-take, Contain
 use Rattle.std.proofs.lemmas.List.Sorted.{All-permutation as all_permuted, Contains-permutation, length_permutation}
 use Rattle.std.proofs.Common.{◌≡◌, ℕ, ◌<◌, ◌-◌, ◌==◌, if◌then◌else◌, List, [], ◌∷◌, ◌++◌, length, get_or, map, take, Result, Ok}
 use Rattle.std.proofs.Common.{Err, OnOk, refl, sym, ap, ◌∙◌, subst, arith, length-append}
-use Rattle.std.specs.{List.{All, cons_option}, List.Sorted.{IsPermutation}}
+use Rattle.std.specs.{List.{All}, List.Sorted.{IsPermutation}}
 use Rattle.mdns_capture.specs.declared.moment.Moment.{Moment}
 use Rattle.mdns_message.specs.{declared.hearing.Hearing.{Hearing}, Message.{MessageReads, hearing_of}, RecordAt.{HeardRecord}}
 use Rattle.mdns_message.proofs.MessageLawLemmas.{one_hearing_list}
@@ -40,7 +40,7 @@ payload_after (Err e) version octets payload message is size = tt
 
 any-moment : (t u : Moment) (told : List HeardRecord) → told_in (map (hearing_of t) told) ≡ told_in (map (hearing_of u) told)
 any-moment t u [] = refl
-any-moment t u (r ∷ rs) = ap (cons_option (named_in (hearing_of t r))) (any-moment t u rs)
+any-moment t u (r ∷ rs) = ap (λ more. named_in (hearing_of t r) ++ more) (any-moment t u rs)
 
 -- a message tells the same names at each moment
 told-alike : (t u : Moment) (message : List ℕ) (hs gs : List Hearing) → MessageReads t message hs → MessageReads u message gs

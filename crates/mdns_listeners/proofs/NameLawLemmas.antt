@@ -9,7 +9,7 @@ use Rattle.mdns_cache.proofs.StandsPartLemmas.{same-back}
 use Rattle.mdns_browse.proofs.RowLemmas.{same_rows}
 use Rattle.mdns_listeners.specs.SenderNames.{IsNameOf, IsLeastName, AreNames, by_folded}
 
-by_folded-total : IsTotalOrder by_folded
+pub by_folded-total : IsTotalOrder by_folded
 by_folded-total = on_total folded nat_list_cmp_total
 
 IsNameOf-among : (sender : SourceAddress) (heard others : List Hearing) (name : List ℕ)

@@ -1,9 +1,9 @@
 -- The names that a sender goes by: the owners of the A and AAAA records whose data is its address (RFC 1035, section 3.4.1; RFC
 -- 3596). Names that are equal once folded (RFC 6762, section 16) count once, in their least spelling. A list of hearings is
 -- read as a set: only which hearings it contains counts.
-use Rattle.std.specs.Prelude.{◌≡◌, ◌≢◌, ◌↔◌, ℕ, List, ◌∷◌, ◌++◌, Option, None, Some, map, option_map, Contains, if◌then◌else◌}
-use Rattle.std.specs.{List.{filter_map}, List.Sorted.{IsStrictlySortedBy}, Cmp.Lexicographic.{slice_cmp}}
-use Rattle.std.specs.{Ordering.{nat_cmp, on, then_cmp, is_lt}, declared.cmp.Ordering.{Ordering}}
+use Rattle.std.specs.Prelude.{◌≡◌, ◌≢◌, ◌↔◌, ℕ, List, ◌∷◌, ◌++◌, Option, None, Some, map, Contains}
+use Rattle.std.specs.{Option.{option_to_list}, List.{flat_map}, List.Sorted.{IsStrictlySortedBy}, Cmp.Lexicographic.{slice_cmp}}
+use Rattle.std.specs.{Ordering.{nat_cmp, on, then_cmp}, declared.cmp.Ordering.{Ordering}}
 use Rattle.std.specs.declared.cmp.Ordering.TheVariants.{Greater}
 use Rattle.mdns_capture.specs.declared.source_address.{SourceAddress.{SourceAddress}, SourceAddress.TheVariants.{V4, V6}}
 use Rattle.dns_name.specs.Name.{folded}
@@ -52,24 +52,19 @@ address_cmp = on address_bytes (slice_cmp nat_cmp)
 abbrev pub named : SourceAddress → List ℕ → SenderAddressName
 named source name = record { source = source; folded = folded name; name = name }
 
--- the address and the name that a hearing tells
-abbrev pub named_in : Hearing → Option SenderAddressName
-named_in hearing = option_map (λ source. named source hearing.heard.owner) (address_in hearing.heard.body)
+-- the address and the name that a hearing tells, if any
+abbrev pub named_in : Hearing → List SenderAddressName
+named_in hearing = map (λ source. named source hearing.heard.owner) (option_to_list (address_in hearing.heard.body))
 
 -- those that the hearings tell, in their order
 abbrev pub told_in : List Hearing → List SenderAddressName
-told_in heard = filter_map named_in heard
+told_in heard = flat_map named_in heard
 
 -- one address and, once folded, one name, of which the first spelling isn't greater
 pub record IsAtMost (one other : SenderAddressName) : Type 0 where
   pub source : one.source ≡ other.source
   pub folded : one.folded ≡ other.folded
   pub name : slice_cmp nat_cmp one.name other.name ≢ Greater
-
--- the name in the spelling, if that is less
-abbrev pub respelled : SenderAddressName → List ℕ → SenderAddressName
-respelled one spelling =
-    if is_lt (slice_cmp nat_cmp spelling one.name) then record { source = one.source; folded = one.folded; name = spelling } else one
 
 -- some of those told, among which each one told has one that is at most it
 pub record Covers (held told : List SenderAddressName) : Type 0 where

@@ -1,11 +1,11 @@
 //! The names that a sender goes by: the owners of the A and AAAA records whose data is its address.
 
-ghost use Rattle.std.specs.Prelude.{◌≡◌, ◌↔◌, ◌<◌, ◌++◌, ◌∷◌, [], List, length, map, IfOk, IfSome, IsTrue, OnOk};
-ghost use Rattle.std.specs.{Prelude.{OnErr, HoldsAt, slice_set, slice_index_or}, List.Sorted.{IsPermutation, IsSorted, IsStrictlySortedBy}};
+ghost use Rattle.std.specs.Prelude.{◌≡◌, ◌↔◌, ◌++◌, ◌∷◌, [], List, length, map, IfOk, IsTrue, OnErr, OnOk};
+ghost use Rattle.std.specs.List.Sorted.{IsPermutation, IsSorted, IsStrictlySortedBy};
 ghost use Rattle.dns_name.specs.Name.{folded};
 ghost use Rattle.mdns_message.specs.{declared.hearing.Hearing.{Hearing}, Borrowed.{body_lent, hearing_lent}};
-ghost use Rattle.mdns_listeners.specs.SenderNames.{AddsNames, AreNames, Covers, HoldsNames, ListsNames, SufficeFor};
-ghost use Rattle.mdns_listeners.specs.SenderNames.{address_cmp, address_in, by_name, by_spelling, named, respelled, told_in};
+ghost use Rattle.mdns_listeners.specs.SenderNames.{AddsNames, AreNames, Covers, HoldsNames, IsAtMost, ListsNames, SufficeFor};
+ghost use Rattle.mdns_listeners.specs.SenderNames.{address_cmp, address_in, by_name, by_spelling, named, told_in};
 
 use dns_name::BorrowedName;
 use dns_name::fold::is_folded;
@@ -118,6 +118,7 @@ impl SenderNames {
     }
 
     // Takes a name of an address.
+    #[tactic(auto, using(crate::proofs::HeldNameLemmas::for_put))]
     fn put(
         &mut self,
         source: SourceAddress,
@@ -127,42 +128,31 @@ impl SenderNames {
         ensures ok { OnOk result (AddsNames self.old self.new (named source owner.now ∷ [])) }
         ensures err { OnErr result (self.new ≡ self.old) }
     {
-        match self.find(&source, owner, hash) {
-            Some(place) => self.respell(place, owner),
-            None => self.push(source, owner, hash),
+        if self.knows(&source, owner, hash) {
+            return Ok(());
         }
+        self.push(source, owner, hash)
     }
 
-    // Returns the place of a name of an address, in whatever spelling.
-    fn find(&self, source: &SourceAddress, owner: &BorrowedName<'_>, hash: u64) -> Option<usize>
-        ensures within { IfSome result (λ place. place < length self.now) }
-        ensures found { IfSome result (HoldsAt (λ one. (one.source ≡ source.now) × (one.folded ≡ folded owner.now)) self.now) }
+    // Checks that a name of an address is held in a spelling no greater. One that is held in greater ones only is added again.
+    #[tactic(auto, using(crate::proofs::HeldNameLemmas::at_most_suffices))]
+    fn knows(&self, source: &SourceAddress, owner: &BorrowedName<'_>, hash: u64) -> bool
+        ensures { IsTrue result → SufficeFor self.now (named source.now owner.now ∷ []) }
     {
         for tried in 0..REACH {
             match self.places.slot(hash, tried) {
-                Slot::Free => return None,
+                Slot::Free => return false,
                 Slot::Other => {}
                 Slot::Place(place) => {
                     if let Some(held) = self.held.get(place)
-                        && held.is_of(source, owner)
+                        && held.is_at_most(source, owner)
                     {
-                        return Some(place);
+                        return true;
                     }
                 }
             }
         }
-        None
-    }
-
-    // Spells a name that is held as `owner`, if that is less.
-    fn respell(&mut self, place: usize, owner: &BorrowedName<'_>) -> Result<(), Want>
-        requires { place < length self.old }
-        ensures ok { OnOk result ((d : SenderAddressName) →
-            self.new ≡ slice_set self.old place (respelled (slice_index_or self.old place d) owner.now)) }
-        ensures err { OnErr result (self.new ≡ self.old) }
-    {
-        let alloc = self.alloc;
-        self.held[place].respell(alloc, owner)
+        false
     }
 
     // Adds a name of an address.
@@ -202,22 +192,13 @@ impl SenderAddressName {
         })
     }
 
-    // Spells the name as `owner`, if that is less.
-    fn respell(&mut self, alloc: Global, owner: &BorrowedName<'_>) -> Result<(), Want>
-        ensures ok { OnOk result (self.new ≡ respelled self.old owner.now) }
-        ensures err { OnErr result (self.new ≡ self.old) }
+    // Checks that this is the name of that address, in a spelling no greater.
+    fn is_at_most(&self, source: &SourceAddress, owner: &BorrowedName<'_>) -> bool
+        ensures { IsTrue result → IsAtMost self.now (named source.now owner.now) }
     {
-        if owner.wire().cmp(&self.name.wire()).is_lt() {
-            self.name = owner.to_name(alloc)?;
-        }
-        Ok(())
-    }
-
-    // Checks that this is the name of that address, in whatever spelling.
-    fn is_of(&self, source: &SourceAddress, owner: &BorrowedName<'_>) -> bool
-        ensures { IsTrue result ↔ ((self.now.source ≡ source.now) × (self.now.folded ≡ folded owner.now)) }
-    {
-        self.source == *source && is_folded(self.folded.as_slice(), owner.wire())
+        self.source == *source
+            && is_folded(self.folded.as_slice(), owner.wire())
+            && self.name.wire().cmp(&owner.wire()).is_le()
     }
 
     // Compares by address and folded name.

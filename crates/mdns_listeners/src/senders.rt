@@ -1,8 +1,8 @@
 //! What each listener heard of each sender, and missed.
 
-ghost use Rattle.std.specs.Prelude.{◌≡◌, ◌≤◌, ◌++◌, [], length, None, IfOk, OnOk, slice_index, ◌==◌, if◌then◌else◌};
-ghost use Rattle.std.specs.{Cmp.Lexicographic.{slice_cmp}, List.{All, filter, fold, prefix_len}, List.Sorted.{IsStrictlySortedBy}};
-ghost use Rattle.std.specs.Ordering.{nat_cmp};
+ghost use Rattle.std.specs.Prelude.{◌≡◌, ◌≤◌, ◌++◌, [], true, false, length, None, IfOk, OnOk, slice_index, ◌==◌, if◌then◌else◌};
+ghost use Rattle.std.specs.{Cmp.Lexicographic.{slice_cmp}, List.{All, filter, fold}, Ordering.{nat_cmp}};
+ghost use Rattle.std.specs.List.Sorted.{IsPartitionPoint, IsPartitionedBy, IsStrictlySortedBy};
 ghost use Rattle.mdns_listeners.specs.{HeardMessage.{HasWholeAddress, messages_of}, Numbers.{is_of}, Senders.{heard_span, is_from}};
 ghost use Rattle.mdns_listeners.specs.Senders.{rows_of_sender, sender_in, sender_row, sender_rows, source_of, with_time};
 
@@ -91,16 +91,13 @@ fn sender_row(
     }
 }
 
-// Returns how many messages at the front are from the sender.
+// Returns how many messages are from the sender, where all of these are at the front.
 fn own_len(sender: &[u8], rows: &[HeardMessage]) -> usize
-    ensures { result ≡ prefix_len (is_from sender.now) rows.now }
+    ensures within { result ≤ length rows.now }
+    ensures count { IsPartitionedBy (is_from sender.now) rows.now
+        → IsPartitionPoint (λ row. is_from sender.now row ≡ true) (λ row. is_from sender.now row ≡ false) rows.now result }
 {
-    for (index, row) in rows.iter().enumerate() {
-        if sender_in(row.message()) != sender {
-            return index;
-        }
-    }
-    rows.len()
+    rows.partition_point(|row| sender_in(row.message()) == sender)
 }
 
 // Returns the bytes of a message that name its sender.
