@@ -5,7 +5,7 @@ use Rattle.std.proofs.lemmas.List.Elements.{All-append, All-cons, All-nil, All-s
 use Rattle.std.specs.{Prelude.{nat_lt}, List.{All, filter}}
 use Rattle.mdns_message.specs.declared.{hearing.Hearing.{Hearing}, key.Key.{Key}}
 use Rattle.mdns_join.specs.declared.latest.Latest.{Latest}
-use Rattle.mdns_lives.specs.{declared.life.Life.{Life}, declared.seconds_heard.SecondHeard.{SecondHeard}, Chronicle.{Accounts, Chronicles}}
+use Rattle.mdns_lives.specs.{declared.life.Life.{Life}, declared.seconds_heard.SecondHeard.{SecondHeard}}
 use Rattle.mdns_lives.specs.Heard.{AreSecondsHeard}
 use Rattle.mdns_browse.specs.Services.{AreEach}
 use Rattle.mdns_page.specs.{TimelineRows.{AreShownBy}, Timeline.{Row, counted_lent}, declared.timeline_rows.CountedRow.{CountedRow}}
@@ -21,51 +21,43 @@ module _ {X Y : Type 0} (Is : X → Y → Type 0) where
   each-more (w ∷ ws) [] x y are is = absurd are
   each-more (w ∷ ws) (z ∷ zs) x y are is = (are.0, each-more ws zs x y are.1 is)
 
-  -- the last pair, and those before it
-  pub record LastPair (xs : List X) (x : X) (ys : List Y) : Type 0 where
-    pub before : List Y
-    pub last : Y
-    pub parts : ys ≡ before ++ last ∷ []
-    pub are : AreEach Is xs before
-    pub is : Is x last
+  -- the last pair, after those before it
+  last-by : (Q : List Y → Type 0) (x : X) (xs : List X) (ys : List Y)
+      → ((zs : List Y) (y : Y) → AreEach Is xs zs → Is x y → Q (zs ++ y ∷ [])) → AreEach Is (xs ++ x ∷ []) ys → Q ys
+  last-by Q x [] [] holds are = absurd are
+  last-by Q x [] (y ∷ []) holds are = holds [] y tt are.0
+  last-by Q x [] (y ∷ z ∷ zs) holds are = absurd are.1
+  last-by Q x (w ∷ ws) [] holds are = absurd are
+  last-by Q x (w ∷ ws) (y ∷ ys) holds are =
+      last-by (λ zs. Q (y ∷ zs)) x ws ys (λ zs last few is. holds (y ∷ zs) last (are.0, few) is) are.1
 
-  pub each-last : (xs : List X) (x : X) (ys : List Y) → AreEach Is (xs ++ x ∷ []) ys → LastPair xs x ys
-  each-last [] x [] are = absurd are
-  each-last [] x (y ∷ []) are = record { before = []; last = y; parts = refl; are = tt; is = are.0 }
-  each-last [] x (y ∷ z ∷ zs) are = absurd are.1
-  each-last (w ∷ ws) x [] are = absurd are
-  each-last (w ∷ ws) x (y ∷ ys) are =
-      let rest = each-last ws x ys are.1 in
-      record { before = y ∷ rest.before; last = rest.last; parts = ap (λ zs. y ∷ zs) rest.parts; are = (are.0, rest.are); is = rest.is }
+  pub next-by : (Q : List Y → Type 0) (xs : List X) (i : ℕ) (x : X) → i < length xs → x ≡ get_or xs i x
+      → ((zs : List Y) (y : Y) → AreEach Is (take i xs) zs → Is x y → Q (zs ++ y ∷ []))
+      → (ys : List Y) → AreEach Is (take (i + 1) xs) ys → Q ys
+  next-by Q xs i x within at holds ys are =
+      last-by Q x (take i xs) ys holds
+      (subst (λ zs. AreEach Is zs ys) (take_more xs i x within ∙ ap (λ y. take i xs ++ y ∷ []) (sym at)) are)
 
 -- ---- the seconds that are shown
 
 abbrev pub shown_seconds : (many : Bool) → List (List SecondHeard) → List (List SecondHeard)
 shown_seconds many captures = if many then filter (λ seconds. nat_lt 0 (length seconds)) captures else captures
 
-pub shown-more : (many : Bool) (captures : List (List SecondHeard)) (seconds : List SecondHeard)
+shown-more : (many : Bool) (captures : List (List SecondHeard)) (seconds : List SecondHeard)
     → shown_seconds many (captures ++ seconds ∷ []) ≡ shown_seconds many captures ++ shown_seconds many (seconds ∷ [])
 shown-more true captures seconds = filter-append (λ seconds. nat_lt 0 (length seconds)) captures (seconds ∷ [])
 shown-more false captures seconds = refl
 
--- those of one chronicle more
-pub heard-more : (many : Bool) (key : Key) (chronicles : List Accounts) (i : ℕ) (chronicle : Accounts) (shown : List (List SecondHeard))
-    (seconds : List SecondHeard) (more : List (List SecondHeard)) → i < length chronicles → chronicle ≡ get_or chronicles i chronicle
-    → ((each : List (List Hearing)) → AreEach Chronicles (take i chronicles) each → AreShownBy many each key shown)
-    → ((heard : List Hearing) → Chronicles chronicle heard → AreSecondsHeard heard key seconds)
-    → more ≡ shown ++ shown_seconds many (seconds ∷ [])
-    → (each : List (List Hearing)) → AreEach Chronicles (take (i + 1) chronicles) each → AreShownBy many each key more
-heard-more many key chronicles i chronicle shown seconds more within at so_far last pushed each are =
-    let taken = take_more chronicles i chronicle within ∙ ap (λ (c : Accounts). take i chronicles ++ c ∷ []) (sym at) in
-    let pairs = each-last Chronicles (take i chronicles) chronicle each
-    (subst (λ (cs : List Accounts). AreEach Chronicles cs each) taken are) in
-    let before = so_far pairs.before pairs.are in
-    record {
-      all = before.all ++ seconds ∷ [];
-      are = grind (arith, each-more);
-      shown = pushed ∙ ap (λ (all : List (List SecondHeard)). all ++ shown_seconds many (seconds ∷ [])) before.shown
-          ∙ sym (shown-more many before.all seconds);
-    }
+-- those of one capture more
+pub shown-next : (many : Bool) (each : List (List Hearing)) (heard : List Hearing) (key : Key) (shown : List (List SecondHeard))
+    (seconds : List SecondHeard) (more : List (List SecondHeard)) → AreSecondsHeard heard key seconds
+    → more ≡ shown ++ shown_seconds many (seconds ∷ []) → AreShownBy many each key shown → AreShownBy many (each ++ heard ∷ []) key more
+shown-next many each heard key shown seconds more are pushed was = record {
+  all = was.all ++ seconds ∷ [];
+  are = each-more (λ hearings told. AreSecondsHeard hearings key told) each was.all heard seconds was.are are;
+  shown = pushed ∙ ap (λ (all : List (List SecondHeard)). all ++ shown_seconds many (seconds ∷ [])) was.shown
+      ∙ sym (shown-more many was.all seconds);
+}
 
 -- ---- one row more
 
@@ -82,4 +74,4 @@ row-more Is rows row more pushed all is =
 
 -- WHAT FUNCTIONS ARE PROVED BY
 
-pub ruleset for_begun_rows = (record_in, row-more, append-nil, map-append)
+pub ruleset for_counted_rows = (record_in, row-more, append-nil, map-append)

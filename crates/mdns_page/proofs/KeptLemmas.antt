@@ -1,5 +1,5 @@
 -- Records that a page keeps, in key order.
-use Rattle.std.proofs.Common.{◌≡◌, refl, sym, ◌∙◌, ap, subst, ℕ, ◌+◌, ◌<◌, ◌≤◌, Bool, true, false, cond, arith}
+use Rattle.std.proofs.Common.{◌≡◌, refl, sym, ◌∙◌, ap, ℕ, ◌+◌, ◌<◌, ◌≤◌, Bool, true, false, cond, arith}
 use Rattle.std.proofs.Common.{if◌then◌else◌, List, [], ◌∷◌, ◌++◌, append_assoc, get_or, is_some, length, map, option_map}
 use Rattle.std.proofs.{Common.{take, Option, None, Some}, lemmas.Bool.{cond_both}}
 use Rattle.std.proofs.lemmas.{List.{append-nil, map-append, take_all, take_more}, List.Elements.{filter-append}, Simd.{map-map}}
@@ -8,8 +8,8 @@ use Rattle.std.specs.declared.cmp.Ordering.TheVariants.{Less}
 use Rattle.mdns_message.specs.{declared.hearing.Hearing.{Hearing}, Resource.{key_cmp}}
 use Rattle.mdns_join.specs.declared.latest.Latest.{Latest}
 use Rattle.mdns_cache.specs.Live.{key_of_last}
-use Rattle.mdns_lives.specs.{Chronicle.{AreAllLives}, LentLives.{row_lent}}
-use Rattle.mdns_lives.specs.declared.{life.Life.{Life}, lives.RecordLives.{RecordLives}}
+use Rattle.mdns_lives.specs.{Chronicle.{AreAllLives}}
+use Rattle.mdns_lives.specs.declared.{life.Life.{Life}}
 use Rattle.mdns_browse.specs.{declared.about.Subject.{Subject}, Services.{name_if}}
 use Rattle.mdns_page.specs.KeptRecords.{looked_up}
 use Rattle.std.proofs.lemmas.Result.{IfOk-weaker}
@@ -121,4 +121,4 @@ pub ruleset for_push_kept = (filtered_left, filtered_taken)
 
 pub ruleset for_live_of = (kept-all, kept_more, map-more, map-whole, map-append, map-map)
 
-pub ruleset for_begun_rows = (kept_more)
+pub ruleset for_counted_rows = (kept_more)

@@ -1,11 +1,11 @@
 -- In which seconds captures heard a record.
-use Rattle.std.specs.Prelude.{◌≡◌, ◌≢◌, ◌⊎◌, nat_lt, Bool, false, if◌then◌else◌, List, [], ◌∷◌, ◌++◌, length}
-use Rattle.std.specs.List.{filter}
-use Rattle.mdns_message.specs.declared.{hearing.Hearing.{Hearing}, key.Key.{Key}}
+use Rattle.std.specs.Prelude.{◌≡◌, nat_lt, Bool, if◌then◌else◌, List, length, map, Some}
+use Rattle.std.specs.{BTreeMap.{BTreeMap, get}, Global.{Vec}, List.{filter, list_any}, Ordering.{is_eq}}
+use Rattle.mdns_message.specs.{declared.hearing.Hearing.{Hearing}, declared.key.Key.{Key}, Resource.{key_cmp}}
 use Rattle.mdns_cache.specs.Live.{key_of_last}
 use Rattle.mdns_browse.specs.Services.{AreEach}
 use Rattle.mdns_lives.specs.{Heard.{AreSecondsHeard}, declared.seconds_heard.SecondHeard.{SecondHeard}}
-use Rattle.mdns_page.specs.Timeline.{Row}
+use Rattle.mdns_page.specs.Timeline.{Row, seconds_lent}
 
 -- The seconds in which each capture heard the record, by its hearings; where there are many captures, only those of captures that
 -- heard it. Hosts say a record at most once a second (RFC 6762, section 6).
@@ -21,36 +21,11 @@ pub record IsCounted (each : List (List Hearing)) (row : Row) : Type 0 where
 
 -- ---- as rows are made
 
--- the captures in which records are looked up one by one: all where there are few of them, and otherwise none
-abbrev pub few_of : {C : Type 0} → List C → List C
-few_of captures = if nat_lt 4 (length captures) then [] else captures
+-- the key is one of these
+abbrev pub among : List Key → Key → Bool
+among keys key = list_any (λ k. is_eq (key_cmp k key)) keys
 
--- the row counts the captures, and has the seconds of its record in those in which it is looked up
-pub record IsBegun (each : List (List Hearing)) (row : Row) : Type 0 where
-  pub count : row.capture_count ≡ length each
-  pub heard : AreShownBy false (few_of each) (key_of_last row.last) row.heard
-
--- the row without seconds
-abbrev pub unheard : Row → Row
-unheard row = record { last = row.last; lives = row.lives; servers = row.servers; capture_count = row.capture_count; heard = [] }
-
--- the row with the seconds of one capture more, if that heard its record
-abbrev pub heard_too : Row → List SecondHeard → Row
-heard_too row seconds = record {
-  last = row.last;
-  lives = row.lives;
-  servers = row.servers;
-  capture_count = row.capture_count;
-  heard = row.heard ++ filter (λ some. nat_lt 0 (length some)) (seconds ∷ []);
-}
-
--- the row has more than before what a capture with these hearings tells of its record
-pub record HearsCapture (heard : List Hearing) (old new : Row) : Type 0 where
-  pub seconds : List SecondHeard
-  pub are : AreSecondsHeard heard (key_of_last old.last) seconds
-  pub is : new ≡ heard_too old seconds
-
--- the row does if its record has this key, and is as before otherwise
-abbrev pub HearsRecord : List Hearing → Key → Row → Row → Type 0
-HearsRecord heard key old new =
-    ((key_of_last old.last ≡ key) × HearsCapture heard old new) ⊎ ((key_of_last old.last ≢ key) × (new ≡ old))
+-- what is told of a key is the seconds in which the captures that count for it heard its record
+abbrev pub Tells : (many : Bool) → (Key → List (List Hearing)) → BTreeMap Key (Vec (Vec SecondHeard)) → Type 0
+Tells many each told = (key : Key) (heard : Vec (Vec SecondHeard)) → get key_cmp told key ≡ Some heard
+    → AreShownBy many (each key) key (map seconds_lent heard.items)

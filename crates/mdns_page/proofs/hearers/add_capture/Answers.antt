@@ -1,16 +1,33 @@
-use Rattle.std.proofs.Common.{◌≡◌, ◌∙◌, ◌∷◌, map}
-use Rattle.mdns_lives.specs.LentLives.{row_lent}
-use Rattle.mdns_page.specs.Timeline.{counted_lent}
-use Rattle.mdns_page.proofs.HearerLemmas.{up_to-more}
+use Rattle.std.proofs.Common.{◌≡◌, ◌++◌, ◌∷◌, [], List, ap, cond, subst, true}
+use Rattle.mdns_message.specs.{Resource.{key_of}, declared.key.Key.{Key}}
+use Rattle.mdns_cache.specs.Live.{key_of_last}
+use Rattle.mdns_join.specs.declared.latest.Latest.{Latest}
+use Rattle.mdns_lives.specs.declared.life.Life.{Life}
+use Rattle.mdns_lives.proofs.SinceLemmas.{none_left}
+use Rattle.mdns_page.specs.TimelineRows.{Tells, among}
+use Rattle.mdns_page.proofs.HearerLemmas.{keys_left, left-next, told-start}
 use Rattle.mdns_page.proofs.hearers.add_capture.Goals as goal
 
+pub loop-record-init : goal.loop-record-init
+loop-record-init c = λ heard stands.
+    let lives = c.walk-walk.ensures.all heard stands in
+    (lives.ascending, λ each. told-start c.args.chronicle.now heard stands c.walk-walk.result lives each c.args.told.now)
+
 pub loop-record-preserved : goal.loop-record-preserved
-loop-record-preserved c =
-    let so_far = c.loop-record.invariant in
-    let first : c.loop-record.walk ≡ row_lent c.in-Some.record ∷ c.next.new.self = rw c.in-Some.is at c.in_ok-record.ensures.ok in (
-      c.in_ok-add_record.ensures.same ∙ so_far.0,
-      λ sorted heard stands.
-          let far = so_far.1 sorted heard stands in
-          up_to-more heard c.loop-record.walk c.next.new.self (row_lent c.in-Some.record) (map counted_lent c.args.rows.now.items) _ _ first far.0
-          far.1 (c.in_ok-add_record.ensures.heard sorted heard stands),
+loop-record-preserved c = λ heard stands.
+    let far = c.loop-record.invariant heard stands in
+    let first : c.loop-record.walk ≡ c.in-Some.record ∷ c.next_record.new.self = rw c.in-Some.is at c.next_record.ensures in
+    let next = left-next (key_of c.last.result.now.resource.now) c.loop-record.walk c.next_record.new.self c.in-Some.record first
+    (ap key_of_last c.last.ensures) far.0 in (
+      next.0,
+      λ each was.
+          c.in_ok-add_record.ensures heard stands each (keys_left c.next_record.new.self) next.2
+          (subst (λ (left : List Key). Tells true (λ key. cond (among left key) each (each ++ heard ∷ [])) c.loop-record.told) next.1
+          (far.1 each was)),
     )
+
+pub returns : goal.returns
+returns c = λ heard stands each was.
+    subst (λ (rows : List (Latest × List Life)). Tells true (λ key. cond (among (keys_left rows) key) each (each ++ heard ∷ [])) c.loop-record.told)
+    (none_left (λ (row : Latest × List Life). row) c.next_record.new.self c.next_record.ensures c.in_default.not-Some)
+    ((c.loop-record.invariant heard stands).1 each was)

@@ -1,12 +1,29 @@
-use Rattle.std.proofs.{Common.{◌∙◌, ap, map}}
-use Rattle.mdns_message.specs.Resource.{key_of}
-use Rattle.mdns_page.specs.{Timeline.{counted_lent}}
-use Rattle.mdns_page.proofs.HearerLemmas.{searchable, unfound}
+use Rattle.std.proofs.Common.{◌≡◌, ◌∙◌, None, Some, ap, false, refl, subst, sym, true}
+use Rattle.std.specs.{BTreeMap.{get}, Option.{IsSome}, Ordering.{is_eq}}
+use Rattle.mdns_message.specs.{Resource.{key_cmp, key_of}, declared.key.Key.{Key}}
+use Rattle.mdns_page.specs.Timeline.{seconds_lent}
+use Rattle.mdns_page.proofs.HearerLemmas.{hearers_after, hearers_before, others-stay, tells-more, tells-without}
 use Rattle.mdns_page.proofs.hearers.add_record.Goals as goal
 
-pub returns-in_default-clause-heard : goal.returns-in_default-clause-heard
-returns-in_default-clause-heard c = λ sorted heard stands.
-    let keys = c.args.keys.now in
-    let key = c.in_ok-key.key in
-    unfound heard keys key (key_of c.args.resource.now) (map counted_lent c.args.rows.now.items) c.in_default.field-0 c.requires
-    (c.in_ok-key.ensures ∙ ap key_of c.borrowed.ensures) (c.in_default.ensures.position (searchable keys key sorted))
+pub returns-in_default : goal.returns-in_default
+returns-in_default c = λ heard stands each left apart.
+    let key = key_of c.args.resource.now in
+    let own : c.in_ok-key.key ≡ key = c.in_ok-key.ensures ∙ ap key_of c.borrowed.ensures in
+    let same = c.get_mut.follows.holds-at-none in
+    let none : get key_cmp c.args.told.now c.in_ok-key.key ≡ None = sym (rw c.in_default.is at c.get_mut.ensures.value) in
+    tells-without true (hearers_before each heard key left) (hearers_after each heard key left) c.args.told.now c.get_mut.follows.lender-at-none key
+    (ap (λ told. get key_cmp told key) same ∙ subst (λ (k : Key). get key_cmp c.args.told.now k ≡ None) own none)
+    (λ q e. (ap (λ told. get key_cmp told q) same, others-stay each heard key left q e))
+
+pub returns : goal.returns
+returns c = λ heard stands each left apart.
+    let key = key_of c.args.resource.now in
+    let own : c.in_ok-key.key ≡ key = c.in_ok-key.ensures ∙ ap key_of c.borrowed.ensures in
+    let new = c.get_mut.follows.lender c.push_shown.new.to in
+    let had : get key_cmp c.args.told.now c.in_ok-key.key ≡ Some c.in-Some.shown.now = sym (rw c.in-Some.is at c.get_mut.ensures.value) in
+    let updates = (c.get_mut.follows.holds c.push_shown.new.to).3 (subst IsSome (sym had) refl) in
+    tells-more each heard key left apart c.args.told.now new c.in-Some.shown.now c.push_shown.new.to (seconds_lent c.in_ok-seconds_heard.field-0)
+    (subst (λ (k : Key). get key_cmp c.args.told.now k ≡ Some c.in-Some.shown.now) own had)
+    (subst (λ (k : Key). get key_cmp new k ≡ Some c.push_shown.new.to) own updates.1)
+    (λ q e. updates.2 q (subst (λ (k : Key). is_eq (key_cmp k q) ≡ false) (sym own) e)) c.in_ok-push_shown.ensures
+    (c.in_ok-seconds_heard.ensures heard stands)

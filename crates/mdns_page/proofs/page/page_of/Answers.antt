@@ -84,19 +84,19 @@ returns c = λ each heard chronicled held latest.
       instances = rows;
       are_instances = are Instances _ rows (record {
         are = c.in_ok-rows.ensures.records;
-        counted = c.in_ok-rows.ensures.heard in_order each chronicles;
+        counted = c.in_ok-rows.ensures.heard each chronicles;
         served = c.in_ok-rows.ensures.servers in_order;
       });
       addresses = addresses;
       are_addresses = are Addresses _ addresses (record {
         are = c.in_ok-addresses.ensures.records ∙ filtered Addresses;
-        counted = c.in_ok-addresses.ensures.heard few_in_order each chronicles;
+        counted = c.in_ok-addresses.ensures.heard each chronicles;
         served = c.in_ok-addresses.ensures.servers in_order;
       });
       others = others;
       are_others = are Names _ others (record {
         are = c.in_ok-others.ensures.records ∙ filtered Names;
-        counted = c.in_ok-others.ensures.heard few_in_order each chronicles;
+        counted = c.in_ok-others.ensures.heard each chronicles;
         served = c.in_ok-others.ensures.servers in_order;
       });
       written = c.in_ok-push_page.ensures ∙ ap (λ (text : List ℕ). text ++ page isolated shown) c.new-text.ensures.bytes

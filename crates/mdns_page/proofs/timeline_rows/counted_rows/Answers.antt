@@ -1,18 +1,31 @@
-use Rattle.std.proofs.Common.{◌≡◌, map}
-use Rattle.mdns_lives.specs.LentLives.{row_lent}
+use Rattle.std.proofs.Common.{◌≡◌, ◌∙◌, ◌++◌, ◌∷◌, [], ap, cond, length, map, sym}
+use Rattle.std.proofs.lemmas.List.{map-append}
+use Rattle.std.specs.Prelude.{nat_lt}
+use Rattle.mdns_lives.specs.{LentLives.{row_lent}}
 use Rattle.mdns_browse.specs.Services.{body_of}
-use Rattle.mdns_page.specs.{KeptRecords.{is_shown}, Servers.{servers_of}, Timeline.{Row, counted_lent}}
-use Rattle.mdns_page.proofs.HearerLemmas.{all-kept, rows-sorted}
+use Rattle.mdns_page.specs.{TimelineRows.{IsCounted}, KeptRecords.{is_shown}, Servers.{servers_of}, Timeline.{Row, counted_lent}}
+use Rattle.mdns_page.proofs.{CountedLemmas.{record_in, row-more}, KeptLemmas.{kept_more}}
 use Rattle.mdns_page.proofs.timeline_rows.counted_rows.Goals as goal
 
-pub returns-clause-heard : goal.returns-clause-heard
-returns-clause-heard c = λ sorted each are.
-    c.in_ok-add_hearers.ensures.heard
-    (rows-sorted (is_shown c.args.part c.args.window) (map counted_lent c.in_ok-rows.rows.items) (map row_lent c.args.records.now)
-    c.in_ok-rows.ensures.records sorted) each are (c.in_ok-rows.ensures.heard each are)
-
-pub returns-clause-servers : goal.returns-clause-servers
-returns-clause-servers c = λ sorted.
-    all-kept (λ (row : Row). row.servers ≡ servers_of (map row_lent c.args.servers.now) (body_of row.last))
-    (map counted_lent c.add_hearers.new.rows.items) (map counted_lent c.in_ok-rows.rows.items) c.in_ok-add_hearers.ensures.same
-    (c.in_ok-rows.ensures.servers sorted)
+pub loop-record-preserved : goal.loop-record-preserved
+loop-record-preserved c =
+    let keep = is_shown c.args.part c.args.window in
+    let rows = c.loop-record.rows.items in
+    let so_far = c.loop-record.invariant in
+    let row = c.in_ok-counted_row.field-0 in
+    let made = c.in_ok-counted_row.ensures in
+    let pushed = c.in_ok-push.ensures.items in (
+      ap (λ found. map record_in (map counted_lent found)) pushed ∙ ap (map record_in) (map-append counted_lent rows (row ∷ []))
+          ∙ map-append record_in (map counted_lent rows) (counted_lent row ∷ [])
+          ∙ ap (λ one. map record_in (map counted_lent rows) ++ one ∷ []) made.record
+          ∙ ap (λ kept. map record_in (map counted_lent rows) ++ cond kept (row_lent c.record-item.result ∷ []) [])
+          (sym c.if-not-is_shown.false ∙ c.is_shown.ensures)
+          ∙ sym (kept_more keep row_lent c.args.records.now c.loop-record.record-index c.record-item.result _ c.loop-record-test.true
+          c.record-item.is so_far.0),
+      λ each are.
+          let far = so_far.1 each are in (
+            row-more (IsCounted each) rows row _ pushed far.0 (made.heard each are far.1),
+            made.told (nat_lt 4 (length c.args.chronicles.now)) each far.1,
+          ),
+      λ sorted. row-more (λ (row : Row). row.servers ≡ servers_of (map row_lent c.args.servers.now) (body_of row.last)) rows row _ pushed (so_far.2 sorted) (made.servers sorted),
+    )
