@@ -7,7 +7,7 @@ import re
 from typing import NamedTuple
 
 # What begins a type's functions, after its parameters, among which one may have parameters itself.
-OWNER = re.compile(r"(?:pub )?(impl|trait)\b(?:<(?:[^<>]|<[^<>]*>)*>)?(.*?)[ {]*$")
+OWNER = re.compile(r"(?:pub )?(impl|trait)\b(?:<(?:[^<>]|<(?:[^<>]|<[^<>]*>)*>)*>)?(.*?)[ {]*$")
 ITEM = re.compile(r"( *)(pub(?:\(crate\))? )?(?:const )?(fn|const|static|struct|enum|trait|type) (\w+)")
 CLAUSE = re.compile(r" *(requires|ensures)\b")
 
@@ -75,7 +75,8 @@ def items_of(text, module):
     items, owner, trait = [], "", ""
     for index, line in enumerate(lines):
         if OWNER.match(line):
-            owner, trait = owner_of(line)
+            # A long one goes on in the next line.
+            owner, trait = owner_of(line if "{" in line else f"{line} {lines[index + 1].strip()}")
         elif line == "}":
             owner, trait = "", ""
         found = ITEM.match(line)
