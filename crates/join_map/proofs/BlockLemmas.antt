@@ -34,12 +34,7 @@ module _ {E : Type 0} where
   -- the entries are those before a spot and those after it
   pub entries_of-split : (bs : List (List E)) (s : Spot) → s.block < length bs → entries_of bs ≡ before bs s ++ after bs s
   entries_of-split bs s l =
-      let front = entries_of (take s.block bs) in
-      let back = entries_of (drop (s.block + 1) bs) in
-      let block = block_at bs s.block in
-      entries_of-cut s.block bs
-      ∙ ap (λ es. front ++ es) (entries_of-from s.block bs l ∙ ap (λ b. b ++ back) (sym (take-append-drop s.offset block)))
-      ∙ regroup front (take s.offset block) (drop s.offset block) back
+      grind (arith, entries_of-cut s.block bs, entries_of-from s.block bs l, take-append-drop s.offset (block_at bs s.block), regroup)
 
   entries_of-set : (bs : List (List E)) (n : ℕ) (y : List E) → n < length bs
       → entries_of (set bs n y) ≡ entries_of (take n bs) ++ (y ++ entries_of (drop (n + 1) bs))
@@ -144,15 +139,18 @@ module _ {E : Type 0} where
       record {
         block = omega (arith, ap length grouped, length-append (take n bs) (xs ∷ ys ∷ rest), long);
         offset = omega (arith, ap length (at ∙ first), size, o);
-        before = ap (λ zs. entries_of zs ++ take s.offset (block_at cs n)) front
-            ∙ ap (λ b. entries_of (take n bs) ++ take s.offset b) (at ∙ first)
-            ∙ ap (λ es. entries_of (take n bs) ++ es) (take-take s.offset half block o);
-        after = ap (λ b. drop s.offset b ++ entries_of (drop (n + 1) cs)) (at ∙ first)
-            ∙ ap (λ zs. drop s.offset (take half block) ++ entries_of zs) back
-            ∙ sym (append_assoc (drop s.offset (take half block)) ys (entries_of rest))
-            ∙ ap (λ es. es ++ entries_of rest) (ap (λ zs. drop s.offset (take half block) ++ zs) second
-            ∙ sym (drop-append-le s.offset (take half block) (drop half block) (omega (arith, size, o)))
-            ∙ ap (drop s.offset) (take-append-drop half block));
+        before = grind (arith, front, at, first, take-take s.offset half block);
+        after = grind (
+          arith,
+          at,
+          back,
+          first,
+          second,
+          append_assoc (drop s.offset (take half block)) ys (entries_of rest),
+          drop-append-le s.offset (take half block) (drop half block),
+          take-append-drop half block,
+          size,
+        );
       }
 
   -- a spot in the half that moves
@@ -180,15 +178,16 @@ module _ {E : Type 0} where
       record {
         block = omega (arith, ap length parts, length-append front (ys ∷ rest), longer);
         offset = omega (arith, ap length (at ∙ second), length-drop half block, moved, in_block);
-        before = ap (λ zs. entries_of zs ++ take t.offset (block_at cs t.block)) head
-            ∙ ap (λ b. entries_of front ++ take t.offset b) (at ∙ second)
-            ∙ ap (λ es. es ++ take t.offset (drop half block)) heads
-            ∙ append_assoc (entries_of (take n bs)) (take half block) (take t.offset (drop half block))
-            ∙ ap (λ es. entries_of (take n bs) ++ es) (sym (take-add half t.offset block)
-            ∙ ap (λ m. take m block) whole);
-        after = ap (λ b. drop t.offset b ++ entries_of (drop (t.block + 1) cs)) (at ∙ second)
-            ∙ ap (λ zs. drop t.offset (drop half block) ++ entries_of zs) back
-            ∙ ap (λ es. es ++ entries_of rest) (drop-drop t.offset half block ∙ ap (λ m. drop m block) whole);
+        before = grind (
+          arith,
+          head,
+          at,
+          heads,
+          second,
+          append_assoc (entries_of (take n bs)) (take half block),
+          take-add half t.offset block,
+        );
+        after = grind (arith, at, back, second, drop-drop t.offset half block);
       }
 
   -- what a full block was cut into
@@ -227,15 +226,7 @@ module _ {E : Type 0} where
       → es ≡ before bs s ++ e ∷ after bs s → length es ≡ length (entries_of bs) + 1
   length-inserted [] s e es g is = ap length (is ∙ ap (λ xs. xs ++ e ∷ after [] s) (before_none s)
       ∙ ap (λ xs. e ∷ xs) (after_none s)) ∙ omega arith
-  length-inserted (b ∷ bs) s e es g is =
-      let l : s.block < length (b ∷ bs) = g.0 (omega arith) in
-      omega (
-        arith,
-        ap length is,
-        length-append (before (b ∷ bs) s) (e ∷ after (b ∷ bs) s),
-        ap length (entries_of-split (b ∷ bs) s l),
-        length-append (before (b ∷ bs) s) (after (b ∷ bs) s),
-      )
+  length-inserted (b ∷ bs) s e es g is = grind (arith, length-append, entries_of-split (b ∷ bs) s)
 
   pub some-inserted : (xs : List E) (n : ℕ) (e : E) (ys : List E) → ys ≡ insert xs n e → 0 < length ys
   some-inserted xs n e ys is = omega (arith, ap length is, length-append (take n xs) (e ∷ drop n xs))

@@ -2,7 +2,7 @@
 use Rattle.std.proofs.Common.{◌≡◌, ℕ, suc, zero, ◌+◌, ◌-◌, ◌/◌, ◌<◌, ◌≤◌, length, take, drop, get_or, arith}
 use Rattle.std.proofs.Common.{true≢false, Bool, true, false, cond, List, [], ◌∷◌, ◌++◌, Some, None, Ordering, Less}
 use Rattle.std.proofs.Common.{Equal, Greater, refl, sym, ap, ◌∙◌, subst, is_eq}
-use Rattle.std.proofs.lemmas.List.{take-append-drop, take_more, drop_more, get_or_read}
+use Rattle.std.proofs.{lemmas.List.{take-append-drop, get_or_read}, Math.Seq.{take-add}}
 use Rattle.std.specs.{Ordering.{match_ordering, ordering_reverse, is_lt}, BTreeMap.{insert_entry}, Cmp.{IsTotalOrder}}
 use Rattle.std.specs.{List.Sorted.{IsStrictlySortedBy}, Map.{keys_of, set_value}}
 use Rattle.join_map.proofs.BlockLemmas.{entries_of-cut, entries_of-from}
@@ -117,50 +117,32 @@ module _ {K V : Type 0} {cmp : K → K → Ordering} (order : IsTotalOrder cmp) 
 
   -- ---- halving
 
-  cut_at : (es : List (K × V)) (n : ℕ) (e : K × V) → n < length es → e ≡ get_or es n e → es ≡ take n es ++ e ∷ drop (n + 1) es
-  cut_at es n e l is = sym (take-append-drop n es) ∙ ap (λ xs. take n es ++ xs) (drop_more es n e l
-      ∙ ap (λ x. x ∷ drop (n + 1) es) (sym is))
-
-  from_at : (es : List (K × V)) (n : ℕ) (e : K × V) → n < length es → e ≡ get_or es n e → drop n es ≡ e ∷ drop (n + 1) es
-  from_at es n e l is = drop_more es n e l ∙ ap (λ x. x ∷ drop (n + 1) es) (sym is)
-
-  pub IsOffset-at : (k : K) (es : List (K × V)) (n : ℕ) (e : K × V) → n < length es → e ≡ get_or es n e
-      → cmp k e.0 ≡ Equal → IsOffset cmp es k n
-  IsOffset-at k es n e l is h = record { within = l; entry = e; is = from_at es n e l is; same = h }
-
   -- where the key is below an entry, it is below all from that entry on
-  pub above_from : (k : K) (es : List (K × V)) (n : ℕ) (e : K × V) → Sorted es → n < length es → e ≡ get_or es n e
+  pub above_from : (k : K) (es : List (K × V)) (n : ℕ) (e : K × V) → Sorted es → drop n es ≡ e ∷ drop (n + 1) es
       → cmp k e.0 ≡ Less → AllAbove cmp k (drop n es)
-  above_from k es n e s l is h = grind (arith, sorted_back, cut_at es n e l is, from_at es n e l is, above_first)
+  above_from k es n e s is h = grind (arith, sorted_back, take-append-drop n es, above_first)
 
   -- where the key is above an entry, it is above all up to that entry
-  pub below_upto : (k : K) (es : List (K × V)) (n : ℕ) (e : K × V) → Sorted es → n < length es → e ≡ get_or es n e
+  pub below_upto : (k : K) (es : List (K × V)) (n : ℕ) (e : K × V) → Sorted es → drop n es ≡ e ∷ drop (n + 1) es
       → cmp k e.0 ≡ Greater → AllBelow cmp k (take (n + 1) es)
-  below_upto k es n e s l is h =
-      let front = below_first k (take n es) (drop (n + 1) es) e (subst (λ xs. Sorted xs) (cut_at es n e l is) s)
-      (greater_not (cmp k e.0) h) in
-      subst (AllBelow cmp k) (sym (take_more es n e l ∙ ap (λ x. take n es ++ x ∷ []) (sym is)))
+  below_upto k es n e s is h =
+      let whole : es ≡ take n es ++ e ∷ drop (n + 1) es = sym (take-append-drop n es) ∙ ap (λ xs. take n es ++ xs) is in
+      let front = below_first k (take n es) (drop (n + 1) es) e (subst (λ xs. Sorted xs) whole s) (greater_not (cmp k e.0) h) in
+      subst (AllBelow cmp k) (sym (take-add n 1 es ∙ ap (λ xs. take n es ++ take 1 xs) is))
       (below_both k (take n es) (e ∷ []) front (h, tt))
 
   -- the entries from a block on, by its first
-  from_block : (bs : List (List (K × V))) (n : ℕ) (e : K × V) (read shown : List (K × V)) → n < length bs
-      → read ≡ get_or bs n read → shown ≡ read → 0 < length shown → e ≡ get_or shown 0 e
-      → entries_of (drop n bs) ≡ e ∷ (drop 1 shown ++ entries_of (drop (n + 1) bs))
-  from_block bs n e read shown l is_read is_shown some is = grind (arith, entries_of-from, get_or_read, from_at)
+  from_block : (bs : List (List (K × V))) (n : ℕ) (e : K × V) → n < length bs → block_at bs n ≡ e ∷ drop 1 (block_at bs n)
+      → entries_of (drop n bs) ≡ e ∷ (drop 1 (block_at bs n) ++ entries_of (drop (n + 1) bs))
+  from_block bs n e l is = entries_of-from n bs l ∙ ap (λ b. b ++ entries_of (drop (n + 1) bs)) is
 
-  pub above_from_block : (k : K) (bs : List (List (K × V))) (n : ℕ) (e : K × V) (read shown : List (K × V))
-      → Sorted (entries_of bs) → n < length bs → read ≡ get_or bs n read → shown ≡ read → 0 < length shown
-      → e ≡ get_or shown 0 e
-      → cmp k e.0 ≡ Less → AllAbove cmp k (entries_of (drop n bs))
-  above_from_block k bs n e read shown s l is_read is_shown some is h =
-      grind (arith, from_block bs n e read shown l is_read is_shown some is, sorted_back, entries_of-cut n bs, above_first)
+  pub above_from_block : (k : K) (bs : List (List (K × V))) (n : ℕ) (e : K × V) → Sorted (entries_of bs) → n < length bs
+      → block_at bs n ≡ e ∷ drop 1 (block_at bs n) → cmp k e.0 ≡ Less → AllAbove cmp k (entries_of (drop n bs))
+  above_from_block k bs n e s l is h = grind (arith, from_block bs n e l is, sorted_back, entries_of-cut n bs, above_first)
 
-  pub below_upto_block : (k : K) (bs : List (List (K × V))) (n : ℕ) (e : K × V) (read shown : List (K × V))
-      → Sorted (entries_of bs) → n < length bs → read ≡ get_or bs n read → shown ≡ read → 0 < length shown
-      → e ≡ get_or shown 0 e
-      → (cmp k e.0 ≡ Less → ⊥) → AllBelow cmp k (entries_of (take n bs))
-  below_upto_block k bs n e read shown s l is_read is_shown some is h =
-      grind (arith, from_block bs n e read shown l is_read is_shown some is, below_first, entries_of-cut n bs)
+  pub below_upto_block : (k : K) (bs : List (List (K × V))) (n : ℕ) (e : K × V) → Sorted (entries_of bs) → n < length bs
+      → block_at bs n ≡ e ∷ drop 1 (block_at bs n) → (cmp k e.0 ≡ Less → ⊥) → AllBelow cmp k (entries_of (take n bs))
+  below_upto_block k bs n e s l is h = grind (arith, from_block bs n e l is, below_first, entries_of-cut n bs)
 
   -- one block on
   pub above_later : (k : K) (bs : List (List (K × V))) (n : ℕ) → AllAbove cmp k (entries_of (drop n bs))

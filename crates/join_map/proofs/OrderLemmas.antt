@@ -60,10 +60,7 @@ part-sorted order part a k moved =
 
 pub part-length : (order part : List Ranked) (a k : ℕ) → IsPermutation (places_of (mid_of a k order)) (places_of part)
     → length (put_mid a k order part) ≡ length order
-part-length order part a k moved =
-    let place : Ranked → ℕ = λ ranked. ranked.place in
-    same_len_mid a k order part (sym (length-map part place) ∙ length_permutation (places_of (mid_of a k order)) (places_of part) moved
-    ∙ length-map (mid_of a k order) place)
+part-length order part a k moved = grind (arith, same_len_mid, length-map, length_permutation, mid_of)
 
 pub ArePlaces_order : {E : Type 0} (es : List E) (ps : List ℕ) (bs : List (List ℕ)) → IsOrder (length es) ps
     → entries_of bs ≡ ps → AllFilled bs → ArePlaces es bs
@@ -219,10 +216,7 @@ module _ {K V : Type 0} {cmp : K → K → Ordering} (order : IsTotalOrder cmp) 
         )
 
     pub map_picked : (es : List (K × V)) (ps : List ℕ) → AllValid Valid es → Ascend es ps → IsJoinMap cmp Valid (picked es ps)
-    map_picked es ps v s = record {
-      sorted = s;
-      valid = each-valid Valid (picked es ps) (each-picked (λ e. Valid e.1) es ps (valid-each Valid es v));
-    }
+    map_picked es ps v s = grind (arith, each-valid, each-picked, valid-each)
 
     -- ascending entries at all places are the map of all entries
     pub picked_gathered : (es : List (K × V)) (ps : List ℕ) → IsOrder (length es) ps → AllValid Valid es → Ascend es ps

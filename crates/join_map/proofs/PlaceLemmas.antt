@@ -37,13 +37,6 @@ within-block n [] (suc k) w = tt
 within-block n (b ∷ bs) zero w = within-front n b (entries_of bs) w
 within-block n (b ∷ bs) (suc k) w = within-block n bs k (within-back n b (entries_of bs) w)
 
--- the place that was read at a spot
-pub place-within : (n : ℕ) (bs : List (List ℕ)) (s : Spot) (p : ℕ) (read shown : List ℕ) → AllWithin n (entries_of bs)
-    → s.block < length bs → read ≡ get_or bs s.block read → shown ≡ read → s.offset < length shown
-    → p ≡ get_or shown s.offset p → p < n
-place-within n bs s p read shown w l is_read is_shown o is =
-    grind (arith, get_or_read bs s.block read l is_read [], drop_more shown s.offset p o, within-drop, within-block n bs s.block w)
-
 module _ {E : Type 0} where
   one_at : (es : List E) (p : ℕ) (e : E) → p < length es → take 1 (drop p es) ≡ get_or es p e ∷ []
   one_at es p e l = ap (take 1) (drop_more es p e l)
@@ -182,6 +175,18 @@ module _ {K V : Type 0} where
     within-block (length es) bs s.block a.within,
   )
 
+  -- the place that was read at a spot
+  pub place_there : (es : List (K × V)) (bs : List (List ℕ)) (rs : List (List (K × V))) (s : Spot) (read shown : List ℕ)
+      → ArePlaces es bs → rows es bs ≡ rs → IsSpot rs s → read ≡ get_or bs s.block read → shown ≡ read
+      → (s.block < length bs) × (s.offset < length shown) × (get_or shown s.offset 0 < length es)
+  place_there es bs rs s read shown a is spot is_read is_shown = grind (
+    arith,
+    spot-rows es bs s a,
+    get_or_read bs s.block read,
+    drop_more shown s.offset 0,
+    within-drop (length es) s.offset (block_at bs s.block) (within-block (length es) bs s.block a.within),
+  )
+
   pub count-rows : (es : List (K × V)) (bs : List (List ℕ)) (n : ℕ) → ArePlaces es bs
       → length (block_at (rows es bs) n) ≡ length (block_at bs n)
   count-rows es bs n a = ap length (rows-at es bs n) ∙ length-picked es (block_at bs n) (within-block (length es) bs n a.within)
@@ -200,15 +205,9 @@ module _ {K V : Type 0} where
       subst (λ xs. drop s.offset xs ≡ e ∷ drop (s.offset + 1) xs) (ap (picked es) at ∙ sym (rows-at es bs s.block))
       (picked-at es shown s.offset p e w first is_e)
 
-  -- the entry that was read is the one at its spot in the rows
+  -- the block that was read is the one in the rows
   pub row_is : (bs : List (List (K × V))) (n : ℕ) → n < length bs → block_at bs n ≡ get_or bs n (block_at bs n)
   row_is bs n l = get_or_default bs n [] (block_at bs n) l
-
-  pub entry_is : (xs : List (K × V)) (o : ℕ) (e : K × V) (rest : List (K × V)) → drop o xs ≡ e ∷ rest → e ≡ get_or xs o e
-  entry_is [] zero e rest is = absurd (cc)
-  entry_is [] (suc o) e rest is = absurd (cc)
-  entry_is (x ∷ xs) zero e rest is = sym (ap (λ ys. get_or ys 0 e) is)
-  entry_is (x ∷ xs) (suc o) e rest is = entry_is xs o e rest is
 
 -- ---- the entry at a spot rewritten
 
@@ -337,10 +336,10 @@ module _ {K V : Type 0} where
 
 pub ruleset for_count = (count-rows, length-rows)
 
-pub ruleset for_entry = (IsEntry-rows, place-within, spot-rows)
+pub ruleset for_entry = (IsEntry-rows, spot-rows)
 
 pub ruleset for_find = (length-rows, row_is)
 
 pub ruleset for_insert = (ArePlaces-kept, ArePlaces-more, gap-rows, inserted-rows, kept-rows, untouched)
 
-pub ruleset for_join_at = (ArePlaces-set, IsRewritten-rows, place-within, spot-rows)
+pub ruleset for_join_at = (ArePlaces-set, IsRewritten-rows, spot-rows)

@@ -1,6 +1,6 @@
 -- A capture reads in two parts, cut after some of its packets.
 use Rattle.std.proofs.Common.{◌≡◌, ◌≢◌, ◌≤◌, ℕ, ◌+◌, Bool, true, false, cond, eqb, List, [], ◌∷◌, ◌++◌}
-use Rattle.std.proofs.Common.{length, drop, take, map, Option, Some, None, refl, sym, ap, ◌∙◌, arith, append_assoc}
+use Rattle.std.proofs.Common.{length, drop, take, map, Option, Some, None, refl, ap, ◌∙◌, arith, append_assoc}
 use Rattle.std.specs.Option.{option_map, option_or}
 use Rattle.std.proofs.lemmas.{Bool.{cond-false, ne_eqb, eq-eqb, cond-true}, List.{length-append, take_at, drop_at}}
 use Rattle.mdns_capture.specs.declared.{savefile.Format.{Format}, moment.Moment.{Moment}, savefile.Ending.{Ending}}
@@ -95,18 +95,14 @@ halves format count at bytes [] back ending few not_many reads = record {
   second = reads;
 }
 halves format count at bytes (packet ∷ front) back ending few not_many reads =
-    let less = reads.0 in
     let begins = reads.1.1 in
-    let more = halves format (count + 1) (at + (16 + length packet.frame)) reads.1.0 front back ending (omega arith) not_many reads.1.2 in
-    let regrouped : begins.header ++ (packet.frame ++ (more.taken ++ more.rest))
-    ≡ (begins.header ++ (packet.frame ++ more.taken)) ++ more.rest =
-    ap (λ (bytes : List ℕ). begins.header ++ bytes) (sym (append_assoc packet.frame more.taken more.rest))
-    ∙ sym (append_assoc begins.header (packet.frame ++ more.taken) more.rest) in
+    let more = halves format (count + 1) (at + (16 + length packet.frame)) reads.1.0 front back ending
+    (omega (arith, reads.0)) not_many reads.1.2 in
     record {
       taken = begins.header ++ (packet.frame ++ more.taken);
       rest = more.rest;
       so_far = more.so_far;
-      whole = begins.whole ∙ ap (λ (bytes : List ℕ). begins.header ++ (packet.frame ++ bytes)) more.whole ∙ regrouped;
+      whole = grind (arith, append_assoc, begins.whole, more.whole);
       size = omega (
         arith,
         more.size,
@@ -115,66 +111,59 @@ halves format count at bytes (packet ∷ front) back ending few not_many reads =
         length-append packet.frame more.taken,
       );
       first = (
-        less,
-        (
-          more.taken,
-          record {
-            header = begins.header;
-            heads = begins.heads;
-            offset = begins.offset;
-            whole = refl;
-          },
-          more.first,
-        ),
+        reads.0,
+        (more.taken, record { header = begins.header; heads = begins.heads; offset = begins.offset; whole = refl }, more.first),
       );
       few = more.few;
       second = more.second;
     }
 
--- the bytes up to the cut, and those after it
-cut_bytes : (bytes header rest taken after : List ℕ) → bytes ≡ header ++ rest → rest ≡ taken ++ after → bytes ≡ (header ++ taken) ++ after
-cut_bytes bytes header rest taken after outer inner = outer ∙ ap (λ (bytes : List ℕ). header ++ bytes) inner
-    ∙ sym (append_assoc header taken after)
+-- a capture of the first packets and the others: the size of the first part, the bytes before the cut and those after it
+module _ (bytes : List ℕ) (front back : List PacketAt) (ending : Ending) (reads : CaptureReads bytes (front ++ back) ending)
+    (not_many : NotMany ending) where
+  inside : Halves reads.format 0 24 reads.rest front back ending
+  inside = halves reads.format 0 24 reads.rest front back ending (omega arith) not_many reads.reads
+
+  taken_size : length (reads.header ++ inside.taken) ≡ offset_after 24 front
+  taken_size = grind (arith, inside.size, reads.heads.size, length-append)
+
+  parts : bytes ≡ (reads.header ++ inside.taken) ++ inside.rest
+  parts = grind (arith, reads.whole, inside.whole, append_assoc)
 
 pub first_part_reads : (bytes : List ℕ) (front back : List PacketAt) (ending : Ending)
     → CaptureReads bytes (front ++ back) ending → NotMany ending
     → CaptureReads (part_before (offset_after 24 front) bytes) front Whole
 first_part_reads bytes front back ending reads not_many =
-    let inside = halves reads.format 0 24 reads.rest front back ending (omega arith) not_many reads.reads in
-    let parts = cut_bytes bytes reads.header reads.rest inside.taken inside.rest reads.whole inside.whole in
-    let size : length (reads.header ++ inside.taken) ≡ offset_after 24 front =
-    omega (arith, inside.size, reads.heads.size, length-append reads.header inside.taken) in
+    let first = inside bytes front back ending reads not_many in
+    let size = taken_size bytes front back ending reads not_many in
     record {
       format = reads.format;
       header = reads.header;
-      rest = inside.taken;
+      rest = first.taken;
       heads = reads.heads;
-      whole = ap (λ (all : List ℕ). take (offset_after 24 front) all) parts
-          ∙ take_at (reads.header ++ inside.taken) inside.rest (offset_after 24 front) size;
-      reads = inside.first;
+      whole = ap (take (offset_after 24 front)) (parts bytes front back ending reads not_many)
+          ∙ take_at (reads.header ++ first.taken) first.rest (offset_after 24 front) size;
+      reads = first.first;
     }
 
 pub second_part_reads : (bytes : List ℕ) (front back : List PacketAt) (ending : Ending)
     → CaptureReads bytes (front ++ back) ending → NotMany ending
     → CaptureReads (part_from (offset_after 24 front) bytes) (moved_to 24 back) (ending_at (offset_after 24 back) ending)
 second_part_reads bytes front back ending reads not_many =
-    let inside = halves reads.format 0 24 reads.rest front back ending (omega arith) not_many reads.reads in
-    let parts = cut_bytes bytes reads.header reads.rest inside.taken inside.rest reads.whole inside.whole in
-    let size : length (reads.header ++ inside.taken) ≡ offset_after 24 front =
-    omega (arith, inside.size, reads.heads.size, length-append reads.header inside.taken) in
-    let head : take 24 bytes ≡ reads.header = ap (λ (all : List ℕ). take 24 all) reads.whole
-    ∙ take_at reads.header reads.rest 24 reads.heads.size in
-    let after : drop (offset_after 24 front) bytes ≡ inside.rest =
-    ap (λ (all : List ℕ). drop (offset_after 24 front) all) parts
-    ∙ drop_at (reads.header ++ inside.taken) inside.rest (offset_after 24 front) size in
+    let first = inside bytes front back ending reads not_many in
+    let size = taken_size bytes front back ending reads not_many in
+    let head : take 24 bytes ≡ reads.header = ap (take 24) reads.whole ∙ take_at reads.header reads.rest 24 reads.heads.size in
+    let after : drop (offset_after 24 front) bytes ≡ first.rest =
+    ap (drop (offset_after 24 front)) (parts bytes front back ending reads not_many)
+    ∙ drop_at (reads.header ++ first.taken) first.rest (offset_after 24 front) size in
     record {
       format = reads.format;
       header = reads.header;
-      rest = inside.rest;
+      rest = first.rest;
       heads = reads.heads;
       whole = rw (head, after) refl;
-      reads = moved reads.format inside.so_far 0 (offset_after 24 front) 24 inside.rest back ending
-          (omega arith) inside.few not_many inside.second;
+      reads = moved reads.format first.so_far 0 (offset_after 24 front) 24 first.rest back ending
+          (omega arith) first.few not_many first.second;
     }
 
 -- PLACES AND CONTENTS

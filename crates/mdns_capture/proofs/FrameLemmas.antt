@@ -1,8 +1,8 @@
 -- A frame carries at most one payload, and carries one exactly where no check fails.
-use Rattle.std.proofs.Common.{◌≡◌, ◌≤◌, ◌<◌, ℕ, ◌+◌, ◌-◌, ◌*◌, ◌/◌, ◌==◌, Bool, true, false, cond, List, [], ◌∷◌}
+use Rattle.std.proofs.Common.{◌≡◌, ◌≤◌, ◌<◌, ℕ, ◌+◌, ◌-◌, ◌==◌, Bool, true, false, cond, List, [], ◌∷◌}
 use Rattle.std.proofs.Common.{◌++◌, length, drop, take, slice_index, Option, Some, None, refl, sym, ap, ◌∙◌, subst}
 use Rattle.std.proofs.Common.{arith, append_assoc, ◌⊎◌, inl, inr}
-use Rattle.std.specs.Prelude.{bit_and, Result, Ok, Err, IfOk, IsOkAnd, MatchResult}
+use Rattle.std.specs.Prelude.{Result, Ok, Err, IfOk, IsOkAnd, MatchResult}
 use denote.Bor.{Bor}
 use Rattle.std.specs.Option.{option_map}
 use Rattle.std.proofs.lemmas.Bool.{eqb-true, le-leb, eq-eqb}
@@ -22,26 +22,14 @@ use Rattle.mdns_capture.proofs.FramePartLemmas.{number-past, number-within, byte
 -- a datagram passes, and gives its payload
 udp_passes : (datagram payload : List ℕ) → IsUdpDatagram datagram payload → PassesUdp datagram × (udp_payload datagram ≡ payload)
 unfolding udp_payload
-udp_passes datagram payload is =
-    let header = is.header in
-    let body = payload ++ is.uncounted in
-    let size = is.udp.size in
-    let word : (n : ℕ) → n + 2 ≤ 8
-    → word_at n datagram ≡ word_at n header = λ n h. ap (λ (bytes : List ℕ). word_at n bytes) is.parts
-    ∙ number-within Big 2 n header body (omega arith) in
-    let counted = word 4 (omega arith) ∙ is.udp.counted in
-    let long = ap (λ (bytes : List ℕ). length bytes) is.parts ∙ length-append header body in
-    let body_long = length-append payload is.uncounted in
-    let after : drop 8 datagram ≡ body = ap (λ (bytes : List ℕ). drop 8 bytes) is.parts ∙ drop_at header body 8 size in (
-      record {
-        room = omega arith;
-        source = word 0 (omega arith) ∙ is.udp.source;
-        destination = word 2 (omega arith) ∙ is.udp.destination;
-        least = omega arith;
-        within = omega arith;
-      },
-      ap (λ (bytes : List ℕ). take (word_at 4 datagram - 8) bytes) after ∙ take_at payload is.uncounted _ (omega arith),
-    )
+udp_passes datagram payload is = grind (
+  arith,
+  length-append is.header (payload ++ is.uncounted),
+  length-append payload is.uncounted,
+  number-within,
+  drop_at is.header (payload ++ is.uncounted) 8 is.udp.size,
+  take_at payload is.uncounted,
+)
 
 -- what passes is a datagram of the payload that it gives
 udp_datagram : (datagram : List ℕ) → PassesUdp datagram → IsUdpDatagram datagram (udp_payload datagram)
@@ -51,24 +39,13 @@ udp_datagram datagram p =
     let body = drop 8 datagram in
     let count = word_at 4 datagram - 8 in
     let cut : header ++ body ≡ datagram = take-append-drop 8 datagram in
-    let inner : take count body ++ drop count body ≡ body = take-append-drop count body in
-    let size : length header ≡ 8 = length-take-le 8 datagram p.room in
-    let least = p.least in
-    let within = p.within in
-    let counted : length (take count body) ≡ count = length-take-le count body (omega (arith, length-drop 8 datagram)) in
-    let word : (n : ℕ) → n + 2 ≤ 8
-    → word_at n header ≡ word_at n datagram = λ n h. sym (number-within Big 2 n header body (omega arith))
-    ∙ ap (λ (bytes : List ℕ). word_at n bytes) cut in
+    let word : (n : ℕ) → n + 2 ≤ length header → word_at n datagram ≡ word_at n header =
+    λ n h. ap (λ (bytes : List ℕ). word_at n bytes) (sym cut) ∙ number-within Big 2 n header body h in
     record {
       header = header;
       uncounted = drop count body;
-      parts = sym cut ∙ ap (λ (bytes : List ℕ). header ++ bytes) (sym inner);
-      udp = record {
-        size = size;
-        source = word 0 (omega arith) ∙ p.source;
-        destination = word 2 (omega arith) ∙ p.destination;
-        counted = omega (arith, word 4 (omega arith));
-      };
+      parts = rw (take-append-drop count body) (sym cut);
+      udp = grind (arith, length-take-le, length-drop 8 datagram, word 0, word 2, word 4);
     }
 
 -- THE PARTS OF A FRAME
@@ -84,22 +61,13 @@ StandsIn-from_parts : (frame front header datagram padding : List ℕ)
     → frame ≡ front ++ (header ++ (datagram ++ padding)) → length front ≡ 14 → StandsIn frame header datagram
 StandsIn-from_parts frame front header datagram padding parts size =
     let rest = datagram ++ padding in
-    let after : drop (14 + length header) frame ≡ rest =
-    ap (λ (bytes : List ℕ). drop (14 + length header) bytes) (parts ∙ sym (append_assoc front header rest))
-    ∙ drop_at (front ++ header) rest (14 + length header) (omega (arith, length-append front header)) in
     record {
       number = λ n p q e h. ap (λ (bytes : List ℕ). number_at Big n q bytes) parts
           ∙ number-past n front (header ++ rest) p q (omega arith) ∙ number-within Big n p header rest h;
       byte = λ p q e h. ap (λ (bytes : List ℕ). slice_index bytes q) parts
           ∙ byte-past front (header ++ rest) p q (omega arith) ∙ byte-within header rest p h;
-      cut = ap (λ (bytes : List ℕ). take (length datagram) bytes) after ∙ take_at datagram padding (length datagram) refl;
-      long = omega (
-        arith,
-        ap (λ (bytes : List ℕ). length bytes) parts,
-        length-append front (header ++ rest),
-        length-append header rest,
-        length-append datagram padding,
-      );
+      cut = grind (arith, append_assoc front header rest, drop_at (front ++ header) rest, length-append front header, take_at);
+      long = grind (arith, length-append);
     }
 
 -- the EtherType is after the addresses
@@ -111,14 +79,13 @@ type-in_parts frame addresses ether_type rest parts two size =
 -- the two cases share their parts
 pub StandsIn-from_carries : (type : ℕ) (IsHeader : List ℕ → ℕ → Type 0) (frame payload : List ℕ)
     (k : CarriesAfter type IsHeader frame payload) → (word_at 12 frame ≡ type) × StandsIn frame k.header k.datagram
-StandsIn-from_carries type IsHeader frame payload k =
-    let packet = k.header ++ (k.datagram ++ k.padding) in
-    let front_size : length (k.addresses ++ k.ether_type) ≡ 14 =
-    omega (arith, length-append k.addresses k.ether_type, k.two_addresses, k.type_size) in (
-      type-in_parts frame k.addresses k.ether_type packet k.parts k.two_addresses k.type_size ∙ k.is_type,
-      StandsIn-from_parts frame (k.addresses ++ k.ether_type) k.header k.datagram k.padding (k.parts
-          ∙ sym (append_assoc k.addresses k.ether_type packet)) front_size,
-    )
+StandsIn-from_carries type IsHeader frame payload k = grind (
+  arith,
+  type-in_parts frame k.addresses k.ether_type,
+  StandsIn-from_parts frame (k.addresses ++ k.ether_type) k.header k.datagram k.padding,
+  length-append,
+  append_assoc,
+)
 
 -- a header of that size, with that count of data after it, carries the payload that the data gives
 carries_after : (type : ℕ) (IsHeader : List ℕ → ℕ → Type 0) (frame : List ℕ) (size count : ℕ)
@@ -131,29 +98,30 @@ carries_after type IsHeader frame size count is_type whole is_header passes =
     let header = take size (drop 14 frame) in
     let after = drop (14 + size) frame in
     let datagram = take count after in
-    let padding = drop count after in
-    let header_cut : header ++ after ≡ drop 14 frame =
-    ap (λ (bytes : List ℕ). header ++ bytes) (sym (drop-drop size 14 frame))
-    ∙ take-append-drop size (drop 14 frame) in
-    let type_cut : ether_type ++ drop 14 frame ≡ drop 12 frame =
-    ap (λ (bytes : List ℕ). ether_type ++ bytes) (sym (drop-drop 2 12 frame))
-    ∙ take-append-drop 2 (drop 12 frame) in
-    let parts : frame ≡ addresses ++ (ether_type ++ (header ++ (datagram ++ padding))) =
-    rw (take-append-drop count after, header_cut, type_cut) (sym (take-append-drop 12 frame)) in
+    let packet = header ++ (datagram ++ drop count after) in
+    let header_cut : header ++ drop size (drop 14 frame) ≡ drop 14 frame = take-append-drop size (drop 14 frame) in
+    let type_cut : ether_type ++ drop 2 (drop 12 frame) ≡ drop 12 frame = take-append-drop 2 (drop 12 frame) in
+    let parts : frame ≡ addresses ++ (ether_type ++ packet) = grind (
+      arith,
+      take-append-drop 12 frame,
+      take-append-drop count after,
+      header_cut,
+      type_cut,
+      drop-drop size 14 frame,
+      drop-drop 2 12 frame,
+    ) in
     let two : length addresses ≡ 12 = length-take-le 12 frame (omega arith) in
     let type_size : length ether_type ≡ 2 = length-take-le 2 (drop 12 frame) (omega (arith, length-drop 12 frame)) in
     let header_size : length header ≡ size = length-take-le size (drop 14 frame) (omega (arith, length-drop 14 frame)) in
     let counted : length datagram ≡ count = length-take-le count after (omega (arith, length-drop (14 + size) frame)) in
-    let front_size : length (addresses ++ ether_type) ≡ 14 = omega (arith, length-append addresses ether_type) in
-    let packet = header ++ (datagram ++ padding) in
-    let stands = StandsIn-from_parts frame (addresses ++ ether_type) header datagram padding (parts
-    ∙ sym (append_assoc addresses ether_type packet)) front_size in
+    let stands = StandsIn-from_parts frame (addresses ++ ether_type) header datagram (drop count after)
+    (parts ∙ sym (append_assoc addresses ether_type packet)) (omega (arith, length-append addresses ether_type)) in
     record {
       addresses = addresses;
       ether_type = ether_type;
       header = header;
       datagram = datagram;
-      padding = padding;
+      padding = drop count after;
       parts = parts;
       two_addresses = two;
       type_size = type_size;
@@ -167,40 +135,25 @@ carries_after type IsHeader frame size count is_type whole is_header passes =
 ipv4_passes : (frame header datagram : List ℕ) → StandsIn frame header datagram
     → IsIpv4Header header (length datagram) → PassesIpv4 frame × (ipv4_data frame ≡ datagram)
 unfolding ipv4_data
-ipv4_passes frame header datagram stands is =
-    let least : 20 ≤ length header = omega (arith, is.size, is.at_least) in
-    let first = stands.byte 0 14 refl (omega arith) in
-    let total = stands.number 2 2 16 refl (omega arith) ∙ is.total_length in
-    let size : ipv4_size frame ≡ length header = ap (λ (byte : ℕ). 4 * bit_and byte 0x0F) first ∙ sym is.size in
-    let count : word_at 16 frame - ipv4_size frame ≡ length datagram = omega arith in
-    let long = stands.long in (
-      record {
-        room = omega arith;
-        version = ap (λ (byte : ℕ). byte / 16) first ∙ is.version;
-        at_least = omega (arith, ap (λ (byte : ℕ). bit_and byte 0x0F) first, is.at_least);
-        total = omega arith;
-        whole = omega arith;
-        unfragmented = ap (λ (word : ℕ). bit_and word 0x3FFF) (stands.number 2 6 20 refl (omega arith)) ∙ is.unfragmented;
-        protocol = stands.byte 9 23 refl (omega arith) ∙ is.protocol;
-        destination = stands.number 4 16 30 refl (omega arith) ∙ is.destination;
-      },
-      rw (count, size) stands.cut,
-    )
+ipv4_passes frame header datagram stands is = grind (
+  arith,
+  stands.byte 0 14 refl,
+  stands.byte 9 23 refl,
+  stands.number 2 2 16 refl,
+  stands.number 2 6 20 refl,
+  stands.number 4 16 30 refl,
+)
 
 ipv4_header : (frame header datagram : List ℕ) → PassesIpv4 frame → StandsIn frame header datagram
     → length header ≡ ipv4_size frame → IsIpv4Header header (word_at 16 frame - ipv4_size frame)
-ipv4_header frame header datagram passes stands size =
-    let least : 20 ≤ length header = omega (arith, passes.at_least) in
-    let first = stands.byte 0 14 refl (omega arith) in
-    record {
-      version = ap (λ (byte : ℕ). byte / 16) (sym first) ∙ passes.version;
-      size = size ∙ ap (λ (byte : ℕ). 4 * bit_and byte 0x0F) first;
-      at_least = omega (arith, ap (λ (byte : ℕ). bit_and byte 0x0F) first, passes.at_least);
-      total_length = omega (arith, stands.number 2 2 16 refl (omega arith), passes.total);
-      unfragmented = ap (λ (word : ℕ). bit_and word 0x3FFF) (sym (stands.number 2 6 20 refl (omega arith))) ∙ passes.unfragmented;
-      protocol = sym (stands.byte 9 23 refl (omega arith)) ∙ passes.protocol;
-      destination = sym (stands.number 4 16 30 refl (omega arith)) ∙ passes.destination;
-    }
+ipv4_header frame header datagram passes stands size = grind (
+  arith,
+  stands.byte 0 14 refl,
+  stands.byte 9 23 refl,
+  stands.number 2 2 16 refl,
+  stands.number 2 6 20 refl,
+  stands.number 4 16 30 refl,
+)
 
 -- THE IPV6 HEADER
 
@@ -208,28 +161,12 @@ ipv6_passes : (frame header datagram : List ℕ) → StandsIn frame header datag
     → IsIpv6Header header (length datagram) → PassesIpv6 frame × (ipv6_data frame ≡ datagram)
 unfolding ipv6_data
 ipv6_passes frame header datagram stands is =
-    let size = is.size in
-    let count = stands.number 2 4 18 refl (omega arith) ∙ is.payload_length in
-    let long = stands.long in (
-      record {
-        room = omega arith;
-        version = ap (λ (byte : ℕ). byte / 16) (stands.byte 0 14 refl (omega arith)) ∙ is.version;
-        whole = omega arith;
-        next_header = stands.byte 6 20 refl (omega arith) ∙ is.next_header;
-        destination = stands.number 16 24 38 refl (omega arith) ∙ is.destination;
-      },
-      rw count (subst (λ (n : ℕ). take (length datagram) (drop (14 + n) frame) ≡ datagram) size stands.cut),
-    )
+    grind (arith, stands.byte 0 14 refl, stands.byte 6 20 refl, stands.number 2 4 18 refl, stands.number 16 24 38 refl)
 
 ipv6_header : (frame header datagram : List ℕ) → PassesIpv6 frame → StandsIn frame header datagram
     → length header ≡ 40 → IsIpv6Header header (word_at 18 frame)
-ipv6_header frame header datagram passes stands size = record {
-  size = size;
-  version = ap (λ (byte : ℕ). byte / 16) (sym (stands.byte 0 14 refl (omega arith))) ∙ passes.version;
-  payload_length = sym (stands.number 2 4 18 refl (omega arith));
-  next_header = sym (stands.byte 6 20 refl (omega arith)) ∙ passes.next_header;
-  destination = sym (stands.number 16 24 38 refl (omega arith)) ∙ passes.destination;
-}
+ipv6_header frame header datagram passes stands size =
+    grind (arith, stands.byte 0 14 refl, stands.byte 6 20 refl, stands.number 2 4 18 refl, stands.number 16 24 38 refl)
 
 -- THE FRAME
 
@@ -237,17 +174,12 @@ ipv6_header frame header datagram passes stands size = record {
 ipv4_named : (frame : List ℕ) → 14 ≤ length frame → word_at 12 frame ≡ 0x0800
     → (first_failing (ip_checks frame) ≡ first_failing (ipv4_checks frame)) × (ip_data frame ≡ ipv4_data frame)
 unfolding ip_checks ip_data
-ipv4_named frame room type =
-    let long = le-leb 14 (length frame) room in
-    let ipv4 : (word_at 12 frame == 0x0800) ≡ true = eq-eqb _ _ type in (rw (long, ipv4) refl, rw ipv4 refl)
+ipv4_named frame room type = grind (arith, le-leb, eq-eqb)
 
 ipv6_named : (frame : List ℕ) → 14 ≤ length frame → word_at 12 frame ≡ 0x86DD
     → (first_failing (ip_checks frame) ≡ first_failing (ipv6_checks frame)) × (ip_data frame ≡ ipv6_data frame)
 unfolding ip_checks ip_data
-ipv6_named frame room type =
-    let long = le-leb 14 (length frame) room in
-    let ipv4 : (word_at 12 frame == 0x0800) ≡ false = ap (λ (word : ℕ). word == 0x0800) type in
-    let ipv6 : (word_at 12 frame == 0x86DD) ≡ true = eq-eqb _ _ type in (rw (long, ipv4, ipv6) refl, rw ipv4 refl)
+ipv6_named frame room type = grind (arith, le-leb, eq-eqb)
 
 -- where the checks of the IP header pass and its data is a datagram of the payload, all pass
 passes_by_layer : (frame datagram payload : List ℕ) → first_failing (ip_checks frame) ≡ None

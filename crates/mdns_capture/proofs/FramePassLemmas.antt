@@ -35,19 +35,7 @@ pub record PassesIpv6 (frame : List ℕ) : Type 0 where
 
 pub PassesUdp-from_none : (datagram : List ℕ) → first_failing (udp_checks datagram) ≡ None → PassesUdp datagram
 unfolding udp_checks
-PassesUdp-from_none datagram none =
-    let room = passed _ _ _ none in
-    let source = passed _ _ _ room.1 in
-    let destination = passed _ _ _ source.1 in
-    let least = passed _ _ _ destination.1 in
-    let within = passed _ _ _ least.1 in
-    record {
-      room = leb-true _ _ room.0;
-      source = eqb-true _ _ source.0;
-      destination = eqb-true _ _ destination.0;
-      least = leb-true _ _ least.0;
-      within = leb-true _ _ within.0;
-    }
+PassesUdp-from_none datagram none = grind (arith, passed, leb-true, eqb-true)
 
 pub none_from_PassesUdp : (datagram : List ℕ) → PassesUdp datagram → first_failing (udp_checks datagram) ≡ None
 unfolding udp_checks
@@ -55,25 +43,7 @@ none_from_PassesUdp datagram p = grind (arith, pass, le-leb, eq-eqb)
 
 pub PassesIpv4-from_none : (frame : List ℕ) → first_failing (ipv4_checks frame) ≡ None → PassesIpv4 frame
 unfolding ipv4_checks ipv4_size_checks ipv4_kind_checks
-PassesIpv4-from_none frame none =
-    let room = passed _ _ _ none in
-    let version = passed _ _ _ room.1 in
-    let at_least = passed _ _ _ version.1 in
-    let total = passed _ _ _ at_least.1 in
-    let whole = passed _ _ _ total.1 in
-    let unfragmented = passed _ _ _ whole.1 in
-    let protocol = passed _ _ _ unfragmented.1 in
-    let destination = passed _ _ _ protocol.1 in
-    record {
-      room = leb-true _ _ room.0;
-      version = eqb-true _ _ version.0;
-      at_least = leb-true _ _ at_least.0;
-      total = leb-true _ _ total.0;
-      whole = leb-true _ _ whole.0;
-      unfragmented = eqb-true _ _ unfragmented.0;
-      protocol = eqb-true _ _ protocol.0;
-      destination = eqb-true _ _ destination.0;
-    }
+PassesIpv4-from_none frame none = grind (arith, passed, leb-true, eqb-true)
 
 pub none_from_PassesIpv4 : (frame : List ℕ) → PassesIpv4 frame → first_failing (ipv4_checks frame) ≡ None
 unfolding ipv4_checks ipv4_size_checks ipv4_kind_checks
@@ -81,19 +51,7 @@ none_from_PassesIpv4 frame p = grind (arith, pass, le-leb, eq-eqb)
 
 pub PassesIpv6-from_none : (frame : List ℕ) → first_failing (ipv6_checks frame) ≡ None → PassesIpv6 frame
 unfolding ipv6_checks ipv6_size_checks ipv6_kind_checks
-PassesIpv6-from_none frame none =
-    let room = passed _ _ _ none in
-    let version = passed _ _ _ room.1 in
-    let whole = passed _ _ _ version.1 in
-    let next_header = passed _ _ _ whole.1 in
-    let destination = passed _ _ _ next_header.1 in
-    record {
-      room = leb-true _ _ room.0;
-      version = eqb-true _ _ version.0;
-      whole = leb-true _ _ whole.0;
-      next_header = eqb-true _ _ next_header.0;
-      destination = eqb-true _ _ destination.0;
-    }
+PassesIpv6-from_none frame none = grind (arith, passed, leb-true, eqb-true)
 
 pub none_from_PassesIpv6 : (frame : List ℕ) → PassesIpv6 frame → first_failing (ipv6_checks frame) ≡ None
 unfolding ipv6_checks ipv6_size_checks ipv6_kind_checks

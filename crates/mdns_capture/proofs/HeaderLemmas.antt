@@ -1,6 +1,6 @@
 -- What the first bytes of a file decide about the whole file, and what a step of the reading found.
 use Rattle.std.proofs.Common.{◌≡◌, ◌⊎◌, inl, inr, ℕ, ◌<◌, ◌≤◌, Bool, true, false, cond, ltb, List, [], ◌++◌}
-use Rattle.std.proofs.Common.{Option, Some, None, IfSome, Result, Ok, Err, IfErr, arith, length, take, refl, sym, ap, ◌∙◌, subst}
+use Rattle.std.proofs.Common.{Option, Some, None, IfSome, Result, Ok, Err, IfErr, arith, length, take, refl, ap, ◌∙◌, subst}
 use Rattle.std.proofs.{Common.{length-append, le-ltb, lt-ltb}, KnownBytes.{Consumes-trans}, lemmas.Bool.{cases_lt, ltb-true, ltb-false}}
 use Rattle.std.proofs.lemmas.{List.{append-nil, length-take, length-take-le, take-append-le, take_all}, Bool.Decides.{nat_tests}}
 use Rattle.std.specs.{Option.{option_or}, Io.KnownBytes.{Consumes, IsAtEnd}}
@@ -48,9 +48,7 @@ stop_came : (format : Format) (at n : ℕ) (bytes rest header : List ℕ) (endin
     → stop_of format at bytes ≡ Some ending
 stop_came format at n bytes rest header ending (inl short) size whole end stop = grind (arith, length-take, append-nil, stop_of-short)
 stop_came format at n bytes rest header ending (inr all) size whole end stop =
-    let taken : take n header ≡ header = take_all n header (omega arith) in
-    stop_of-head format at n (Some bytes) (Some rest) header ending size all whole
-    (sym (header_stop-whole format at header size) ∙ ap (header_stop format at) (sym taken) ∙ stop)
+    grind (arith, stop_of-head format at n (Some bytes) (Some rest) header ending size all whole, take_all, header_stop-whole, header_stop)
 
 -- a packet header's check failed
 pub IfSome-stop_came : (format : Format) (at n : ℕ) (old mid : Option (List ℕ)) (header : List ℕ) (ending : Ending) → length header ≡ 16
@@ -80,8 +78,7 @@ packet_came : (format : Format) (at m : ℕ) (old mid new : Option (List ℕ)) (
     → m ≤ length body → length body ≡ head.captured
     → IsPacketOrEnd format at old new (body ++ after) (cond cut (End (Cut at)) (Packet head))
 packet_came format at m old mid new header body after head true short heads takes more end fits size =
-    let few : m < head.captured = ltb-true _ _ short in
-    (tt, stop_of-body format at m head.moment.nanos head.captured old mid new header body heads takes more (end (omega arith)) few fits)
+    grind (arith, stop_of-body format at m head.moment.nanos head.captured old mid new header body heads takes more, ltb-true)
 packet_came format at m old mid new header body after head false all heads takes more end fits size =
     grind (arith, ltb-false, take-append-le, Consumes-trans)
 

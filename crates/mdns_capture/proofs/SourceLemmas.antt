@@ -1,5 +1,5 @@
 -- A frame that carries a payload has one source address, which stands at one offset.
-use Rattle.std.proofs.Common.{◌≡◌, ◌≤◌, ℕ, ◌+◌, ◌==◌, true, List, ◌++◌, length, drop, take, refl, sym, ap, ◌∙◌, subst, arith, append_assoc}
+use Rattle.std.proofs.Common.{◌≡◌, ◌≤◌, ℕ, ◌+◌, ◌==◌, true, List, ◌++◌, length, drop, take, refl, sym, ap, ◌∙◌, arith, append_assoc}
 use Rattle.std.proofs.lemmas.Bool.{eq-eqb}
 use Rattle.std.proofs.lemmas.List.{
   length-drop,
@@ -23,7 +23,7 @@ use Rattle.mdns_capture.specs.Frame.{
   in_ipv4,
   in_ipv6,
 }
-use Rattle.mdns_capture.specs.Source.{HasSource, IsSourceOf, source_at}
+use Rattle.mdns_capture.specs.Source.{HasSource, IsSentFrom, IsSourceOf, source_at}
 use Rattle.mdns_capture.proofs.{FrameLemmas.{StandsIn-from_carries}, FramePartLemmas.{drop_past}}
 
 -- THE HEADER
@@ -85,31 +85,27 @@ ipv4_source_at frame type = let ipv4 : (word_at 12 frame == ipv4_type) ≡ true 
 ipv6_source_at : (frame : List ℕ) → word_at 12 frame ≡ ipv6_type → source_at frame ≡ V6 (take 16 (drop 22 frame))
 ipv6_source_at frame type = grind arith
 
+-- the bytes at the offset of a source address are one, where the header has room for both addresses
+sent_from : (type : ℕ) (IsHeader : List ℕ → ℕ → Type 0) (frame payload : List ℕ) (k : CarriesAfter type IsHeader frame payload)
+    (offset size q : ℕ) → q ≡ 14 + offset → offset + size + size ≤ length k.header
+    → IsSentFrom type IsHeader offset size frame (take size (drop q frame))
+sent_from type IsHeader frame payload k offset size q e room = record {
+  payload = payload;
+  carries = k;
+  has_source = rw (header_part type IsHeader frame payload k offset q size e (omega arith)) (source_there offset size k.header room);
+}
+
 -- what carries a payload was sent from the address there
 pub sent_from_there : (frame payload : List ℕ) → FrameCarries frame payload → IsSourceOf frame (source_at frame)
 unfolding IsSourceOf
 sent_from_there frame payload (in_ipv4 k) =
     let type = (StandsIn-from_carries ipv4_type IsIpv4Header frame payload k).0 in
     let room = ipv4_room k.header _ k.ip in
-    let is : take 4 (drop 26 frame) ≡ take 4 (drop 12 k.header) =
-    header_part ipv4_type IsIpv4Header frame payload k 12 26 4 refl (omega arith) in
-    subst (λ (address : SourceAddress). IsSourceOf frame address) (sym (ipv4_source_at frame type)) (record {
-      payload = payload;
-      carries = k;
-      has_source = subst (λ (source : List ℕ). HasSource 12 4 k.header source) (sym is)
-          (source_there 12 4 k.header (omega arith));
-    })
+    rw (ipv4_source_at frame type) (sent_from ipv4_type IsIpv4Header frame payload k 12 4 26 refl (omega arith))
 sent_from_there frame payload (in_ipv6 k) =
     let type = (StandsIn-from_carries ipv6_type IsIpv6Header frame payload k).0 in
     let room = k.ip.size in
-    let is : take 16 (drop 22 frame) ≡ take 16 (drop 8 k.header) =
-    header_part ipv6_type IsIpv6Header frame payload k 8 22 16 refl (omega arith) in
-    subst (λ (address : SourceAddress). IsSourceOf frame address) (sym (ipv6_source_at frame type)) (record {
-      payload = payload;
-      carries = k;
-      has_source = subst (λ (source : List ℕ). HasSource 8 16 k.header source) (sym is)
-          (source_there 8 16 k.header (omega arith));
-    })
+    rw (ipv6_source_at frame type) (sent_from ipv6_type IsIpv6Header frame payload k 8 16 22 refl (omega arith))
 
 -- what was sent from an address carries a payload, and has it there
 pub carries_if_sent : (frame : List ℕ) (address : SourceAddress) → IsSourceOf frame address

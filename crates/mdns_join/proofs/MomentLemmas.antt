@@ -15,37 +15,23 @@ use Rattle.mdns_join.specs.laws.Kept.{not_stale_from_kept, union_left, union_rig
 
 -- ---- the place of a moment
 
-point_by : (b : Bool) (n : ℕ) → b ≡ false → zero ≡ cond b (suc n) 0
-point_by true n h = absurd (true≢false h)
-point_by false n h = refl
-
-point_more : (b : Bool) (i n : ℕ) → b ≡ true → i ≡ n → suc i ≡ cond b (suc n) 0
-point_more true i n h e = ap suc e
-point_more false i n h e = absurd (true≢false (sym h))
-
 -- a partition point by the bound is the place
 pub place_of-point : (bound : ℕ) (items : List Moment) (i : ℕ) → i ≤ length items
     → IsPartitionPoint (λ (m : Moment). nat_lt m.nanos bound ≡ true) (λ (m : Moment). nat_lt m.nanos bound ≡ false)
     items i → i ≡ place_of bound (nanos_of items)
 place_of-point bound [] i l point = omega arith
-place_of-point bound (x ∷ xs) zero l point = point_by (nat_lt x.nanos bound) (place_of bound (nanos_of xs))
-    (point.1 0 x (omega arith) (omega arith))
+place_of-point bound (x ∷ xs) zero l point = grind (arith, nat_lt, point.1 0 x)
 place_of-point bound (x ∷ xs) (suc i) l point =
-    point_more (nat_lt x.nanos bound) i (place_of bound (nanos_of xs)) (point.0 0 x (omega arith) (omega arith))
-    (place_of-point bound xs i (omega arith) (
+    let rest = place_of-point bound xs i (omega arith) (
       λ k d p q. point.0 (suc k) d (omega arith) (omega arith),
       λ k d p q. point.1 (suc k) d (omega arith) (omega arith),
-    ))
-
-above_by : (b : Bool) (x p bound d : ℕ) (xs : List ℕ) → nat_lt x bound ≡ b → (p < length xs → bound ≤ get_or xs p d)
-    → cond b (suc p) 0 < length (x ∷ xs) → bound ≤ get_or (x ∷ xs) (cond b (suc p) 0) d
-above_by true x p bound d xs e rest l = rest (omega arith)
-above_by false x p bound d xs e rest l = ltb-false x bound e
+    ) in
+    grind (arith, nat_lt, point.0 0 x, rest)
 
 -- the moment at the place isn't earlier than the bound
 pub place_above : (bound : ℕ) (xs : List ℕ) (d : ℕ) → place_of bound xs < length xs → bound ≤ get_or xs (place_of bound xs) d
 place_above bound [] d l = absurd (omega arith)
-place_above bound (x ∷ xs) d l = above_by (nat_lt x bound) x (place_of bound xs) bound d xs refl (place_above bound xs d) l
+place_above bound (x ∷ xs) d l = grind (arith, nat_tests, place_above bound xs d)
 
 pub has-get_or : (xs : List ℕ) (i d : ℕ) → i < length xs → has xs (get_or xs i d) ≡ true
 has-get_or [] i d l = absurd (omega arith)
@@ -55,47 +41,17 @@ has-get_or (x ∷ xs) (suc i) d l = grind (arith, nat_tests, has-get_or xs i d (
 absent_above : (m low : ℕ) (xs : List ℕ) → IsAscendingAbove low xs → m ≤ low → has xs m ≡ false
 absent_above m low xs a l = elim (cases_Bool (has xs m)) [ inl e ↦ absurd (omega (arith, IsAscendingAbove-has low xs m a e)) | inr e ↦ e ]
 
-absent_first : (m x : ℕ) (xs : List ℕ) → x ≢ m → has xs m ≡ false → has (x ∷ xs) m ≡ false
-absent_first m x xs n h = grind (arith, nat_tests)
-
-absent_by : (b : Bool) (x p m : ℕ) (xs : List ℕ) → nat_lt x m ≡ b → IsAscending (x ∷ xs)
-    → ((length xs ≤ p) ⊎ (get_or xs p 0 ≢ m) → has xs m ≡ false)
-    → (length (x ∷ xs) ≤ cond b (suc p) 0) ⊎ (get_or (x ∷ xs) (cond b (suc p) 0) 0 ≢ m) → has (x ∷ xs) m ≡ false
-absent_by true x p m xs e a rest h =
-    absent_first m x xs (λ f. omega (arith, ltb-true x m e, f)) (rest (elim h [ inl l ↦ inl (omega (arith, l)) | inr n ↦ inr n ]))
-absent_by false x p m xs e a rest h = grind (arith, absent_first, absent_above, ltb-false)
-
 -- a moment that isn't at its place isn't in the list
 pub place_absent : (m : ℕ) (xs : List ℕ) → IsAscending xs
     → (length xs ≤ place_of m xs) ⊎ (get_or xs (place_of m xs) 0 ≢ m) → has xs m ≡ false
 place_absent m [] a h = refl
-place_absent m (x ∷ xs) a h = absent_by (nat_lt x m) x (place_of m xs) m xs refl a (place_absent m xs (IsAscending-from_above x xs a)) h
-
-absent_rest : (m x : ℕ) (xs : List ℕ) → has (x ∷ xs) m ≡ false → (x ≢ m) × (has xs m ≡ false)
-absent_rest m x xs h = (λ e. true≢false (sym (or_true x m xs e) ∙ h), rest_false (x == m) (has xs m) h) where
-  or_true : (y n : ℕ) (ys : List ℕ) → y ≡ n → has (y ∷ ys) n ≡ true
-  or_true y n ys e = grind (arith, nat_tests)
-
-  rest_false : (b c : Bool) → (b || c) ≡ false → c ≡ false
-  rest_false true c e = absurd (true≢false e)
-  rest_false false c e = e
-
-insert_by : (b c : Bool) (x m p : ℕ) (xs ps : List ℕ) → nat_lt x m ≡ b → nat_lt m x ≡ c → x ≢ m → insert xs p m ≡ ps
-    → insert (x ∷ xs) (cond b (suc p) 0) m ≡ cond c (m ∷ x ∷ xs) (cond (m == x) (x ∷ xs) (x ∷ ps))
-insert_by true true x m p xs ps e f n rest = absurd (omega (arith, ltb-true x m e, ltb-true m x f))
-insert_by true false x m p xs ps e f n rest = ap (λ ys. x ∷ ys) rest ∙ other (m == x) refl where
-  other : (t : Bool) → (m == x) ≡ t → x ∷ ps ≡ cond t (x ∷ xs) (x ∷ ps)
-  other true g = absurd (n (sym (eqb-true m x g)))
-  other false g = refl
-insert_by false true x m p xs ps e f n rest = refl
-insert_by false false x m p xs ps e f n rest = absurd (n (omega (arith, ltb-false x m e, ltb-false m x f)))
+place_absent m (x ∷ xs) a h =
+    grind (arith, nat_tests, absent_above m x xs a, place_absent m xs (IsAscending-from_above x xs a))
 
 -- one more moment goes to its place
 pub insert-place : (m : ℕ) (xs : List ℕ) → has xs m ≡ false → insert xs (place_of m xs) m ≡ put m xs
 insert-place m [] h = refl
-insert-place m (x ∷ xs) h =
-    let parts = absent_rest m x xs h in
-    insert_by (nat_lt x m) (nat_lt m x) x m (place_of m xs) xs (put m xs) refl refl parts.0 (insert-place m xs parts.1)
+insert-place m (x ∷ xs) h = grind (arith, nat_tests, insert-place m xs)
 
 insert_nanos : (items : List Moment) (i : ℕ) (m : Moment) → nanos_of (insert items i m) ≡ insert (nanos_of items) i m.nanos
 insert_nanos items i m = grind (arith, map-append, take-map, drop-map)

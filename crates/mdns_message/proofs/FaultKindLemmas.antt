@@ -8,7 +8,7 @@ use Rattle.mdns_message.specs.declared.{hearing.Hearing.{Hearing}, fault.Message
 use Rattle.mdns_message.specs.declared.fault.MessageFault.TheVariants.{Header, Query, Ignored, Cut, Label, Pointer, LongName, Memory}
 use Rattle.mdns_message.specs.declared.record_at.{Section.{Section}, Section.TheVariants.{Answer, Authority, Additional}}
 use Rattle.mdns_message.specs.declared.{record_type.RecordType.{RecordType}, record_at.RecordHeader.{RecordHeader}}
-use Rattle.mdns_message.specs.{Fault.{HasNameFault, fault_of_name}, Message.{Run, HasHeader, MessageReads, hearing_of}}
+use Rattle.mdns_message.specs.{Fault.{HasNameFault, fault_of_name}, Message.{Run, HasHeader, MessageReads}}
 use Rattle.mdns_message.specs.RecordAt.{DataFails, DataNameFails, HeardRecord, IsCut, LastNameFails, MemoryOr, NamedFails, QuestionFails}
 use Rattle.mdns_message.specs.RecordAt.{QuestionStands, RecordFails, RecordRestFails, RecordStands, RecordTells, RecordTellingFails}
 use Rattle.mdns_message.specs.{RecordAt.{header_of, wanted}, FirstMessageFault.{HasFirstFault, SectionsFail}}
@@ -25,11 +25,7 @@ IsPlaced Header = ⊥
 IsPlaced Query = ⊥
 IsPlaced Ignored = ⊥
 IsPlaced Memory = ⊥
-IsPlaced (Cut at) = Unit {0}
-IsPlaced (Label at) = Unit {0}
-IsPlaced (Pointer at) = Unit {0}
-IsPlaced (LongName at) = Unit {0}
-IsPlaced (fault.Body at) = Unit {0}
+IsPlaced _ = Unit {0}
 
 is_placed : (f g : MessageFault) → f ≡ g → IsPlaced g → IsPlaced f
 is_placed f g e p = subst IsPlaced (sym e) p
@@ -78,9 +74,7 @@ telling_placed m x None f d = absurd d
 telling_placed m x (Some k) f d = data_placed m x k f d
 
 record_rest_placed : (m : List ℕ) (section : Section) (p : ℕ) (f : MessageFault) → RecordRestFails m section p f → IsPlaced f
-record_rest_placed m section p f (inl (inl c)) = cut_placed m 10 p f c
-record_rest_placed m section p f (inl (inr c)) = cut_placed m (word_at (p + 8) m) (p + 10) f c.1
-record_rest_placed m section p f (inr d) = telling_placed m (header_of m p) (wanted section (header_of m p)) f d.1
+record_rest_placed m section p f h = grind (arith, cut_placed, telling_placed, header_of)
 
 question_placed : (m : List ℕ) (p : ℕ) (f : MessageFault) → QuestionFails m p f → IsPlaced f
 question_placed m p f q = named_placed m p (IsCut m 4) f (λ r. cut_placed m 4 r f) q
@@ -95,15 +89,7 @@ sections_placed m f (inl (inr (front, p, first, r))) = record_placed m Authority
 sections_placed m f (inr (front, p, first, r)) = record_placed m Additional r.offset f r.fails
 
 placed_first : (m : List ℕ) → HasHeader m → (f : MessageFault) → SectionsFail m 12 f → HasFirstFault m f
-placed_first m h Header s = absurd (sections_placed m Header s)
-placed_first m h Query s = absurd (sections_placed m Query s)
-placed_first m h Ignored s = absurd (sections_placed m Ignored s)
-placed_first m h Memory s = absurd (sections_placed m Memory s)
-placed_first m h (Cut at) s = record { header = h; fails = s }
-placed_first m h (Label at) s = record { header = h; fails = s }
-placed_first m h (Pointer at) s = record { header = h; fails = s }
-placed_first m h (LongName at) s = record { header = h; fails = s }
-placed_first m h (fault.Body at) s = record { header = h; fails = s }
+placed_first m h k s = grind (arith, sections_placed)
 
 -- the first fault of a message, by what its sections answer
 pub first_fault : (m : List ℕ) → HasHeader m → (f : MessageFault) → MemoryOr (SectionsFail m 12) f → HasFirstFault m f
@@ -118,15 +104,7 @@ IsOfHeader Ignored = Unit {0}
 IsOfHeader _ = ⊥
 
 not_placed : (f : MessageFault) → IsOfHeader f → IsPlaced f → ⊥
-not_placed Header h p = p
-not_placed Query h p = p
-not_placed Ignored h p = p
-not_placed Memory h p = p
-not_placed (Cut at) h p = h
-not_placed (Label at) h p = h
-not_placed (Pointer at) h p = h
-not_placed (LongName at) h p = h
-not_placed (fault.Body at) h p = h
+not_placed f h p = grind arith
 
 pub never_of_header : (m : List ℕ) (f : MessageFault) → IsOfHeader f → MemoryOr (SectionsFail m 12) f → ⊥
 never_of_header m f h (inl e) = subst IsOfHeader e h
@@ -163,29 +141,16 @@ authority_length m p told q stands = omega (arith, ap length stands.rest.tells)
 -- a message has at most so many hearings as its answers and additional records
 pub few_hearings : (moment : Moment) (m : List ℕ) (hs : List Hearing) → ((i : ℕ) → get_or m i 0 < 256)
     → MessageReads moment m hs → length hs ≤ 131070
-few_hearings moment m hs fits reads =
-    let s = reads.sections in
-    let t = s.first in
-    let u = t.first in
-    omega (
-      arith,
-      ap length reads.heard,
-      length-map reads.told (hearing_of moment),
-      ap length s.all,
-      length-append s.front s.rest,
-      ap length t.all,
-      length-append t.front t.rest,
-      ap length u.all,
-      length-append u.front u.rest,
-      run_length (QuestionStands m) 0 (question_length m)
-          (word_at 4 m) 12 u.front u.offset u.first,
-      run_length (RecordStands m Answer) 1 (record_length m Answer)
-          (word_at 6 m) u.offset u.rest t.offset u.second,
-      run_length (RecordStands m Authority) 0 (authority_length m) (word_at 8 m) t.offset t.rest s.offset t.second,
-      run_length (RecordStands m Additional) 1 (record_length m Additional) (word_at 10 m) s.offset s.rest reads.next
-          s.second,
-      word_bound m 6 fits,
-      word_bound m 10 fits,
-    )
+few_hearings moment m hs fits reads = grind (
+  arith,
+  length-map,
+  length-append,
+  run_length (QuestionStands m) 0 (question_length m) (word_at 4 m) 12,
+  run_length (RecordStands m Answer) 1 (record_length m Answer) (word_at 6 m),
+  run_length (RecordStands m Authority) 0 (authority_length m) (word_at 8 m),
+  run_length (RecordStands m Additional) 1 (record_length m Additional) (word_at 10 m),
+  word_bound m 6 fits,
+  word_bound m 10 fits,
+)
 
 pub ruleset for_read_message = (never_of_header, IfErr-at_err)

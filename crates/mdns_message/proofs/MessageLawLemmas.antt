@@ -200,16 +200,10 @@ telling_outcome m owner x (Some k) =
 -- records
 record_rest_not_both : (m : List ℕ) (section : Section) (owner : List ℕ) (p : ℕ) (xs : List HeardRecord) (q : ℕ)
     (f : MessageFault) → RecordRest m section owner p xs q → RecordRestFails m section p f → ⊥
-record_rest_not_both m section owner p xs q f a (inl (inl cut)) = absurd (omega (arith, a.header.whole, cut.0))
-record_rest_not_both m section owner p xs q f a (inl (inr (whole, cut))) = absurd (omega (arith, a.header.within, cut.0))
-record_rest_not_both m section owner p xs q f a (inr (stands, fails)) =
-    telling_not_both m owner (header_of m p) (wanted section (header_of m p)) xs f a.tells fails
+record_rest_not_both m section owner p xs q f a h = grind (arith, telling_not_both, header_of)
 
 header_one_fault : (m : List ℕ) (p : ℕ) (f g : MessageFault) → HeaderFails m p f → HeaderFails m p g → f ≡ g
-header_one_fault m p f g (inl a) (inl b) = a.1 ∙ sym b.1
-header_one_fault m p f g (inl a) (inr (whole, b)) = absurd (omega (arith, a.0))
-header_one_fault m p f g (inr (whole, a)) (inl b) = absurd (omega (arith, b.0))
-header_one_fault m p f g (inr (whole, a)) (inr (whole2, b)) = a.1 ∙ sym b.1
+header_one_fault m p f g h k = grind arith
 
 header_not_both : (m : List ℕ) (p : ℕ) (f : MessageFault) → HeaderStands m p → HeaderFails m p f → ⊥
 header_not_both m p f stands (inl a) = absurd (omega (arith, stands.whole, a.0))
@@ -217,11 +211,7 @@ header_not_both m p f stands (inr (whole, a)) = absurd (omega (arith, stands.wit
 
 record_rest_one_fault : (m : List ℕ) (section : Section) (p : ℕ) (f g : MessageFault) → RecordRestFails m section p f
     → RecordRestFails m section p g → f ≡ g
-record_rest_one_fault m section p f g (inl a) (inl b) = header_one_fault m p f g a b
-record_rest_one_fault m section p f g (inl a) (inr (stands, b)) = absurd (header_not_both m p f stands a)
-record_rest_one_fault m section p f g (inr (stands, a)) (inl b) = absurd (header_not_both m p g stands b)
-record_rest_one_fault m section p f g (inr (stands, a)) (inr (stands2, b)) =
-    telling_one_fault m (header_of m p) (wanted section (header_of m p)) f g a b
+record_rest_one_fault m section p f g h k = grind (arith, header_one_fault, header_not_both, telling_one_fault, header_of)
 
 record_rest_outcome : (m : List ℕ) (section : Section) (owner : List ℕ) (p : ℕ)
     → ((xs : List HeardRecord) × (q : ℕ) × RecordRest m section owner p xs q)

@@ -1,6 +1,6 @@
 -- Every noncharacter is in a hidden range.
 use Rattle.std.proofs.Common.{◌≡◌, refl, ℕ, zero, suc, ◌+◌, ◌*◌, ◌/◌, ◌≤◌, Bool, true, false, inl, inr, ◌&&◌}
-use Rattle.std.proofs.{Common.{◌||◌, nat_le, nat_lt, List, [], ◌∷◌, arith}, lemmas.Bool.Decides.{nat_tests}}
+use Rattle.std.proofs.{Common.{◌||◌, nat_le, List, [], ◌∷◌, arith}, lemmas.Bool.{and_parts, or_cases}, lemmas.Bool.Decides.{nat_tests}}
 use Rattle.people_text.specs.Shown.{IsNoncharacter, hidden_ranges, is_hidden}
 use Rattle.people_text.proofs.ShownLemmas.{in_ranges}
 
@@ -9,28 +9,12 @@ covers : ℕ → ℕ → List (ℕ × ℕ) → Bool
 covers low high [] = false
 covers low high (range ∷ ranges) = (nat_le range.0 low && nat_le high range.1) || covers low high ranges
 
-here : (first last low high c : ℕ) (others : Bool) → ((nat_le first low && nat_le high last) || false) ≡ true → low ≤ c → c ≤ high
-    → ((nat_le first c && nat_le c last) || others) ≡ true
-here first last low high c others is from to = grind (arith, nat_tests)
-
-either_true : (one : Bool) → (one || true) ≡ true
-either_true true = refl
-either_true false = refl
-
-one_covered : (t : Bool) (first last low high c : ℕ) (more others : Bool) → more ≡ t
-    → ((nat_le first low && nat_le high last) || more) ≡ true → low ≤ c → c ≤ high → (more ≡ true → others ≡ true)
-    → ((nat_le first c && nat_le c last) || others) ≡ true
-one_covered true first last low high c more others same is from to deeper = grind (arith, either_true, nat_le)
-one_covered false first last low high c more others same is from to deeper =
-    here first last low high c others (rw same at is) from to
-
 in_ranges-covered : (ranges : List (ℕ × ℕ)) (low high c : ℕ) → covers low high ranges ≡ true → low ≤ c → c ≤ high
     → in_ranges ranges c ≡ true
 unfolding covers
 in_ranges-covered [] low high c is from to = absurd (cc)
 in_ranges-covered (range ∷ ranges) low high c is from to =
-    one_covered (covers low high ranges) range.0 range.1 low high c (covers low high ranges) (in_ranges ranges c) refl is from to
-    (λ others. in_ranges-covered ranges low high c others from to)
+    grind (arith, nat_tests, or_cases, in_ranges-covered ranges low high c)
 
 -- a range has the last two numbers of a plane, and so for all planes up to one
 ends : ℕ → Bool
@@ -40,22 +24,11 @@ all_ends : ℕ → Bool
 all_ends zero = ends zero
 all_ends (suc plane) = ends (suc plane) && all_ends plane
 
-both_true : (one other : Bool) → (one && other) ≡ true → (one ≡ true) × (other ≡ true)
-both_true true other is = (refl, is)
-both_true false other is = absurd (cc)
-
-ends-step : (t : Bool) (last plane : ℕ) → nat_lt last plane ≡ t → plane ≤ suc last → ends (suc last) ≡ true
-    → (plane ≤ last → ends plane ≡ true) → ends plane ≡ true
-ends-step true last plane later within at deeper = grind (arith, nat_tests, ends)
-ends-step false last plane later within at deeper = grind (arith, nat_tests)
-
 ends-each : (last plane : ℕ) → all_ends last ≡ true → plane ≤ last → ends plane ≡ true
 unfolding all_ends
 ends-each zero zero is within = is
 ends-each zero (suc plane) is within = absurd (omega arith)
-ends-each (suc last) plane is within =
-    let two = both_true (ends (suc last)) (all_ends last) is in
-    ends-step (nat_lt last plane) last plane refl within two.0 (λ low. ends-each last plane two.1 low)
+ends-each (suc last) plane is within = grind (arith, nat_tests, and_parts (ends (suc last)) (all_ends last), ends-each last plane)
 
 pub noncharacter_hidden : (code : ℕ) → IsNoncharacter code → is_hidden code ≡ true
 unfolding is_hidden hidden_ranges covers ends all_ends
