@@ -1,5 +1,6 @@
 -- The lives of a record by its history are those by all hearings.
-use Rattle.std.proofs.Common.{rules, ◌≡◌, ◌≢◌, ℕ, ◌+◌, ◌<◌, ◌≤◌, List, Contains, refl, sym, ap, ◌∙◌, subst, arith, leb-true, le-leb}
+use Rattle.std.proofs.Common.{rules, ◌≡◌, ◌≢◌, ℕ, ◌+◌, ◌<◌, ◌≤◌, List, Contains, Option, None, map, refl, sym, ap, ◌∙◌, subst, arith}
+use Rattle.std.proofs.Common.{leb-true, le-leb}
 use Rattle.std.proofs.lemmas.Bool.{cases_lt}
 use Rattle.std.specs.{Prelude.{nat_le}, declared.cmp.Ordering.TheVariants.{Greater}}
 use Rattle.mdns_capture.specs.{Limits.{second}, declared.moment.Moment.{Moment}}
@@ -8,9 +9,12 @@ use Rattle.mdns_join.specs.{declared.latest.Latest.{Latest}, Latest.{latest_cmp,
 use Rattle.mdns_cache.specs.Live.{IsHeard, IsLast, life_of, IsStruck}
 use Rattle.mdns_lives.specs.declared.life.{RecordHearing.{RecordHearing}, Life.{Life}, EndReason.{EndReason}}
 use Rattle.mdns_lives.specs.declared.life.EndReason.TheVariants.{Expired, Goodbye, Flushed}
-use Rattle.mdns_lives.specs.Lives.{heard_until, IsLiveThen, IsStruckAt, IsEndFor, EndsThen, AreLives}
+use Rattle.mdns_lives.specs.Lives.{heard_until, IsLiveThen, IsStruckAt, IsEndFor, EndsThen, IsGoodbyeOf, IsTakenBack, AreLives}
 use Rattle.mdns_lives.specs.History.{heard_of, IsHistory, AreFlushes, IsUpTo, IsLastAt, IsLiveAt, IsFlushEnd, IsEndBy, EndsBy, AreLivesBy}
+use Rattle.mdns_lives.specs.LifeWalk.{told}
+use Rattle.mdns_cache.proofs.StandsPartLemmas.{from_map}
 use Rattle.mdns_lives.proofs.{FilterLemmas.{from-filter, to-filter}, OrderLemmas.{heard-same, same_moment, same_ttl}}
+use Rattle.mdns_lives.proofs.GoodbyeLemmas.{told-apart, told-in_one, told-taken}
 
 -- ---- the hearings until a moment
 
@@ -169,16 +173,27 @@ module _ (some_last : SomeLast) (heard : List Hearing) (key : Key) (history : Li
 
   -- ---- the lives
 
-  pub AreLives-from_history : (lives : List Life) → AreLivesBy history flushes lives → AreLives heard key lives
-  AreLives-from_history lives are = record {
-    apart = are.apart;
-    exactly = λ now. (λ w. (are.exactly now).0 (live-into now w), λ w. live-from now ((are.exactly now).1 w));
-    ends = λ life m. ends-from life (are.ends life m);
+  pub AreLives-from_history : (goodbye : Option Moment) → IsGoodbyeOf heard key goodbye → (lives : List Life)
+      → AreLivesBy history flushes lives → AreLives heard key (map (told goodbye) lives)
+  AreLives-from_history goodbye is lives are = record {
+    apart = told-apart goodbye lives are.apart;
+    exactly = λ now. let same = told-in_one goodbye lives now in
+        (λ w. same.1 ((are.exactly now).0 (live-into now w)), λ w. live-from now ((are.exactly now).1 (same.0 w)));
+    ends = λ life m. let w = from_map (told goodbye) lives life m in
+        let e = ends-from w.0 (are.ends w.0 w.2) in
+        subst (EndsThen heard key) w.1
+        (record { last = e.last; is_last = e.is_last; moment = e.moment; ttl = e.ttl; ends = e.ends });
+    goodbyes = λ life m. let w = from_map (told goodbye) lives life m in
+        subst (IsTakenBack heard key) w.1 (told-taken heard key goodbye is w.0);
   }
 
-  pub AreLivesBy-from_lives : (lives : List Life) → AreLives heard key lives → AreLivesBy history flushes lives
+  pub AreLivesBy-from_lives : (lives : List Life) → AreLives heard key lives → AreLivesBy history flushes (map (told None) lives)
   AreLivesBy-from_lives lives are = record {
-    apart = are.apart;
-    exactly = λ now. (λ w. (are.exactly now).0 (live-from now w), λ w. live-into now ((are.exactly now).1 w));
-    ends = λ life m. ends-into life (are.ends life m);
+    apart = told-apart None lives are.apart;
+    exactly = λ now. let same = told-in_one None lives now in
+        (λ w. same.1 ((are.exactly now).0 (live-from now w)), λ w. live-into now ((are.exactly now).1 (same.0 w)));
+    ends = λ life m. let w = from_map (told None) lives life m in
+        let e = ends-into w.0 (are.ends w.0 w.2) in
+        subst (EndsBy history flushes) w.1 (record { is_last = e.is_last; ends = e.ends });
+    untold = λ life m. let w = from_map (told None) lives life m in subst (λ (x : Life). x.taken_back ≡ None) w.1 refl;
   }

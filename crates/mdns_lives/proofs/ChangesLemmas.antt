@@ -10,8 +10,6 @@ use Rattle.mdns_lives.specs.{declared.life.Life.{Life}, declared.lives.RecordLiv
 use Rattle.mdns_lives.specs.{Lives.{AreApart, AreApartAfter}, Changes.{AreOf, AreOfOne, after, comes_back, is_between}}
 use Rattle.mdns_lives.specs.{LentLives.{row_lent}, Window.{in_window}}
 use Rattle.mdns_message.specs.RecordSet.{RecordSet}
-use Rattle.std.proofs.lemmas.List.Sorted.{IsPartitionPoint-from_clause}
-use Rattle.std.proofs.lemmas.List.Sorted.{IsPartitionedBy-leb}
 
 -- ---- those of ascending moments that are later
 

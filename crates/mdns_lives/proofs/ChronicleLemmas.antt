@@ -1,18 +1,19 @@
 -- The hearings that the contents of a chronicle stand for.
 use Rattle.std.proofs.Common.{rules, arith, ◌≡◌, ◌↔◌, ◌⊎◌, ℕ, List, [], ◌++◌, Option, None, Some, refl, sym, ap, ◌∙◌, subst, inl, inr}
-use Rattle.std.proofs.lemmas.List.Elements.{Contains-append_left, Contains-append_right, Contains-append_cases}
+use Rattle.std.proofs.lemmas.List.Elements.{Contains-append_left, Contains-append_right, Contains-append_cases, filter-append}
 use Rattle.std.specs.{Ordering.{nat_cmp}}
 use Rattle.mdns_message.specs.{declared.hearing.Hearing.{Hearing}, declared.key.Key.{Key}, RecordSet.{RecordSet}, Resource.{key_cmp}}
 use Rattle.mdns_message.specs.{Resource.{set_key_cmp}, laws.Resource.{key_cmp-total, key_cmp-exact, set_key_cmp-total, set_key_cmp-exact}}
 use Rattle.join_map.specs.Entries.{value_at, joined, joined_at, IsJoinMap}
 use Rattle.join_map.specs.laws.Entries.{joined_at-None, ValidAt, valid_at, value_at-join, IsJoinMap-none, IsJoinMap-join}
 use Rattle.mdns_join.specs.{Latest.{later}, Kept.{union}, laws.Kept.{union_parts, union_left, union_right}}
-use Rattle.mdns_cache.specs.Live.{IsFlushedAt}
+use Rattle.mdns_cache.specs.{Contents.{later_moment}, Live.{IsFlushedAt}}
 use Rattle.mdns_cache.proofs.{StandsPartLemmas.{Contains-nil, lasts-append}, StandsForLemmas.{newest-append}}
 use Rattle.mdns_lives.specs.{declared.account.Account.{Account}, declared.life.RecordHearing.{RecordHearing}, Account.{join_account}}
 use Rattle.mdns_lives.specs.{Account.{IsAccount}, History.{IsHeardAs}, Seconds.{Ends, AreEndsIn, Seconds, join_ends, IsSeconds}}
 use Rattle.mdns_lives.specs.{Seconds.{join_seconds, ends_at}, laws.Account.{account-laws}, laws.Flushes.{union-laws}, Chronicle.{Accounts}}
-use Rattle.mdns_lives.specs.Chronicle.{join_accounts, no_accounts, latest_in, history_in, ends_held, IsFlushIn, Chronicles}
+use Rattle.mdns_lives.specs.{Chronicle.{join_accounts, no_accounts, latest_in, history_in, goodbye_in, ends_held}, Lives.{goodbyes_of}}
+use Rattle.mdns_lives.specs.Chronicle.{goodbye_held, IsFlushIn, Chronicles}
 use Rattle.mdns_lives.proofs.SecondsLemmas.{ends-joined, at-join}
 
 -- ---- hearings of lists
@@ -55,6 +56,12 @@ history_in-joined None p = refl
 history_in-joined (Some a) None = refl
 history_in-joined (Some a) (Some b) = refl
 
+goodbye_in-joined : (o p : Option Account)
+    → goodbye_in (joined_at join_account o p) ≡ joined_at later_moment (goodbye_in o) (goodbye_in p)
+goodbye_in-joined None p = refl
+goodbye_in-joined (Some a) None = sym (joined_at-None later_moment a.goodbye)
+goodbye_in-joined (Some a) (Some b) = refl
+
 history_in-valid : (o : Option Account) → ValidAt IsAccount o → ValidAt IsSeconds (history_in o)
 history_in-valid None v = tt
 history_in-valid (Some a) v = v
@@ -79,6 +86,10 @@ module _ (xs ys : List (Key × Account)) (sorted : IsJoinMap key_cmp IsAccount x
       ≡ joined_at later (latest_in (value_at key_cmp key xs)) (latest_in (value_at key_cmp key ys))
   lasts-joined key = ap latest_in (at_key key) ∙ latest_in-joined (value_at key_cmp key xs) (value_at key_cmp key ys)
 
+  goodbyes-joined : (key : Key) → goodbye_in (value_at key_cmp key (joined key_cmp join_account xs ys))
+      ≡ joined_at later_moment (goodbye_in (value_at key_cmp key xs)) (goodbye_in (value_at key_cmp key ys))
+  goodbyes-joined key = ap goodbye_in (at_key key) ∙ goodbye_in-joined (value_at key_cmp key xs) (value_at key_cmp key ys)
+
   histories-joined : (key : Key) (s : ℕ) → ends_at s (history_in (value_at key_cmp key (joined key_cmp join_account xs ys)))
       ≡ joined_at join_ends (ends_at s (history_in (value_at key_cmp key xs))) (ends_at s (history_in (value_at key_cmp key ys)))
   histories-joined key s =
@@ -97,6 +108,7 @@ chronicles_none = record {
       grind (arith, IsJoinMap-none key_cmp-total key_cmp-exact account-laws, IsJoinMap-none set_key_cmp-total set_key_cmp-exact union-laws);
   lasts = λ key h m o. Contains-nil h m;
   histories = λ key s h w _. Contains-nil w.hearing w.among;
+  goodbyes = λ key. refl;
   flushes = λ set m. (λ e. absurd e, λ w. absurd (Contains-nil w.flush w.among));
   newest = refl;
 }
@@ -117,6 +129,9 @@ module _ (c d : Accounts) (gs hs : List Hearing) (u : Chronicles c gs) (v : Chro
         (sym (histories-joined c.records d.records u.accounts.records v.accounts.records key s))
         (ends-joined {P = IsHeardAs gs key} {Q = IsHeardAs hs key} (IsHeardAs-left gs hs key) (IsHeardAs-right gs hs key)
         (IsHeardAs-cases gs hs key) s (ends_held c key s) (ends_held d key s) (u.histories key s) (v.histories key s));
+    goodbyes = λ key. rw (goodbyes-joined c.records d.records u.accounts.records v.accounts.records key, filter-append)
+        (newest-append (goodbyes_of gs key) (goodbyes_of hs key) (goodbye_held c key) (goodbye_held d key) (u.goodbyes key)
+        (v.goodbyes key));
     flushes = λ set m.
         let both = flush_in-joined (value_at set_key_cmp set c.flushes) (value_at set_key_cmp set d.flushes) m in (
           λ f. elim (both.0 (subst (λ (o : Option (List ℕ)). IsFlushIn o m) (flushes-joined set) f)) [

@@ -1,6 +1,6 @@
 -- A hearing at each of some moments: what its contents stand for.
 use Rattle.std.proofs.Common.{rules, Contains, MatchOption, Result, OnOk, OnErr, refl, sym, ap, ◌∙◌, subst, arith}
-use Rattle.std.proofs.Common.{◌≡◌, ◌≢◌, ◌↔◌, ℕ, ◌≤◌, Bool, true, false, ◌&&◌, cond, List, [], ◌∷◌}
+use Rattle.std.proofs.Common.{◌≡◌, ◌≢◌, ◌↔◌, ℕ, ◌≤◌, Bool, true, false, ◌&&◌, ◌==◌, cond, List, [], ◌∷◌}
 use Rattle.std.proofs.{Common.{◌++◌, None, Some, if◌then◌else◌, true≢false}, lemmas.Result.{on_err_weaker}}
 use Rattle.std.specs.{declared.cmp.Ordering.TheVariants.{Greater}, Ordering.{nat_cmp, is_eq}, Cmp.{tied_itself}}
 use Rattle.mdns_capture.specs.declared.moment.Moment.{Moment}
@@ -11,7 +11,7 @@ use Rattle.join_map.specs.Entries.{AllFit, value_at, joined, gathered, one_entry
 use Rattle.join_map.specs.laws.Entries.{is_Equal, IsJoinMap-none, IsJoinMap-one}
 use Rattle.mdns_join.specs.{Latest.{latest_cmp, latest_of}, Kept.{has, union, ascending, IsAscending}}
 use Rattle.mdns_join.specs.{laws.Kept.{has-ascending, IsAscending-ascending}, Nanos.{nanos_of}}
-use Rattle.mdns_cache.specs.{Live.{IsUnheard, IsLast, IsFlushedAt, is_flush_of}, Repeats.{at_each}}
+use Rattle.mdns_cache.specs.{Live.{IsUnheard, IsLast, IsNewest, IsFlushedAt, is_flush_of}, Repeats.{at_each}}
 use Rattle.mdns_cache.proofs.StandsPartLemmas.{Contains-nil, Contains-head, Contains-cases, Contains-map, from_map, IsFlushedAt-from_has}
 use Rattle.mdns_cache.proofs.{StandsPartLemmas.{has-from_flushed}, MeaningLemmas.{flushed}, RepeatLemmas.{no_greater}}
 use Rattle.mdns_cache.proofs.GatheringLemmas.{valid_after}
@@ -19,6 +19,7 @@ use Rattle.mdns_lives.specs.declared.{account.Account.{Account}, life.RecordHear
 use Rattle.mdns_lives.specs.{Account.{join_account, IsAccount, IsOwnAccount}, History.{heard_of, IsHeardAs}}
 use Rattle.mdns_lives.specs.{Seconds.{AreEndsIn, IsRoomFor, seconds_of, ends_at}, laws.Account.{account-laws}, laws.Flushes.{union-laws}}
 use Rattle.mdns_lives.specs.Chronicle.{Accounts, AreAccounts, AreGathered, Chronicles, accounts_of, join_accounts, latest_in, history_in}
+use Rattle.mdns_lives.specs.{Chronicle.{goodbye_in}, Lives.{IsGoodbyeOf, goodbyes_of}}
 use Rattle.mdns_lives.specs.{Chronicle.{IsFlushIn}, Each.{IsLatestIn, heard_with, heard_each, account_each, flushes_each, accounts_each}}
 use Rattle.mdns_lives.proofs.{ChronicleLemmas.{chronicles-join}, PartLemmas.{records-laws, flushes-laws}, HearingLemmas.{heard_at}}
 use Rattle.mdns_lives.proofs.{RoomLemmas.{length-join}, SecondsLemmas.{ends-alike, at-seconds_of, IsSeconds-of, seconds_of_append}}
@@ -83,6 +84,35 @@ module _ (h : Hearing) (ts : List Moment) (latest : IsLatestIn ts h.moment) wher
       s (value_at nat_cmp s (seconds_of (heard_each h.ttl ts))) (at-seconds_of (heard_each h.ttl ts) s)
   histories-each key s false e = λ x w _. unlike key e w.hearing w.among w.of_record
 
+  newest-each : IsNewest (at_each ts h) h.moment
+  newest-each = record {
+    hearing = h;
+    among = itself;
+    at_it = refl;
+    latest = λ g m. let f = from_map (λ (t : Moment). heard_at t h) ts g m in
+        subst (λ (x : Hearing). x.moment.nanos ≤ h.moment.nanos) f.1 (latest.greatest f.0 f.2);
+  }
+
+  -- it is a goodbye of the record at each moment, or at none
+  abbrev is_goodbye : Key → Bool
+  is_goodbye key = is_eq (key_cmp key (key_of h.heard)) && h.ttl == 0
+
+  goodbyes-at : (key : Key) (us : List Moment) → goodbyes_of (at_each us h) key ≡ cond (is_goodbye key) (at_each us h) []
+  goodbyes-at key [] = grind arith
+  goodbyes-at key (u ∷ us) = grind (arith, goodbyes-at key us)
+
+  goodbye-in : (is : Bool) → goodbye_in (cond is (Some (account_each h ts)) None) ≡ cond (is && h.ttl == 0) (Some h.moment) None
+  goodbye-in true = refl
+  goodbye-in false = refl
+
+  goodbyes-each : (key : Key)
+      → IsGoodbyeOf (at_each ts h) key (goodbye_in (cond (is_eq (key_cmp key (key_of h.heard))) (Some (account_each h ts)) None))
+  goodbyes-each key = rw (goodbyes-at key ts, goodbye-in (is_eq (key_cmp key (key_of h.heard)))) (by (is_goodbye key))
+    where
+      by : (b : Bool) → MatchOption (cond b (Some h.moment) None) (cond b (at_each ts h) [] ≡ []) (IsNewest (cond b (at_each ts h) []))
+      by true = newest-each
+      by false = refl
+
   value_in : (set : RecordSet) (f : Bool)
       → value_at set_key_cmp set (if f then one_entry (set_key_of h.heard) (ascending (nanos_of ts)) else [])
       ≡ cond (f && is_eq (set_key_cmp set (set_key_of h.heard))) (Some (ascending (nanos_of ts))) None
@@ -103,14 +133,9 @@ module _ (h : Hearing) (ts : List Moment) (latest : IsLatestIn ts h.moment) wher
     accounts = accounts_each-valid h ts;
     lasts = λ key. lasts-each key (is_eq (key_cmp key (key_of h.heard))) refl;
     histories = λ key s. histories-each key s (is_eq (key_cmp key (key_of h.heard))) refl;
+    goodbyes = goodbyes-each;
     flushes = flushes-at;
-    newest = record {
-      hearing = h;
-      among = itself;
-      at_it = refl;
-      latest = λ g m. let f = from_map (λ (t : Moment). heard_at t h) ts g m in
-          subst (λ (x : Hearing). x.moment.nanos ≤ h.moment.nanos) f.1 (latest.greatest f.0 f.2);
-    };
+    newest = newest-each;
   }
 
   -- a hearing more at each moment

@@ -169,6 +169,7 @@ module _ (flushes : List ℕ) (hs es : List RecordHearing) (are : AreEndsOf hs e
     apart = are_lives.apart;
     exactly = λ now. (λ w. (are_lives.exactly now).0 (live-from now w), λ w. live-into now ((are_lives.exactly now).1 w));
     ends = λ life m. ends-into life (are_lives.ends life m);
+    untold = are_lives.untold;
   }
 
   pub AreLivesBy-from_ends : (lives : List Life) → AreLivesBy es flushes lives → AreLivesBy hs flushes lives
@@ -176,4 +177,5 @@ module _ (flushes : List ℕ) (hs es : List RecordHearing) (are : AreEndsOf hs e
     apart = are_lives.apart;
     exactly = λ now. (λ w. (are_lives.exactly now).0 (live-into now w), λ w. live-from now ((are_lives.exactly now).1 w));
     ends = λ life m. ends-from life (are_lives.ends life m);
+    untold = are_lives.untold;
   }

@@ -3,7 +3,8 @@ use Rattle.std.proofs.Common.{◌≡◌, ◌+◌, Bool, true, List, ◌∷◌, �
 use Rattle.std.proofs.{Common.{subst}, lemmas.List.{drop_more, take-append-drop}, lemmas.List.Elements.{All-contains, All-contains_itself}}
 use Rattle.std.proofs.lemmas.List.Elements.{All-filter, Contains-append_right, filter-append, filter_passes}
 use Rattle.std.specs.List.{filter}
-use Rattle.mdns_cache.proofs.StandsPartLemmas.{Contains-head}
+use Rattle.mdns_message.specs.declared.hearing.Hearing.{Hearing}
+use Rattle.mdns_cache.{specs.Live.{SameHearings}, proofs.StandsPartLemmas.{Contains-head}}
 
 -- an element that is left by a filter is in the list, and passes the test
 pub from-filter : {X : Type 0} (p : X → Bool) (xs : List X) (x : X) → Contains (filter p xs) x → Contains xs x × (p x ≡ true)
@@ -21,3 +22,9 @@ to-filter {X} p xs x (k, within, is) passes =
     let kept : filter p (x ∷ rest) ≡ x ∷ filter p rest = rw passes refl in
     let after : Contains (filter p (x ∷ rest)) x = subst (λ (ys : List X). Contains ys x) (sym kept) (Contains-head x (filter p rest)) in
     grind (arith, filter-append p (take k xs) (x ∷ rest), Contains-append_right (filter p (take k xs)) (filter p (x ∷ rest)) x after)
+
+pub filter-same : (p : Hearing → Bool) (gs hs : List Hearing) → SameHearings gs hs → SameHearings (filter p gs) (filter p hs)
+filter-same p gs hs same = record {
+  into = λ h m. let w = from-filter p gs h m in to-filter p hs h (same.into h w.0) w.1;
+  back = λ h m. let w = from-filter p hs h m in to-filter p gs h (same.back h w.0) w.1;
+}

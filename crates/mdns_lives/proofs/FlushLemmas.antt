@@ -3,7 +3,6 @@ use Rattle.std.proofs.Common.{arith, ◌≡◌, ℕ, List, ◌++◌, refl}
 use Rattle.mdns_join.specs.Kept.{has, ascending, union}
 use Rattle.mdns_join.specs.laws.Kept.{has-append, has-ascending, has-union, IsAscending-ascending, IsAscending-union}
 use Rattle.mdns_lives.specs.laws.Flushes.{same_moments}
-use Rattle.std.proofs.lemmas.List.{map-append}
 
 -- moments behind others are joined with them
 pub ascending-both : (xs ys zs : List ℕ) → ((q : ℕ) → has ys q ≡ has zs q) → ascending (xs ++ ys) ≡ union (ascending xs) zs

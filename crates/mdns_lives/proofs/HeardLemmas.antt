@@ -13,7 +13,6 @@ use Rattle.mdns_lives.specs.{Heard.{seconds_walked}, History.{IsUpTo, AreInOrder
 use Rattle.mdns_lives.specs.Seconds.{second_of, IsBetween, Ends, ends, ends_at, AreEnds, AreEndsIn, Seconds, seconds_of}
 use Rattle.mdns_lives.proofs.OrderLemmas.{IsUpTo-itself, IsUpTo-onward, no_later, first_least}
 use Rattle.mdns_lives.proofs.SecondsLemmas.{between-itself, same_ends_in, at-seconds_of}
-use Rattle.std.proofs.lemmas.Result.{IfOk-weaker}
 
 -- ---- seconds of hearings between others
 

@@ -4,12 +4,12 @@ use Rattle.mdns_capture.specs.declared.moment.Moment.{Moment}
 use Rattle.mdns_message.specs.{declared.hearing.Hearing.{Hearing}, declared.key.Key.{Key}, Message.{MessageReads, hearing_of}}
 use Rattle.mdns_message.specs.RecordAt.{HeardRecord}
 use Rattle.mdns_join.specs.declared.latest.Latest.{Latest}
-use Rattle.mdns_cache.specs.{Live.{IsUnheard, IsLast, IsNewest, SameHearings}, Repeats.{at_each, all_at_each}}
-use Rattle.mdns_cache.proofs.{RepeatLemmas.{moment_in, nothing}, StandsPartLemmas.{Contains-nil, Contains-head, Contains-map}}
+use Rattle.mdns_cache.specs.{Live.{IsUnheard, IsLast, SameHearings}, Repeats.{at_each, all_at_each}}
+use Rattle.mdns_cache.proofs.{RepeatLemmas.{moment_in}, StandsPartLemmas.{Contains-head, Contains-map}}
 use Rattle.mdns_cache.proofs.StandsPartLemmas.{Contains-flat_map, from_flat_map, from_map, IsLast-among}
-use Rattle.mdns_lives.specs.{History.{IsHeardAs}, Chronicle.{Accounts, Chronicles, ends_held, last_held}}
+use Rattle.mdns_lives.specs.{History.{IsHeardAs}, Chronicle.{Accounts, Chronicles, ends_held, goodbye_held, last_held}}
 use Rattle.mdns_lives.specs.MessageChronicle.{IsHearingAt, ChroniclesAt}
-use Rattle.mdns_lives.proofs.SecondsLemmas.{ends-alike}
+use Rattle.mdns_lives.proofs.{GoodbyeLemmas.{goodbye-same, newest-same}, SecondsLemmas.{ends-alike}}
 
 -- ---- the same hearings
 
@@ -18,15 +18,6 @@ module _ (gs hs : List Hearing) (same : SameHearings gs hs) where
       → MatchOption o (IsUnheard hs key) (IsLast hs key)
   lasts-same key None n = λ h m o. n h (same.back h m) o
   lasts-same key (Some l) p = IsLast-among gs hs same key l p
-
-  newest-same : (o : Option Moment) → MatchOption o (gs ≡ []) (IsNewest gs) → MatchOption o (hs ≡ []) (IsNewest hs)
-  newest-same None e = nothing hs (λ h m. Contains-nil h (subst (λ (xs : List Hearing). Contains xs h) e (same.back h m)))
-  newest-same (Some n) q = record {
-    hearing = q.hearing;
-    among = same.into q.hearing q.among;
-    at_it = q.at_it;
-    latest = λ h m. q.latest h (same.back h m);
-  }
 
   -- contents depend only on which hearings there are
   pub chronicles-same : (c : Accounts) → Chronicles c gs → Chronicles c hs
@@ -37,12 +28,13 @@ module _ (gs hs : List Hearing) (same : SameHearings gs hs) where
         (λ h w. record { hearing = w.hearing; among = same.into w.hearing w.among; of_record = w.of_record; gives = w.gives })
         (λ h w. record { hearing = w.hearing; among = same.back w.hearing w.among; of_record = w.of_record; gives = w.gives })
         n (ends_held c key n) (s.histories key n);
+    goodbyes = λ key. goodbye-same gs hs key (goodbye_held c key) same (s.goodbyes key);
     flushes = λ set m. (
       λ e. (let w = (s.flushes set m).0 e in
           record { flush = w.flush; among = same.into w.flush w.among; of_set = w.of_set; at_it = w.at_it }),
       λ w. (s.flushes set m).1 (record { flush = w.flush; among = same.back w.flush w.among; of_set = w.of_set; at_it = w.at_it }),
     );
-    newest = newest-same c.newest s.newest;
+    newest = newest-same gs hs same c.newest s.newest;
   }
 
 -- ---- the hearings of a message at some moments

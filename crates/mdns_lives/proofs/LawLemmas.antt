@@ -1,6 +1,6 @@
 -- Laws of lives over all hearings: the same hearings have one list, and which of them a report shows.
 use Rattle.std.proofs.Common.{◌≡◌, ◌≢◌, ℕ, ◌+◌, ◌<◌, ◌≤◌, List, [], ◌∷◌, Contains, sym, ap, subst, inl, inr, arith, ◌↔◌, ◌∙◌}
-use Rattle.std.specs.Prelude.{nat_lt}
+use Rattle.std.specs.Prelude.{nat_le, nat_lt}
 use Rattle.std.proofs.lemmas.Bool.{cases_lt, ltb-true, lt-ltb}
 use Rattle.mdns_capture.specs.{Limits.{second}}
 use Rattle.mdns_message.specs.{declared.hearing.Hearing.{Hearing}, declared.key.Key.{Key}, Resource.{IsOf}}
@@ -9,18 +9,15 @@ use Rattle.mdns_cache.specs.Live.{IsHeard, IsLast, SameHearings, life_of, IsLive
 use Rattle.mdns_cache.proofs.StandsPartLemmas.{IsLast-same, IsLast-among, Contains-cases, Contains-nil}
 use Rattle.mdns_lives.specs.declared.life.{Life.{Life}, EndReason.{EndReason}, EndReason.TheVariants.{Expired, Goodbye, Flushed}}
 use Rattle.mdns_lives.specs.Lives.{heard_until, heard_before, IsLiveThen, IsDuring, IsInOne, AreApart, AreApartAfter, IsEndFor, EndsThen}
-use Rattle.mdns_lives.specs.Lives.{AreLives}
-use Rattle.mdns_lives.proofs.{FilterLemmas.{from-filter, to-filter}, BridgeLemmas.{until-in, until-from}}
-use Rattle.mdns_lives.proofs.{OneListLemmas.{IsEndAlike, same_lives, end-out, apart-rest}, OrderLemmas.{heard-same}}
+use Rattle.mdns_lives.specs.Lives.{AreLives, IsTakenBack}
+use Rattle.mdns_lives.proofs.{FilterLemmas.{filter-same, from-filter, to-filter}, BridgeLemmas.{until-in, until-from}}
+use Rattle.mdns_lives.proofs.{GoodbyeLemmas.{taken-alike, taken-same}, OneListLemmas.{IsEndAlike, same_lives, end-out, apart-rest}, OrderLemmas.{heard-same}}
 
 -- ---- the same hearings
 
 same_until : (now : ℕ) (heard others : List Hearing) → SameHearings heard others
     → SameHearings (heard_until now heard) (heard_until now others)
-same_until now heard others same = record {
-  into = λ h m. let w = until-in now heard h m in until-from now others h (same.into h w.0) w.1;
-  back = λ h m. let w = until-in now others h m in until-from now heard h (same.back h w.0) w.1;
-}
+same_until now heard others same = filter-same (λ (x : Hearing). nat_le x.moment.nanos now) heard others same
 
 live-among : (now : ℕ) (heard others : List Hearing) (key : Key) (l : Latest) → SameHearings heard others
     → IsLive heard now key l → IsLive others now key l
@@ -39,24 +36,30 @@ live_then-among : (now : ℕ) (heard others : List Hearing) (key : Key) → Same
 live_then-among now heard others key same w =
     (w.0, live-among now (heard_until now heard) (heard_until now others) key w.0 (same_until now heard others same) w.1)
 
-one_ending : (heard others : List Hearing) (key : Key) → SameHearings heard others → (x y : Life) → x.until ≡ y.until
-    → EndsThen heard key x → EndsThen others key y → IsEndAlike x y
-one_ending heard others key same x y e p q =
+-- how a life ends, and the goodbye that it tells
+abbrev EndsTold : List Hearing → Key → Life → Type 0
+EndsTold heard key life = EndsThen heard key life × IsTakenBack heard key life
+
+one_ending : (heard others : List Hearing) (key : Key) → SameHearings heard others → (x y : Life) → x.from.nanos ≡ y.from.nanos
+    → x.until ≡ y.until → EndsTold heard key x → EndsTold others key y → IsEndAlike x y
+one_ending heard others key same x y f e (p, u) (q, v) =
     let first = subst (λ n. IsLast (heard_until n heard) key p.last) e p.is_last in
     let last = IsLast-same (heard_until y.until heard) (heard_until y.until others) (same_until y.until heard others same) key
     p.last q.last first q.is_last in
     let out : p.last.moment.nanos + life_of p.last.ttl ≡ q.last.moment.nanos + life_of q.last.ttl =
     ap (λ (l : Latest). l.moment.nanos + life_of l.ttl) last in
     let ttl : p.last.ttl ≡ q.last.ttl = ap (λ (l : Latest). l.ttl) last in
-    let moment = sym p.moment ∙ ap (λ (l : Latest). l.moment) last ∙ q.moment in grind (arith, heard-same)
+    let moment = sym p.moment ∙ ap (λ (l : Latest). l.moment) last ∙ q.moment in
+    grind (arith, heard-same, taken-alike others key x y f, taken-same heard others key x same u)
 
 pub one_list_among : (heard others : List Hearing) (key : Key) (xs ys : List Life) → SameHearings heard others
     → AreLives heard key xs → AreLives others key ys → xs ≡ ys
 one_list_among heard others key xs ys same p q =
     let back : SameHearings others heard = record { into = same.back; back = same.into } in
-    same_lives (EndsThen heard key) (EndsThen others key) (one_ending heard others key same) xs ys p.apart q.apart
+    same_lives (EndsTold heard key) (EndsTold others key) (one_ending heard others key same) xs ys p.apart q.apart
     (λ now w. (q.exactly now).0 (live_then-among now heard others key same ((p.exactly now).1 w)))
-    (λ now w. (p.exactly now).0 (live_then-among now others heard key back ((q.exactly now).1 w))) p.ends q.ends
+    (λ now w. (p.exactly now).0 (live_then-among now others heard key back ((q.exactly now).1 w)))
+    (λ x m. (p.ends x m, p.goodbyes x m)) (λ y m. (q.ends y m, q.goodbyes y m))
 
 ends-among : (heard others : List Hearing) (key : Key) → SameHearings heard others → (l : Latest) (end : ℕ) (r : EndReason)
     → IsEndFor heard key l end r → IsEndFor others key l end r
@@ -86,6 +89,7 @@ lives-among heard others key lives same are =
             ttl = e.ttl;
             ends = ends-among heard others key same e.last life.until life.reason e.ends;
           });
+      goodbyes = λ life m. taken-same heard others key life same (are.goodbyes life m);
     }
 
 -- ---- the hearings before a moment

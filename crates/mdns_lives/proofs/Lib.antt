@@ -7,6 +7,7 @@ pub mod EachLemmas
 pub mod EndsLemmas
 pub mod FilterLemmas
 pub mod FlushLemmas
+pub mod GoodbyeLemmas
 pub mod HeardLemmas
 pub mod HearingLemmas
 pub mod LaterLemmas

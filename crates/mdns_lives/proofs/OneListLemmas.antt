@@ -1,13 +1,17 @@
 -- A record has one list of lives.
-use Rattle.std.proofs.{Common.{◌≡◌, ℕ, ◌<◌, ◌≤◌, List, [], ◌∷◌, Contains, refl, sym, subst, inl, inr, arith}, lemmas.Bool.{cases_lt}}
+use Rattle.std.proofs.{Common.{◌≡◌, ℕ, ◌<◌, ◌≤◌, List, [], ◌∷◌, None, Contains, refl, sym, subst, inl, inr, arith}, lemmas.Bool.{cases_lt}}
 use Rattle.mdns_join.specs.laws.Latest.{moment-same}
 use Rattle.mdns_lives.specs.declared.life.{RecordHearing.{RecordHearing}, Life.{Life}, EndReason.{EndReason}}
 use Rattle.mdns_lives.specs.{History.{IsEndBy, EndsBy, AreLivesBy}, Lives.{IsInOne, AreApartAfter, AreApart}}
 use Rattle.mdns_cache.proofs.StandsPartLemmas.{Contains-head, Contains-later}
 use Rattle.mdns_lives.proofs.OrderLemmas.{heard-same, same_moment, same_ttl}
 
-life-same : (x y : Life) → x.from.nanos ≡ y.from.nanos → x.last ≡ y.last → x.until ≡ y.until → x.reason ≡ y.reason → x ≡ y
-life-same x y e l f g = grind (arith, moment-same x.from y.from e)
+-- the last hearing of a life, why it ends, and the goodbye that it tells
+abbrev pub IsEndAlike : Life → Life → Type 0
+IsEndAlike x y = (x.last ≡ y.last) × (x.reason ≡ y.reason) × (x.taken_back ≡ y.taken_back)
+
+life-same : (x y : Life) → x.from.nanos ≡ y.from.nanos → x.until ≡ y.until → IsEndAlike x y → x ≡ y
+life-same x y e f alike = grind (arith, moment-same x.from y.from e)
 
 -- ---- the moments in lives that are apart
 
@@ -50,20 +54,21 @@ same_reason : (flushes : List ℕ) (a b : RecordHearing) (end : ℕ) (r s : EndR
     → IsEndBy flushes a end r → IsEndBy flushes b end s → r ≡ s
 same_reason flushes a b end r s e f p q = grind arith
 
--- the last hearing of a life, and why it ends
-abbrev pub IsEndAlike : Life → Life → Type 0
-IsEndAlike x y = (x.last ≡ y.last) × (x.reason ≡ y.reason)
+-- what its history says of a life
+abbrev EndsUntold : List RecordHearing → List ℕ → Life → Type 0
+EndsUntold heard flushes life = EndsBy heard flushes life × (life.taken_back ≡ None)
 
-one_ending : (heard : List RecordHearing) (flushes : List ℕ) (x y : Life) → x.until ≡ y.until → EndsBy heard flushes x
-    → EndsBy heard flushes y → IsEndAlike x y
-one_ending heard flushes x y e p q =
+one_ending : (heard : List RecordHearing) (flushes : List ℕ) (x y : Life) → x.from.nanos ≡ y.from.nanos → x.until ≡ y.until
+    → EndsUntold heard flushes x → EndsUntold heard flushes y → IsEndAlike x y
+one_ending heard flushes x y f e (p, u) (q, v) =
     let up = q.is_last.greatest x.last p.is_last.among (subst (λ n. x.last.moment.nanos ≤ n) e p.is_last.by_then) in
     let down = p.is_last.greatest y.last q.is_last.among (subst (λ n. y.last.moment.nanos ≤ n) (sym e) q.is_last.by_then) in
     let moment = same_moment x.last y.last up down in
     let ttl = same_ttl x.last y.last up down in grind (arith, heard-same, same_reason)
 
 -- lists of the same moments whose lives end for the same reasons are one list
-module _ (Ends Others : Life → Type 0) (one : (x y : Life) → x.until ≡ y.until → Ends x → Others y → IsEndAlike x y) where
+module _ (Ends Others : Life → Type 0)
+    (one : (x y : Life) → x.from.nanos ≡ y.from.nanos → x.until ≡ y.until → Ends x → Others y → IsEndAlike x y) where
   pub same_lives : (xs ys : List Life) → AreApart xs → AreApart ys → ((now : ℕ) → IsInOne xs now → IsInOne ys now)
       → ((now : ℕ) → IsInOne ys now → IsInOne xs now)
       → ((life : Life) → Contains xs life → Ends life) → ((life : Life) → Contains ys life → Others life) → xs ≡ ys
@@ -77,8 +82,8 @@ module _ (Ends Others : Life → Type 0) (one : (x y : Life) → x.until ≡ y.u
       let no_later = end-no_later x y xs ys a b back from in
       let no_earlier = end-no_later y x ys xs b a into (sym from) in
       let until : x.until ≡ y.until = omega (arith, no_later, no_earlier) in
-      let alike = one x y until (p x (Contains-head x xs)) (q y (Contains-head y ys)) in
-      let first : x ≡ y = life-same x y from alike.0 until alike.1 in
+      let alike = one x y from until (p x (Contains-head x xs)) (q y (Contains-head y ys)) in
+      let first : x ≡ y = life-same x y from until alike in
       let rest : xs ≡ ys = same_lives xs ys (apart-rest x.until xs a.1) (apart-rest y.until ys b.1)
       (rest-within x y xs ys a until into) (rest-within y x ys xs b (sym until) back)
       (λ life m. p life (Contains-later x xs life m)) (λ life m. q life (Contains-later y ys life m)) in
@@ -87,5 +92,6 @@ module _ (Ends Others : Life → Type 0) (one : (x y : Life) → x.until ≡ y.u
 pub one_list : (heard : List RecordHearing) (flushes : List ℕ) (xs ys : List Life) → AreLivesBy heard flushes xs
     → AreLivesBy heard flushes ys → xs ≡ ys
 one_list heard flushes xs ys p q =
-    same_lives (EndsBy heard flushes) (EndsBy heard flushes) (one_ending heard flushes) xs ys p.apart q.apart
-    (λ now w. (q.exactly now).0 ((p.exactly now).1 w)) (λ now w. (p.exactly now).0 ((q.exactly now).1 w)) p.ends q.ends
+    same_lives (EndsUntold heard flushes) (EndsUntold heard flushes) (one_ending heard flushes) xs ys p.apart q.apart
+    (λ now w. (q.exactly now).0 ((p.exactly now).1 w)) (λ now w. (p.exactly now).0 ((q.exactly now).1 w))
+    (λ x m. (p.ends x m, p.untold x m)) (λ y m. (q.ends y m, q.untold y m))

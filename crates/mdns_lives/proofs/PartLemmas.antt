@@ -1,16 +1,16 @@
 -- The contents of a chronicle after a hearing that was refused.
-use Rattle.std.proofs.Common.{arith, ◌≡◌, ℕ, List, [], Option, sym, ap, ◌∙◌}
+use Rattle.std.proofs.Common.{arith, ◌≡◌, ℕ, List, [], Option}
 use Rattle.mdns_capture.specs.declared.moment.Moment.{Moment}
 use Rattle.mdns_message.specs.{declared.key.Key.{Key}, RecordSet.{RecordSet}, Resource.{key_cmp, set_key_cmp}}
 use Rattle.mdns_message.specs.laws.Resource.{key_cmp-total, key_cmp-exact, set_key_cmp-total, set_key_cmp-exact}
 use Rattle.join_map.specs.{Entries.{IsJoinMap, joined}, Join.{JoinLaws, IsPartOfJoin}, laws.Entries.{joined-laws}}
 use Rattle.join_map.specs.laws.Join.{IsAtMost-left, IsPartOfJoin-join, IsPartOfJoin-old}
 use Rattle.mdns_join.specs.Kept.{union, IsAscending}
-use Rattle.mdns_cache.proofs.ContentsLemmas.{newer-same, newer-comm, newer-assoc, newer}
+use Rattle.mdns_cache.proofs.ContentsLemmas.{newer-same, newer-comm, newer-assoc}
 use Rattle.mdns_lives.specs.{declared.account.Account.{Account}, Account.{join_account, IsAccount}, laws.Account.{account-laws}}
 use Rattle.mdns_lives.specs.laws.Flushes.{union-laws}
 use Rattle.mdns_lives.specs.Chronicle.{Accounts, accounts, accounts_gathered, AreAccounts, AreGathered, join_accounts}
-use Rattle.mdns_lives.proofs.ChronicleLemmas.{chronicles_none}
+use Rattle.mdns_lives.proofs.{AccountLemmas.{newer-within}, ChronicleLemmas.{chronicles_none}}
 
 pub records-laws : JoinLaws (IsJoinMap key_cmp IsAccount) (joined key_cmp join_account)
 records-laws = joined-laws key_cmp-total key_cmp-exact account-laws
@@ -37,18 +37,15 @@ pub part_none : (old new other : Accounts) → AreAccounts old → AreAccounts o
 part_none old new other u v same = grind (arith, IsPartOfJoin-old, accounts-laws)
 
 module _ (old other : Accounts) (u : AreAccounts old) (v : AreAccounts other) where
-  newest_within : newer old.newest (newer old.newest other.newest) ≡ newer old.newest other.newest
-  newest_within = sym (newer-assoc old.newest old.newest other.newest) ∙ ap (λ n. newer n other.newest) (newer-same old.newest)
-
   -- only the records were joined, or some of them
   pub part_their_records : (rs : List (Key × Account)) → IsPartOfJoin (joined key_cmp join_account) old.records other.records rs
       → IsPartOfJoin join_accounts old other (accounts rs old.flushes old.newest)
-  part_their_records rs part = grind (arith, flushes-laws, newer-same, IsAtMost-left, newest_within)
+  part_their_records rs part = grind (arith, flushes-laws, newer-same, IsAtMost-left, newer-within)
 
   -- the records were joined, and some of the flushes
   pub part_their_flushes : (fs : List (RecordSet × List ℕ)) → IsPartOfJoin (joined set_key_cmp union) old.flushes other.flushes fs
       → IsPartOfJoin join_accounts old other (accounts (joined key_cmp join_account old.records other.records) fs old.newest)
-  part_their_flushes fs part = grind (arith, IsAtMost-left, records-laws, newer-same, newest_within)
+  part_their_flushes fs part = grind (arith, IsAtMost-left, records-laws, newer-same, newer-within)
 
 -- only the records were joined
 pub part_records : (old new other : Accounts) → AreAccounts old → AreAccounts other

@@ -3,6 +3,7 @@ use Rattle.std.proofs.Common.{arith, ◌≡◌, ◌↔◌, ℕ, true, List, [], 
 use Rattle.std.proofs.{Common.{refl, sym, ap, ◌∙◌, subst, unwrap_or, true≢false}, lemmas.Cmp.{eq_by_cmp_equiv}}
 use Rattle.std.proofs.lemmas.Map.{Views.{Contains-from_lookup, lookup-from_Contains}, Keys.{IsDistinct-from_sorted}}
 use Rattle.std.specs.{List.{AllByRecursion}, List.Sorted.{IsStrictlySortedBy}, declared.cmp.Ordering.TheVariants.{Less}, Map.{keys_of}}
+use Rattle.mdns_capture.specs.declared.moment.Moment.{Moment}
 use Rattle.mdns_message.specs.{declared.hearing.Hearing.{Hearing}, declared.key.Key.{Key}, RecordSet.{RecordSet}}
 use Rattle.mdns_message.specs.{Resource.{key_cmp, set_key_cmp}, laws.Resource.{key_cmp-total, key_cmp-exact}}
 use Rattle.mdns_join.specs.{declared.latest.Latest.{Latest}, Kept.{has}}
@@ -12,10 +13,10 @@ use Rattle.mdns_cache.proofs.StandsPartLemmas.{same-itself, IsLast-same, Contain
 use Rattle.mdns_cache.proofs.{MeaningLemmas.{key_eq-exact}, LiveWalkLemmas.{key_after}}
 use Rattle.mdns_join.proofs.FlushWalkLemmas.{HasLater}
 use Rattle.mdns_lives.specs.declared.{account.Account.{Account}, life.RecordHearing.{RecordHearing}, life.Life.{Life}}
-use Rattle.mdns_lives.specs.{Account.{IsAccount}, Lives.{AreLives}, History.{IsHeardAs, IsHistory, AreFlushes, AreLivesBy}}
+use Rattle.mdns_lives.specs.{Account.{IsAccount}, Lives.{AreLives, IsGoodbyeOf}, History.{IsHeardAs, IsHistory, AreFlushes, AreLivesBy}}
 use Rattle.mdns_lives.specs.{Seconds.{AreEndsOf, AreEndsIn, ends_at, listed_ends}, laws.Account.{account-laws}}
-use Rattle.mdns_lives.specs.{LentLives.{flushes_held, row_held, rows_by}, LifeWalk.{walked}}
-use Rattle.mdns_lives.specs.Chronicle.{Accounts, Chronicles, AreAllLives, latest_in, history_in, IsFlushIn, rows_of}
+use Rattle.mdns_lives.specs.{LentLives.{flushes_held, row_held, rows_by}, LifeWalk.{told, walked}}
+use Rattle.mdns_lives.specs.Chronicle.{Accounts, Chronicles, AreAllLives, latest_in, history_in, goodbye_in, IsFlushIn, rows_of}
 use Rattle.mdns_lives.proofs.{EndsLemmas.{AreLivesBy-from_ends}, ListedLemmas.{listed-in_order, listed-among, listed-between}}
 use Rattle.mdns_lives.proofs.{SomeLivesLemmas.{some_history}, WalkLemmas.{AreLivesBy-walked}}
 
@@ -40,8 +41,9 @@ flush_in-held (Some ms) m = (λ h. h, λ h. h)
 
 -- the lives of a record are those by its history (`lives_by_history`)
 abbrev pub ByHistory : Type 0
-ByHistory = (heard : List Hearing) (key : Key) (history : List RecordHearing) (flushes : List ℕ) (lives : List Life)
-    → IsHistory heard key history → AreFlushes heard key.set flushes → (AreLivesBy history flushes lives ↔ AreLives heard key lives)
+ByHistory = (heard : List Hearing) (key : Key) (history : List RecordHearing) (flushes : List ℕ) (goodbye : Option Moment)
+    (lives : List Life) → IsHistory heard key history → AreFlushes heard key.set flushes → IsGoodbyeOf heard key goodbye
+    → AreLivesBy history flushes lives → AreLives heard key (map (told goodbye) lives)
 
 module _ (by_history : ByHistory) (c : Accounts) (heard : List Hearing) (s : Chronicles c heard) where
   module _ (k : Key) (a : Account) (m : Contains c.records (k, a)) where
@@ -68,7 +70,10 @@ module _ (by_history : ByHistory) (c : Accounts) (heard : List Hearing) (s : Chr
         let flushed = s.flushes k.set q in
         (λ h. flushed.0 (held.0 h), λ w. held.1 (flushed.1 w))
 
-    lives_of_entry : AreLives heard k (walked (flushes_held c.flushes k.set) (listed_ends a.history))
+    goodbye_of_entry : IsGoodbyeOf heard k a.goodbye
+    goodbye_of_entry = subst (λ (o : Option Account). IsGoodbyeOf heard k (goodbye_in o)) at (s.goodbyes k)
+
+    lives_of_entry : AreLives heard k (map (told a.goodbye) (walked (flushes_held c.flushes k.set) (listed_ends a.history)))
     lives_of_entry =
         let all = some_history heard k in
         let listed = listed_ends a.history in
@@ -77,7 +82,7 @@ module _ (by_history : ByHistory) (c : Accounts) (heard : List Hearing) (s : Chr
           among = λ h m. (all.is_history h).1 (listed-among (IsHeardAs heard k) a.history is_account ends_of_entry h m);
           between = λ h m. listed-between (IsHeardAs heard k) a.history is_account ends_of_entry h ((all.is_history h).0 m);
         } in
-        (by_history heard k all.history flushes (walked flushes listed) all.is_history are_flushes).0
+        by_history heard k all.history flushes a.goodbye (walked flushes listed) all.is_history are_flushes goodbye_of_entry
         (AreLivesBy-from_ends flushes all.history listed ends (walked flushes listed)
         (AreLivesBy-walked flushes listed (listed-in_order (IsHeardAs heard k) a.history is_account ends_of_entry)))
 
@@ -98,11 +103,12 @@ module _ (by_history : ByHistory) (c : Accounts) (heard : List Hearing) (s : Chr
         let e = w.0 in
         subst (λ (row : Row). IsLast heard (key_of_last row.0) row.0 × AreLives heard (key_of_last row.0) row.1) w.1
         (subst (λ (k : Key). IsLast heard k e.1.latest
-        × AreLives heard k (walked (flushes_held c.flushes e.0.set) (listed_ends e.1.history))) (sym (own e.0 e.1 w.2))
+        × AreLives heard k (map (told e.1.goodbye) (walked (flushes_held c.flushes e.0.set) (listed_ends e.1.history))))
+        (sym (own e.0 e.1 w.2))
         (last_of_entry e.0 e.1 w.2, lives_of_entry e.0 e.1 w.2));
     all = λ key l last.
         let w = entry_of_last key l last in
-        let lives = walked (flushes_held c.flushes key.set) (listed_ends w.0.history) in (
+        let lives = map (told w.0.goodbye) (walked (flushes_held c.flushes key.set) (listed_ends w.0.history)) in (
           lives,
           grind (arith, Contains-map (row_held c.flushes) c.records (key, w.0) w.1),
         );
@@ -125,6 +131,7 @@ module _ (old new : List (RecordSet × List ℕ)) (entries rest : List (Key × A
 
   -- the next row, and those after it
   pub row_next : HasLater key.set old new → (last : Latest) (lives : List Life) → last ≡ a.latest
-      → lives ≡ walked (flushes_held old key.set) (listed_ends a.history) → rows_by old entries ≡ (last, lives) ∷ rows_by new rest
+      → lives ≡ map (told a.goodbye) (walked (flushes_held old key.set) (listed_ends a.history))
+      → rows_by old entries ≡ (last, lives) ∷ rows_by new rest
   row_next later last lives e f =
       grind (arith, rows_later old new key rest (sorted_above key_cmp-total key_cmp-exact (key, a) rest sorted_is) later)

@@ -1,6 +1,6 @@
 -- The walk over a record's hearings in order gives its lives.
 use Rattle.std.proofs.Common.{◌≡◌, ℕ, zero, suc, ◌<◌, ◌≤◌, true, false, nat_lt, List, [], ◌∷◌, Contains, refl, sym}
-use Rattle.std.proofs.Common.{subst, inl, inr, ◌⊎◌, arith, if◌then◌else◌, leb-true, leb-false}
+use Rattle.std.proofs.Common.{None, subst, inl, inr, ◌⊎◌, arith, if◌then◌else◌, leb-true, leb-false}
 use Rattle.std.proofs.lemmas.{Bool.{ltb-true, ltb-false, eqb-true, cases_lt}, Bool.Decides.{nat_tests}}
 use Rattle.std.specs.Prelude.{nat_le}
 use Rattle.mdns_lives.specs.{declared.life.RecordHearing.{RecordHearing}, declared.life.Life.{Life}, History.{IsUpTo, AreInOrder, IsLastAt}}
@@ -262,6 +262,15 @@ module _ (flushes : List ℕ) where
             ]
       ] refl m
 
+  -- they tell no goodbye
+  untold_lives : (hs : List RecordHearing) (life : Life) → life.taken_back ≡ None → (x : Life) → Contains (lives_from flushes life hs) x
+      → x.taken_back ≡ None
+  unfolding lives_from
+  untold_lives [] life u x m = grind (arith, Contains-cases, Contains-nil)
+  untold_lives (h ∷ hs) life u x m =
+      let next = life_after flushes h in
+      grind (arith, Contains-cases, untold_lives hs (carried_on life next) refl x, untold_lives hs next refl x)
+
   -- ---- the walk gives the lives
 
   pub AreLivesBy-walked : (hs : List RecordHearing) → AreInOrder hs → AreLivesBy hs flushes (walked flushes hs)
@@ -273,6 +282,7 @@ module _ (flushes : List ℕ) where
       grind (arith, from_lives, before-live),
     );
     ends = λ life m. ends_of_lives hs p (life_after flushes p) o (omega arith, refl, refl, refl) life m;
+    untold = untold_lives hs (life_after flushes p) refl;
   }
 
   -- ---- one step of the walk

@@ -9,7 +9,7 @@ use Rattle.mdns_join.specs.{declared.latest.Latest.{Latest}, Kept.{has, union, I
 use Rattle.mdns_cache.specs.{Contents.{later_moment}, Live.{IsUnheard, IsLast, IsNewest, IsFlushedAt, key_of_last}}
 use Rattle.mdns_lives.specs.declared.{account.Account.{Account}, life.Life.{Life}}
 use Rattle.mdns_lives.specs.{Account.{IsAccount, IsOwnAccount, account_of, join_account}, History.{IsHeardAs}, Lives.{AreLives}}
-use Rattle.mdns_lives.specs.{LentLives.{rows_by}, Seconds.{Seconds, Ends, AreEndsIn, ends_at}}
+use Rattle.mdns_lives.specs.{Lives.{IsGoodbyeOf}, LentLives.{rows_by}, Seconds.{Seconds, Ends, AreEndsIn, ends_at}}
 
 -- ---- the lives of all records
 
@@ -88,6 +88,15 @@ history_in (Some a) = Some a.history
 abbrev pub last_held : Accounts → Key → Option Latest
 last_held c key = latest_in (value_at key_cmp key c.records)
 
+-- the goodbye in an account, if there is one
+abbrev pub goodbye_in : Option Account → Option Moment
+goodbye_in None = None
+goodbye_in (Some a) = a.goodbye
+
+-- the goodbye held for a record
+abbrev pub goodbye_held : Accounts → Key → Option Moment
+goodbye_held c key = goodbye_in (value_at key_cmp key c.records)
+
 -- the ends held for a record in the second s
 abbrev pub ends_held : Accounts → Key → ℕ → Option Ends
 ends_held c key s = ends_at s (history_in (value_at key_cmp key c.records))
@@ -97,13 +106,14 @@ abbrev pub IsFlushIn : Option (List ℕ) → ℕ → Type 0
 IsFlushIn None m = ⊥
 IsFlushIn (Some ms) m = has ms m ≡ true
 
--- The contents stand for the hearings: each record has its last hearing, and of each second in which it was heard the
--- moments and TTLs of the least and the greatest hearing; each record set has the moments of its flushes, and the newest
--- moment is there. Nothing else is held.
+-- The contents stand for the hearings: each record has its last hearing, of each second in which it was heard the
+-- moments and TTLs of the least and the greatest hearing, and its latest goodbye; each record set has the moments of its
+-- flushes, and the newest moment is there. Nothing else is held.
 pub record Chronicles (c : Accounts) (heard : List Hearing) : Type 0 where
   pub accounts : AreAccounts c
   pub lasts : (key : Key) → MatchOption (last_held c key) (IsUnheard heard key) (IsLast heard key)
   pub histories : (key : Key) (s : ℕ) → AreEndsIn (IsHeardAs heard key) s (ends_held c key s)
+  pub goodbyes : (key : Key) → IsGoodbyeOf heard key (goodbye_held c key)
   pub flushes : (set : RecordSet) (m : ℕ) → IsFlushIn (value_at set_key_cmp set c.flushes) m ↔ IsFlushedAt heard set m
   pub newest : MatchOption c.newest (heard ≡ []) (IsNewest heard)
 

@@ -4,7 +4,7 @@ use Rattle.mdns_capture.specs.declared.moment.Moment.{Moment}
 use Rattle.mdns_message.specs.{declared.hearing.Hearing.{Hearing}, RecordSet.{RecordSet}, Resource.{key_of, set_key_of}}
 use Rattle.join_map.specs.Entries.{one_entry}
 use Rattle.mdns_join.specs.{Latest.{latest_of}, Kept.{ascending}, Nanos.{nanos_of}}
-use Rattle.mdns_lives.specs.{declared.account.Account.{Account}, declared.life.RecordHearing.{RecordHearing}, Account.{account}}
+use Rattle.mdns_lives.specs.{declared.account.Account.{Account}, declared.life.RecordHearing.{RecordHearing}, Account.{account, goodbye_of}}
 use Rattle.mdns_lives.specs.{Chronicle.{Accounts, accounts}, Seconds.{seconds_of}}
 
 -- the latest of some moments
@@ -22,7 +22,7 @@ heard_each ttl ts = map (heard_with ttl) ts
 
 -- the account of a hearing at each of these moments
 abbrev pub account_each : Hearing → List Moment → Account
-account_each h ts = account (latest_of h) (seconds_of (heard_each h.ttl ts))
+account_each h ts = account (latest_of h) (seconds_of (heard_each h.ttl ts)) (goodbye_of h)
 
 -- its flush moments
 abbrev pub flushes_each : Hearing → List Moment → List (RecordSet × List ℕ)

@@ -1,5 +1,5 @@
 -- The lives of a record by its own hearings and the flush moments of its set alone.
-use Rattle.std.specs.Prelude.{◌≡◌, ℕ, ◌+◌, ◌<◌, ◌≤◌, ◌↔◌, ◌⊎◌, true, List, [], ◌∷◌, Contains}
+use Rattle.std.specs.Prelude.{◌≡◌, ℕ, ◌+◌, ◌<◌, ◌≤◌, ◌↔◌, ◌⊎◌, true, List, [], ◌∷◌, Contains, None}
 use Rattle.mdns_capture.specs.Limits.{second}
 use Rattle.mdns_message.specs.{declared.hearing.Hearing.{Hearing}, declared.key.Key.{Key}, RecordSet.{RecordSet}, Resource.{IsOf}}
 use Rattle.mdns_join.specs.Kept.{has, IsStruckBy}
@@ -74,8 +74,9 @@ pub record EndsBy (history : List RecordHearing) (flushes : List ℕ) (life : Li
   pub is_last : IsLastAt history life.until life.last
   pub ends : IsEndBy flushes life.last life.until life.reason
 
--- these are the lives of a record with this history
+-- these are the lives of a record with this history, which tell no goodbye
 pub record AreLivesBy (history : List RecordHearing) (flushes : List ℕ) (lives : List Life) : Type 0 where
   pub apart : AreApart lives
   pub exactly : (now : ℕ) → IsLiveAt history flushes now ↔ IsInOne lives now
   pub ends : (life : Life) → Contains lives life → EndsBy history flushes life
+  pub untold : (life : Life) → Contains lives life → life.taken_back ≡ None

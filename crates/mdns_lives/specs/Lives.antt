@@ -1,11 +1,12 @@
 -- The lives of a record: the intervals of moments at which it was live, as things stood then (RFC 6762, section 10).
 -- Moments are counted in nanoseconds.
-use Rattle.std.specs.Prelude.{◌≡◌, ℕ, ◌+◌, ◌<◌, ◌≤◌, ◌↔◌, ◌⊎◌, nat_le, nat_lt, List, [], ◌∷◌, Contains}
-use Rattle.std.specs.List.{filter}
-use Rattle.mdns_message.specs.declared.{hearing.Hearing.{Hearing}, key.Key.{Key}}
+use Rattle.std.specs.Prelude.{◌≡◌, ℕ, ◌+◌, ◌<◌, ◌≤◌, ◌↔◌, ◌⊎◌, ◌==◌, ◌&&◌, nat_le, nat_lt, List, [], ◌∷◌, Contains, Option, Some}
+use Rattle.std.specs.{Prelude.{MatchOption}, List.{filter}, Ordering.{is_eq}}
+use Rattle.mdns_capture.specs.declared.moment.Moment.{Moment}
+use Rattle.mdns_message.specs.{declared.{hearing.Hearing.{Hearing}, key.Key.{Key}}, Resource.{key_of, key_cmp}}
 use Rattle.mdns_join.specs.declared.latest.Latest.{Latest}
 use Rattle.mdns_capture.specs.Limits.{second}
-use Rattle.mdns_cache.specs.Live.{IsLast, IsLive, Strikes, life_of}
+use Rattle.mdns_cache.specs.Live.{IsLast, IsLive, IsNewest, Strikes, life_of}
 use Rattle.mdns_lives.specs.declared.life.{Life.{Life}, EndReason.{EndReason}, EndReason.TheVariants.{Expired, Goodbye, Flushed}}
 
 -- ---- when a record was live
@@ -64,11 +65,31 @@ pub record EndsThen (heard : List Hearing) (key : Key) (life : Life) : Type 0 wh
   pub ttl : last.ttl ≡ life.last.ttl
   pub ends : IsEndFor heard key last life.until life.reason
 
+-- ---- goodbyes that were taken back
+
+-- the record's goodbyes: its hearings with TTL 0 (section 10.1)
+abbrev pub goodbyes_of : List Hearing → Key → List Hearing
+goodbyes_of heard key = filter (λ hearing. is_eq (key_cmp key (key_of hearing.heard)) && hearing.ttl == 0) heard
+
+-- the moment of the record's latest goodbye, if it said one
+abbrev pub IsGoodbyeOf : List Hearing → Key → Option Moment → Type 0
+IsGoodbyeOf heard key goodbye = MatchOption goodbye (goodbyes_of heard key ≡ []) (IsNewest (goodbyes_of heard key))
+
+-- the life takes a goodbye back: the goodbye is in it, and its last hearing is no goodbye and comes no earlier
+abbrev pub TakesBack : Life → Moment → Type 0
+TakesBack life goodbye = (life.from.nanos ≤ goodbye.nanos) × (goodbye.nanos ≤ life.last.moment.nanos) × (0 < life.last.ttl)
+
+-- the life tells the record's latest goodbye exactly if it takes it back, and no other
+abbrev pub IsTakenBack : List Hearing → Key → Life → Type 0
+IsTakenBack heard key life =
+    (goodbye : Moment) → (life.taken_back ≡ Some goodbye) ↔ (IsNewest (goodbyes_of heard key) goodbye × TakesBack life goodbye)
+
 -- ---- the lives
 
 -- These are the lives of the record: it was live at exactly the moments in them, they are in order and as few as can
--- be, and each ends for its reason.
+-- be, each ends for its reason, and that which takes the latest goodbye back tells it.
 pub record AreLives (heard : List Hearing) (key : Key) (lives : List Life) : Type 0 where
   pub apart : AreApart lives
   pub exactly : (now : ℕ) → IsLiveThen heard key now ↔ IsInOne lives now
   pub ends : (life : Life) → Contains lives life → EndsThen heard key life
+  pub goodbyes : (life : Life) → Contains lives life → IsTakenBack heard key life

@@ -3,20 +3,24 @@
 ghost use Rattle.std.specs.Prelude.{◌≡◌, IfOk};
 ghost use Rattle.mdns_message.specs.Borrowed.{hearing_lent};
 ghost use Rattle.mdns_join.specs.Latest.{latest_of};
+ghost use Rattle.mdns_lives.specs.Account.{goodbye_of};
 
+use crate::chronicle::newer;
 use crate::history::History;
 use join_map::{Join, Semilattice};
+use mdns_capture::Moment;
 use mdns_join::Latest;
 use mdns_message::BorrowedHearing;
 use memory::Want;
 use std::alloc::Global;
 
-/// What is kept of one record: its last hearing, and the moments and TTLs of the first and the last hearing of each
-/// second.
+/// What is kept of one record: its last hearing, the moments and TTLs of the first and the last hearing of each second, and
+/// the moment of its latest goodbye, which may lie between these.
 #[derive(Drop)]
 pub struct Account {
     pub latest: Latest,
     pub history: History,
+    pub goodbye: Option<Moment>,
 }
 
 impl Account {
@@ -49,6 +53,7 @@ impl Join for Account {
         Ok(Account {
             latest: self.latest.copy(alloc)?,
             history: self.history.copy(alloc)?,
+            goodbye: self.goodbye,
         })
     }
 
@@ -57,8 +62,17 @@ impl Join for Account {
         self.history.valid();
         other.history.valid();
         self.history.join_with(alloc, &other.history)?;
-        self.latest.join_with(alloc, &other.latest)
+        self.latest.join_with(alloc, &other.latest)?;
+        self.goodbye = newer(self.goodbye, other.goodbye);
+        Ok(())
     }
+}
+
+/// Returns the moment of a goodbye; `None` of any other hearing (RFC 6762, section 10.1).
+pub(crate) fn goodbye_of(hearing: &BorrowedHearing) -> Option<Moment>
+    ensures { result ≡ goodbye_of (hearing_lent hearing.now) }
+{
+    (hearing.ttl == 0).then_some(hearing.moment)
 }
 
 /// Copies a hearing as a last hearing.

@@ -24,7 +24,8 @@ use std::marker::Model;
 
 /// The hearings of each record, and all flush moments of each record set. Neither the order nor the repeats of hearings
 /// matter. Of a record's hearings within one whole second only the least and the greatest are kept, by moment, then TTL:
-/// the law `lives_by_ends` says that those between them change no life.
+/// the law `lives_by_ends` says that those between them change no life. So that a life can tell a goodbye that it took back,
+/// which may lie between them, the moment of the record's latest goodbye is kept too.
 ///
 /// It finds records by hashes and keeps them in no order; `finish` sorts them. It takes 12 bytes for each hearing that it
 /// keeps, 8 more for each flush, and up to twice as much, since its lists double when they are full. As long as fewer
@@ -141,7 +142,7 @@ impl Chronicle {
         let repeats = Repeats { hearing, moments };
         self.hear_record(hashes.record, &repeats)?;
         self.hear_flush(hashes.set, &repeats)?;
-        self.newest = newer(self.newest, hearing.moment);
+        self.newest = newer(self.newest, Some(hearing.moment));
         Ok(())
     }
 
@@ -182,13 +183,14 @@ impl Chronicle {
     }
 }
 
-// Returns the later of two moments.
-pub(crate) fn newer(newest: Option<Moment>, moment: Moment) -> Option<Moment>
-    ensures { result ≡ joined_at later_moment newest (Some moment) }
+// Returns the later of two moments, or the one that is there.
+pub(crate) fn newer(newest: Option<Moment>, moment: Option<Moment>) -> Option<Moment>
+    ensures { result ≡ joined_at later_moment newest moment }
 {
-    match newest {
-        Some(newest) => Some(if newest < moment { moment } else { newest }),
-        None => Some(moment),
+    match (newest, moment) {
+        (Some(newest), Some(moment)) => Some(if newest < moment { moment } else { newest }),
+        (Some(_), None) => newest,
+        (None, _) => moment,
     }
 }
 

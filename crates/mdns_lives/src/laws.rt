@@ -1,10 +1,12 @@
 //! Laws of lives. Each function does nothing: its contract is the law.
 
-ghost use Rattle.std.specs.Prelude.{◌≡◌, ◌≢◌, ◌↔◌, ◌<◌, ◌≤◌, ℕ, List, Contains};
+ghost use Rattle.std.specs.Prelude.{◌≡◌, ◌≢◌, ◌↔◌, ◌<◌, ◌≤◌, ℕ, List, map, Option, None, Contains};
+ghost use Rattle.mdns_capture.specs.declared.moment.Moment.{Moment};
 ghost use Rattle.mdns_message.specs.{declared.hearing.Hearing.{Hearing}, declared.key.Key.{Key}, Resource.{IsOf}};
 ghost use Rattle.mdns_lives.specs.declared.life.{RecordHearing.{RecordHearing}, Life.{Life}};
 ghost use Rattle.mdns_lives.specs.{History.{IsHistory, AreFlushes, AreLivesBy}, Seconds.{AreEndsOf}, Chronicle.{AreAllLives, live_rows}};
-ghost use Rattle.mdns_lives.specs.{Lives.{AreLives, IsDuring, IsLiveThen, heard_before}, Since.{AreLiveSince, all_since_rows}};
+ghost use Rattle.mdns_lives.specs.{Lives.{AreLives, IsDuring, IsGoodbyeOf, IsLiveThen, heard_before}, LifeWalk.{told}};
+ghost use Rattle.mdns_lives.specs.Since.{AreLiveSince, all_since_rows};
 ghost use Rattle.mdns_join.specs.declared.latest.Latest.{Latest};
 ghost use Rattle.mdns_cache.specs.Live.{AreLiveRecords, IsEnd, IsLive, SameHearings};
 
@@ -16,17 +18,21 @@ pub fn one_list_by()
         → AreLivesBy heard flushes others → lives ≡ others }
 {}
 
-/// Of a record's hearings within one whole second the first and the last are enough: those between them change no life.
+/// Of a record's hearings within one whole second the first and the last are enough: those between them change no life, but for
+/// the goodbye that it tells.
 pub fn lives_by_ends()
     ensures { (heard ends : List RecordHearing) (flushes : List ℕ) (lives : List Life) → AreEndsOf heard ends
         → (AreLivesBy heard flushes lives ↔ AreLivesBy ends flushes lives) }
 {}
 
-/// The lives of a record are those by its own hearings and the flush moments of its set.
+/// The lives of a record are those by its own hearings and the flush moments of its set, of which one may tell its latest goodbye.
 pub fn lives_by_history()
-    ensures { (heard : List Hearing) (key : Key) (history : List RecordHearing) (flushes : List ℕ) (lives : List Life)
+    ensures into { (heard : List Hearing) (key : Key) (history : List RecordHearing) (flushes : List ℕ) (goodbye : Option Moment)
+        (lives : List Life) → IsHistory heard key history → AreFlushes heard key.set flushes → IsGoodbyeOf heard key goodbye
+        → AreLivesBy history flushes lives → AreLives heard key (map (told goodbye) lives) }
+    ensures back { (heard : List Hearing) (key : Key) (history : List RecordHearing) (flushes : List ℕ) (lives : List Life)
         → IsHistory heard key history → AreFlushes heard key.set flushes
-        → (AreLivesBy history flushes lives ↔ AreLives heard key lives) }
+        → AreLives heard key lives → AreLivesBy history flushes (map (told None) lives) }
 {
     one_last_hearing();
 }

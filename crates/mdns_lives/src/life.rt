@@ -34,6 +34,9 @@ pub struct Life {
     pub until: u64,
     /// Why it ends.
     pub reason: EndReason,
+    /// The record's latest goodbye, if this life took it back: it came in it, and the record was announced again within a second
+    /// (RFC 6762, section 10.1). The last hearing in the life is no goodbye, and comes no earlier.
+    pub taken_back: Option<Moment>,
 }
 
 /// Which lives of each record.

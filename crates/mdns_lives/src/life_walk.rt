@@ -1,9 +1,9 @@
 //! The lives of one record, by its hearings and the flushes of its record set.
 
-ghost use Rattle.std.specs.Prelude.{◌≡◌, ◌+◌, ◌++◌, ◌∷◌, ℕ, List, IfOk, OnOk};
+ghost use Rattle.std.specs.Prelude.{◌≡◌, ◌+◌, ◌++◌, ◌∷◌, ℕ, List, map, IfOk, OnOk};
 ghost use Rattle.mdns_capture.specs.Limits.{second};
-ghost use Rattle.mdns_lives.specs.{declared.life.RecordHearing.{RecordHearing}, History.{AreInOrder, AreLivesBy}};
-ghost use Rattle.mdns_lives.specs.LifeWalk.{GiveSameEnds, life_after, lives_from, walked};
+ghost use Rattle.mdns_lives.specs.{declared.life.RecordHearing.{RecordHearing}, History.{AreInOrder}, Lives.{AreApart}};
+ghost use Rattle.mdns_lives.specs.LifeWalk.{GiveSameEnds, life_after, lives_from, takes_back, told, walked};
 ghost use Rattle.mdns_join.specs.{Kept.{IsAscending, IsAscendingAbove}, Nanos.{nanos_of}};
 ghost use Rattle.mdns_cache.specs.LentRecords.{end_of};
 
@@ -20,16 +20,17 @@ use std::alloc::Global;
 const NEAR: usize = 4;
 
 /// Returns the lives of a record, in order, by its hearings in the order of their moments, then TTLs, and the flush
-/// moments of its record set, ascending.
+/// moments of its record set, ascending. The one that takes the latest goodbye back tells it.
 pub(crate) fn lives_of(
     alloc: Global,
     heard: &[Packed],
     flushes: &[Moment],
+    goodbye: Option<Moment>,
 ) -> Result<Vec<Life>, Want>
     requires heard { AreInOrder heard.now }
     requires flushes { IsAscending (nanos_of flushes.now) }
-    ensures lives { IfOk result (λ lives. AreLivesBy heard.now (nanos_of flushes.now) lives.items) }
-    ensures walked { IfOk result (λ lives. lives.items ≡ walked (nanos_of flushes.now) heard.now) }
+    ensures apart { IfOk result (λ lives. AreApart lives.items) }
+    ensures walked { IfOk result (λ lives. lives.items ≡ map (told goodbye) (walked (nanos_of flushes.now) heard.now)) }
 {
     let mut lives = Vec::with_capacity(alloc, 1)?;
     let Some((first, rest)) = heard.split_first() else {
@@ -37,7 +38,7 @@ pub(crate) fn lives_of(
     };
     let begun = first.heard();
     let later = later_than(flushes, begun.moment);
-    push_lives(&mut lives, life_after(later, begun), rest, later)?;
+    push_lives(&mut lives, life_after(later, begun), rest, later, goodbye)?;
     lives.shrink_to_fit();
     Ok(lives)
 }
@@ -47,19 +48,21 @@ fn push_lives(
     life: Life,
     heard: &[Packed],
     flushes: &[Moment],
+    goodbye: Option<Moment>,
 ) -> Result<(), Want>
     requires heard { AreInOrder heard.now }
     requires flushes { IsAscending (nanos_of flushes.now) }
-    ensures { OnOk result (lives.new.items ≡ lives.old.items ++ lives_from (nanos_of flushes.now) life heard.now) }
+    ensures { OnOk result (lives.new.items
+        ≡ lives.old.items ++ map (told goodbye) (lives_from (nanos_of flushes.now) life heard.now)) }
 {
     let mut life = life;
     let mut later = flushes;
     for packed in heard {
         let next = packed.heard();
         later = later_than(later, next.moment);
-        life = take_next(lives, life, next, later)?;
+        life = take_next(lives, life, next, later, goodbye)?;
     }
-    lives.push(life)?;
+    lives.push(told(goodbye, life))?;
     Ok(())
 }
 
@@ -69,22 +72,37 @@ fn take_next(
     life: Life,
     next: RecordHearing,
     later: &[Moment],
+    goodbye: Option<Moment>,
 ) -> Result<Life, Want>
     requires { IsAscendingAbove (next.moment.nanos + second) (nanos_of later.now) }
-    ensures { IfOk result (λ taken. (hs : List RecordHearing) → lives.new.items ++ lives_from (nanos_of later.now) taken hs
-        ≡ lives.old.items ++ lives_from (nanos_of later.now) life (next ∷ hs)) }
+    ensures { IfOk result (λ taken. (hs : List RecordHearing)
+        → lives.new.items ++ map (told goodbye) (lives_from (nanos_of later.now) taken hs)
+        ≡ lives.old.items ++ map (told goodbye) (lives_from (nanos_of later.now) life (next ∷ hs))) }
 {
     let after = life_after(later, next);
     if next.moment.nanos() <= life.until {
         return Ok(Life {
             from: life.from,
-            last: after.last,
-            until: after.until,
-            reason: after.reason,
+            ..after
         });
     }
-    lives.push(life)?;
+    lives.push(told(goodbye, life))?;
     Ok(after)
+}
+
+// Returns whether the goodbye is in the life, whose last hearing is no goodbye and comes no earlier.
+fn takes_back(life: &Life, goodbye: Moment) -> bool
+    ensures { result ≡ takes_back life.now goodbye }
+{
+    life.from <= goodbye && goodbye <= life.last.moment && 0 < life.last.ttl
+}
+
+// Tells the record's latest goodbye in the life that takes it back.
+fn told(goodbye: Option<Moment>, life: Life) -> Life
+    ensures { result ≡ told goodbye life }
+{
+    let taken_back = goodbye.filter(|goodbye| takes_back(&life, *goodbye));
+    Life { taken_back, ..life }
 }
 
 // Returns the life of a record whose one hearing is this one, by the flushes that came late enough to strike it.
@@ -106,6 +124,7 @@ fn life_after(later: &[Moment], heard: RecordHearing) -> Life
         last: heard,
         until,
         reason,
+        taken_back: None,
     }
 }
 

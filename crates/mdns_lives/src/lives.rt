@@ -1,12 +1,12 @@
 //! The lives of all records, in key order, and those of several chronicles together.
 
-ghost use Rattle.std.specs.{Prelude.{◌≡◌, ◌++◌, [], List, IfOk, IfSome, MatchOption, OnErr, OnOk}, Map.Iter.{TakesFirst}};
+ghost use Rattle.std.specs.{Prelude.{◌≡◌, ◌++◌, [], List, IfOk, IfSome, MatchOption, OnErr, OnOk, map}, Map.Iter.{TakesFirst}};
 ghost use Rattle.join_map.specs.{Entries.{joined, joined_at}, Join.{IsPartOfJoin}};
 ghost use Rattle.mdns_message.specs.{Resource.{key_cmp, set_key_cmp}, declared.hearing.Hearing.{Hearing}};
 ghost use Rattle.mdns_cache.specs.{Contents.{later_moment}, Live.{IsNewest}, LentRecords.{last_lent}};
 ghost use Rattle.mdns_lives.specs.{Account.{join_account}};
 ghost use Rattle.mdns_lives.specs.{Chronicle.{AreAccounts, AreAllLives, Chronicles, accounts, join_accounts, rows_of}, Lives.{AreApart}};
-ghost use Rattle.mdns_lives.specs.{LentLives.{LosesFirst, row_lent}, Seconds.{listed_ends}, LifeWalk.{walked}};
+ghost use Rattle.mdns_lives.specs.{LentLives.{LosesFirst, row_lent}, Seconds.{listed_ends}, LifeWalk.{told, walked}};
 ghost use Rattle.mdns_join.specs.{Kept.{IsAscending, union}, Nanos.{nanos_of}};
 
 use crate::account::Account;
@@ -83,7 +83,7 @@ impl Lives {
         other.hold();
         self.join_records(other)?;
         self.join_flushes(other)?;
-        self.raise(other.newest());
+        self.newest = newer(self.newest, other.newest());
         Ok(())
     }
 
@@ -95,15 +95,6 @@ impl Lives {
     {
         let Lives { newest, .. } = self;
         *newest
-    }
-
-    // Raises the newest moment to that of another.
-    fn raise(&mut self, newest: Option<Moment>)
-        ensures { self.new ≡ accounts self.old.records self.old.flushes (joined_at later_moment self.old.newest newest) }
-    {
-        if let Some(newest) = newest {
-            self.newest = newer(self.newest, newest);
-        }
     }
 
     // Both maps are in key order.
@@ -192,6 +183,7 @@ impl<'a> LivesWalk<'a> {
             last: borrowed_last(&account.latest),
             history: &account.history,
             flushes: FlushMoments::all_of(self.flushes.moments(key.set())),
+            goodbye: account.goodbye,
         })
     }
 }
@@ -204,21 +196,24 @@ pub struct RecordHeard<'a> {
 
     // The flush moments of its record set.
     flushes: &'a [Moment],
+
+    // Its latest goodbye.
+    goodbye: Option<Moment>,
 }
 
 impl<'a> Model for RecordHeard<'a> {
-    ghost use Rattle.std.specs.Prelude.{List};
+    ghost use Rattle.std.specs.Prelude.{List, map};
     ghost use Rattle.mdns_join.specs.declared.latest.Latest.{Latest};
     ghost use Rattle.mdns_join.specs.Kept.{IsAscending};
     ghost use Rattle.mdns_join.specs.Nanos.{nanos_of};
     ghost use Rattle.mdns_cache.specs.LentRecords.{last_lent};
     ghost use Rattle.mdns_lives.specs.declared.life.Life.{Life};
-    ghost use Rattle.mdns_lives.specs.LifeWalk.{walked};
+    ghost use Rattle.mdns_lives.specs.LifeWalk.{told, walked};
     ghost use Rattle.mdns_lives.specs.Seconds.{listed_ends};
 
     ghost Value = { Latest × List Life };
 
-    ghost view = { λ a. (last_lent a.last, walked (nanos_of a.flushes.now) (listed_ends a.history.now)) };
+    ghost view = { λ a. (last_lent a.last, map (told a.goodbye) (walked (nanos_of a.flushes.now) (listed_ends a.history.now))) };
 
     ghost invariant = { λ a. IsAscending (nanos_of a.flushes.now) };
 }
@@ -236,7 +231,7 @@ impl<'a> RecordHeard<'a> {
         ensures row { IfOk result (λ row. row_lent row ≡ self.entry) }
         ensures apart { IfOk result (λ row. AreApart row.lives.items) }
     {
-        let lives = lives_by(alloc, self.history, self.flushes)?;
+        let lives = lives_by(alloc, self.history, self.flushes, self.goodbye)?;
         Ok(RecordLives {
             last: self.last,
             lives,
@@ -254,21 +249,25 @@ impl<'a> RecordHeard<'a> {
     }
 }
 
-// Returns the lives of a record. `finish` has sorted its hearings, unless it joined entries of one record; `join_with` leaves
+// Returns the lives of a record, of which one may take its latest goodbye back. `finish` has sorted its hearings, unless it joined entries of one record; `join_with` leaves
 // a few unsorted behind many.
 #[tactic(auto, using(crate::proofs::ListedLemmas::walked_listed))]
-fn lives_by(alloc: Global, history: &History, flushes: &[Moment]) -> Result<Vec<Life>, Want>
+fn lives_by(
+    alloc: Global,
+    history: &History,
+    flushes: &[Moment],
+    goodbye: Option<Moment>,
+) -> Result<Vec<Life>, Want>
     requires { IsAscending (nanos_of flushes.now) }
-    ensures walked { IfOk result (λ lives. lives.items ≡ walked (nanos_of flushes.now) (listed_ends history.now)) }
+    ensures walked { IfOk result (λ lives. lives.items
+        ≡ map (told goodbye) (walked (nanos_of flushes.now) (listed_ends history.now))) }
     ensures apart { IfOk result (λ lives. AreApart lives.items) }
 {
     if let Some(heard) = history.in_order() {
-        let lives = lives_of(alloc, heard, flushes)?;
-        return Ok(lives);
+        return lives_of(alloc, heard, flushes, goodbye);
     }
     let heard = history.sorted(alloc)?;
-    let lives = lives_of(alloc, heard.as_slice(), flushes)?;
-    Ok(lives)
+    lives_of(alloc, heard.as_slice(), flushes, goodbye)
 }
 
 // Borrows a last hearing.

@@ -1,6 +1,7 @@
 //! A hearing at each of some moments, which is looked up once.
 
-use crate::account::{Account, latest_of};
+use crate::account::{Account, goodbye_of, latest_of};
+use crate::chronicle::newer;
 use crate::flushes::Flushes;
 use crate::history::History;
 use crate::waiting::MomentsAtOnce;
@@ -27,6 +28,7 @@ impl<'a> JoinInto<Account> for Repeats<'a> {
         Ok(Account {
             latest: latest_of(alloc, self.hearing)?,
             history: History::of(alloc, self.hearing.ttl, self.moments.all())?,
+            goodbye: goodbye_of(self.hearing),
         })
     }
 }
@@ -47,8 +49,13 @@ impl<'a> JoinOwn<Key, Account> for Repeats<'a> {
 
     fn join_own(&self, alloc: Global, key: &Key, held: &mut Account) -> Option<Result<(), Want>> {
         let moments = self.moments.all();
-        held.history
-            .add_own(alloc, key, self.hearing, moments, &mut held.latest)
+        let added = held
+            .history
+            .add_own(alloc, key, self.hearing, moments, &mut held.latest);
+        if let Some(Ok(())) = added {
+            held.goodbye = newer(held.goodbye, goodbye_of(self.hearing));
+        }
+        added
     }
 }
 

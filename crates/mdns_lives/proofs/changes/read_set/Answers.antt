@@ -1,6 +1,6 @@
-use Rattle.std.proofs.{Common.{◌≡◌, ◌++◌, ◌∷◌, [], ◌∙◌, true, List, ap, map, rules, subst, sym, arith}, lemmas.List.{map-append}}
-use Rattle.mdns_lives.specs.{declared.lives.RecordLives.{RecordLives}, Changes.{goes_on}, Lives.{AreApart}, LentLives.{row_lent}}
-use Rattle.mdns_lives.proofs.{ChosenLemmas.{read-more, read-two}, LiveLifeLemmas.{Row}}
+use Rattle.std.proofs.{Common.{◌++◌, ◌∷◌, [], ◌∙◌, List, ap, map, subst}}
+use Rattle.mdns_lives.specs.{declared.lives.RecordLives.{RecordLives}, Lives.{AreApart}, LentLives.{row_lent}}
+use Rattle.mdns_lives.proofs.{ChosenLemmas.{read-two}, LiveLifeLemmas.{Row}}
 use Rattle.mdns_lives.proofs.changes.read_set.Goals as goal
 
 pub loop-record-init : goal.loop-record-init

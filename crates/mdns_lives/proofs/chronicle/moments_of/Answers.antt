@@ -1,4 +1,4 @@
-use Rattle.std.proofs.{Common.{arith, append_assoc, append-nil}, lemmas.List.{nil_from_length}}
+use Rattle.std.proofs.{Common.{arith, append_assoc}}
 use Rattle.mdns_cache.proofs.GatheringLemmas.{valid_pushed}
 use Rattle.mdns_lives.proofs.chronicle.moments_of.Goals as goal
 

@@ -1,6 +1,6 @@
 use Rattle.std.proofs.Common.{arith, vec_capacity, vec_len}
 use Rattle.mdns_lives.specs.Each.{heard_each}
-use Rattle.mdns_lives.proofs.{EachLemmas.{room_appended}, SecondsLemmas.{seconds_of_append}}
+use Rattle.mdns_lives.proofs.{EachLemmas.{room_appended}}
 use Rattle.mdns_lives.proofs.history.push_own.Goals as goal
 
 pub returns-in-Some-Ok-join_latest-clause-bound : goal.returns-in-Some-Ok-join_latest-clause-bound

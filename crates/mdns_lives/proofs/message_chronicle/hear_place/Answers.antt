@@ -1,5 +1,5 @@
-use Rattle.std.proofs.{Common.{arith, ◌≡◌, ◌<◌, length, get_or, rules}, lemmas.Result.{on_ok_weaker}}
-use Rattle.mdns_lives.proofs.MessageChronicleLemmas.{is_placed, records-past, records-placed}
+use Rattle.std.proofs.{Common.{◌≡◌, ◌<◌, length, get_or, rules}, lemmas.Result.{on_ok_weaker}}
+use Rattle.mdns_lives.proofs.MessageChronicleLemmas.{is_placed, records-placed}
 use Rattle.mdns_lives.proofs.message_chronicle.hear_place.Goals as goal
 
 pub returns : goal.returns

@@ -1,6 +1,5 @@
 use Rattle.std.proofs.Common.{arith}
 use Rattle.mdns_message.specs.Borrowed.{hearing_lent}
-use Rattle.mdns_cache.proofs.GatheringLemmas.{any_fit}
 use Rattle.mdns_lives.proofs.{EachLemmas.{flushes_gathered}, PartLemmas.{gathered_accounts}}
 use Rattle.mdns_lives.proofs.chronicle.Chronicle.hear_flush.Goals as goal
 

@@ -1,8 +1,8 @@
-use Rattle.std.proofs.Common.{rules, arith, ◌≡◌, ◌∙◌, ◌∷◌, ◌++◌, ap, map, subst, sym, List}
+use Rattle.std.proofs.Common.{rules, ◌≡◌, ◌∙◌, ◌∷◌, ◌++◌, ap, map, subst, sym, List}
 use Rattle.mdns_cache.specs.LentRecords.{last_lent}
 use Rattle.mdns_lives.specs.{declared.life.Life.{Life}, Chronicle.{AreAllLives, rows_of}, LentLives.{row_lent}}
 use Rattle.mdns_lives.specs.Since.{AreLiveSince, live_since_lent, since_rows}
-use Rattle.mdns_lives.proofs.SinceLemmas.{none_later, none_left, tells-all, tells-more, tells-start}
+use Rattle.mdns_lives.proofs.SinceLemmas.{none_later, none_left, tells-all, tells-more}
 use Rattle.mdns_lives.proofs.lives.Lives.live_at.Goals as goal
 
 pub loop-rows-preserved : goal.loop-rows-preserved
