@@ -1,14 +1,13 @@
 -- Columns, their widths, and what is written in them.
 use Rattle.std.proofs.Common.{◌≡◌, refl, sym, ap, ◌∙◌, ℕ, ◌+◌, ◌-◌, ◌<◌, ◌≤◌, ◌==◌, max, true, false, List, [], ◌∷◌, ◌++◌}
 use Rattle.std.proofs.Common.{length, map, take, get_or, add-one, arith, codes}
-use Rattle.std.proofs.lemmas.{List.{append-nil, append_assoc, length-append, length-map}, Simd.{map-map}}
+use Rattle.std.proofs.lemmas.{List.{append-nil, append_assoc, length-append, length-map, map-append, take_more}, Simd.{map-map}}
 use Rattle.std.specs.List.{flat_map}
 use Rattle.mdns_message.specs.Resource.{type_name, type_of}
 use Rattle.mdns_join.specs.declared.latest.Latest.{Latest}
 use Rattle.people_text.specs.MomentText.{clock_text, date_text, date_written, hours_text, seconds_text}
 use Rattle.mdns_browse.specs.Columns.{padded, record_heads, record_row, record_table, time_left_text, spaces, unless_none, widest}
 use Rattle.mdns_browse.specs.RecordShown.{shown_record}
-use Rattle.mdns_browse.proofs.ListLemmas.{map_more}
 
 -- one space more
 pub spaces_more : (old mid new : List ℕ) (n : ℕ) → mid ≡ old ++ spaces n → new ≡ mid ++ 32 ∷ [] → new ≡ old ++ spaces (n + 1)
@@ -44,6 +43,11 @@ widest-more texts text = let both = widest-append texts (text ∷ []) in omega (
 pub widest_none : 0 ≡ widest []
 unfolding widest
 widest_none = refl
+
+-- one row more
+map_more : {X Y : Type 0} (f : X → Y) (xs : List X) (i : ℕ) (x : X) → i < length xs → x ≡ get_or xs i x
+    → map f (take (i + 1) xs) ≡ map f (take i xs) ++ f x ∷ []
+map_more f xs i x within at = grind (arith, take_more xs i x within, map-append f (take i xs) (get_or xs i x ∷ []))
 
 pub width_more : {R : Type 0} (text : R → List ℕ) (rows : List R) (i : ℕ) (row : R) (width len new : ℕ) → i < length rows
     → row ≡ get_or rows i row → width ≡ widest (map text (take i rows)) → len ≡ length (text row) → new ≡ max width len

@@ -1,7 +1,7 @@
 -- Hosts among rows, and the services on them.
 use Rattle.std.proofs.Common.{◌+◌, ◌<◌, drop, get_or, length, subst}
-use Rattle.std.proofs.Common.{◌≡◌, refl, sym, ◌∙◌, ap, ℕ, Bool, false, not, ◌&&◌, cond, List, [], ◌∷◌, ◌++◌, map}
-use Rattle.std.proofs.lemmas.{List.{at_drop_more, map-append}, List.Elements.{filter_agree, filter_map-append}, Grind.{flat_map-append}}
+use Rattle.std.proofs.Common.{◌≡◌, refl, sym, ◌∙◌, ap, ℕ, Bool, false, not, ◌&&◌, cond, List, [], ◌∷◌, map}
+use Rattle.std.proofs.lemmas.{List.{at_drop_more}, List.Elements.{filter_agree}}
 use Rattle.std.specs.{Borrow.{Bor}, List.{filter, flat_map}, List.Sorted.{IsStable, ties}, Cmp.Lexicographic.{nat_list_cmp_total, slice_cmp}}
 use Rattle.std.specs.{Ordering.{is_eq, is_lt, nat_cmp, ordering_reverse}, declared.cmp.Ordering.{Ordering}}
 use Rattle.std.specs.declared.cmp.Ordering.TheVariants.{Less, Equal, Greater}
@@ -9,12 +9,9 @@ use Rattle.dns_name.specs.Name.{folded, name_text}
 use Rattle.mdns_join.specs.declared.latest.Latest.{Latest}
 use Rattle.mdns_browse.specs.Hosts.{AreByTarget, HostRow, ServedRow, host_in, is_on, keeps_host, once, owners_of_addresses, served_lent}
 use Rattle.mdns_browse.specs.Hosts.{service_at, services_at, services_in, target_cmp}
-use Rattle.mdns_browse.specs.Services.{AreAscending, GivenRow, instance_in, same_text}
+use Rattle.mdns_browse.specs.Services.{AreAscending, GivenRow, instance_in, same_text, servers_of}
 use Rattle.mdns_browse.specs.declared.{about.Subject.{Subject}, host.HostService.{HostService}}
-use Rattle.mdns_browse.proofs.InstanceLemmas.{only, servers-append, servers_of, shown_in}
-use Rattle.mdns_browse.proofs.{ListLemmas.{through-append}, SearchLemmas.{filter-map}}
-use Rattle.std.proofs.lemmas.List.{append-nil}
-use Rattle.std.proofs.Common.{rules, arith}
+use Rattle.mdns_browse.proofs.{InstanceLemmas.{only, shown_in}, SearchLemmas.{filter-map}}
 
 -- ---- servers by target
 
@@ -54,15 +51,9 @@ module _ (rows : List Latest) where
   abbrev pub served_by : List ℕ → List Latest → List ServedRow
   served_by name found = map (service_at (instance_in rows name)) (servers_of rows found)
 
-  pub served-append : (name : List ℕ) (xs ys : List Latest) → served_by name (xs ++ ys) ≡ served_by name xs ++ served_by name ys
-  served-append name = grind (arith, through-append, servers_of, map-append, servers-append)
-
   -- by the records that give instances
   abbrev pub services_given : List GivenRow → List ServedRow
   services_given given = flat_map services_at (only (shown_in rows given))
-
-  pub services_given-append : (xs ys : List GivenRow) → services_given (xs ++ ys) ≡ services_given xs ++ services_given ys
-  services_given-append = grind (arith, through-append, only, shown_in, flat_map-append, map-append, filter_map-append)
 
 -- ---- the hosts of the rows that are left
 
@@ -94,7 +85,3 @@ names-more before services i service within at other =
     at_drop_more (names_left before) services i service within
     ∙ ap (λ first. names_left before (first ∷ drop (i + 1) services)) (sym at)
     ∙ ap (λ same. map name_text (cond same (once before left) (name ∷ once name left))) other
-
--- WHAT FUNCTIONS ARE PROVED BY
-
-pub ruleset for_push_services = (served_by, served-append, append-nil, map-append)

@@ -1,7 +1,7 @@
 -- Instances in readable columns: their lines by the pieces that are written of them.
-use Rattle.std.proofs.Common.{◌≡◌, refl, sym, ◌∙◌, ap, subst, ℕ, ◌==◌, false, true, if◌then◌else◌}
+use Rattle.std.proofs.Common.{◌≡◌, refl, ap, ℕ, ◌==◌, false, true, if◌then◌else◌}
 use Rattle.std.proofs.Common.{List, [], ◌∷◌, ◌++◌, length, map, max, arith, codes}
-use Rattle.std.proofs.lemmas.{List.{append-nil, append_assoc, length-map}, Simd.{map-map}, Grind.{flat_map-append}}
+use Rattle.std.proofs.lemmas.{List.{append-nil, append_assoc, length-map}, List.Folds.{flat_map-map}, Simd.{map-map}, Grind.{flat_map-append}}
 use Rattle.std.specs.List.{flat_map}
 use Rattle.mdns_join.specs.declared.latest.Latest.{Latest}
 use Rattle.mdns_browse.specs.declared.{instance.Server.{Server}, instance_sheet.InstanceSheet.{InstanceSheet}}
@@ -9,45 +9,8 @@ use Rattle.mdns_browse.specs.ColumnPieces.{Adds, Writes, piece_columns, row_afte
 use Rattle.mdns_browse.specs.Columns.{heading, instance_rows, instances_pretty, line_of_some, time_left_text, other_row, others_pretty}
 use Rattle.mdns_browse.specs.{Columns.{rows_by_type, server_line, spaces, type_begin, widest, words_line}, Services.{GivenRow, InstanceRow}}
 use Rattle.mdns_browse.specs.{Sheet.{server_pieces, servers_pieces, instance_pieces}, RecordShown.{spaced_wide}}
-use Rattle.mdns_browse.specs.laws.ColumnPieces.{adds-both, columns-laws}
-use Rattle.mdns_browse.proofs.{LineLemmas.{flat_map-map, flat_map-pieces}, InstanceLemmas.{given_in}}
-
--- ---- instances one after another
-
-abbrev pub last_owner : List ℕ → List InstanceRow → List ℕ
-last_owner before [] = before
-last_owner before (row ∷ rows) = last_owner row.given.last.resource.owner rows
-
-pub record Shows (rows : List InstanceRow) (before : List ℕ) (old new : InstanceSheet) : Type 0 where
-  pub last : before ≡ last_owner [] rows
-  pub taken : Adds old (λ width now. rows_by_type width now [] rows) new
-
-rows-more : (width now : ℕ) (before : List ℕ) (rows : List InstanceRow) (row : InstanceRow)
-    → rows_by_type width now before rows ++ row_after (last_owner before rows) row width now ≡ rows_by_type width now before (rows ++ row ∷ [])
-rows-more width now before [] row = sym (append-nil (row_after before row width now))
-rows-more width now before (first ∷ rows) row =
-    let owner = first.given.last.resource.owner in
-    append_assoc (row_after before first width now) (rows_by_type width now owner rows) (row_after (last_owner owner rows) row width now)
-    ∙ ap (λ text. row_after before first width now ++ text) (rows-more width now owner rows row)
-
-last_owner-more : (before : List ℕ) (rows : List InstanceRow) (row : InstanceRow)
-    → last_owner before (rows ++ row ∷ []) ≡ row.given.last.resource.owner
-last_owner-more before [] row = refl
-last_owner-more before (first ∷ rows) row = last_owner-more first.given.last.resource.owner rows row
-
-pub shows-start : (sheet : InstanceSheet) → Shows [] [] sheet sheet
-shows-start sheet = record { last = refl; taken = columns-laws.nothing sheet }
-
-pub shows-more : {rows more : List InstanceRow} {before after : List ℕ} {old mid new : InstanceSheet} (row : InstanceRow) → Shows rows before old mid
-    → more ≡ rows ++ row ∷ [] → after ≡ row.given.last.resource.owner → Adds mid (row_after before row) new → Shows more after old new
-shows-more {rows} {more} {before} {after} {old} {mid} {new} row so_far whole owner taken =
-    subst (λ rows. Shows rows after old new) (sym whole) record {
-      last = owner ∙ sym (last_owner-more [] rows row);
-      taken =
-          adds-both (λ width now. rows_by_type width now [] rows) (row_after (last_owner [] rows) row)
-          (λ width now. rows_by_type width now [] (rows ++ row ∷ [])) (λ width now. rows-more width now [] rows row) so_far.taken
-          (subst (λ name. Adds mid (row_after name row) new) so_far.last taken);
-    }
+use Rattle.mdns_browse.specs.laws.ColumnPieces.{adds-both}
+use Rattle.mdns_browse.proofs.{LineLemmas.{flat_map-pieces}, InstanceLemmas.{given_in}}
 
 -- ---- lines by pieces
 

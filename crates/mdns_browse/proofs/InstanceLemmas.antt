@@ -1,19 +1,22 @@
 -- The instances that records give among rows.
 use Rattle.std.proofs.Common.{◌≡◌, refl, sym, ◌∙◌, ap, ℕ, ◌==◌, Bool, true, false, cond, Option, None, Some, is_some, option_map}
 use Rattle.std.proofs.Common.{List, [], ◌∷◌, ◌++◌, length, map, arith}
-use Rattle.std.proofs.lemmas.{Bool.{false≢true}, List.{map-append}}
+use Rattle.std.proofs.lemmas.{Bool.{false≢true}, List.{append-nil, append_assoc, drop_all, drop_more, map-append}}
 use Rattle.std.proofs.lemmas.{List.Elements.{filter-append, filter_map-append}, Option.{cond_some, none-some}}
 use Rattle.std.specs.List.{cons_option, filter, filter_map}
-use Rattle.mdns_message.specs.{Parts.{pointer_of, service_of, text_of}, Resource.{Body, number_of}, laws.Resource.{set_key_cmp-exact}}
+use Rattle.mdns_message.specs.{Parts.{pointer_of, service_of}, Resource.{Body, number_of}, laws.Resource.{set_key_cmp-exact}}
 use Rattle.mdns_message.specs.declared.body.RecordData.TheVariants as body
 use Rattle.mdns_join.specs.declared.latest.Latest.{Latest}
 use Rattle.mdns_browse.specs.{About.{keeps_instance}, Given.{kept_given}, declared.about.Subject.{Subject}}
 use Rattle.mdns_browse.specs.declared.instance.{Instance.{Instance}, Server.{Server}}
 use Rattle.mdns_browse.specs.Services.{GivenRow, InstanceRow, body_of, given_of, gives_instance, instance_given, instance_in}
-use Rattle.mdns_browse.specs.Services.{instance_row_in, instance_rows_in, lasts_in, name_if, rows_of_set, server_at}
-use Rattle.mdns_browse.proofs.{KeptLemmas.{filter-all}, ListLemmas.{through-append}, SearchLemmas.{eq_is}}
-use Rattle.std.proofs.lemmas.List.{append-nil}
-use Rattle.std.proofs.Common.{rules}
+use Rattle.mdns_browse.specs.Services.{instance_row_in, instance_rows_in, lasts_in, name_if, rows_of_set, server_at, servers_of}
+use Rattle.mdns_browse.proofs.SearchLemmas.{eq_is}
+
+-- where each value is kept, all are
+pub filter-all : {X : Type 0} (keep : X → Bool) → ((x : X) → keep x ≡ true) → (xs : List X) → filter keep xs ≡ xs
+filter-all keep all [] = refl
+filter-all keep all (x ∷ xs) = rw (all x) (ap (λ rest. x ∷ rest) (filter-all keep all xs))
 
 -- ---- what a record gives
 
@@ -84,9 +87,14 @@ module _ (rows : List Latest) where
   kept-none [] all none = grind (arith, filter-all, given-shown)
   kept-none (subject ∷ about) all none = grind (arith, false≢true)
 
-  pub kept-append : (about : List Subject) (xs ys : List GivenRow)
-      → kept_given about rows (xs ++ ys) ≡ kept_given about rows xs ++ kept_given about rows ys
-  kept-append about = grind (arith, through-append, map-append, filter-append, filter_map-append)
+  -- one record more
+  pub kept-more : (about : List Subject) (given : GivenRow) (others : List GivenRow)
+      → kept_given about rows (given ∷ others) ≡ kept_given about rows (given ∷ []) ++ kept_given about rows others
+  kept-more about given others =
+      ap (λ shown. given_in (filter (λ (row : InstanceRow). keeps_instance about row.instance) shown))
+      (filter_map-append (instance_row_in rows) (given ∷ []) others)
+      ∙ ap given_in (filter-append (λ (row : InstanceRow). keeps_instance about row.instance) (shown_in (given ∷ [])) (shown_in others))
+      ∙ map-append (λ (row : InstanceRow). row.given) _ _
 
   -- what is kept of one record
   pub kept-one : (about : List Subject) (given : GivenRow) (name : List ℕ) (b : Bool) → Some name ≡ pointer_of (body_of given.last)
@@ -113,21 +121,8 @@ module _ (rows : List Latest) where
 -- ---- servers and texts
 
 -- the server of SRV data
-abbrev pub server_in : List Latest → Body → Option Server
+abbrev server_in : List Latest → Body → Option Server
 server_in rows b = option_map (server_at rows) (service_of b)
-
--- the servers and the texts of these records
-abbrev pub servers_of : List Latest → List Latest → List Server
-servers_of rows found = filter_map (server_in rows) (map body_of found)
-
-abbrev pub texts_of : List Latest → List (List ℕ)
-texts_of found = filter_map text_of (map body_of found)
-
-pub servers-append : (rows xs ys : List Latest) → servers_of rows (xs ++ ys) ≡ servers_of rows xs ++ servers_of rows ys
-servers-append rows = through-append (filter_map (server_in rows)) (map body_of) (filter_map-append (server_in rows)) (map-append body_of)
-
-pub texts-append : (xs ys : List Latest) → texts_of (xs ++ ys) ≡ texts_of xs ++ texts_of ys
-texts-append = through-append (filter_map text_of) (map body_of) (filter_map-append text_of) (map-append body_of)
 
 -- SRV data has a server
 has_server : (all : List Latest) (held : Body) → number_of held ≡ 33 → (server : Server) × (server_in all held ≡ Some server)
@@ -145,8 +140,6 @@ served-each all (row ∷ rows) name = grind (arith, set_key_cmp-exact, eq_is, ha
 
 -- WHAT FUNCTIONS ARE PROVED BY
 
-pub ruleset for_kept_of = (kept-append, kept-none)
+pub ruleset for_kept_of = (drop_all, drop_more, kept-more, kept-none, append-nil, append_assoc)
 
 pub ruleset for_push_kept = (kept-no_pointer, kept-one, append-nil, map-append)
-
-pub ruleset for_push_csv_instances = (row_named, shown-one, shown_in, append-nil, filter_map-append)

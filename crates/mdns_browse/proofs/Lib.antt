@@ -1,5 +1,4 @@
 mod AboutLemmas
-mod AboutServiceLemmas
 mod ColumnLemmas
 mod CsvLemmas
 mod DigitLemmas
@@ -7,10 +6,8 @@ mod HostLemmas
 mod InstanceColumnLemmas
 mod InstanceLemmas
 mod JsonLemmas
-mod KeptLemmas
 mod LayoutLemmas
 mod LineLemmas
-mod ListLemmas
 mod NameLemmas
 mod ObjectLemmas
 mod ReachLemmas

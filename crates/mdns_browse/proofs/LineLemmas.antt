@@ -1,16 +1,11 @@
 -- Lines by the pieces that are written of them.
-use Rattle.std.proofs.Common.{◌≡◌, refl, ap, ℕ, ◌==◌, if◌then◌else◌, List, [], ◌∷◌, ◌++◌, length, map, arith, codes}
-use Rattle.std.proofs.lemmas.{List.{append-nil, append_assoc}, Grind.{flat_map-append}}
+use Rattle.std.proofs.Common.{◌≡◌, refl, ℕ, ◌==◌, if◌then◌else◌, List, [], ◌∷◌, ◌++◌, length, map, arith, codes}
+use Rattle.std.proofs.lemmas.{List.{append-nil, append_assoc}, List.Folds.{flat_map-map}, Grind.{flat_map-append}}
 use Rattle.std.specs.{Fmt.{decimal}, List.{flat_map}}
 use Rattle.dns_name.specs.Name.{name_text}
 use Rattle.mdns_browse.specs.{declared.instance.Server.{Server}, RecordText.{data_words, instance_lines, server_lines, spaced}}
 use Rattle.mdns_browse.specs.Sheet.{server_address, server_end, server_pieces, servers_pieces, instance_pieces}
 use Rattle.mdns_browse.specs.{LinePieces.{piece_lines}, Services.{InstanceRow}}
-
-pub flat_map-map : {X P : Type 0} (text_of : P → List ℕ) (piece : X → P) (xs : List X)
-    → flat_map text_of (map piece xs) ≡ flat_map (λ x. text_of (piece x)) xs
-flat_map-map text_of piece [] = refl
-flat_map-map text_of piece (x ∷ xs) = ap (λ text. text_of (piece x) ++ text) (flat_map-map text_of piece xs)
 
 pub flat_map-pieces : {X P : Type 0} (text_of : P → List ℕ) (pieces : X → List P) (text : X → List ℕ)
     → ((x : X) → flat_map text_of (pieces x) ≡ text x) → (xs : List X) → flat_map text_of (flat_map pieces xs) ≡ flat_map text xs

@@ -185,4 +185,4 @@ other-gives row name = grind (arith, name_if-decides, Decides-and, service-decid
 
 pub ruleset for_given_by_labels = (instance-decides, instance-gives, other-gives, service-decides, type-gives)
 
-pub ruleset for_is_instance_of = (instance-decides, instance-from, instance-rest, test-begins)
+pub ruleset for_is_instance_of = (instance-decides, instance-from, instance-rest, same_text-decides, test-begins)

@@ -1,5 +1,5 @@
 -- Sheets that take pieces one after another.
-use Rattle.std.proofs.{Common.{◌≡◌, refl, sym, ◌∙◌, ap, List, [], ◌++◌}, lemmas.List.{append-nil, append_assoc}}
+use Rattle.std.proofs.{Common.{◌≡◌, refl, sym, ◌∙◌, ap, List, [], ◌++◌}, lemmas.List.{append-nil, append_assoc, drop_all, drop_more}}
 use Rattle.mdns_browse.specs.Sheet.{TakeLaws}
 use Rattle.std.proofs.Common.{arith}
 
@@ -25,5 +25,7 @@ module _ {S P : Type 0} {takes : S → List P → S → Type 0} (laws : TakeLaws
   reaches-all {old} {new} at none = grind (arith, append-nil)
 
 -- WHAT FUNCTIONS ARE PROVED BY
+
+pub ruleset for_walks = (drop_all, drop_more, reaches-start, reaches-more, reaches-all)
 
 pub ruleset for_push_text_words = (reaches-start, reaches-more, reaches-all)

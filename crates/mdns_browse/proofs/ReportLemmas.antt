@@ -1,5 +1,6 @@
 -- A report about no subjects lists all.
 use Rattle.std.proofs.Common.{arith, ◌≡◌, ap, refl, ◌↔◌, ℕ, true, List, [], ◌∷◌, ◌++◌}
+use Rattle.std.proofs.lemmas.List.Folds.{flat_map-map}
 use Rattle.std.specs.List.{flat_map}
 use Rattle.dns_name.specs.Name.{name_text}
 use Rattle.mdns_message.specs.declared.hearing.Hearing.{Hearing}
@@ -8,7 +9,7 @@ use Rattle.mdns_browse.specs.{About.{keeps_instance, keeps_record, keeps_type}, 
 use Rattle.mdns_browse.specs.Hosts.{HostRow, host_line, hosts_in, keeps_host}
 use Rattle.mdns_browse.specs.{Services.{lasts_in, types_in}, RecordText.{record_line}, declared.report.Ask.{Ask}}
 use Rattle.mdns_browse.specs.declared.report.{Ask.TheVariants.{Records, Types, Instances, Hosts}, Form.TheVariants.{Lines}}
-use Rattle.mdns_browse.proofs.{InstanceLemmas.{instances-shown}, KeptLemmas.{filter-all}, LineLemmas.{flat_map-map}, RowLemmas.{like_value}}
+use Rattle.mdns_browse.proofs.{InstanceLemmas.{filter-all, instances-shown}, RowLemmas.{like_value}}
 
 all_lines : (ask : Ask) (now : ℕ) (rows : List (Latest × ℕ)) → text_about [] Lines now ask rows ≡ lines_in ask rows
 unfolding keeps_record keeps_type keeps_instance keeps_host

@@ -63,6 +63,4 @@ said-written first whole labels rest begun left both = grind (arith, said-parts)
 
 -- WHAT FUNCTIONS ARE PROVED BY
 
-pub ruleset for_matches_said = (labels_said, said-written)
-
 pub ruleset for_push_front = (front-written, IfOk-equal, IfOk-weaker, IsForm-after, IsForm-last, labels_of-after)

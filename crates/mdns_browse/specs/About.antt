@@ -1,42 +1,25 @@
 -- What is about a subject: a name, a word of data or an address for which somebody asks.
-use Rattle.std.specs.Prelude.{ℕ, ◌==◌, Bool, false, ◌||◌, List, [], ◌∷◌, ◌++◌, length, Option, Some, None, codes, string_bytes}
-use Rattle.std.specs.{Option.{option_map_or}, Cmp.Lexicographic.{slice_cmp}, Fmt.{decimal}, List.{list_any}}
+use Rattle.std.specs.Prelude.{ℕ, ◌-◌, ◌==◌, Bool, true, false, ◌||◌, ◌&&◌, nat_le, if◌then◌else◌, List, [], ◌∷◌, ◌++◌, length, take, drop}
+use Rattle.std.specs.Prelude.{Option, Some, None, codes, string_bytes}
+use Rattle.std.specs.{Cmp.Lexicographic.{slice_cmp}, Fmt.{decimal}, List.{flat_map, list_any}}
 use Rattle.std.specs.{Net.Addr.{ipv4_octets, ipv6_octets}, Ordering.{is_eq, nat_cmp}, declared.net.ip_addr.IpAddr.{IpAddr}}
 use Rattle.std.specs.declared.net.ip_addr.IpAddr.TheVariants.{V4, V6}
-use Rattle.dns_name.specs.Name.{labels_of, label_text, name_text, wire_of}
-use Rattle.mdns_message.specs.{Resource.{Body}, Parts.{content_of, service_of}, declared.parts.Content.{Content}}
-use Rattle.mdns_message.specs.declared.resource.Resource.{Resource}
+use Rattle.dns_name.specs.Name.{bytes_text, labels_of, name_text, wire_of}
+use Rattle.mdns_message.specs.{Resource.{Body}, Parts.{content_of}, TextData.{strings_of}}
+use Rattle.mdns_message.specs.declared.{parts.Address.{Address}, parts.Content.{Content}, parts.Service.{Service}, resource.Resource.{Resource}}
 use Rattle.mdns_message.specs.declared.parts.Address.TheVariants as address
 use Rattle.mdns_message.specs.declared.parts.Content.TheVariants as content
 use Rattle.mdns_join.specs.declared.latest.Latest.{Latest}
 use Rattle.people_text.specs.Shown.{dotted, name_shown, shown}
 use Rattle.mdns_browse.specs.declared.{about.Subject.{Subject}, instance.Instance.{Instance}, instance.Server.{Server}}
-use Rattle.mdns_browse.specs.{NameSaid.{front}, Services.{instance_in, same_text, server_at}, RecordShown.{shown_strings}}
-use Rattle.mdns_browse.specs.RecordText.{text_words}
+use Rattle.mdns_browse.specs.{NameSaid.{front}, Services.{instance_in, same_text}}
 
--- the word is one of the texts
-abbrev pub is_one_of : List ℕ → List (List ℕ) → Bool
-is_one_of word texts = list_any (same_text word) texts
+-- ---- subjects
 
--- the word is the text, or the text without `.local` at its end
-unfoldable pub matches_text_in_local : List ℕ → List ℕ → Bool
-matches_text_in_local word text = same_text word text || same_text (word ++ codes ".local") text
-
--- the word is the first of the labels alone, as lines write it or as people read it
-abbrev pub is_first_label : List ℕ → List (List ℕ) → Bool
-is_first_label word [] = false
-is_first_label word (label ∷ labels) = same_text word (label_text label) || same_text word (shown label)
-
--- the word is the labels as people write them, in whose dots nothing is escaped: all, or those of the instance before its type
-unfoldable pub matches_said : List ℕ → List (List ℕ) → Bool
-matches_said word labels = same_text word (dotted shown (front labels)) || matches_text_in_local word (dotted shown labels)
-
--- the word is the name, as lines write it, as people read it or as they write it: whole, without `local` at its end, or its first
--- label alone, and of an instance's name what stands before its type
-unfoldable pub matches_name : List ℕ → List ℕ → Bool
-matches_name word name =
-    matches_text_in_local word (name_text name)
-    || (matches_text_in_local word (name_shown name) || (matches_said word (labels_of name) || is_first_label word (labels_of name)))
+-- what a subject may be: a text, or an address of these octets
+pub data Asked : Type 0 where
+  Text : List ℕ → Asked
+  Octets : List ℕ → Asked
 
 -- the address has these octets; what is no address has none
 unfoldable pub matches_address : Option IpAddr → List ℕ → Bool
@@ -44,66 +27,113 @@ matches_address None octets = false
 matches_address (Some (V4 address)) octets = is_eq (slice_cmp nat_cmp (ipv4_octets address) octets)
 matches_address (Some (V6 address)) octets = is_eq (slice_cmp nat_cmp (ipv6_octets address) octets)
 
--- the subject is a word of what data says: an address in any of its forms; a name; a string, as lines write it or as people
--- read it; of a service the priority, the weight, the port, or `TARGET:PORT`
-unfoldable pub is_in_content : Subject → Content (List ℕ) (List ℕ) → Bool
-is_in_content subject (content.Address (address.V4 octets)) = matches_address subject.address octets
-is_in_content subject (content.Address (address.V6 octets)) = matches_address subject.address octets
-is_in_content subject (content.Name name) = matches_name (string_bytes subject.text) name
-is_in_content subject (content.Strings bytes) =
-    is_one_of (string_bytes subject.text) (text_words bytes) || is_one_of (string_bytes subject.text) (shown_strings bytes)
-is_in_content subject (content.Service service) =
-    matches_name (string_bytes subject.text) service.target
-    || is_one_of (string_bytes subject.text)
-    (decimal service.priority ∷ decimal service.weight ∷ decimal service.port
-    ∷ (name_shown service.target ++ 58 ∷ decimal service.port) ∷ [])
+-- the subject is that
+abbrev pub is_the : Asked → Subject → Bool
+is_the (Text text) subject = same_text (string_bytes subject.text) text
+is_the (Octets octets) subject = matches_address subject.address octets
 
--- the subject is a word of the data
-abbrev pub is_in_data : Subject → Body → Bool
-is_in_data subject b = is_in_content subject (content_of b)
+-- one of the subjects is that, or one of these
+abbrev pub is_asked : List Subject → Asked → Bool
+is_asked about asked = list_any (is_the asked) about
 
--- the subject is the text
-abbrev pub is_text_about : List ℕ → Subject → Bool
-is_text_about text subject = same_text (string_bytes subject.text) text
+abbrev pub are_asked : List Subject → List Asked → Bool
+are_asked about all = list_any (is_asked about) all
 
--- the subject is the name
-abbrev pub is_name_about : List ℕ → Subject → Bool
-is_name_about name subject = matches_name (string_bytes subject.text) name
+-- ---- how people ask for a name
 
--- the word is the name after the first of the labels: of an instance's name, its type (RFC 6763, section 4.1)
-abbrev pub matches_rest : List ℕ → List (List ℕ) → Bool
-matches_rest word [] = false
-matches_rest word (label ∷ labels) = matches_name word (wire_of labels)
+-- the text before `.local` at its end, whatever the case of its letters, if it ends so
+abbrev pub before_local : List ℕ → Option (List ℕ)
+before_local text =
+    if nat_le 6 (length text) && same_text (drop (length text - 6) text) (codes ".local") then Some (take (length text - 6) text) else None
 
--- the server is about the subject: it is the target, or one of its addresses
-abbrev pub is_server_about : Server → Subject → Bool
-is_server_about server subject = is_name_about server.target subject || list_any (is_in_data subject) server.addresses
+abbrev pub text_if : Option (List ℕ) → List Asked
+text_if None = []
+text_if (Some text) = Text text ∷ []
 
--- the instance is about the subject: it is its name, its type, a server or an address of one
-abbrev pub is_instance_about : Instance → Subject → Bool
-is_instance_about instance subject =
-    is_name_about instance.name subject || (matches_rest (string_bytes subject.text) (labels_of instance.name)
-    || list_any (λ server. is_server_about server subject) instance.servers)
+-- the text, and the text without `.local` at its end
+unfoldable pub in_local : List ℕ → List Asked
+in_local text = Text text ∷ text_if (before_local text)
 
--- SRV data gives a server among rows that is about the subject
-abbrev pub is_served_about : List Latest → Body → Subject → Bool
-is_served_about rows b subject = option_map_or (λ service. is_server_about (server_at rows service) subject) (service_of b) false
+-- bytes as lines write them, which may escape dots, and as people read them
+abbrev pub bytes_asked : Bool → List ℕ → List Asked
+bytes_asked dots bytes = Text (bytes_text dots bytes) ∷ Text (shown bytes) ∷ []
 
--- a value is kept where it is about one of the subjects, or where there are no subjects
-abbrev pub keeps : (Subject → Bool) → List Subject → Bool
-keeps is_about subjects = (length subjects == 0) || list_any is_about subjects
+-- the labels as people write them, in whose dots nothing is escaped: those of an instance before its type, and all
+unfoldable pub said_asked : List (List ℕ) → List Asked
+said_asked labels = Text (dotted shown (front labels)) ∷ in_local (dotted shown labels)
 
--- a record is about the subject that is its owner, or a word of its data
+-- the first of the labels alone
+abbrev pub label_asked : List (List ℕ) → List Asked
+label_asked [] = []
+label_asked (label ∷ labels) = bytes_asked true label
+
+-- a name, as lines write it, as people read it or as they write it: whole, without `local` at its end, or its first label alone, and
+-- of an instance's name what stands before its type
+unfoldable pub name_asked : List ℕ → List Asked
+name_asked name = in_local (name_text name) ++ (in_local (name_shown name) ++ (said_asked (labels_of name) ++ label_asked (labels_of name)))
+
+-- the name after the first of the labels: of an instance's name, its type (RFC 6763, section 4.1)
+abbrev pub rest_asked : List (List ℕ) → List Asked
+rest_asked [] = []
+rest_asked (label ∷ labels) = name_asked (wire_of labels)
+
+-- ---- and for data, records and instances
+
+-- a string, where it isn't empty
+abbrev pub string_asked : List ℕ → List Asked
+string_asked [] = []
+string_asked (b ∷ bytes) = bytes_asked false (b ∷ bytes)
+
+abbrev pub address_asked : Address → Asked
+address_asked (address.V4 octets) = Octets octets
+address_asked (address.V6 octets) = Octets octets
+
+-- a service: its target, its priority, weight and port, and `TARGET:PORT`
+abbrev pub service_asked : Service (List ℕ) → List Asked
+service_asked service =
+    name_asked service.target
+    ++ Text (decimal service.priority) ∷ Text (decimal service.weight) ∷ Text (decimal service.port)
+    ∷ Text (name_shown service.target ++ 58 ∷ decimal service.port) ∷ []
+
+-- what data says: an address in any of its forms, a name, strings or a service
+unfoldable pub content_asked : Content (List ℕ) (List ℕ) → List Asked
+content_asked (content.Address address) = address_asked address ∷ []
+content_asked (content.Name name) = name_asked name
+content_asked (content.Strings bytes) = flat_map string_asked (strings_of bytes)
+content_asked (content.Service service) = service_asked service
+
+abbrev pub data_asked : Body → List Asked
+data_asked b = content_asked (content_of b)
+
+-- a record: its owner, and its data
+abbrev pub record_asked : Resource → List Asked
+record_asked resource = name_asked resource.owner ++ data_asked resource.body
+
+-- a server: the target, and its addresses
+abbrev pub server_asked : Server → List Asked
+server_asked server = name_asked server.target ++ flat_map data_asked server.addresses
+
+-- an instance: its name, its type, and its servers with their addresses
+abbrev pub instance_asked : Instance → List Asked
+instance_asked instance =
+    name_asked instance.name ++ (rest_asked (labels_of instance.name) ++ flat_map server_asked instance.servers)
+
+-- ---- what is kept
+
+-- a value is kept for which one of the subjects asks, or where there are no subjects
+abbrev pub keeps : List Subject → List Asked → Bool
+keeps about all = (length about == 0) || are_asked about all
+
 unfoldable pub keeps_record : List Subject → Resource → Bool
-keeps_record about resource = keeps (λ subject. is_name_about resource.owner subject || is_in_data subject resource.body) about
+keeps_record about resource = keeps about (record_asked resource)
 
--- a service type is about one of the subjects, or there are none
+-- a service type
 unfoldable pub keeps_type : List Subject → List ℕ → Bool
-keeps_type about name = keeps (is_name_about name) about
+keeps_type about name = keeps about (name_asked name)
 
 -- and a service instance
 unfoldable pub keeps_instance : List Subject → Instance → Bool
-keeps_instance about instance = keeps (is_instance_about instance) about
+keeps_instance about instance = keeps about (instance_asked instance)
 
 -- the instance of that name among rows that were heard, live or not
 abbrev pub keeps_heard : List Subject → List Latest → List ℕ → Bool

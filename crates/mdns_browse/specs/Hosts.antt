@@ -1,7 +1,7 @@
 -- Hosts: the owners of live A and AAAA records (RFC 6762, section 10), and the services on them: those whose SRV records have
 -- the host as their target (RFC 6763, section 4.1).
-use Rattle.std.specs.Prelude.{◌≡◌, ℕ, Bool, ◌==◌, ◌||◌, if◌then◌else◌, List, [], ◌∷◌, ◌++◌, length, map, codes, is_some}
-use Rattle.std.specs.{Fmt.{decimal}, List.{filter, flat_map, list_any}, List.Sorted.{IsSorted}, Ordering.{nat_cmp}}
+use Rattle.std.specs.Prelude.{◌≡◌, ℕ, Bool, if◌then◌else◌, List, [], ◌∷◌, ◌++◌, map, codes, is_some}
+use Rattle.std.specs.{Fmt.{decimal}, List.{filter, flat_map}, List.Sorted.{IsSorted}, Ordering.{nat_cmp}}
 use Rattle.std.specs.{Borrow.{Bor}, Cmp.Lexicographic.{slice_cmp}, declared.cmp.Ordering.{Ordering}}
 use Rattle.dns_name.specs.Name.{folded, name_text}
 use Rattle.people_text.specs.Shown.{name_shown}
@@ -9,9 +9,9 @@ use Rattle.mdns_message.specs.{Parts.{address_of}, Resource.{type_number}}
 use Rattle.mdns_message.specs.declared.record_type.RecordType.TheVariants as kind
 use Rattle.mdns_join.specs.declared.latest.Latest.{Latest}
 use Rattle.mdns_cache.specs.LentRecords.{last_lent}
-use Rattle.mdns_browse.specs.{About.{keeps_heard, keeps_record}, RecordShown.{shown_words, spaced_wide}}
+use Rattle.mdns_browse.specs.{About.{Asked, data_asked, instance_asked, keeps, name_asked}, RecordShown.{shown_words, spaced_wide}}
 use Rattle.mdns_browse.specs.{Csv.{Nothing, Number, Text, csv_line, joined}, Json.{json_member, json_object, json_words, text_member}}
-use Rattle.mdns_browse.specs.{RecordText.{data_words, spaced}, Services.{body_of, instances_in, lasts_in, rows_of_set, same_text}}
+use Rattle.mdns_browse.specs.{RecordText.{data_words, spaced}, Services.{body_of, instance_in, instances_in, lasts_in, rows_of_set, same_text}}
 use Rattle.mdns_browse.specs.declared.{about.Subject.{Subject}, instance.Instance.{Instance}, instance.Server.{Server}, host.Host.{Host}}
 use Rattle.mdns_browse.specs.declared.host.HostService.{HostService}
 
@@ -67,12 +67,15 @@ host_in rows name = record {
 abbrev pub hosts_in : List Latest → List HostRow
 hosts_in rows = map (host_in rows) (host_names rows)
 
--- one of the host's address records is about one of the subjects, or one of the instances on it is; or there are no subjects
+-- how people ask for services: by their instances
+abbrev pub served_asked : List Latest → List ServedRow → List Asked
+served_asked rows services = flat_map (λ (service : ServedRow). instance_asked (instance_in rows service.instance)) services
+
+-- and for a host: by its name, its addresses and the services on it
 unfoldable pub keeps_host : List Subject → List Latest → HostRow → Bool
 keeps_host about rows host =
-    (length about == 0)
-    || (list_any (λ (row : Latest). keeps_record about row.resource) host.addresses
-    || list_any (λ (service : ServedRow). keeps_heard about rows service.instance) host.services)
+    keeps about
+    (name_asked host.name ++ (flat_map data_asked (map body_of host.addresses) ++ served_asked rows host.services))
 
 -- what a report lists: the hosts about one of the subjects, of live records with their ends; all, where there are no subjects
 abbrev pub hosts_about : List Subject → List (Latest × ℕ) → List HostRow

@@ -83,11 +83,19 @@ unfoldable pub until_shown : ℕ → Life → List ℕ
 until_shown end life =
     if nat_lt end life.until then codes "(" ++ millis_text life.until ++ codes ")" else codes " " ++ millis_text life.until ++ codes " "
 
--- a life in columns: from when until when, each of 24 bytes, how it ended, the type, and the record
-unfoldable pub life_row : ℕ → ℕ → Resource → Life → List ℕ
-life_row width end resource life =
+-- the first columns of a life: from when until when, each of 24 bytes, and how it ended
+abbrev pub life_columns : ℕ → ℕ → Life → List ℕ
+life_columns width end life =
     millis_text life.from.nanos ++ codes " " ++ until_shown end life ++ codes " " ++ padded width (end_shown end life)
-    ++ codes "  " ++ padded 4 (type_name (type_of resource.body)) ++ codes "  " ++ shown_record resource ++ 10 ∷ []
+
+-- the columns after these: the type, and the record
+abbrev pub resource_columns : Resource → List ℕ
+resource_columns resource =
+    codes "  " ++ padded 4 (type_name (type_of resource.body)) ++ codes "  " ++ shown_record resource ++ 10 ∷ []
+
+-- a life in columns
+unfoldable pub life_row : ℕ → ℕ → Resource → Life → List ℕ
+life_row width end resource life = life_columns width end life ++ resource_columns resource
 
 -- what so many of them are called
 abbrev pub called : Which → ℕ → List ℕ

@@ -121,13 +121,19 @@ server_at rows service =
       addresses = data_of_set rows service.target (type_number kind.A) ++ data_of_set rows service.target (type_number kind.Aaaa);
     }
 
--- the servers of a name, by its SRV records: where an instance is served (section 5)
-abbrev pub servers_in : List Latest → List ℕ → List Server
-servers_in rows name = filter_map (λ b. option_map (server_at rows) (service_of b)) (data_of_set rows name (type_number kind.Srv))
+-- the servers of SRV records that were found, and those of a name: where an instance is served (section 5)
+abbrev pub servers_of : List Latest → List Latest → List Server
+servers_of rows found = filter_map (λ b. option_map (server_at rows) (service_of b)) (map body_of found)
 
--- the data of the TXT records of a name: an instance's attributes (section 6)
+abbrev pub servers_in : List Latest → List ℕ → List Server
+servers_in rows name = servers_of rows (rows_of_set rows name (type_number kind.Srv))
+
+-- the data of TXT records that were found, and those of a name: an instance's attributes (section 6)
+abbrev pub texts_of : List Latest → List (List ℕ)
+texts_of found = filter_map text_of (map body_of found)
+
 abbrev pub texts_in : List Latest → List ℕ → List (List ℕ)
-texts_in rows name = filter_map text_of (data_of_set rows name (type_number kind.Txt))
+texts_in rows name = texts_of (rows_of_set rows name (type_number kind.Txt))
 
 -- the instance of a name, with its servers and its texts
 abbrev pub instance_in : List Latest → List ℕ → Instance

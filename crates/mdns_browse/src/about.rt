@@ -4,7 +4,7 @@ ghost use Rattle.std.specs.{Prelude.{◌≡◌, string_bytes, MatchOption}, Net.
 
 pub(crate) use crate::keeps::keeps_type;
 pub use crate::keeps::{keeps_heard_instance, keeps_record};
-use dns_name::fold::folded_eq;
+use crate::lookup::same_text;
 use std::net::IpAddr;
 
 /// A name, a word of data or an address for which somebody asks, as lines write it, as people read it, or an address in
@@ -40,11 +40,11 @@ impl Subject {
     pub(crate) fn matches_text(&self, text: &[u8]) -> bool
         ensures { result ≡ same_text (string_bytes self.now.text) text.now }
     {
-        folded_eq(self.text.as_bytes(), text)
+        same_text(self.text.as_bytes(), text)
     }
 
     /// Checks that the subject is an address of these octets.
-    #[tactic(auto, unfolding(crate::specs::About::matches_address))]
+    #[tactic(auto, using(crate::proofs::AboutLemmas::for_matches_address), unfolding(crate::specs::About::matches_address))]
     pub(crate) fn matches_address(&self, octets: &[u8]) -> bool
         ensures { result ≡ matches_address self.now.address octets.now }
     {

@@ -1,10 +1,11 @@
 //! Which data of records has a subject.
 
-ghost use Rattle.std.specs.{Prelude.{◌≡◌, ◌||◌, ◌++◌, ◌∷◌, IfOk, string_bytes}, Fmt.{decimal}, List.{list_any}};
+ghost use Rattle.std.specs.{Prelude.{◌≡◌, ◌++◌, ◌∷◌, IfOk}, Fmt.{decimal}};
 ghost use Rattle.mdns_message.specs.{Borrowed.{body_lent}, Parts.{content_lent, service_lent}};
 ghost use Rattle.people_text.specs.Shown.{name_shown};
-ghost use Rattle.mdns_browse.specs.About.{is_in_content, is_in_data, is_one_of, is_text_about, matches_address};
-ghost use Rattle.mdns_browse.specs.{RecordShown.{shown_string}, RecordText.{string_words}};
+ghost use Rattle.mdns_browse.specs.About.{Octets, Text, address_asked, are_asked, content_asked, data_asked, is_asked, service_asked};
+ghost use Rattle.mdns_browse.specs.About.{string_asked};
+ghost use Rattle.mdns_message.specs.declared.parts.Content.TheVariants.{Strings};
 
 use crate::about::Subject;
 use crate::about_names::{matches_bytes, matches_name, matches_number, matches_text};
@@ -18,18 +19,19 @@ pub(crate) fn is_in_data(
     body: &BorrowedBody<'_>,
     scratch: &mut String,
 ) -> Result<bool, Want>
-    ensures { IfOk result (λ is. is ≡ list_any (λ subject. is_in_data subject (body_lent body.now)) about.now) }
+    ensures { IfOk result (λ is. is ≡ are_asked about.now (data_asked (body_lent body.now))) }
 {
     is_in_content(about, body.content(), scratch)
 }
 
 // Checks that one of the subjects is a word of what data says.
+#[tactic(auto, using(crate::proofs::AboutLemmas::for_asked), unfolding(crate::specs::About::content_asked))]
 fn is_in_content(
     about: &[Subject],
     content: Content<&BorrowedName<'_>, &[u8]>,
     scratch: &mut String,
 ) -> Result<bool, Want>
-    ensures { IfOk result (λ is. is ≡ list_any (λ subject. is_in_content subject (content_lent content.entry)) about.now) }
+    ensures { IfOk result (λ is. is ≡ are_asked about.now (content_asked (content_lent content.entry))) }
 {
     match content {
         Content::Address(address) => Ok(matches_host_address(about, address)),
@@ -40,13 +42,13 @@ fn is_in_content(
 }
 
 // Checks that one of the subjects is the target of a server, a number, or target and port.
+#[tactic(auto, using(crate::proofs::AboutLemmas::for_asked))]
 fn is_in_service(
     about: &[Subject],
     service: Service<&BorrowedName<'_>>,
     scratch: &mut String,
 ) -> Result<bool, Want>
-    ensures { IfOk result (λ is. is
-        ≡ list_any (λ subject. is_in_content subject (Content.Service (service_lent service.entry))) about.now) }
+    ensures { IfOk result (λ is. is ≡ are_asked about.now (service_asked (service_lent service.entry))) }
 {
     if matches_name(about, service.target, scratch)? {
         return Ok(true);
@@ -64,9 +66,8 @@ fn is_in_service(
 }
 
 // Checks that one of the subjects is the address of a host.
-#[tactic(auto, unfolding(crate::specs::About::is_in_content))]
 fn matches_host_address(about: &[Subject], address: Address) -> bool
-    ensures { result ≡ list_any (λ subject. is_in_content subject (Content.Address address)) about.now }
+    ensures { result ≡ is_asked about.now (address_asked address) }
 {
     match address {
         Address::V4(octets) => matches_address(about, octets.as_slice()),
@@ -76,14 +77,15 @@ fn matches_host_address(about: &[Subject], address: Address) -> bool
 
 // Checks that one of the subjects is an address of these octets.
 fn matches_address(about: &[Subject], octets: &[u8]) -> bool
-    ensures { result ≡ list_any (λ subject. matches_address subject.address octets.now) about.now }
+    ensures { result ≡ is_asked about.now (Octets octets.now) }
 {
     about.iter().any(|subject| subject.matches_address(octets))
 }
 
 // Checks that one of the subjects is a string of TXT data.
+#[tactic(auto, using(crate::proofs::AboutLemmas::for_asked), unfolding(crate::specs::About::content_asked))]
 fn is_in_text(about: &[Subject], bytes: &[u8], scratch: &mut String) -> Result<bool, Want>
-    ensures { IfOk result (λ is. is ≡ list_any (λ subject. is_in_content subject (Content.Strings bytes.now)) about.now) }
+    ensures { IfOk result (λ is. is ≡ are_asked about.now (content_asked (Strings bytes.now))) }
 {
     let mut rest = bytes;
     while let Some((string, after)) = first_string(rest) {
@@ -96,10 +98,9 @@ fn is_in_text(about: &[Subject], bytes: &[u8], scratch: &mut String) -> Result<b
 }
 
 // Checks that one of the subjects is the string of TXT data, where it is a word.
+#[tactic(auto, using(crate::proofs::AboutLemmas::for_matches_string))]
 fn matches_string(about: &[Subject], string: &[u8], scratch: &mut String) -> Result<bool, Want>
-    ensures { IfOk result (λ is. is
-        ≡ list_any (λ subject. is_one_of (string_bytes subject.text) (string_words string.now)
-        || is_one_of (string_bytes subject.text) (shown_string string.now)) about.now) }
+    ensures { IfOk result (λ is. is ≡ are_asked about.now (string_asked string.now)) }
 {
     if !is_word(string) {
         return Ok(false);
@@ -114,8 +115,7 @@ fn matches_place(
     port: u16,
     scratch: &mut String,
 ) -> Result<bool, Want>
-    ensures { IfOk result (λ is. is
-        ≡ list_any (is_text_about (name_shown target.now ++ 58 ∷ decimal port)) about.now) }
+    ensures { IfOk result (λ is. is ≡ is_asked about.now (Text (name_shown target.now ++ 58 ∷ decimal port))) }
 {
     scratch.clear();
     push_shown_name(scratch, target)?;

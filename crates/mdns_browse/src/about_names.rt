@@ -1,15 +1,12 @@
 //! Which texts and names are subjects.
 
-ghost use Rattle.std.specs.Prelude.{◌≡◌, ◌++◌, ◌||◌, ℕ, List, IfOk, IfNone, IfSome, codes, string_bytes, false};
-ghost use Rattle.std.specs.{Fmt.{decimal}, List.{list_any}};
-ghost use Rattle.dns_name.specs.Name.{bytes_text, labels_of};
-ghost use Rattle.people_text.specs.Shown.{shown};
-ghost use Rattle.mdns_browse.specs.About.{matches_rest, matches_said, is_text_about, matches_text_in_local, is_name_about};
-ghost use Rattle.mdns_browse.specs.Services.{same_text};
+ghost use Rattle.std.specs.{Prelude.{◌≡◌, IfOk, option_map}, Fmt.{decimal}};
+ghost use Rattle.dns_name.specs.Name.{labels_of};
+ghost use Rattle.mdns_browse.specs.About.{Text, are_asked, before_local, bytes_asked, in_local, is_asked, name_asked, rest_asked, said_asked};
 
 use crate::about::Subject;
+use crate::lookup::same_text;
 use crate::name_said::{push_front, push_further};
-use dns_name::fold::folded_eq;
 use dns_name::name::split_label;
 use dns_name::name_text::push_escaped;
 use mdns_message::{BorrowedName, Want};
@@ -21,7 +18,7 @@ const LOCAL: &[u8] = b".local";
 
 /// Checks that one of the subjects is the text.
 pub(crate) fn matches_text(about: &[Subject], text: &[u8]) -> bool
-    ensures { result ≡ list_any (is_text_about text.now) about.now }
+    ensures { result ≡ is_asked about.now (Text text.now) }
 {
     about.iter().any(|subject| subject.matches_text(text))
 }
@@ -32,7 +29,7 @@ pub(crate) fn matches_number(
     number: u16,
     scratch: &mut String,
 ) -> Result<bool, Want>
-    ensures { IfOk result (λ is. is ≡ list_any (is_text_about (decimal number)) about.now) }
+    ensures { IfOk result (λ is. is ≡ is_asked about.now (Text (decimal number))) }
 {
     scratch.clear();
     write!(scratch, "{number}")?;
@@ -47,9 +44,7 @@ pub(crate) fn matches_bytes(
     dots: bool,
     scratch: &mut String,
 ) -> Result<bool, Want>
-    ensures { IfOk result (λ is. is
-        ≡ list_any (λ subject. is_text_about (bytes_text dots bytes.now) subject || is_text_about (shown bytes.now) subject)
-        about.now) }
+    ensures { IfOk result (λ is. is ≡ are_asked about.now (bytes_asked dots bytes.now)) }
 {
     scratch.clear();
     push_escaped(bytes, dots, scratch)?;
@@ -62,22 +57,22 @@ pub(crate) fn matches_bytes(
 }
 
 /// Checks that one of the subjects is the name.
-#[tactic(auto, using(crate::proofs::AboutLemmas::for_matches_name))]
+#[tactic(auto, using(crate::proofs::AboutLemmas::for_matches_name), unfolding(crate::specs::About::name_asked))]
 pub(crate) fn matches_name(
     about: &[Subject],
     name: &BorrowedName<'_>,
     scratch: &mut String,
 ) -> Result<bool, Want>
-    ensures { IfOk result (λ is. is ≡ list_any (is_name_about name.now) about.now) }
+    ensures { IfOk result (λ is. is ≡ are_asked about.now (name_asked name.now)) }
 {
     scratch.clear();
     name.push_text(scratch)?;
-    if matches_text_in_local(about, scratch.as_bytes()) {
+    if matches_in_local(about, scratch.as_bytes()) {
         return Ok(true);
     }
     scratch.clear();
     push_shown_name(scratch, name)?;
-    if matches_text_in_local(about, scratch.as_bytes()) {
+    if matches_in_local(about, scratch.as_bytes()) {
         return Ok(true);
     }
     if matches_said(about, name, scratch)? {
@@ -90,13 +85,13 @@ pub(crate) fn matches_name(
 }
 
 // Checks that one of the subjects is the name as people write it, or what of it stands before a type.
-#[tactic(auto, using(crate::proofs::AboutLemmas::for_matches_said, crate::proofs::SaidLemmas::for_matches_said), unfolding(crate::specs::About::matches_said))]
+#[tactic(auto, using(crate::proofs::AboutLemmas::for_matches_said), unfolding(crate::specs::About::said_asked))]
 fn matches_said(
     about: &[Subject],
     name: &BorrowedName<'_>,
     scratch: &mut String,
 ) -> Result<bool, Want>
-    ensures { IfOk result (λ is. is ≡ list_any (λ subject. matches_said (string_bytes subject.text) (labels_of name.now)) about.now) }
+    ensures { IfOk result (λ is. is ≡ are_asked about.now (said_asked (labels_of name.now))) }
 {
     scratch.clear();
     let rest = push_front(scratch, name.wire())?;
@@ -104,17 +99,17 @@ fn matches_said(
         return Ok(true);
     }
     push_further(scratch, rest)?;
-    Ok(matches_text_in_local(about, scratch.as_bytes()))
+    Ok(matches_in_local(about, scratch.as_bytes()))
 }
 
 /// Checks that one of the subjects is the name after the first label.
+#[tactic(auto, using(crate::proofs::AboutLemmas::for_matches_rest))]
 pub(crate) fn matches_rest(
     about: &[Subject],
     name: &BorrowedName<'_>,
     scratch: &mut String,
 ) -> Result<bool, Want>
-    ensures { IfOk result (λ is. is
-        ≡ list_any (λ subject. matches_rest (string_bytes subject.text) (labels_of name.now)) about.now) }
+    ensures { IfOk result (λ is. is ≡ are_asked about.now (rest_asked (labels_of name.now))) }
 {
     match split_label(name.wire()) {
         Some((_, rest)) => matches_name(about, &BorrowedName::from_valid_wire(rest), scratch),
@@ -123,8 +118,9 @@ pub(crate) fn matches_rest(
 }
 
 // Checks that one of the subjects is the text, or the text without `.local` at its end.
-fn matches_text_in_local(about: &[Subject], text: &[u8]) -> bool
-    ensures { result ≡ list_any (λ subject. matches_text_in_local (string_bytes subject.text) text.now) about.now }
+#[tactic(auto, unfolding(crate::specs::About::in_local))]
+fn matches_in_local(about: &[Subject], text: &[u8]) -> bool
+    ensures { result ≡ are_asked about.now (in_local text.now) }
 {
     if matches_text(about, text) {
         return true;
@@ -136,15 +132,12 @@ fn matches_text_in_local(about: &[Subject], text: &[u8]) -> bool
 }
 
 // Returns the text before `.local` at its end, whatever the case of its letters; `None` where it doesn't end so.
-#[tactic(auto, using(crate::proofs::AboutLemmas::for_before_local))]
 fn before_local(text: &[u8]) -> Option<&[u8]>
-    ensures some { IfSome result (λ front. (word : List ℕ)
-        → same_text (word ++ codes ".local") text.now ≡ same_text word front.now) }
-    ensures none { IfNone result ((word : List ℕ) → same_text (word ++ codes ".local") text.now ≡ false) }
+    ensures { option_map (λ front. front.now) result ≡ before_local text.now }
 {
     let at = text.len().checked_sub(LOCAL.len())?;
     let (front, end) = text.split_at(at);
-    if !folded_eq(end, LOCAL) {
+    if !same_text(end, LOCAL) {
         return None;
     }
     Some(front)

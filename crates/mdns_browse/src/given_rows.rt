@@ -43,7 +43,6 @@ pub(crate) fn given_in<'a>(
 }
 
 /// Collects live records, and those that give an instance.
-#[tactic(auto, using(crate::proofs::KeptLemmas::for_gather, crate::proofs::ListLemmas::for_gather))]
 pub(crate) fn gather<'a>(alloc: Global, walk: LiveWalk<'a>) -> Result<Gathered<'a>, Want>
     ensures rows { IfOk result (λ gathered. map last_lent gathered.rows.items ≡ lasts_in walk.entry) }
     ensures given { IfOk result (λ gathered. map given_lent gathered.given.items ≡ filter gives_instance (map given_of walk.entry)) }
@@ -70,7 +69,7 @@ fn push_given<'a>(to: &mut Vec<InstancePointer<'a>>, given: InstancePointer<'a>)
 
 // Returns those of these records, each of which gives an instance, whose instance is about the subjects. The servers are
 // looked up in the rows.
-#[tactic(auto, using(crate::proofs::InstanceLemmas::for_kept_of, crate::proofs::ListLemmas::for_kept_of))]
+#[tactic(auto, using(crate::proofs::InstanceLemmas::for_kept_of))]
 fn kept_of<'a>(
     alloc: Global,
     about: &[Subject],

@@ -1,19 +1,20 @@
 //! Hosts: the owners of live addresses, and the services on them.
 
-ghost use Rattle.std.specs.{Prelude.{◌≡◌, ◌&&◌, ◌++◌, ◌∷◌, [], map, not, IfOk, OnOk}, List.{filter, filter_map, flat_map, list_any}};
+ghost use Rattle.std.specs.{Prelude.{◌≡◌, ◌&&◌, ◌++◌, ◌∷◌, [], map, not, IfOk, OnOk}, List.{filter, filter_map, flat_map}};
 ghost use Rattle.std.specs.List.Sorted.{IsSorted, IsStable};
-ghost use Rattle.mdns_join.specs.declared.latest.Latest.{Latest};
 ghost use Rattle.mdns_cache.specs.LentRecords.{last_lent};
-ghost use Rattle.mdns_browse.specs.{About.{keeps_heard, keeps_record}, Given.{given_lent}};
-ghost use Rattle.mdns_browse.specs.Hosts.{AreByTarget, ServedRow, has_address, host_in, host_lent, hosts_in, is_on, keeps_host};
-ghost use Rattle.mdns_browse.specs.{Hosts.{served_lent, services_at, services_in, target_cmp}};
-ghost use Rattle.mdns_browse.specs.Services.{AreAscending, InstanceRow, instance_in, instance_row_in, lasts_in, same_text};
+ghost use Rattle.mdns_browse.specs.{About.{are_asked}, Given.{given_lent}};
+ghost use Rattle.mdns_browse.specs.Hosts.{AreByTarget, has_address, host_in, host_lent, hosts_in, is_on, keeps_host};
+ghost use Rattle.mdns_browse.specs.{Hosts.{served_asked, served_lent, services_at, services_in, target_cmp}};
+ghost use Rattle.mdns_browse.specs.Services.{AreAscending, instance_in, instance_row_in, lasts_in, same_text};
 
-use crate::about::{Subject, keeps_heard_instance, keeps_record};
+use crate::about::Subject;
+use crate::about_names::matches_name;
+use crate::about_services::{is_in_instance, is_in_rows};
 use crate::given_rows::gather;
-use crate::lookup::of_set;
+use crate::lookup::{of_set, same_text};
 use crate::sheet::InstancePointer;
-use dns_name::fold::{folded_cmp, folded_eq};
+use dns_name::fold::folded_cmp;
 use mdns_cache::{Last, LiveWalk};
 use mdns_message::{Name, RecordType, Want};
 use std::alloc::Global;
@@ -85,7 +86,6 @@ fn services_of<'a>(
 }
 
 // Appends the servers of an instance.
-#[tactic(auto, using(std::proofs::lemmas::List::take_all, crate::proofs::HostLemmas::for_push_services, crate::proofs::ListLemmas::added_more))]
 fn push_services<'a>(
     to: &mut Vec<HostService<'a>>,
     rows: &[Last<'a>],
@@ -146,14 +146,7 @@ pub(crate) fn kept_hosts<'a>(
 fn begins_host(before: &[u8], row: &Last<'_>) -> bool
     ensures { result ≡ (has_address (last_lent row.now) && not (same_text before.now row.now.resource.now.owner)) }
 {
-    row.resource.body.address().is_some() && !is_same(before, &row.resource.owner)
-}
-
-/// Checks that a name is the one before, whatever the case of ASCII letters.
-pub(crate) fn is_same(before: &[u8], name: &Name) -> bool
-    ensures { result ≡ same_text before.now name.now }
-{
-    folded_eq(before, name.wire())
+    row.resource.body.address().is_some() && !same_text(before, row.resource.owner.wire())
 }
 
 // Finds the addresses and the services of a host.
@@ -196,8 +189,8 @@ fn push_kept_host<'a>(
     Ok(())
 }
 
-// Checks that one of a host's records is about one of the subjects, or one of the instances on it.
-#[tactic(auto, unfolding(crate::specs::Hosts::keeps_host))]
+// Checks that one of the subjects is a host's name, one of its addresses, or an instance on it.
+#[tactic(auto, using(crate::proofs::AboutLemmas::for_keeps), unfolding(crate::specs::Hosts::keeps_host))]
 fn keeps_host(
     about: &[Subject],
     rows: &[Last<'_>],
@@ -210,43 +203,31 @@ fn keeps_host(
     if about.is_empty() {
         return Ok(true);
     }
-    if keeps_one(about, host.ipv4, scratch)? {
+    if matches_name(about, &host.name.borrowed(), scratch)? {
         return Ok(true);
     }
-    if keeps_one(about, host.ipv6, scratch)? {
+    if is_in_rows(about, host.ipv4, scratch)? {
         return Ok(true);
     }
-    keeps_served(about, rows, host.services, scratch)
+    if is_in_rows(about, host.ipv6, scratch)? {
+        return Ok(true);
+    }
+    is_in_services(about, rows, host.services, scratch)
 }
 
-// Checks that the instance of one of the services is about one of the subjects.
-#[tactic(auto, using(crate::proofs::AboutLemmas::for_keeps_served, crate::proofs::AboutServiceLemmas::for_keeps_served))]
-fn keeps_served(
+// Checks that one of the subjects is the instance of one of the services.
+#[tactic(auto, using(crate::proofs::AboutLemmas::for_asked))]
+fn is_in_services(
     about: &[Subject],
     rows: &[Last<'_>],
     services: &[HostService<'_>],
     scratch: &mut String,
 ) -> Result<bool, Want>
-    ensures { IfOk result (λ keeps. AreAscending (map last_lent rows.now) → keeps
-        ≡ list_any (λ (service : ServedRow). keeps_heard about.now (map last_lent rows.now) service.instance)
-        (map served_lent services.now)) }
+    ensures { IfOk result (λ is. AreAscending (map last_lent rows.now)
+        → is ≡ are_asked about.now (served_asked (map last_lent rows.now) (map served_lent services.now))) }
 {
     for service in services {
-        if keeps_heard_instance(about, rows, service.instance, scratch)? {
-            return Ok(true);
-        }
-    }
-    Ok(false)
-}
-
-// Checks that one of the records is about one of the subjects.
-#[tactic(auto, using(crate::proofs::AboutLemmas::for_keeps_one, crate::proofs::AboutServiceLemmas::for_keeps_one))]
-fn keeps_one(about: &[Subject], rows: &[Last<'_>], scratch: &mut String) -> Result<bool, Want>
-    ensures { IfOk result (λ keeps. keeps
-        ≡ list_any (λ (row : Latest). keeps_record about.now row.resource) (map last_lent rows.now)) }
-{
-    for row in rows {
-        if keeps_record(about, &row.resource.borrowed(), scratch)? {
+        if is_in_instance(about, rows, service.instance, scratch)? {
             return Ok(true);
         }
     }

@@ -14,7 +14,8 @@ use crate::about::Subject;
 use crate::columns::{Listing, begin};
 use crate::csv::{Field, push_csv_line};
 use crate::data_words::{Word, WordSink, push_words};
-use crate::host::{Host, HostService, host_source, is_same, kept_hosts};
+use crate::host::{Host, HostService, host_source, kept_hosts};
+use crate::lookup::same_text;
 use crate::record_shown::{GAP, push_shown_words};
 use crate::report::Form;
 use crate::report_csv::drop_first_space;
@@ -157,7 +158,7 @@ fn push_instances<W: WordSink>(to: &mut W, services: &[HostService<'_>]) -> Resu
 {
     let mut before: &[u8] = b"";
     for service in services {
-        if is_same(before, service.instance) {
+        if same_text(before, service.instance.wire()) {
             continue;
         }
         to.word(Word::Name(&service.instance.borrowed()))?;

@@ -95,7 +95,6 @@ fn push_instances(
 }
 
 // Appends the instance of each of the records that give one. The servers and texts are looked up in the rows.
-#[tactic(auto, using(crate::proofs::InstanceLemmas::for_push_csv_instances, crate::proofs::ListLemmas::for_push_csv_instances))]
 fn push_csv_instances(
     to: &mut String,
     rows: &[Last<'_>],

@@ -14,7 +14,7 @@ use mdns_message::{BorrowedResource, Name, Want};
 
 /// Returns whether a record is about one of the subjects: whether its owner is one, or a word of its data; `true` where
 /// there are no subjects. `scratch` is room for texts.
-#[tactic(auto, using(crate::proofs::AboutLemmas::for_keeps_record), unfolding(crate::specs::About::keeps_record))]
+#[tactic(auto, using(crate::proofs::AboutLemmas::for_keeps), unfolding(crate::specs::About::keeps_record))]
 pub fn keeps_record(
     about: &[Subject],
     resource: &BorrowedResource<'_>,
@@ -32,7 +32,7 @@ pub fn keeps_record(
 }
 
 /// Returns whether a service type is one of the subjects, or `true` where there are no subjects.
-#[tactic(auto, using(crate::proofs::AboutLemmas::for_keeps_type), unfolding(crate::specs::About::keeps_type))]
+#[tactic(auto, using(crate::proofs::AboutLemmas::for_keeps), unfolding(crate::specs::About::keeps_type))]
 pub(crate) fn keeps_type(about: &[Subject], name: &Name, scratch: &mut String) -> Result<bool, Want>
     ensures { IfOk result (λ keeps. keeps ≡ keeps_type about.now name.now) }
 {
@@ -46,7 +46,7 @@ pub(crate) fn keeps_type(about: &[Subject], name: &Name, scratch: &mut String) -
 /// of an SRV record of its name, or an address of such a target; `true` where there are no subjects. The SRV records and the
 /// addresses are looked up in `rows`, which are the last hearings of records, live or not, each record once, in key order.
 /// `scratch` is room for texts.
-#[tactic(auto, using(crate::proofs::AboutLemmas::for_keeps_heard_instance), unfolding(crate::specs::About::keeps_instance))]
+#[tactic(auto, using(crate::proofs::AboutLemmas::for_keeps), unfolding(crate::specs::About::keeps_instance))]
 pub fn keeps_heard_instance(
     about: &[Subject],
     rows: &[Last<'_>],

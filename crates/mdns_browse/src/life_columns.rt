@@ -1,12 +1,10 @@
 //! The lives of records in readable columns, for people. After `Want` the contents of `text` are not specified.
 
-ghost use Rattle.std.specs.Prelude.{◌≡◌, ◌++◌, ◌∷◌, [], codes, length, map, IfOk, OnOk};
+ghost use Rattle.std.specs.Prelude.{◌≡◌, ◌++◌, length, map, OnOk};
 ghost use Rattle.std.specs.{List.{flat_map}, String.{string_bytes}};
-ghost use Rattle.mdns_message.specs.Resource.{type_name, type_of};
-ghost use Rattle.people_text.specs.MomentText.{millis_text};
-ghost use Rattle.mdns_browse.specs.LifeText.{bound_shown, bounds_shown, called, end_shown, heads_shown, life_row, lives_heading, nanos_if_some, open_text};
-ghost use Rattle.mdns_browse.specs.LifeText.{until_shown};
-ghost use Rattle.mdns_browse.specs.{Columns.{padded, widest}, RecordShown.{shown_record}};
+ghost use Rattle.mdns_browse.specs.LifeText.{bound_shown, bounds_shown, called, end_shown, heads_shown, life_columns, life_row, lives_heading};
+ghost use Rattle.mdns_browse.specs.LifeText.{nanos_if_some, open_text, resource_columns, until_shown};
+ghost use Rattle.mdns_browse.specs.Columns.{widest};
 
 use crate::columns::{push_padded, wider, word_for};
 use crate::life_text::{Layout, reason_word};
@@ -110,6 +108,7 @@ fn push_heads(text: &mut String, layout: Layout, last: &str) -> Result<(), Want>
 }
 
 /// Appends a row for each life. The type and the record are written once, and copied for each.
+#[tactic(auto, unfolding(crate::specs::LifeText::life_row))]
 pub(crate) fn push_rows(
     text: &mut String,
     width: usize,
@@ -129,9 +128,7 @@ pub(crate) fn push_rows(
 }
 
 fn push_tail(text: &mut String, resource: &Resource) -> Result<(), Want>
-    ensures { OnOk result (string_bytes text.new ≡ string_bytes text.old
-        ++ (codes "  " ++ padded 4 (type_name (type_of resource.now.body)) ++ codes "  "
-        ++ shown_record resource.now ++ 10 ∷ [])) }
+    ensures { OnOk result (string_bytes text.new ≡ string_bytes text.old ++ resource_columns resource.now) }
 {
     text.push_str("  ")?;
     push_padded(text, 4, resource.body.record_type().name())?;
@@ -148,9 +145,8 @@ fn push_row(
     tail: &str,
     life: &Life,
 ) -> Result<(), Want>
-    ensures { OnOk result (string_bytes text.new ≡ string_bytes text.old
-        ++ (millis_text life.now.from.nanos ++ codes " " ++ until_shown end_of_captures.nanos life.now ++ codes " "
-        ++ padded width (end_shown end_of_captures.nanos life.now) ++ tail.now)) }
+    ensures { OnOk result (string_bytes text.new
+        ≡ string_bytes text.old ++ (life_columns width end_of_captures.nanos life.now ++ tail.now)) }
 {
     push_millis(text, life.from.nanos())?;
     text.push_str(" ")?;

@@ -15,7 +15,6 @@ use mdns_message::Want;
 use std::alloc::Global;
 
 /// Collects the live records about the subjects that point from a service type to a name that isn't one label and the type.
-#[tactic(auto, using(crate::proofs::KeptLemmas::for_kept_others, crate::proofs::ListLemmas::for_kept_others))]
 pub(crate) fn kept_others<'a>(
     alloc: Global,
     about: &[Subject],

@@ -58,7 +58,6 @@ fn written(
     Ok(to.text)
 }
 
-#[tactic(auto, using(crate::proofs::KeptLemmas::written_append, crate::proofs::ListLemmas::left_all, crate::proofs::ListLemmas::left_more))]
 fn push_walk(
     to: &mut Objects,
     form: Form,
@@ -116,7 +115,6 @@ fn listed(
 }
 
 /// Collects the live records that are about the subjects.
-#[tactic(auto, using(crate::proofs::KeptLemmas::for_kept_records, crate::proofs::ListLemmas::for_kept_records))]
 pub(crate) fn kept_records<'a>(
     alloc: Global,
     about: &[Subject],

@@ -86,8 +86,8 @@ impl Objects {
         Ok(())
     }
 
-    // Appends a comma before a value of an array, unless it is the first.
-    fn comma(&mut self) -> Result<(), Want>
+    /// Appends a comma before a value of an array, unless it is the first.
+    pub(crate) fn comma(&mut self) -> Result<(), Want>
         ensures text { OnOk result (string_bytes self.new.text ≡ string_bytes self.old.text ++ comma_unless self.old.first) }
         ensures first { OnOk result (self.new.first ≡ false) }
     {
@@ -237,8 +237,9 @@ impl Objects {
         port: u16,
         target: &Name,
     ) -> Result<(), Want>
-        ensures { OnOk result (string_bytes self.new.text
+        ensures text { OnOk result (string_bytes self.new.text
             ≡ string_bytes self.old.text ++ 123 ∷ parted true (server_members priority weight port target.now)) }
+        ensures first { self.new.first ≡ self.old.first }
     {
         self.text.push('{')?;
         self.name_member(true, "target", target)?;

@@ -1,7 +1,7 @@
 //! The walk over service instances, which hands what it finds to a sheet.
 
-ghost use Rattle.std.specs.{Prelude.{◌∷◌, [], map, option_map, OnOk}, List.{filter_map, flat_map}};
-ghost use Rattle.mdns_message.specs.Parts.{service_of};
+ghost use Rattle.std.specs.{Prelude.{map, OnOk}, List.{filter_map, flat_map}};
+ghost use Rattle.mdns_message.specs.Parts.{service_lent};
 ghost use Rattle.mdns_cache.specs.LentRecords.{last_lent};
 ghost use Rattle.mdns_browse.specs.{Given.{given_lent}, Services.{AreAscending, body_of, instance_in, instance_row_in, server_at, servers_in}};
 ghost use Rattle.mdns_browse.specs.{Services.{texts_in}, Sheet.{instance_pieces, instance_text, server_address, server_pieces, servers_pieces}};
@@ -9,10 +9,11 @@ ghost use Rattle.mdns_browse.specs.{Services.{texts_in}, Sheet.{instance_pieces,
 use crate::lookup::of_set;
 use crate::sheet::{InstancePointer, Sheet};
 use mdns_cache::Last;
-use mdns_message::{Name, RecordType, Want};
+use mdns_message::{Name, RecordType, Service, Want};
 
 /// Hands over to a sheet the instance of each of the records that give one, in order. The servers and texts are looked up in
 /// `rows`, last hearings of records, each record once, in key order.
+#[tactic(auto, using(crate::proofs::ReachLemmas::for_walks))]
 pub fn walk_given<S: Sheet>(
     sheet: &mut S,
     rows: &[Last<'_>],
@@ -50,27 +51,31 @@ pub(crate) fn walk_instance<S: Sheet>(
 }
 
 // Hands over the servers of an instance, and their end.
+#[tactic(auto, using(crate::proofs::ReachLemmas::for_walks))]
 fn walk_servers<S: Sheet>(sheet: &mut S, rows: &[Last<'_>], name: &Name) -> Result<(), Want>
     ensures { OnOk result (AreAscending (map last_lent rows.now)
         → S.takes sheet.old (servers_pieces (servers_in (map last_lent rows.now) name.now)) sheet.new) }
 {
     let servers = of_set(rows, name, RecordType::Srv);
     for row in servers {
-        walk_server(sheet, rows, row)?;
+        // Every row is an SRV record: no other data has this type number.
+        let Some(service) = row.resource.body.service() else {
+            continue;
+        };
+        walk_server(sheet, rows, service)?;
     }
     sheet.servers_end(servers.is_empty())
 }
 
-// Hands over an SRV record's server, and the addresses of its target, which are looked up in the rows.
-fn walk_server<S: Sheet>(sheet: &mut S, rows: &[Last<'_>], row: &Last<'_>) -> Result<(), Want>
-    ensures { OnOk result (AreAscending (map last_lent rows.now) → S.takes sheet.old
-        (flat_map server_pieces (filter_map (λ b. option_map (server_at (map last_lent rows.now)) (service_of b))
-        (body_of (last_lent row.now) ∷ []))) sheet.new) }
+// Hands over a server, and the addresses of its target, which are looked up in the rows.
+fn walk_server<S: Sheet>(
+    sheet: &mut S,
+    rows: &[Last<'_>],
+    service: Service<&Name>,
+) -> Result<(), Want>
+    ensures { OnOk result (AreAscending (map last_lent rows.now)
+        → S.takes sheet.old (server_pieces (server_at (map last_lent rows.now) (service_lent service.entry))) sheet.new) }
 {
-    // Each is an SRV record: no other data has its number.
-    let Some(service) = row.resource.body.service() else {
-        return Ok(());
-    };
     sheet.server_begin(
         service.priority,
         service.weight,
@@ -93,6 +98,7 @@ fn walk_addresses<S: Sheet>(sheet: &mut S, rows: &[Last<'_>]) -> Result<(), Want
 }
 
 // Hands over the texts of an instance.
+#[tactic(auto, using(crate::proofs::ReachLemmas::for_walks))]
 fn walk_texts<S: Sheet>(sheet: &mut S, rows: &[Last<'_>], name: &Name) -> Result<(), Want>
     ensures { OnOk result (AreAscending (map last_lent rows.now)
         → S.takes sheet.old (map instance_text (texts_in (map last_lent rows.now) name.now)) sheet.new) }

@@ -1,15 +1,14 @@
 //! The lives of service instances as text (RFC 6763, sections 4 and 5). After `Want` the contents of `to` are not specified.
 
-ghost use Rattle.std.specs.Prelude.{◌≡◌, ◌==◌, ◌++◌, ◌∷◌, [], if◌then◌else◌, nat_lt, codes, length, map, true, false, IfOk, OnOk};
+ghost use Rattle.std.specs.Prelude.{◌≡◌, ◌++◌, ◌∷◌, [], if◌then◌else◌, nat_lt, codes, length, map, true, false, IfOk, OnOk};
 ghost use Rattle.std.specs.{Prelude.{decimal}, List.{flat_map}, String.{string_bytes}};
 ghost use Rattle.dns_name.specs.Name.{name_text};
 ghost use Rattle.mdns_message.specs.Parts.{service_lent};
-ghost use Rattle.people_text.specs.Shown.{name_shown};
 ghost use Rattle.mdns_browse.specs.{Columns.{padded, widest}, Json.{json_array, json_member, parted, text_member}, LifeText.{nanos_if_some}};
 ghost use Rattle.mdns_browse.specs.RecordShown.{shown_instance, shown_order, spaced_by, spaced_wide};
 ghost use Rattle.mdns_browse.specs.ServiceLifeText.{ServiceLife as Shown, csv_life, server_object, server_words, service_csv, service_end, service_json};
 ghost use Rattle.mdns_browse.specs.ServiceLifeText.{service_life_lent, service_line, service_lives_text, service_row, service_text};
-ghost use Rattle.mdns_browse.specs.ServiceLifeText.{service_width, servers_shown, services_called, services_head};
+ghost use Rattle.mdns_browse.specs.ServiceLifeText.{servers_shown, services_called, services_head};
 
 use crate::columns::{push_spaces, wider, word_for};
 use crate::csv::{Field, push_csv_line};
@@ -191,7 +190,7 @@ fn push_server(to: &mut String, server: &Service<&Name>) -> Result<(), Want>
     Ok(())
 }
 
-#[tactic(auto, unfolding(crate::specs::ServiceLifeText::service_json))]
+#[tactic(auto, using(crate::proofs::ServiceLifeLemmas::object_by_parts), unfolding(crate::specs::ServiceLifeText::service_json))]
 fn push_object(
     to: &mut Objects,
     end_of_captures: Moment,
@@ -226,29 +225,21 @@ fn push_server_objects(to: &mut Objects, servers: &[Service<&Name>]) -> Result<(
         ++ 44 ∷ json_member (codes "servers") (json_array (map server_object (map service_lent servers.now)))) }
 {
     to.array_begin("servers")?;
-    if let Some((first, others)) = servers.split_first() {
-        push_server_object(to, first)?;
-        push_other_objects(to, others)?;
-    }
+    push_objects(to, servers)?;
     Ok(to.text.push(']')?)
 }
 
-fn push_other_objects(to: &mut Objects, servers: &[Service<&Name>]) -> Result<(), Want>
+#[tactic(auto, unfolding(crate::specs::Json::parted))]
+fn push_objects(to: &mut Objects, servers: &[Service<&Name>]) -> Result<(), Want>
     ensures { OnOk result (string_bytes to.new.text
-        ≡ string_bytes to.old.text ++ parted false (map server_object (map service_lent servers.now))) }
+        ≡ string_bytes to.old.text ++ parted to.old.first (map server_object (map service_lent servers.now))) }
 {
     for server in servers {
-        to.text.push(',')?;
-        push_server_object(to, server)?;
+        to.comma()?;
+        to.server_members(server.priority, server.weight, server.port, server.target)?;
+        to.text.push('}')?;
     }
     Ok(())
-}
-
-fn push_server_object(to: &mut Objects, server: &Service<&Name>) -> Result<(), Want>
-    ensures { OnOk result (string_bytes to.new.text ≡ string_bytes to.old.text ++ server_object (service_lent server.now)) }
-{
-    to.server_members(server.priority, server.weight, server.port, server.target)?;
-    Ok(to.text.push('}')?)
 }
 
 fn push_csv(to: &mut String, end_of_captures: Moment, service: &ServiceLife<'_>) -> Result<(), Want>

@@ -3,15 +3,14 @@
 ghost use Rattle.std.specs.{Prelude.{◌≡◌, ◌++◌, List, map, option_map, IfOk, OnOk}, List.{filter_map}};
 ghost use Rattle.mdns_message.specs.{Resource.{type_number}, declared.hearing.Hearing.{Hearing}};
 ghost use Rattle.mdns_cache.specs.{Live.{NoneLater}, Contents.{StandsFor}, LentRecords.{last_lent}};
-ghost use Rattle.mdns_browse.specs.{Given.{given_lent}, Services.{AreAscending, AreInstances, AreTypes, InstanceRow, types_owner, body_of}};
+ghost use Rattle.mdns_browse.specs.{Given.{given_lent}, Services.{AreAscending, AreInstances, AreTypes, types_owner, body_of}};
 ghost use Rattle.mdns_browse.specs.Services.{data_of_set, instance_given, instance_in, instance_row_in, is_instance_of, lasts_in};
 ghost use Rattle.mdns_browse.specs.Services.{is_service_name, other_given, same_text, servers_in, texts_in, type_given, types_in};
 
 use crate::given_rows::gather;
 use crate::instance::{Addresses, InOrder, Instance, Server, Servers, Texts};
-use crate::lookup::of_set;
+use crate::lookup::{of_set, same_text};
 use crate::sheet::InstancePointer;
-use dns_name::fold::folded_eq;
 use dns_name::name::split_label;
 use mdns_cache::{Cache, Last, LiveWalk};
 use mdns_capture::Moment;
@@ -31,7 +30,7 @@ const UDP_LOCAL: &[u8] = b"\x04_udp\x05local\x00";
 fn is_types_owner(name: &Name) -> bool
     ensures { result ≡ same_text name.now types_owner }
 {
-    folded_eq(name.wire(), TYPES_OWNER)
+    same_text(name.wire(), TYPES_OWNER)
 }
 
 // Checks that a name is a label, `_tcp` or `_udp`, and `local`.
@@ -48,7 +47,7 @@ fn is_instance_of(service: &[u8], name: &Name) -> bool
     ensures { result ≡ is_instance_of service.now name.now }
 {
     match split_label(name.wire()) {
-        Some((_, rest)) => folded_eq(rest, service),
+        Some((_, rest)) => same_text(rest, service),
         None => false,
     }
 }
@@ -179,7 +178,6 @@ pub fn types(alloc: Global, cache: &Cache, now: Moment) -> Result<Vec<Name>, Wan
 }
 
 // Collects the name of each service type.
-#[tactic(auto, using(crate::proofs::KeptLemmas::for_names_of, crate::proofs::ListLemmas::for_names_of))]
 fn names_of(alloc: Global, records: LiveWalk<'_>) -> Result<Vec<Name>, Want>
     ensures { IfOk result (λ names. names.items ≡ types_in (lasts_in records.entry)) }
 {

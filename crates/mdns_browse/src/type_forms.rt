@@ -47,7 +47,6 @@ pub(crate) fn types_text(
 }
 
 // Collects the names of the service types that are about the subjects.
-#[tactic(auto, using(crate::proofs::KeptLemmas::for_type_names, crate::proofs::ListLemmas::for_type_names))]
 fn type_names<'a>(
     alloc: Global,
     about: &[Subject],

@@ -1,4 +1,4 @@
-use Rattle.std.proofs.Common.{◌≡◌, map, take}
+use Rattle.std.proofs.Common.{◌≡◌, ◌++◌, drop, map}
 use Rattle.mdns_cache.specs.LentRecords.{last_lent}
 use Rattle.mdns_browse.specs.{Given.{given_lent, kept_given}, Services.{AreAscending}}
 use Rattle.mdns_browse.proofs.given_rows.kept_of.Given as goal
@@ -6,4 +6,5 @@ use Rattle.mdns_browse.proofs.given_rows.kept_of.Given as goal
 abbrev pub invariant-loop-row : goal.invariant-loop-row
 invariant-loop-row l =
     AreAscending (map last_lent l.rows)
-    → map given_lent l.kept.items ≡ kept_given l.about (map last_lent l.rows) (map given_lent (take l.row-index l.row-items))
+    → map given_lent l.kept.items ++ kept_given l.about (map last_lent l.rows) (map given_lent (drop l.row-index l.row-items))
+    ≡ kept_given l.about (map last_lent l.rows) (map given_lent l.row-items)

@@ -1,10 +1,12 @@
-use Rattle.std.proofs.Common.{map, take}
-use Rattle.std.specs.List.{filter_map}
+use Rattle.std.proofs.Common.{◌≡◌, ◌++◌, drop, map}
+use Rattle.std.specs.{List.{flat_map}, String.{string_bytes}}
 use Rattle.mdns_cache.specs.LentRecords.{last_lent}
-use Rattle.mdns_browse.specs.{Csv.{instance_csv}, Given.{given_lent}, Services.{AreAscending, instance_row_in}, Sheet.{writes}}
+use Rattle.mdns_browse.specs.{Csv.{instance_csv}, Given.{given_lent}, Services.{AreAscending}}
+use Rattle.mdns_browse.proofs.InstanceLemmas.{shown_in}
 use Rattle.mdns_browse.proofs.instance_forms.push_csv_instances.Given as goal
 
 abbrev pub invariant-loop-row : goal.invariant-loop-row
 invariant-loop-row l =
     AreAscending (map last_lent l.rows)
-    → writes instance_csv l.initial.to (filter_map (instance_row_in (map last_lent l.rows)) (map given_lent (take l.row-index l.given))) l.to
+    → string_bytes l.to ++ flat_map instance_csv (shown_in (map last_lent l.rows) (map given_lent (drop l.row-index l.given)))
+    ≡ string_bytes l.initial.to ++ flat_map instance_csv (shown_in (map last_lent l.rows) (map given_lent l.given))
