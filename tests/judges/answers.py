@@ -15,7 +15,7 @@ from tests.judges.json_forms import MEMBERS, json_text, objects_of
 from tests.judges.lines import (Line, gives_instance, host_text, hosts_in, instances_text, line_of, lines_of, moment_of, sets_of,
                                 types_names, wire_of)
 from tests.judges.listeners import COMMAND, listeners_text, unfit_text, warnings_text
-from tests.judges.lives import CHOICES, Window, lives_text, records_text, rows_of, window_of
+from tests.judges.lives import CHOICES, Window, lives_text, record_text, records_text, rows_of, window_of
 from tests.judges.pretty import (hosts_columns, instances_columns, is_apart, lives_columns, pretty_text, records_columns,
                                  services_columns, shown_label, types_columns)
 from tests.judges.savefile import frames_in, reading_of
@@ -86,6 +86,11 @@ class Basis:
         self.rows = rows_of(self.hearings)
 
     @cached_property
+    def taken_back(self):
+        """The goodbye that was taken back in a life, by its record's text and its start."""
+        return {(record_text(last), life.start): life.taken_back for last, lives in self.rows for life in lives if life.taken_back is not None}
+
+    @cached_property
     def lines(self):
         return lines_of(records_text(self.rows, self.now))
 
@@ -121,7 +126,7 @@ def texts_of(_, some):
 def lives_kind(choice):
     """What a command lists that chooses so from all lives."""
     def columns(basis, _, some):
-        return lives_columns(some, basis.bounds, choice.words)
+        return lives_columns(some, basis.bounds, choice.words, basis.taken_back)
 
     return Kind(lambda basis: list(lives_in(lives_text(choice.of_rows(basis.rows, basis.window), basis.window, basis.end))),
                 lambda _, words, life: is_about(is_record_about, words, life.record),
@@ -204,7 +209,7 @@ def service_object(life, servers):
 def services_text(basis, services):
     form = basis.asked.form
     if form == "--pretty":
-        return head_text(basis) + services_columns(services, basis.bounds)
+        return head_text(basis) + services_columns(services, basis.bounds, basis.taken_back)
     return OF_OBJECTS[form]("services", [service_object(*one) for one in services]) if form else "".join(
         life.text.split(" ", 2)[2] + "".join(f" server {words[3]} {words[2]}" for words in servers) + "\n" for life, servers in services)
 

@@ -12,10 +12,11 @@ from tests.judges.words import data_words, kind_text, moment_text, name_text
 
 class Life(NamedTuple):
     """A stretch in which a record is live: from its first moment until the one at which it has ended. The hearing is the
-    last one before that end."""
+    last one before that end. The record's latest goodbye may have been taken back in it."""
     start: int
     last: Hearing
     until: int
+    taken_back: int | None
 
     @property
     def reason(self):
@@ -49,6 +50,7 @@ class Account:
         self.hearings = sorted(hearings, key=lambda hearing: hearing.age)
         self.moments = [hearing.moment for hearing in self.hearings]
         self.flushes = flushes
+        self.goodbye = max((hearing.moment for hearing in hearings if hearing.ttl == 0), default=None)
 
     def last(self, now):
         """The last hearing that isn't later than a moment, if there is one."""
@@ -81,9 +83,14 @@ class Account:
                 if start is None:
                     start = now
                 else:
-                    yield Life(start, self.last(before), now)
+                    last = self.last(before)
+                    yield Life(start, last, now, self.taken_back(start, last))
                     start = None
             before = now
+
+    def taken_back(self, start, last):
+        """The record's latest goodbye, where it was said in a life of which this is the last hearing, and that is none."""
+        return self.goodbye if self.goodbye is not None and start <= self.goodbye <= last.moment and last.ttl > 0 else None
 
 
 def end_alone(hearing):

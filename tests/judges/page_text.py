@@ -240,7 +240,8 @@ def bars_text(judge, of_class, form, lives, word=""):
 
 
 def how(judge, life):
-    return GOING_ON[life.reason] if life.until > judge.now else life.reason
+    back = "" if life.taken_back is None else f", goodbye at {millis(life.taken_back)[11:]} taken back"
+    return (GOING_ON[life.reason] if life.until > judge.now else life.reason) + back
 
 
 def life_text(judge, life):

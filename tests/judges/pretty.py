@@ -67,18 +67,25 @@ def words_below(line, sets):
     return (servers or [["unresolved"]]) + [words for words in texts if words]
 
 
-def lives_columns(lives, bounds, chosen):
+def lives_columns(lives, bounds, chosen, taken_back):
     """A table of lives, each a record's line, when it was live from and until, in parentheses where it goes on, and how it ended; and
     which are chosen."""
-    rows = [(*ends_of(life), life.record.kind, shown_record(life.record)) for life in lives]
+    rows = [(*ends_of(life, taken_back), life.record.kind, shown_record(life.record)) for life in lives]
     return lives_table(f"{'life' if len(rows) == 1 else 'lives'}{chosen}", bounds, ("TYPE", "RECORD"), rows)
 
 
-def ends_of(life):
-    # What will end a life that goes on, unless that is its TTL.
-    going_on = {"goodbye": "live, said goodbye", "flushed": "live, flushed"}
-    how = life.how if life.how != "live" else going_on.get(left(life.record, life.record.heard), "live")
-    return millis(life.start), millis(life.until), how
+def ends_of(life, taken_back):
+    """When a life was live from and until, and how it ended, or what else than its TTL will end it; goodbyes with the time of day."""
+    goes_on = life.how == "live"
+    reason = left(life.record, life.record.heard) if goes_on else life.how
+    words = {"goodbye": f"goodbye at {time_of(life.record.heard)}", "flushed": "flushed"}.get(reason, "" if goes_on else reason)
+    goodbye = taken_back.get((life.text.rsplit(" from ", 1)[0], life.start))
+    back = goodbye is not None and f"goodbye at {time_of(goodbye)} taken back"
+    return millis(life.start), millis(life.until), ", ".join(filter(None, ("live" if goes_on else "", words, back)))
+
+
+def time_of(moment):
+    return millis(moment)[11:]
 
 
 def lives_table(called, bounds, heads, rows):
@@ -87,11 +94,10 @@ def lives_table(called, bounds, heads, rows):
     return f"{len(rows)} {called} between {' and '.join(map(millis, bounds))}\n" + lines if bounds else ""
 
 
-def services_columns(services, bounds):
-    """A table of lives of services, each with its servers, and of a goodbye with the time of day at which it was said."""
-    rows = [(*moments, re.sub("(?:said )?goodbye", f"goodbye at {millis(life.record.heard)[11:]}", how), "  ".join([
-        shown_name(life.record.words[0]), *([word for server in servers for word in shown_words("SRV", server)] or ["unresolved"])]))
-            for life, servers in services for *moments, how in [ends_of(life)]]
+def services_columns(services, bounds, taken_back):
+    """A table of lives of services, each with its servers."""
+    rows = [(*ends_of(life, taken_back), "  ".join([shown_name(life.record.words[0]), *([
+        word for server in servers for word in shown_words("SRV", server)] or ["unresolved"])])) for life, servers in services]
     return lives_table("life of a service" if len(rows) == 1 else "lives of services", bounds, ("SERVICE",), rows)
 
 

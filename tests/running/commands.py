@@ -13,22 +13,25 @@ FLAG = re.compile(r"(?m)^      (--[a-z-]+)( <[A-Z]+>)?  +(.*)$")
 # What each flag takes, and its help.
 FLAGS = {flag: (takes, text) for flag, takes, text in FLAG.findall((PAGES / "flags.txt").read_text())}
 
+# The flags that several pages have together.
+GROUPS = {group: flags.split() for group, flags in re.findall(r"(?m)^([A-Z_]+) (.*)$", (PAGES / "flags.txt").read_text())}
+
 # The flags that ask for a form.
-FORMS = ("--json", "--pretty", "--csv")
+FORMS = tuple(GROUPS["FORMS"])
 
 # What all pages say at their end.
 END = "Exit: 0 printed; 1 printed, but a file is damaged; 2 refused (run mdnswhy files)\n"
 
 
 def page(name):
-    """A page of help, as it is printed. Its line `FLAGS` names the flags that are there."""
+    """A page of help, as it is printed. Its line `FLAGS` names the flags that are there, or groups of them."""
     text = (PAGES / f"{name}.txt").read_text().replace("\nEND\n", f"\n{END}")
     return re.sub(r"(?m)^FLAGS(.*)\n", lambda line: listed_flags(line[1].split()), text)
 
 
 def listed_flags(flags):
     """The lines of the flags and of `--help`, whose texts begin in one column."""
-    lines = [("      ", flag + FLAGS[flag][0], FLAGS[flag][1]) for flag in flags]
+    lines = [("      ", flag + FLAGS[flag][0], FLAGS[flag][1]) for word in flags for flag in GROUPS.get(word, [word])]
     lines.append(("  -h, ", "--help", "Print help"))
     width = max(len(flag) for _, flag, _ in lines)
     return "".join(f"{short}{flag:{width}}  {text}\n" for short, flag, text in lines)

@@ -2,6 +2,7 @@ mod AboutLemmas
 mod ColumnLemmas
 mod CsvLemmas
 mod DigitLemmas
+mod EndLemmas
 mod HostLemmas
 mod InstanceColumnLemmas
 mod InstanceLemmas

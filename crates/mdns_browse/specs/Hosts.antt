@@ -9,7 +9,7 @@ use Rattle.mdns_message.specs.{Parts.{address_of}, Resource.{type_number}}
 use Rattle.mdns_message.specs.declared.record_type.RecordType.TheVariants as kind
 use Rattle.mdns_join.specs.declared.latest.Latest.{Latest}
 use Rattle.mdns_cache.specs.LentRecords.{last_lent}
-use Rattle.mdns_browse.specs.{About.{Asked, data_asked, instance_asked, keeps, name_asked}, RecordShown.{shown_words, spaced_wide}}
+use Rattle.mdns_browse.specs.{About.{Term, data_terms, instance_terms, keeps, name_terms}, RecordShown.{shown_words, spaced_wide}}
 use Rattle.mdns_browse.specs.{Csv.{Nothing, Number, Text, csv_line, joined}, Json.{json_member, json_object, json_words, text_member}}
 use Rattle.mdns_browse.specs.{RecordText.{data_words, spaced}, Services.{body_of, instance_in, instances_in, lasts_in, rows_of_set, same_text}}
 use Rattle.mdns_browse.specs.declared.{about.Subject.{Subject}, instance.Instance.{Instance}, instance.Server.{Server}, host.Host.{Host}}
@@ -68,14 +68,14 @@ abbrev pub hosts_in : List Latest → List HostRow
 hosts_in rows = map (host_in rows) (host_names rows)
 
 -- how people ask for services: by their instances
-abbrev pub served_asked : List Latest → List ServedRow → List Asked
-served_asked rows services = flat_map (λ (service : ServedRow). instance_asked (instance_in rows service.instance)) services
+abbrev pub served_terms : List Latest → List ServedRow → List Term
+served_terms rows services = flat_map (λ (service : ServedRow). instance_terms (instance_in rows service.instance)) services
 
 -- and for a host: by its name, its addresses and the services on it
 unfoldable pub keeps_host : List Subject → List Latest → HostRow → Bool
 keeps_host about rows host =
     keeps about
-    (name_asked host.name ++ (flat_map data_asked (map body_of host.addresses) ++ served_asked rows host.services))
+    (name_terms host.name ++ (flat_map data_terms (map body_of host.addresses) ++ served_terms rows host.services))
 
 -- what a report lists: the hosts about one of the subjects, of live records with their ends; all, where there are no subjects
 abbrev pub hosts_about : List Subject → List (Latest × ℕ) → List HostRow

@@ -1,5 +1,5 @@
 -- The lives of records as text.
-use Rattle.std.specs.Prelude.{◌≡◌, ℕ, true, false, nat_lt, ◌==◌, if◌then◌else◌, ◌∷◌, ◌++◌, length, map, codes, Option, None, Some, option_map}
+use Rattle.std.specs.Prelude.{◌≡◌, ℕ, Bool, true, false, nat_lt, ◌==◌, if◌then◌else◌, ◌∷◌, ◌++◌, length, map, codes, Option, None, Some, option_map}
 use Rattle.std.specs.{Prelude.{List, [], unwrap_or}, Fmt.{decimal}, List.{flat_map}}
 use Rattle.mdns_capture.specs.{Text.{moment_text}, declared.moment.Moment.{Moment}}
 use Rattle.mdns_message.specs.{Resource.{type_name, type_of}, declared.resource.Resource.{Resource}}
@@ -10,7 +10,7 @@ use Rattle.mdns_browse.specs.declared.{report.Form.{Form}, report.Form.TheVarian
 use Rattle.mdns_browse.specs.{Columns.{padded, widest}, RecordShown.{shown_record}, RecordText.{resource_text}}
 use Rattle.mdns_browse.specs.Csv.{Moment as MomentField, Number, Text, csv_line, resource_fields}
 use Rattle.mdns_browse.specs.Json.{hearing_members, json_object, parted, resource_members, text_member}
-use Rattle.people_text.specs.MomentText.{millis_text}
+use Rattle.people_text.specs.MomentText.{millis_text, time_text}
 
 -- why a life ended, as a word
 abbrev pub reason_text : EndReason → List ℕ
@@ -28,9 +28,26 @@ open_text Expired = codes "live"
 open_text Goodbye = codes "live, said goodbye"
 open_text Flushed = codes "live, flushed"
 
--- how a life ends, for people
+-- how a life ends, for people, or what is said of one that goes on
+abbrev pub end_words : EndReason → Bool → List ℕ
+end_words Expired goes_on = if goes_on then codes "live" else codes "expired"
+end_words Goodbye goes_on = if goes_on then codes "live, goodbye at " else codes "goodbye at "
+end_words Flushed goes_on = if goes_on then codes "live, flushed" else codes "flushed"
+
+-- the time of day at which a goodbye was said, which is that of a life's last hearing (RFC 6762, section 10.1)
+abbrev pub said_at : EndReason → ℕ → List ℕ
+said_at Goodbye nanos = time_text nanos
+said_at _ nanos = []
+
+-- the goodbye that was taken back, if there is one, with the time of day at which it was said
+abbrev pub taken_back_text : Option Moment → List ℕ
+taken_back_text None = []
+taken_back_text (Some goodbye) = codes ", goodbye at " ++ time_text goodbye.nanos ++ codes " taken back"
+
+-- how a life ends, for people: whether it goes on after the end of the captures, and its goodbyes with the time of day
 abbrev pub end_shown : ℕ → Life → List ℕ
-end_shown end life = if nat_lt end life.until then open_text life.reason else reason_text life.reason
+end_shown end life =
+    end_words life.reason (nat_lt end life.until) ++ said_at life.reason life.last.moment.nanos ++ taken_back_text life.taken_back
 
 -- when a life began, the TTL and the moment of its last hearing, when it ends and how
 unfoldable pub life_words : ℕ → Life → List ℕ

@@ -1,10 +1,10 @@
 -- The lives of service instances as text (RFC 6763, sections 4 and 5).
-use Rattle.std.specs.Prelude.{ℕ, nat_lt, ◌==◌, if◌then◌else◌, max, List, [], ◌∷◌, ◌++◌, length, map, codes, Option}
+use Rattle.std.specs.Prelude.{ℕ, ◌==◌, if◌then◌else◌, max, List, [], ◌∷◌, ◌++◌, length, map, codes, Option}
 use Rattle.std.specs.{Fmt.{decimal}, List.{flat_map}}
 use Rattle.dns_name.specs.Name.{name_text}
 use Rattle.mdns_message.specs.{declared.parts.Service.{Service}, Parts.{service_lent}}
-use Rattle.mdns_lives.specs.declared.{life.Life.{Life}, life.EndReason.{EndReason}, life.EndReason.TheVariants.{Goodbye}, window.Window.{Window}}
-use Rattle.people_text.specs.{MomentText.{millis_text, time_text}, Shown.{name_shown}}
+use Rattle.mdns_lives.specs.declared.{life.Life.{Life}, window.Window.{Window}}
+use Rattle.people_text.specs.{MomentText.{millis_text}, Shown.{name_shown}}
 use Rattle.mdns_browse.specs.declared.{report.Form.{Form}, report.Form.TheVariants.{Csv, Lines, Json, Pretty}}
 use Rattle.mdns_browse.specs.declared.service_life_text.ServiceLife.{ServiceLife as LentLife}
 use Rattle.mdns_browse.specs.Csv.{Moment as MomentField, Number, Text, csv_line, joined}
@@ -66,16 +66,6 @@ service_csv end service =
 
 -- ---- columns
 
--- how a life ends: as that of a record, but a goodbye with the time of day at which it was said, which is that of the life's last
--- hearing (RFC 6762, section 10.1)
-abbrev pub end_with : EndReason → ℕ → Life → List ℕ
-end_with Goodbye end life =
-    (if nat_lt end life.until then codes "live, goodbye at " else codes "goodbye at ") ++ time_text life.last.moment.nanos
-end_with _ end life = end_shown end life
-
-abbrev pub service_end : ℕ → Life → List ℕ
-service_end end life = end_with life.reason end life
-
 -- each server as `instances --pretty` shows it, after two spaces, or that there is none
 abbrev pub servers_shown : List (Service (List ℕ)) → List ℕ
 servers_shown [] = codes "  unresolved"
@@ -86,11 +76,11 @@ servers_shown (server ∷ servers) =
 unfoldable pub service_row : (width end : ℕ) → ServiceLife → List ℕ
 service_row width end service =
     millis_text service.life.from.nanos ++ codes " " ++ until_shown end service.life ++ codes " "
-    ++ padded width (service_end end service.life) ++ codes "  " ++ name_shown service.name ++ servers_shown service.servers ++ 10 ∷ []
+    ++ padded width (end_shown end service.life) ++ codes "  " ++ name_shown service.name ++ servers_shown service.servers ++ 10 ∷ []
 
 -- the width of the column that says how lives end, which is at least that of its head
 abbrev pub service_width : ℕ → List ServiceLife → ℕ
-service_width end services = max 3 (widest (map (λ (service : ServiceLife). service_end end service.life) services))
+service_width end services = max 3 (widest (map (λ (service : ServiceLife). end_shown end service.life) services))
 
 -- ---- forms
 

@@ -3,8 +3,8 @@
 ghost use Rattle.std.specs.{Prelude.{◌≡◌, ◌++◌, ◌∷◌, IfOk}, Fmt.{decimal}};
 ghost use Rattle.mdns_message.specs.{Borrowed.{body_lent}, Parts.{content_lent, service_lent}};
 ghost use Rattle.people_text.specs.Shown.{name_shown};
-ghost use Rattle.mdns_browse.specs.About.{Octets, Text, address_asked, are_asked, content_asked, data_asked, is_asked, service_asked};
-ghost use Rattle.mdns_browse.specs.About.{string_asked};
+ghost use Rattle.mdns_browse.specs.About.{Octets, Text, address_term, asks_for_any, content_terms, data_terms, asks_for, service_terms};
+ghost use Rattle.mdns_browse.specs.About.{string_terms};
 ghost use Rattle.mdns_message.specs.declared.parts.Content.TheVariants.{Strings};
 
 use crate::about::Subject;
@@ -19,19 +19,19 @@ pub(crate) fn is_in_data(
     body: &BorrowedBody<'_>,
     scratch: &mut String,
 ) -> Result<bool, Want>
-    ensures { IfOk result (λ is. is ≡ are_asked about.now (data_asked (body_lent body.now))) }
+    ensures { IfOk result (λ is. is ≡ asks_for_any about.now (data_terms (body_lent body.now))) }
 {
     is_in_content(about, body.content(), scratch)
 }
 
 // Checks that one of the subjects is a word of what data says.
-#[tactic(auto, using(crate::proofs::AboutLemmas::for_asked), unfolding(crate::specs::About::content_asked))]
+#[tactic(auto, using(crate::proofs::AboutLemmas::for_terms), unfolding(crate::specs::About::content_terms))]
 fn is_in_content(
     about: &[Subject],
     content: Content<&BorrowedName<'_>, &[u8]>,
     scratch: &mut String,
 ) -> Result<bool, Want>
-    ensures { IfOk result (λ is. is ≡ are_asked about.now (content_asked (content_lent content.entry))) }
+    ensures { IfOk result (λ is. is ≡ asks_for_any about.now (content_terms (content_lent content.entry))) }
 {
     match content {
         Content::Address(address) => Ok(matches_host_address(about, address)),
@@ -42,13 +42,13 @@ fn is_in_content(
 }
 
 // Checks that one of the subjects is the target of a server, a number, or target and port.
-#[tactic(auto, using(crate::proofs::AboutLemmas::for_asked))]
+#[tactic(auto, using(crate::proofs::AboutLemmas::for_terms))]
 fn is_in_service(
     about: &[Subject],
     service: Service<&BorrowedName<'_>>,
     scratch: &mut String,
 ) -> Result<bool, Want>
-    ensures { IfOk result (λ is. is ≡ are_asked about.now (service_asked (service_lent service.entry))) }
+    ensures { IfOk result (λ is. is ≡ asks_for_any about.now (service_terms (service_lent service.entry))) }
 {
     if matches_name(about, service.target, scratch)? {
         return Ok(true);
@@ -67,7 +67,7 @@ fn is_in_service(
 
 // Checks that one of the subjects is the address of a host.
 fn matches_host_address(about: &[Subject], address: Address) -> bool
-    ensures { result ≡ is_asked about.now (address_asked address) }
+    ensures { result ≡ asks_for about.now (address_term address) }
 {
     match address {
         Address::V4(octets) => matches_address(about, octets.as_slice()),
@@ -77,15 +77,15 @@ fn matches_host_address(about: &[Subject], address: Address) -> bool
 
 // Checks that one of the subjects is an address of these octets.
 fn matches_address(about: &[Subject], octets: &[u8]) -> bool
-    ensures { result ≡ is_asked about.now (Octets octets.now) }
+    ensures { result ≡ asks_for about.now (Octets octets.now) }
 {
     about.iter().any(|subject| subject.matches_address(octets))
 }
 
 // Checks that one of the subjects is a string of TXT data.
-#[tactic(auto, using(crate::proofs::AboutLemmas::for_asked), unfolding(crate::specs::About::content_asked))]
+#[tactic(auto, using(crate::proofs::AboutLemmas::for_terms), unfolding(crate::specs::About::content_terms))]
 fn is_in_text(about: &[Subject], bytes: &[u8], scratch: &mut String) -> Result<bool, Want>
-    ensures { IfOk result (λ is. is ≡ are_asked about.now (content_asked (Strings bytes.now))) }
+    ensures { IfOk result (λ is. is ≡ asks_for_any about.now (content_terms (Strings bytes.now))) }
 {
     let mut rest = bytes;
     while let Some((string, after)) = first_string(rest) {
@@ -100,7 +100,7 @@ fn is_in_text(about: &[Subject], bytes: &[u8], scratch: &mut String) -> Result<b
 // Checks that one of the subjects is the string of TXT data, where it is a word.
 #[tactic(auto, using(crate::proofs::AboutLemmas::for_matches_string))]
 fn matches_string(about: &[Subject], string: &[u8], scratch: &mut String) -> Result<bool, Want>
-    ensures { IfOk result (λ is. is ≡ are_asked about.now (string_asked string.now)) }
+    ensures { IfOk result (λ is. is ≡ asks_for_any about.now (string_terms string.now)) }
 {
     if !is_word(string) {
         return Ok(false);
@@ -115,7 +115,7 @@ fn matches_place(
     port: u16,
     scratch: &mut String,
 ) -> Result<bool, Want>
-    ensures { IfOk result (λ is. is ≡ is_asked about.now (Text (name_shown target.now ++ 58 ∷ decimal port))) }
+    ensures { IfOk result (λ is. is ≡ asks_for about.now (Text (name_shown target.now ++ 58 ∷ decimal port))) }
 {
     scratch.clear();
     push_shown_name(scratch, target)?;

@@ -2,7 +2,7 @@
 
 ghost use Rattle.std.specs.{Prelude.{◌≡◌, IfOk, option_map}, Fmt.{decimal}};
 ghost use Rattle.dns_name.specs.Name.{labels_of};
-ghost use Rattle.mdns_browse.specs.About.{Text, are_asked, before_local, bytes_asked, in_local, is_asked, name_asked, rest_asked, said_asked};
+ghost use Rattle.mdns_browse.specs.About.{Text, asks_for_any, before_local, bytes_terms, in_local, asks_for, name_terms, rest_terms, said_terms};
 
 use crate::about::Subject;
 use crate::lookup::same_text;
@@ -18,7 +18,7 @@ const LOCAL: &[u8] = b".local";
 
 /// Checks that one of the subjects is the text.
 pub(crate) fn matches_text(about: &[Subject], text: &[u8]) -> bool
-    ensures { result ≡ is_asked about.now (Text text.now) }
+    ensures { result ≡ asks_for about.now (Text text.now) }
 {
     about.iter().any(|subject| subject.matches_text(text))
 }
@@ -29,7 +29,7 @@ pub(crate) fn matches_number(
     number: u16,
     scratch: &mut String,
 ) -> Result<bool, Want>
-    ensures { IfOk result (λ is. is ≡ is_asked about.now (Text (decimal number))) }
+    ensures { IfOk result (λ is. is ≡ asks_for about.now (Text (decimal number))) }
 {
     scratch.clear();
     write!(scratch, "{number}")?;
@@ -44,7 +44,7 @@ pub(crate) fn matches_bytes(
     dots: bool,
     scratch: &mut String,
 ) -> Result<bool, Want>
-    ensures { IfOk result (λ is. is ≡ are_asked about.now (bytes_asked dots bytes.now)) }
+    ensures { IfOk result (λ is. is ≡ asks_for_any about.now (bytes_terms dots bytes.now)) }
 {
     scratch.clear();
     push_escaped(bytes, dots, scratch)?;
@@ -57,13 +57,13 @@ pub(crate) fn matches_bytes(
 }
 
 /// Checks that one of the subjects is the name.
-#[tactic(auto, using(crate::proofs::AboutLemmas::for_matches_name), unfolding(crate::specs::About::name_asked))]
+#[tactic(auto, using(crate::proofs::AboutLemmas::for_matches_name), unfolding(crate::specs::About::name_terms))]
 pub(crate) fn matches_name(
     about: &[Subject],
     name: &BorrowedName<'_>,
     scratch: &mut String,
 ) -> Result<bool, Want>
-    ensures { IfOk result (λ is. is ≡ are_asked about.now (name_asked name.now)) }
+    ensures { IfOk result (λ is. is ≡ asks_for_any about.now (name_terms name.now)) }
 {
     scratch.clear();
     name.push_text(scratch)?;
@@ -85,13 +85,13 @@ pub(crate) fn matches_name(
 }
 
 // Checks that one of the subjects is the name as people write it, or what of it stands before a type.
-#[tactic(auto, using(crate::proofs::AboutLemmas::for_matches_said), unfolding(crate::specs::About::said_asked))]
+#[tactic(auto, using(crate::proofs::AboutLemmas::for_matches_said), unfolding(crate::specs::About::said_terms))]
 fn matches_said(
     about: &[Subject],
     name: &BorrowedName<'_>,
     scratch: &mut String,
 ) -> Result<bool, Want>
-    ensures { IfOk result (λ is. is ≡ are_asked about.now (said_asked (labels_of name.now))) }
+    ensures { IfOk result (λ is. is ≡ asks_for_any about.now (said_terms (labels_of name.now))) }
 {
     scratch.clear();
     let rest = push_front(scratch, name.wire())?;
@@ -109,7 +109,7 @@ pub(crate) fn matches_rest(
     name: &BorrowedName<'_>,
     scratch: &mut String,
 ) -> Result<bool, Want>
-    ensures { IfOk result (λ is. is ≡ are_asked about.now (rest_asked (labels_of name.now))) }
+    ensures { IfOk result (λ is. is ≡ asks_for_any about.now (rest_terms (labels_of name.now))) }
 {
     match split_label(name.wire()) {
         Some((_, rest)) => matches_name(about, &BorrowedName::from_valid_wire(rest), scratch),
@@ -120,7 +120,7 @@ pub(crate) fn matches_rest(
 // Checks that one of the subjects is the text, or the text without `.local` at its end.
 #[tactic(auto, unfolding(crate::specs::About::in_local))]
 fn matches_in_local(about: &[Subject], text: &[u8]) -> bool
-    ensures { result ≡ are_asked about.now (in_local text.now) }
+    ensures { result ≡ asks_for_any about.now (in_local text.now) }
 {
     if matches_text(about, text) {
         return true;

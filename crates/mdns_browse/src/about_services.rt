@@ -2,7 +2,7 @@
 
 ghost use Rattle.std.specs.{Prelude.{◌≡◌, ◌∷◌, [], IfOk, map}, List.{flat_map}};
 ghost use Rattle.mdns_cache.specs.LentRecords.{last_lent};
-ghost use Rattle.mdns_browse.specs.About.{are_asked, data_asked, instance_asked, server_asked};
+ghost use Rattle.mdns_browse.specs.About.{asks_for_any, data_terms, instance_terms, server_terms};
 ghost use Rattle.mdns_browse.specs.Services.{AreAscending, body_of, instance_in, servers_of, servers_in};
 
 use crate::about::Subject;
@@ -14,7 +14,7 @@ use mdns_message::{Name, RecordType, Want};
 
 /// Checks that one of the subjects is the name of an instance, its type, a server or an address of one. The servers are
 /// looked up in the rows.
-#[tactic(auto, using(crate::proofs::AboutLemmas::for_asked))]
+#[tactic(auto, using(crate::proofs::AboutLemmas::for_terms))]
 pub(crate) fn is_in_instance(
     about: &[Subject],
     rows: &[Last<'_>],
@@ -22,7 +22,7 @@ pub(crate) fn is_in_instance(
     scratch: &mut String,
 ) -> Result<bool, Want>
     ensures { IfOk result (λ is. AreAscending (map last_lent rows.now)
-        → is ≡ are_asked about.now (instance_asked (instance_in (map last_lent rows.now) name.now))) }
+        → is ≡ asks_for_any about.now (instance_terms (instance_in (map last_lent rows.now) name.now))) }
 {
     let whole = name.borrowed();
     if matches_name(about, &whole, scratch)? {
@@ -35,7 +35,7 @@ pub(crate) fn is_in_instance(
 }
 
 // Checks that one of the subjects is a server of a name, or an address of one.
-#[tactic(auto, using(crate::proofs::AboutLemmas::for_asked))]
+#[tactic(auto, using(crate::proofs::AboutLemmas::for_terms))]
 fn is_in_servers(
     about: &[Subject],
     rows: &[Last<'_>],
@@ -43,7 +43,7 @@ fn is_in_servers(
     scratch: &mut String,
 ) -> Result<bool, Want>
     ensures { IfOk result (λ is. AreAscending (map last_lent rows.now)
-        → is ≡ are_asked about.now (flat_map server_asked (servers_in (map last_lent rows.now) name.now))) }
+        → is ≡ asks_for_any about.now (flat_map server_terms (servers_in (map last_lent rows.now) name.now))) }
 {
     for row in of_set(rows, name, RecordType::Srv) {
         if is_in_server(about, rows, row, scratch)? {
@@ -54,7 +54,7 @@ fn is_in_servers(
 }
 
 // Checks that one of the subjects is the target of an SRV record's server, or an address of the target.
-#[tactic(auto, using(crate::proofs::AboutLemmas::for_asked))]
+#[tactic(auto, using(crate::proofs::AboutLemmas::for_terms))]
 fn is_in_server(
     about: &[Subject],
     rows: &[Last<'_>],
@@ -62,7 +62,7 @@ fn is_in_server(
     scratch: &mut String,
 ) -> Result<bool, Want>
     ensures { IfOk result (λ is. AreAscending (map last_lent rows.now)
-        → is ≡ are_asked about.now (flat_map server_asked (servers_of (map last_lent rows.now) (last_lent row.now ∷ [])))) }
+        → is ≡ asks_for_any about.now (flat_map server_terms (servers_of (map last_lent rows.now) (last_lent row.now ∷ [])))) }
 {
     let Some(service) = row.resource.body.service() else {
         return Ok(false);
@@ -79,13 +79,13 @@ fn is_in_server(
 }
 
 /// Checks that one of the subjects is a word of the data of one of the rows.
-#[tactic(auto, using(crate::proofs::AboutLemmas::for_asked))]
+#[tactic(auto, using(crate::proofs::AboutLemmas::for_terms))]
 pub(crate) fn is_in_rows(
     about: &[Subject],
     rows: &[Last<'_>],
     scratch: &mut String,
 ) -> Result<bool, Want>
-    ensures { IfOk result (λ is. is ≡ are_asked about.now (flat_map data_asked (map body_of (map last_lent rows.now)))) }
+    ensures { IfOk result (λ is. is ≡ asks_for_any about.now (flat_map data_terms (map body_of (map last_lent rows.now)))) }
 {
     for row in rows {
         if is_in_data(about, &row.resource.body.borrowed(), scratch)? {

@@ -3,9 +3,9 @@
 ghost use Rattle.std.specs.{Prelude.{◌≡◌, ◌&&◌, ◌++◌, ◌∷◌, [], map, not, IfOk, OnOk}, List.{filter, filter_map, flat_map}};
 ghost use Rattle.std.specs.List.Sorted.{IsSorted, IsStable};
 ghost use Rattle.mdns_cache.specs.LentRecords.{last_lent};
-ghost use Rattle.mdns_browse.specs.{About.{are_asked}, Given.{given_lent}};
+ghost use Rattle.mdns_browse.specs.{About.{asks_for_any}, Given.{given_lent}};
 ghost use Rattle.mdns_browse.specs.Hosts.{AreByTarget, has_address, host_in, host_lent, hosts_in, is_on, keeps_host};
-ghost use Rattle.mdns_browse.specs.{Hosts.{served_asked, served_lent, services_at, services_in, target_cmp}};
+ghost use Rattle.mdns_browse.specs.{Hosts.{served_terms, served_lent, services_at, services_in, target_cmp}};
 ghost use Rattle.mdns_browse.specs.Services.{AreAscending, instance_in, instance_row_in, lasts_in, same_text};
 
 use crate::about::Subject;
@@ -216,7 +216,7 @@ fn keeps_host(
 }
 
 // Checks that one of the subjects is the instance of one of the services.
-#[tactic(auto, using(crate::proofs::AboutLemmas::for_asked))]
+#[tactic(auto, using(crate::proofs::AboutLemmas::for_terms))]
 fn is_in_services(
     about: &[Subject],
     rows: &[Last<'_>],
@@ -224,7 +224,7 @@ fn is_in_services(
     scratch: &mut String,
 ) -> Result<bool, Want>
     ensures { IfOk result (λ is. AreAscending (map last_lent rows.now)
-        → is ≡ are_asked about.now (served_asked (map last_lent rows.now) (map served_lent services.now))) }
+        → is ≡ asks_for_any about.now (served_terms (map last_lent rows.now) (map served_lent services.now))) }
 {
     for service in services {
         if is_in_instance(about, rows, service.instance, scratch)? {

@@ -21,6 +21,7 @@ pub mod json;
 mod keeps;
 pub mod laws;
 mod life_columns;
+pub mod life_end;
 pub mod life_text;
 mod lookup;
 mod name_said;

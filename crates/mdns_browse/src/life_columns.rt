@@ -3,14 +3,14 @@
 ghost use Rattle.std.specs.Prelude.{◌≡◌, ◌++◌, length, map, OnOk};
 ghost use Rattle.std.specs.{List.{flat_map}, String.{string_bytes}};
 ghost use Rattle.mdns_browse.specs.LifeText.{bound_shown, bounds_shown, called, end_shown, heads_shown, life_columns, life_row, lives_heading};
-ghost use Rattle.mdns_browse.specs.LifeText.{nanos_if_some, open_text, resource_columns, until_shown};
-ghost use Rattle.mdns_browse.specs.Columns.{widest};
+ghost use Rattle.mdns_browse.specs.{Columns.{widest}, LifeText.{nanos_if_some, resource_columns, until_shown}};
 
 use crate::columns::{push_padded, wider, word_for};
-use crate::life_text::{Layout, reason_word};
+use crate::life_end::{end_len, push_padded_end};
+use crate::life_text::Layout;
 use crate::record_shown::push_shown_record;
 use mdns_capture::Moment;
-use mdns_lives::{EndReason, Life, Which, Window};
+use mdns_lives::{Life, Which, Window};
 use mdns_message::{Resource, Want};
 use people_text::moment_text::push_millis;
 
@@ -21,7 +21,7 @@ pub(crate) fn end_width(end_of_captures: Moment, lives: &[Life]) -> usize
 {
     let mut width = 0;
     for life in lives {
-        width = wider(width, end_shown(end_of_captures, life).len());
+        width = wider(width, end_len(end_of_captures, life));
     }
     width
 }
@@ -152,7 +152,7 @@ fn push_row(
     text.push_str(" ")?;
     push_until(text, end_of_captures, life)?;
     text.push_str(" ")?;
-    push_padded(text, width, end_shown(end_of_captures, life))?;
+    push_padded_end(text, width, end_of_captures, life)?;
     text.push_str(tail)?;
     Ok(())
 }
@@ -176,25 +176,4 @@ pub(crate) fn push_until(
     push_millis(text, life.until)?;
     text.push_str(" ")?;
     Ok(())
-}
-
-/// Returns how a life ends, for people.
-pub(crate) fn end_shown(end_of_captures: Moment, life: &Life) -> &'static str
-    ensures { result.now ≡ end_shown end_of_captures.nanos life.now }
-{
-    if end_of_captures.nanos() < life.until {
-        return open_word(life.reason);
-    }
-    reason_word(life.reason)
-}
-
-// Returns what is said of a life that goes on, and will end for this reason unless the record is heard again.
-fn open_word(reason: EndReason) -> &'static str
-    ensures { result.now ≡ open_text reason }
-{
-    match reason {
-        EndReason::Expired => "live",
-        EndReason::Goodbye => "live, said goodbye",
-        EndReason::Flushed => "live, flushed",
-    }
 }

@@ -183,7 +183,7 @@ pub(crate) fn end_word(end_of_captures: Moment, life: &Life) -> &'static str
 }
 
 /// Returns why a life ended, as a word of seven letters.
-pub(crate) fn reason_word(reason: EndReason) -> &'static str
+fn reason_word(reason: EndReason) -> &'static str
     ensures word { result.now ≡ reason_text reason }
     ensures short { length result.now ≤ 7 }
 {

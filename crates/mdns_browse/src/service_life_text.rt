@@ -4,15 +4,16 @@ ghost use Rattle.std.specs.Prelude.{◌≡◌, ◌++◌, ◌∷◌, [], if◌the
 ghost use Rattle.std.specs.{Prelude.{decimal}, List.{flat_map}, String.{string_bytes}};
 ghost use Rattle.dns_name.specs.Name.{name_text};
 ghost use Rattle.mdns_message.specs.Parts.{service_lent};
-ghost use Rattle.mdns_browse.specs.{Columns.{padded, widest}, Json.{json_array, json_member, parted, text_member}, LifeText.{nanos_if_some}};
+ghost use Rattle.mdns_browse.specs.{Columns.{widest}, Json.{json_array, json_member, parted, text_member}, LifeText.{end_shown, nanos_if_some}};
 ghost use Rattle.mdns_browse.specs.RecordShown.{shown_instance, shown_order, spaced_by, spaced_wide};
-ghost use Rattle.mdns_browse.specs.ServiceLifeText.{ServiceLife as Shown, csv_life, server_object, server_words, service_csv, service_end, service_json};
+ghost use Rattle.mdns_browse.specs.ServiceLifeText.{ServiceLife as Shown, csv_life, server_object, server_words, service_csv, service_json};
 ghost use Rattle.mdns_browse.specs.ServiceLifeText.{service_life_lent, service_line, service_lives_text, service_row, service_text};
 ghost use Rattle.mdns_browse.specs.ServiceLifeText.{servers_shown, services_called, services_head};
 
-use crate::columns::{push_spaces, wider, word_for};
+use crate::columns::{wider, word_for};
 use crate::csv::{Field, push_csv_line};
-use crate::life_columns::{end_shown, push_heading, push_until};
+use crate::life_columns::{push_heading, push_until};
+use crate::life_end::{end_len, push_padded_end};
 use crate::life_text::{Layout, end_word};
 use crate::record_shown::{GAP, push_shown_instance, push_shown_order, push_shown_target};
 use crate::report::Form;
@@ -20,9 +21,9 @@ use crate::report_csv::drop_first_space;
 use crate::report_json::Objects;
 use crate::report_lines::push_life;
 use mdns_capture::Moment;
-use mdns_lives::{EndReason, Life, Window};
+use mdns_lives::{Life, Window};
 use mdns_message::{Name, Service, Want};
-use people_text::moment_text::{push_millis, push_time};
+use people_text::moment_text::push_millis;
 use people_text::shown_names::push_shown_name;
 use std::alloc::Global;
 
@@ -54,7 +55,7 @@ pub fn service_lives_text(
 {
     let layout = Layout {
         count: services.len(),
-        width: wider(3, ends_width(alloc, end_of_captures, services)?),
+        width: wider(3, ends_width(end_of_captures, services)),
     };
     let mut to = Objects::new(alloc);
     push_head(&mut to.text, form, window, layout, begin, end_of_captures)?;
@@ -63,30 +64,15 @@ pub fn service_lives_text(
 }
 
 // Returns the greatest length of the words for how lives end.
-fn ends_width(
-    alloc: Global,
-    end_of_captures: Moment,
-    services: &[ServiceLife<'_>],
-) -> Result<usize, Want>
-    ensures { IfOk result (λ width. width ≡ widest
-        (map (λ (service : Shown). service_end end_of_captures.nanos service.life) (map service_life_lent services.now))) }
+fn ends_width(end_of_captures: Moment, services: &[ServiceLife<'_>]) -> usize
+    ensures { result ≡ widest
+        (map (λ (service : Shown). end_shown end_of_captures.nanos service.life) (map service_life_lent services.now)) }
 {
-    let mut text = String::new(alloc);
     let mut width = 0;
     for service in services {
-        let len = end_len(&mut text, end_of_captures, &service.life)?;
-        width = wider(width, len);
+        width = wider(width, end_len(end_of_captures, &service.life));
     }
-    Ok(width)
-}
-
-// Returns the length of the words for how a life ends, by way of `text`.
-fn end_len(text: &mut String, end_of_captures: Moment, life: &Life) -> Result<usize, Want>
-    ensures { IfOk result (λ len. len ≡ length (service_end end_of_captures.nanos life.now)) }
-{
-    text.clear();
-    push_end(text, end_of_captures, life)?;
-    Ok(text.len())
+    width
 }
 
 fn push_head(
@@ -320,48 +306,6 @@ fn push_row(
     push_shown_name(to, &service.name.borrowed())?;
     push_shown_servers(to, service.servers.as_slice())?;
     Ok(to.push('\n')?)
-}
-
-// Appends how a life ends, and spaces up to a width.
-fn push_padded_end(
-    to: &mut String,
-    width: usize,
-    end_of_captures: Moment,
-    life: &Life,
-) -> Result<(), Want>
-    ensures { OnOk result (string_bytes to.new
-        ≡ string_bytes to.old ++ padded width (service_end end_of_captures.nanos life.now)) }
-{
-    let begin = to.len();
-    push_end(to, end_of_captures, life)?;
-    let len = to.len().saturating_sub(begin);
-    push_spaces(to, width.saturating_sub(len))
-}
-
-// Appends how a life ends, a goodbye with the time of day at which it was said.
-fn push_end(to: &mut String, end_of_captures: Moment, life: &Life) -> Result<(), Want>
-    ensures { OnOk result (string_bytes to.new ≡ string_bytes to.old ++ service_end end_of_captures.nanos life.now) }
-{
-    match life.reason {
-        EndReason::Goodbye => {
-            to.push_str(goodbye_word(end_of_captures, life))?;
-            push_time(to, life.last.moment.nanos())
-        }
-        EndReason::Expired | EndReason::Flushed => {
-            Ok(to.push_str(end_shown(end_of_captures, life))?)
-        }
-    }
-}
-
-fn goodbye_word(end_of_captures: Moment, life: &Life) -> &'static str
-    ensures { result.now
-        ≡ (if nat_lt end_of_captures.nanos life.now.until then codes "live, goodbye at " else codes "goodbye at ") }
-{
-    if end_of_captures.nanos() < life.until {
-        "live, goodbye at "
-    } else {
-        "goodbye at "
-    }
 }
 
 fn push_shown_servers(to: &mut String, servers: &[Service<&Name>]) -> Result<(), Want>
