@@ -161,6 +161,4 @@ pub blank-more : (kept done rest new : List KeptMessage) (one : KeptMessage) (me
     → rest ≡ one ∷ new → message ≡ one.message → place ≡ one.place → AddsRow rows message more → number + 1 ≡ length more
     → one.place < length numbers → BlankRows kept (done ++ one ∷ []) new more (set numbers place number)
 blank-more kept done rest new one message place rows more numbers number messages placed so_far first is at adds last room =
-    subst (λ p. BlankRows kept (done ++ one ∷ []) new more (set numbers p number)) (sym at)
-    (blank-step kept done rest new one rows more numbers number messages placed so_far first
-    (subst (λ m. AddsRow rows m more) is adds) last room)
+    grind (arith, blank-step kept done rest new one rows more numbers number messages placed so_far first)

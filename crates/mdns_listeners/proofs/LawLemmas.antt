@@ -1,7 +1,7 @@
 -- The laws of the rows of what listeners heard.
 use Rattle.std.proofs.lemmas.{Bool.Decides.{nat_tests}, List.Sorted.{sum_by-IsPermutation}, List.Sums.{sum_by-cons}}
 use Rattle.std.proofs.{lemmas.Map.Lookups.{exact_bytes}, Common.{◌≡◌, ℕ, ◌+◌, Bool, true, false, cond, List, [], ◌∷◌}}
-use Rattle.std.proofs.Common.{◌++◌, map, Option, Some, refl, sym, ap, ◌∙◌, subst, arith, zero-add}
+use Rattle.std.proofs.Common.{◌++◌, map, refl, sym, ap, ◌∙◌, subst, arith, zero-add}
 use Rattle.std.specs.{Cmp.Lexicographic.{slice_cmp, nat_list_cmp_total}, List.{filter, sum_by}}
 use Rattle.std.specs.{List.Sorted.{IsPermutation, IsStrictlySortedBy}, Map.{keys_of}, Option.{option_map}, Ordering.{nat_cmp}}
 use Rattle.join_map.specs.{Entries.{value_at, joined, joined_at}, laws.Entries.{sorted-joined, value_at-join}}
@@ -87,15 +87,10 @@ unfolding bare
 messages-bare [] = refl
 messages-bare (row ∷ rows) = ap (λ ms. row.message ∷ ms) (messages-bare rows)
 
-bare-step : (o p : Option (List HeardAt)) (times : List HeardAt) → p ≡ option_map no_times o → (b : Bool)
-    → cond b (Some []) p ≡ option_map no_times (cond b (Some times) o)
-bare-step o p times rest true = refl
-bare-step o p times rest false = rest
-
 row_at-bare : (m : List ℕ) (rows : List HeardRow) → row_at m (bare rows) ≡ option_map no_times (row_at m rows)
 unfolding bare
 row_at-bare m [] = refl
-row_at-bare m (row ∷ rows) = bare-step (row_at m rows) _ row.times (row_at-bare m rows) (is_same m row.message)
+row_at-bare m (row ∷ rows) = grind (arith, nat_tests, row_at-bare m rows)
 
 pub messages-permuted : (all others : List Told) (rows more : List HeardRow) → IsPermutation all others → AreHeardIn all rows
     → AreHeardIn others more → messages_of rows ≡ messages_of more

@@ -152,12 +152,8 @@ pub named-next : (hearings : List Hearing) (rows : List SenderRow) (i : ℕ) (ro
     → AreNamed hearings (take i rows) (map sender_lent old) → AreNames row.source hearings lent.names.now
     → AreNamed hearings (take (i + 1) rows) (map sender_lent new)
 named-next hearings rows i row lent old new within is pushed same named are =
-    let first : take (i + 1) rows ≡ take i rows ++ row ∷ [] =
-    take_more rows i row within ∙ ap (λ (r : SenderRow). take i rows ++ r ∷ []) (sym is) in
-    let all : map sender_lent new ≡ map sender_lent old ++ record { row = row; names = lent.names.now } ∷ [] =
-    ap (map sender_lent) pushed ∙ map-append sender_lent old (lent ∷ [])
-    ∙ ap (λ (r : SenderRow). map sender_lent old ++ record { row = r; names = lent.names.now } ∷ []) same in
-    grind (arith, named-more hearings (take i rows) (map sender_lent old) row lent.names.now named are)
+    let more = named-more hearings (take i rows) (map sender_lent old) row lent.names.now named are in
+    grind (arith, take_more, map-append sender_lent old (lent ∷ []))
 
 pub named-all : (hearings : List Hearing) (rows : List SenderRow) (i : ℕ) (senders : List NamedSender) → length rows ≤ i
     → AreNamed hearings (take i rows) senders → AreNamed hearings rows senders

@@ -1,10 +1,11 @@
 -- Marks tell what the messages tell.
-use Rattle.std.proofs.Common.{◌≡◌, ℕ, ◌+◌, Bool, true, false, ◌&&◌, cond, List, [], ◌∷◌, ◌++◌, map, drop, get_or}
+use Rattle.std.proofs.Common.{◌≡◌, ℕ, ◌+◌, Bool, true, ◌&&◌, cond, List, [], ◌∷◌, map, drop, get_or}
 use Rattle.std.proofs.Common.{Option, Some, None, ℤ, arith, refl, ap, sym, ◌∙◌}
-use Rattle.std.proofs.lemmas.{List.{get_or-drop, drop-drop}, List.Sums.{sum_by-append, sum_by-cons}, List.Elements.{filter_map-append}}
-use Rattle.std.specs.List.{count_by, cons_option, filter, filter_map, list_any}
-use Rattle.mdns_listeners.specs.{HeardMessage.{HeardRow}, Marks.{is_seen, mark_at, marks_by, marks_from, only_of, seen_by, seen_of}}
-use Rattle.mdns_listeners.specs.{Numbers.{has, is_of}, Pairs.{common, difference, differences, nanos_ahead, once, only_moment}}
+use Rattle.std.proofs.lemmas.{Bool.Decides.{nat_tests}, List.{get_or-drop, drop-drop}, List.Sums.{sum_by-cons}}
+use Rattle.std.specs.List.{count_by, cons_option, enumerate_from, filter, filter_map, list_any}
+use Rattle.mdns_capture.specs.declared.moment.Moment.{Moment}
+use Rattle.mdns_listeners.specs.{HeardMessage.{HeardRow}, Marks.{is_seen, mark_at, marks_by, only_of, seen_by, seen_of}}
+use Rattle.mdns_listeners.specs.{Numbers.{has, is_of}, Pairs.{common, differences, nanos_ahead, once, only_moment}}
 use Rattle.mdns_listeners.specs.declared.{heard_message.HeardAt.{HeardAt}, marks.{Mark.{Mark}, Seen.{Seen}, Seen.TheVariants.{Never, Once, Often}}}
 
 -- ---- how often a message was heard
@@ -30,19 +31,28 @@ once-seen listener row = only-seen (filter (is_of listener) row.times)
 
 -- ---- the marks of all messages
 
--- a message that was not heard leaves no mark
-count-mark : (p : Mark → Bool) (n : ℕ) (s : Seen) (b : Bool) → ((q : Seen) → p (record { position = n; seen = q }) ≡ b)
-    → count_by p (mark_at n s) ≡ cond (b && is_seen s) 1 0
-count-mark p n Never true e = refl
-count-mark p n Never false e = refl
-count-mark p n (Once m) true e = ap (λ (c : Bool). 0 + cond c 1 0) (e (Once m))
-count-mark p n (Once m) false e = ap (λ (c : Bool). 0 + cond c 1 0) (e (Once m))
-count-mark p n Often true e = ap (λ (c : Bool). 0 + cond c 1 0) (e Often)
-count-mark p n Often false e = ap (λ (c : Bool). 0 + cond c 1 0) (e Often)
+-- what is counted, and what is made, of a message's mark, if it has one, and of others
+count-mark : (p : Mark → Bool) (n : ℕ) (s : Seen) (marks : List Mark)
+    → count_by p (cons_option (mark_at n s) marks)
+    ≡ cond (is_seen s && p (record { position = n; seen = s })) 1 0 + count_by p marks
+count-mark p n Never marks = grind arith
+count-mark p n (Once m) marks = sum_by-cons (λ (mark : Mark). cond (p mark) 1 0) (record { position = n; seen = Once m }) marks
+count-mark p n Often marks = sum_by-cons (λ (mark : Mark). cond (p mark) 1 0) (record { position = n; seen = Often }) marks
 
-front-option : (o : Option ℤ) (xs : List ℤ) → cons_option o [] ++ xs ≡ cons_option o xs
-front-option None xs = refl
-front-option (Some x) xs = refl
+ahead-never : (o : Option Moment) → nanos_ahead o None ≡ None
+ahead-never None = refl
+ahead-never (Some m) = refl
+
+-- how much later the other heard a marked message than the one, if each heard it exactly once
+abbrev ahead_at : List Seen → Mark → Option ℤ
+ahead_at table mark = nanos_ahead (only_of (get_or table mark.position Never)) (only_of mark.seen)
+
+differ-mark : (table : List Seen) (n : ℕ) (s : Seen) (marks : List Mark)
+    → filter_map (ahead_at table) (cons_option (mark_at n s) marks)
+    ≡ cons_option (nanos_ahead (only_of (get_or table n Never)) (only_of s)) (filter_map (ahead_at table) marks)
+differ-mark table n Never marks = grind (arith, ahead-never)
+differ-mark table n (Once m) marks = refl
+differ-mark table n Often marks = refl
 
 -- the first of what is left of a table, and the rest
 here-is : (one : ℕ) (table : List Seen) (n : ℕ) (row : HeardRow) (rows : List HeardRow)
@@ -53,39 +63,27 @@ rest-is : (one : ℕ) (table : List Seen) (n : ℕ) (row : HeardRow) (rows : Lis
     → drop n table ≡ map (seen_by one) (row ∷ rows) → drop (n + 1) table ≡ map (seen_by one) rows
 rest-is one table n row rows e = sym (drop-drop 1 n table) ∙ ap (λ (xs : List Seen). drop 1 xs) e
 
+abbrev marks_from : ℕ → ℕ → List HeardRow → List Mark
+marks_from listener n rows = filter_map (λ row. mark_at row.0 (seen_by listener row.1)) (enumerate_from n rows)
+
 common-from : (one other : ℕ) (table : List Seen) (n : ℕ) (rows : List HeardRow) → drop n table ≡ map (seen_by one) rows
-    → count_by (λ (mark : Mark). is_seen (get_or table mark.position Never)) (marks_from n (map (seen_by other) rows))
-    ≡ common one other rows
+    → count_by (λ (mark : Mark). is_seen (get_or table mark.position Never)) (marks_from other n rows) ≡ common one other rows
 common-from one other table n [] e = refl
 common-from one other table n (row ∷ rows) e =
     let p : Mark → Bool = λ mark. is_seen (get_or table mark.position Never) in
-    let both : HeardRow → Bool = λ r. has one r && has other r in
+    let joined : common one other (row ∷ rows) ≡ cond (has one row && has other row) 1 0 + common one other rows =
+    sum_by-cons (λ (r : HeardRow). cond (has one r && has other r) 1 0) row rows in
+    let first = count-mark p n (seen_by other row) (marks_from other (n + 1) rows) in
     let here : is_seen (get_or table n Never) ≡ has one row =
     ap is_seen (here-is one table n row rows e) ∙ sym (has-seen one row) in
-    let first : count_by p (mark_at n (seen_by other row)) ≡ cond (both row) 1 0 =
-    grind (arith, count-mark, has-seen) in
-    let rest = common-from one other table (n + 1) rows (rest-is one table n row rows e) in
-    let split : count_by p (mark_at n (seen_by other row) ++ marks_from (n + 1) (map (seen_by other) rows))
-    ≡ count_by p (mark_at n (seen_by other row)) + count_by p (marks_from (n + 1) (map (seen_by other) rows)) =
-    sum_by-append (λ (m : Mark). cond (p m) 1 0) (mark_at n (seen_by other row)) (marks_from (n + 1) (map (seen_by other) rows)) in
-    let joined : common one other (row ∷ rows) ≡ cond (both row) 1 0 + common one other rows =
-    sum_by-cons (λ (r : HeardRow). cond (both r) 1 0) row rows in
-    split ∙ ((λ i. first i + rest i) ∙ sym joined)
+    grind (arith, nat_tests, has-seen, common-from one other table (n + 1) rows (rest-is one table n row rows e))
 
 differences-from : (one other : ℕ) (table : List Seen) (n : ℕ) (rows : List HeardRow) → drop n table ≡ map (seen_by one) rows
-    → filter_map (λ (mark : Mark). nanos_ahead (only_of (get_or table mark.position Never)) (only_of mark.seen))
-    (marks_from n (map (seen_by other) rows))
-    ≡ differences one other rows
+    → filter_map (ahead_at table) (marks_from other n rows) ≡ differences one other rows
 differences-from one other table n [] e = refl
 differences-from one other table n (row ∷ rows) e =
-    let h : Mark → Option ℤ = λ mark. nanos_ahead (only_of (get_or table mark.position Never)) (only_of mark.seen) in
-    let here : only_of (get_or table n Never) ≡ once one row =
-    ap only_of (here-is one table n row rows e) ∙ sym (once-seen one row) in
-    let first : filter_map h (mark_at n (seen_by other row)) ≡ cons_option (difference one other row) [] =
-    grind (arith, once-seen) in
     let rest = differences-from one other table (n + 1) rows (rest-is one table n row rows e) in
-    let split = filter_map-append h (mark_at n (seen_by other row)) (marks_from (n + 1) (map (seen_by other) rows)) in
-    split ∙ ((λ i. first i ++ rest i) ∙ front-option (difference one other row) (differences one other rows))
+    grind (arith, differ-mark, here-is one table n row rows e, once-seen)
 
 pub common-marks : (one other : ℕ) (rows : List HeardRow) (table : List Seen) (marked : List Mark)
     → table ≡ map (seen_by one) rows → marked ≡ marks_by rows other
@@ -94,6 +92,5 @@ common-marks one other rows table marked t m = grind (arith, common-from one oth
 
 pub differences-marks : (one other : ℕ) (rows : List HeardRow) (table : List Seen) (marked : List Mark)
     → table ≡ map (seen_by one) rows → marked ≡ marks_by rows other
-    → filter_map (λ (mark : Mark). nanos_ahead (only_of (get_or table mark.position Never)) (only_of mark.seen)) marked
-    ≡ differences one other rows
+    → filter_map (ahead_at table) marked ≡ differences one other rows
 differences-marks one other rows table marked t m = grind (arith, differences-from)

@@ -71,19 +71,14 @@ fill-step : (rows : List HeardRow) (told : List Told) (t : Told) (r : ℕ) (x : 
     → set (map (filled told) rows) r (row_with x.message (x.times ++ t.at ∷ [])) ≡ map (filled (told ++ t ∷ [])) rows
 fill-step [] told t r x l s own is = absurd (omega arith)
 fill-step (row ∷ rows) told t zero x l s own is =
-    let head : row_with x.message (x.times ++ t.at ∷ []) ≡ filled (told ++ t ∷ []) row =
-    grind (arith, times-own, same-itself) in
     let above = subst (λ k. AllByRecursion (λ m. slice_cmp nat_cmp k m ≡ Less) (messages_of rows)) own
     (sorted_head (slice_cmp nat_cmp) row.message (messages_of rows) s) in
-    λ i. head i ∷ sym (filled-others rows told t above) i
+    grind (arith, times-own, same-itself, filled-others rows told t above)
 fill-step (row ∷ rows) told t (suc r) x l s own is =
-    let below : slice_cmp nat_cmp row.message (get_or (messages_of rows) r []) ≡ Less =
-    Less-from_sorted (slice_cmp nat_cmp) (messages_of (row ∷ rows)) 0 (suc r) [] s (omega arith)
+    let below = Less-from_sorted (slice_cmp nat_cmp) (messages_of (row ∷ rows)) 0 (suc r) [] s (omega arith)
     (omega (arith, length-map rows (λ y. y.message))) in
-    let other = filled-other told t row (not-same-below row.message t.message
-    (subst (λ m. slice_cmp nat_cmp row.message m ≡ Less) own below)) in
     let rest = fill-step rows told t r x (omega arith) (sorted_tail (slice_cmp nat_cmp) row.message (messages_of rows) s) own is in
-    λ i. sym other i ∷ rest i
+    grind (arith, filled-other, not-same-below)
 
 pub fill_more : (first rows : List HeardRow) (numbers : List ℕ) (times : List Noted) (i : ℕ) (noted : Noted) (r : ℕ) (x y : HeardRow)
     → i < length times → noted ≡ get_or times i noted → r ≡ get_or numbers noted.place 0 → r < length first → Ascend first

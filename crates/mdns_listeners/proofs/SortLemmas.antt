@@ -1,6 +1,6 @@
 -- A sort leaves the numbers in ascending order, and there is one such order.
 use Rattle.std.proofs.lemmas.{Bool.Decides.{nat_tests}, Int.{ints}, Cmp.{int_cmp_total}, List.Elements.{recursion_from_All}}
-use Rattle.std.proofs.lemmas.List.Sorted.{IsPermutation-cons, IsPermutation-middle, IsPermutation-refl, IsPermutation-trans, ranks_by}
+use Rattle.std.proofs.lemmas.List.Sorted.{IsPermutation-cons, IsPermutation-middle, IsPermutation-refl, IsPermutation-trans, length_permutation, ranks_by}
 use Rattle.std.proofs.lemmas.List.{Sorted.{sorted_far, sum_by-IsPermutation}, Sums.{sum_by-cons}}
 use Rattle.std.proofs.Common.{◌≡◌, ℕ, suc, zero, ◌+◌, Bool, true, false, cond, List, [], ◌∷◌, length, get_or}
 use Rattle.std.proofs.Common.{ℤ, arith, refl, ap, sym, ◌∙◌, subst}
@@ -14,12 +14,6 @@ not_below x y z a b = grind (arith, ints)
 
 not_above : (x y : ℤ) → int_lt y x ≡ true → int_lt x y ≡ false
 not_above x y a = grind (arith, ints)
-
-level : (x y : ℤ) → int_lt x y ≡ false → int_lt y x ≡ false → x ≡ y
-level x y a b = omega (arith, ints)
-
-not_below_itself : (x : ℤ) → int_lt x x ≡ false
-not_below_itself x = grind (arith, ints)
 
 -- each number is at most as large as the later ones
 IsUp : List ℤ → Type 0
@@ -67,7 +61,7 @@ not_less : (x y : ℤ) (xs ys : List ℤ) → AllByRecursion (λ z. int_lt z y �
 unfolding SameCounts
 not_less x y xs ys up same =
     let p : ℤ → Bool = λ z. int_lt z y in
-    let none : count_by p (y ∷ ys) ≡ 0 = count-none p (y ∷ ys) (not_below_itself y, up) in
+    let none : count_by p (y ∷ ys) ≡ 0 = count-none p (y ∷ ys) (grind (arith, ints), up) in
     let zero : cond (p x) 1 0 + count_by p xs ≡ 0 = sym (count-cons p x xs) ∙ (same p ∙ none) in
     elim (p x) as (λ b. cond b 1 0 + count_by p xs ≡ 0 → b ≡ false) [ true ↦ λ e. absurd (omega arith) | false ↦ λ e. refl ] zero
 
@@ -87,7 +81,7 @@ one_order [] (y ∷ ys) up vp same =
 one_order (x ∷ xs) [] up vp same =
     let e : 0 ≡ 1 + count_by (λ z. true) xs = sym (same (λ z. true)) ∙ count-cons (λ z. true) x xs in absurd (omega arith)
 one_order (x ∷ xs) (y ∷ ys) up vp same =
-    let front : x ≡ y = level x y (not_less x y xs ys vp.0 same) (not_less y x ys xs up.0 (λ p. sym (same p))) in
+    let front : x ≡ y = omega (arith, ints, not_less x y xs ys vp.0 same, not_less y x ys xs up.0 (λ p. sym (same p))) in
     let back = one_order xs ys up.1 vp.1 (same-tails x y xs ys front same) in
     λ i. front i ∷ back i
 
@@ -111,27 +105,6 @@ unfolding IsUp
 IsUp-ascending [] = tt
 IsUp-ascending (x ∷ xs) = IsUp-with x (ascending_of xs) (IsUp-ascending xs)
 
-count-with : (p : ℤ → Bool) (x : ℤ) (xs : List ℤ) → count_by p (with_number x xs) ≡ cond (p x) 1 0 + count_by p xs
-count-with p x [] = count-cons p x []
-count-with p x (y ∷ ys) = grind (arith, count-with p x ys, count-cons p y (with_number x ys), count-cons p y ys, count-cons p x (y ∷ ys))
-
-count-ascending : (p : ℤ → Bool) (xs : List ℤ) → count_by p (ascending_of xs) ≡ count_by p xs
-count-ascending p [] = refl
-count-ascending p (x ∷ xs) = grind (arith, count-with, count-cons, count-ascending p xs)
-
--- what a sort leaves
-pub ascending-is : (xs ys : List ℤ) → IsPermutation xs ys → IsSorted int_cmp ys → ys ≡ ascending_of xs
-unfolding SameCounts
-ascending-is xs ys moved up = grind (arith, one_order, IsUp-from_sorted, IsUp-ascending, sum_by-IsPermutation, count-ascending)
-
-length-with : (x : ℤ) (xs : List ℤ) → length (with_number x xs) ≡ suc (length xs)
-length-with x [] = refl
-length-with x (y ∷ ys) = grind (arith, nat_tests, length-with x ys)
-
-pub length-ascending : (xs : List ℤ) → length (ascending_of xs) ≡ length xs
-length-ascending [] = refl
-length-ascending (x ∷ xs) = length-with x (ascending_of xs) ∙ ap suc (length-ascending xs)
-
 -- ---- the ascending list has the same numbers, in order
 
 with-same : (x : ℤ) (xs : List ℤ) → IsPermutation (x ∷ xs) (with_number x xs)
@@ -148,6 +121,16 @@ ascending-same [] = IsPermutation-refl []
 ascending-same (x ∷ xs) =
     IsPermutation-trans (x ∷ xs) (x ∷ ascending_of xs) (with_number x (ascending_of xs))
     (IsPermutation-cons x xs (ascending_of xs) (ascending-same xs)) (with-same x (ascending_of xs))
+
+pub length-ascending : (xs : List ℤ) → length (ascending_of xs) ≡ length xs
+length-ascending xs = length_permutation xs (ascending_of xs) (ascending-same xs)
+
+-- what a sort leaves
+pub ascending-is : (xs ys : List ℤ) → IsPermutation xs ys → IsSorted int_cmp ys → ys ≡ ascending_of xs
+unfolding SameCounts
+ascending-is xs ys moved up = one_order ys (ascending_of xs) (IsUp-from_sorted ys up) (IsUp-ascending xs)
+    (λ p. sum_by-IsPermutation (λ x. cond (p x) 1 0) xs ys moved
+    ∙ sym (sum_by-IsPermutation (λ x. cond (p x) 1 0) xs (ascending_of xs) (ascending-same xs)))
 
 IsSorted-from_up : (xs : List ℤ) → IsUp xs → IsSorted int_cmp xs
 unfolding IsUp

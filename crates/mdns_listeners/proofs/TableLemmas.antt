@@ -1,5 +1,5 @@
 -- Columns that grow row by row, and rows that are written in them.
-use Rattle.std.proofs.Common.{◌≡◌, refl, sym, ap, ◌∙◌, ℕ, zero, suc, ◌+◌, ◌-◌, ◌<◌, ◌≤◌, Bool, true, false, cond, leb, List, [], ◌∷◌, ◌++◌}
+use Rattle.std.proofs.Common.{◌≡◌, refl, ap, ℕ, zero, suc, ◌+◌, ◌-◌, ◌<◌, ◌≤◌, Bool, true, false, cond, leb, List, [], ◌∷◌, ◌++◌}
 use Rattle.std.proofs.Common.{length, map, max, drop, get_or, append_assoc, append-nil, codes, arith}
 use Rattle.std.proofs.lemmas.{Bool.{leb-false, leb-true}, List.{at_drop_more, drop_all, length-drop}, Bool.Decides.{nat_tests}}
 use Rattle.std.specs.List.{flat_map, fold}
@@ -14,12 +14,12 @@ widened_at-suc : (width : ℕ) (widths : List ℕ) (column len : ℕ)
     → widened_at (width ∷ widths) (suc column) len ≡ width ∷ widened_at widths column len
 widened_at-suc width widths column len = grind (arith, nat_tests)
 
-pub widened-more : (widths : List ℕ) (cells : List (List ℕ)) (cell : List ℕ)
+pub widened_more : (widths : List ℕ) (cells : List (List ℕ)) (cell : List ℕ)
     → widened widths (cells ++ cell ∷ []) ≡ widened_at (widened widths cells) (length cells) (length cell)
-widened-more [] [] cell = refl
-widened-more (width ∷ widths) [] cell = grind (arith, nat_tests)
-widened-more [] (first ∷ cells) cell = grind (arith, widened-more [] cells cell, widened_at-suc)
-widened-more (width ∷ widths) (first ∷ cells) cell = grind (arith, widened-more widths cells cell, widened_at-suc)
+widened_more [] [] cell = refl
+widened_more (width ∷ widths) [] cell = grind (arith, nat_tests)
+widened_more [] (first ∷ cells) cell = grind (arith, widened_more [] cells cell, widened_at-suc)
+widened_more (width ∷ widths) (first ∷ cells) cell = grind (arith, widened_more widths cells cell, widened_at-suc)
 
 abbrev lent_cells : List LentField → List (List ℕ)
 lent_cells fields = cells_of (map field_lent fields)
@@ -44,15 +44,9 @@ pub columns_more : (width : ℕ → ℕ) (fields : List LentField) (i : ℕ) (x 
     → old ++ cells_from width i (lent_cells (drop i fields)) ≡ total
     → new ++ cells_from width (i + 1) (lent_cells (drop (i + 1) fields)) ≡ total
 columns_more width fields i x old new total within is written left =
-    let rest = drop (i + 1) fields in
-    let last = leb (length fields) (i + 1) in
-    let one = cond last (lent_cell x) (padded (width i) (lent_cell x) ++ codes "  ") in
-    ap (λ (text : List ℕ). text ++ cells_from width (i + 1) (lent_cells rest)) written
-    ∙ append_assoc old one (cells_from width (i + 1) (lent_cells rest))
-    ∙ ap (λ (text : List ℕ). old ++ text) (column_step width i (length fields) x rest last (length-drop (i + 1) fields) refl)
-    ∙ ap (λ (y : LentField). old ++ cells_from width i (lent_cells (y ∷ rest))) is
-    ∙ ap (λ (text : List ℕ). old ++ text) (sym (at_drop_more (λ (fs : List LentField). cells_from width i (lent_cells fs)) fields i x within))
-    ∙ left
+    let step = column_step width i (length fields) x (drop (i + 1) fields) (leb (length fields) (i + 1)) (length-drop (i + 1) fields) refl in
+    let here = at_drop_more (λ (fs : List LentField). cells_from width i (lent_cells fs)) fields i x within in
+    grind (arith, append_assoc, step, here)
 
 pub columns_end : (width : ℕ → ℕ) (fields : List LentField) (i : ℕ) (old total : List ℕ) → length fields ≤ i
     → old ++ cells_from width i (lent_cells (drop i fields)) ≡ total → old ≡ total

@@ -1,5 +1,5 @@
 -- Whether a listener heard a message once, and when. What listeners heard, without the bytes of the messages.
-use Rattle.std.specs.{Prelude.{ℕ, ◌+◌, Bool, true, false, List, [], ◌∷◌, ◌++◌, map, Option, Some, None}, List.{filter}}
+use Rattle.std.specs.{Prelude.{ℕ, Bool, true, false, List, [], ◌∷◌, Option, Some, None}, List.{enumerate_from, filter, filter_map}}
 use Rattle.mdns_capture.specs.declared.moment.Moment.{Moment}
 use Rattle.mdns_listeners.specs.{HeardMessage.{HeardRow}, Numbers.{is_of}, declared.heard_message.HeardAt.{HeardAt}, declared.marks.Seen.{Seen}}
 use Rattle.mdns_listeners.specs.declared.marks.{Seen.TheVariants.{Never, Once, Often}, Mark.{Mark}}
@@ -32,17 +32,12 @@ only_of Never = None
 only_of (Once moment) = Some moment
 only_of Often = None
 
--- the mark of a message that the listener heard; none of another
-abbrev pub mark_at : ℕ → Seen → List Mark
-mark_at position Never = []
-mark_at position (Once moment) = record { position = position; seen = Once moment } ∷ []
-mark_at position Often = record { position = position; seen = Often } ∷ []
-
--- the marks of messages of which the first has this position
-abbrev pub marks_from : ℕ → List Seen → List Mark
-marks_from position [] = []
-marks_from position (one ∷ others) = mark_at position one ++ marks_from (position + 1) others
+-- the mark of a message, if it was heard
+abbrev pub mark_at : ℕ → Seen → Option Mark
+mark_at position Never = None
+mark_at position (Once moment) = Some (record { position = position; seen = Once moment })
+mark_at position Often = Some (record { position = position; seen = Often })
 
 -- the marks of the messages that the listener heard
 abbrev pub marks_by : List HeardRow → ℕ → List Mark
-marks_by rows listener = marks_from 0 (map (seen_by listener) rows)
+marks_by rows listener = filter_map (λ row. mark_at row.0 (seen_by listener row.1)) (enumerate_from 0 rows)

@@ -1,6 +1,6 @@
 -- How much each listener heard, alone or not, and missed. Listeners are counted from 0.
-use Rattle.std.specs.Prelude.{ℕ, ◌==◌, ◌&&◌, nat_le, not, if◌then◌else◌, Bool, List, [], map, Option, Some, None}
-use Rattle.std.specs.{Option.{option_to_list}, List.{count_by, enumerate_from, flat_map, fold, list_any, range_with_len, sum_by, zip}}
+use Rattle.std.specs.Prelude.{ℕ, ◌==◌, ◌&&◌, nat_le, not, if◌then◌else◌, Bool, List, map, Option, Some, None}
+use Rattle.std.specs.List.{count_by, enumerate_from, filter_map, fold, list_any, range_with_len, sum_by, zip}
 use Rattle.mdns_capture.specs.declared.moment.Moment.{Moment}
 use Rattle.mdns_survey.specs.{declared.reading.Span.{Span}, Span.{joined_spans}}
 use Rattle.mdns_listeners.specs.{HeardMessage.{HeardRow}, declared.heard_message.HeardAt.{HeardAt}, declared.numbers.ListenerRow.{ListenerRow}}
@@ -59,12 +59,12 @@ pub record FileSpans : Type 0 where
   pub whole : Option Span
 
 -- the time span of a file, if it has one and is the listener's
-abbrev pub span_of_file : ℕ → ℕ × Option Span → List Span
-span_of_file listener file = if file.0 == listener then option_to_list file.1 else []
+abbrev pub span_of_file : ℕ → ℕ × Option Span → Option Span
+span_of_file listener file = if file.0 == listener then file.1 else None
 
 -- the time spans of a listener's files, given each file's listener and time span
 abbrev pub file_spans : ℕ → List ℕ → List (Option Span) → List Span
-file_spans listener of files = flat_map (span_of_file listener) (zip of files)
+file_spans listener of files = filter_map (span_of_file listener) (zip of files)
 
 -- what a listener's files span
 abbrev pub spans_of_listener : List ℕ → List (Option Span) → ℕ → FileSpans

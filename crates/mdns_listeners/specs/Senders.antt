@@ -31,17 +31,17 @@ abbrev pub senders : List HeardRow → List (List ℕ)
 senders [] = []
 senders (row ∷ rows) = sender_in row.message ∷ filter (λ other. not (bytes_eq other (sender_in row.message))) (senders rows)
 
--- all times of messages
-abbrev pub all_times : List HeardRow → List HeardAt
-all_times rows = flat_map (λ row. row.times) rows
-
 -- a time span that goes on to one more moment
 abbrev pub with_time : Option Span → HeardAt → Option Span
 with_time span at = joined_spans span (Some (span_at at.moment))
 
+-- a time span that goes on to the times at which the listener heard a message
+abbrev pub with_times : ℕ → Option Span → HeardRow → Option Span
+with_times listener span row = fold with_time span (filter (is_of listener) row.times)
+
 -- from the first to the last time that the listener heard one of the messages; none where it heard none
 abbrev pub heard_span : ℕ → List HeardRow → Option Span
-heard_span listener rows = fold with_time None (filter (is_of listener) (all_times rows))
+heard_span listener rows = fold (with_times listener) None rows
 
 -- what the listener heard of a sender, whose messages these are
 abbrev pub sender_row : List ℕ → List HeardRow → ℕ × FileSpans → SenderRow

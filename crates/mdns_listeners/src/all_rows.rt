@@ -67,8 +67,7 @@ fn push_all(sheet: &mut Sheet, names: &[String], all: &AllRows<'_>) -> Result<()
         ≡ sheet.old.text ++ text_in sheet.old.form (map string_bytes names.now) (all_rows_lent all.now)) }
 {
     match sheet.form() {
-        Form::Lines | Form::Csv => take_all(sheet, names, all),
-        Form::Json => take_all(sheet, names, all),
+        Form::Lines | Form::Csv | Form::Json => take_all(sheet, names, all),
         Form::Pretty => push_tables(sheet, names, all),
     }
 }
@@ -197,8 +196,7 @@ fn take_pair(sheet: &mut Sheet, names: &[String], row: &PairRow) -> Result<(), W
     let file = listener_name_at(names, row.one);
     let other = listener_name_at(names, row.other);
     match sheet.form() {
-        Form::Lines | Form::Csv => sheet.take(&pair_fields(file, other, row)),
-        Form::Json => sheet.take(&pair_fields(file, other, row)),
+        Form::Lines | Form::Csv | Form::Json => sheet.take(&pair_fields(file, other, row)),
         Form::Pretty => sheet.take(&pair_cells(file, other, row)),
     }
 }

@@ -66,13 +66,9 @@ impl<H: Hearer> Collector for Beside<H> {
         alloc: Global,
         reader: R,
     ) -> Result<Reading, ListenFault> {
-        match listen_with(alloc, reader, self) {
-            Ok(reading) => {
-                self.messages.go_on();
-                Ok(reading)
-            }
-            Err(fault) => Err(fault),
-        }
+        let reading = listen_with(alloc, reader, self)?;
+        self.messages.go_on();
+        Ok(reading)
     }
 }
 

@@ -3,16 +3,14 @@
 ghost use Rattle.std.specs.Prelude.{◌≡◌, ◌≤◌, [], map, take};
 ghost use Rattle.mdns_browse.specs.declared.report.Form.TheVariants.{Json, Lines, Pretty};
 ghost use Rattle.mdns_listeners.specs.declared.fields.Kind.TheVariants.{Listeners, Pairs, Senders};
-ghost use Rattle.mdns_listeners.specs.Fields.{field_lent, first_of, high_of, last_of, listener_fields, low_of, middle_of, head, heads_of};
+ghost use Rattle.mdns_listeners.specs.Fields.{field_lent, listener_fields, head, heads_of};
 ghost use Rattle.mdns_listeners.specs.{Fields.{labelled, pair_cells, pair_fields, sender_count, sender_row_in}, Values.{value_lent}};
 
 use crate::numbers::ListenerRow;
-use crate::pairs::{PairRow, Quartiles};
+use crate::pairs::PairRow;
 use crate::senders::SenderRow;
 use crate::values::Value;
-use mdns_capture::Moment;
 use mdns_message::Name;
-use mdns_survey::reading::Span;
 
 /// What rows are of.
 #[derive(Clone, Copy)]
@@ -36,13 +34,15 @@ pub(crate) struct Field<'a> {
 pub(crate) fn listener_fields<'a>(file: &'a str, row: &ListenerRow) -> [Field<'a>; 6]
     ensures { map field_lent result ≡ listener_fields file.now row.now }
 {
+    let first = row.span.map(|span| span.first);
+    let last = row.span.map(|span| span.last);
     [
         labelled("", "file", Value::Words(file)),
         labelled(" heard ", "heard", Value::Count(row.heard)),
         labelled(" alone ", "alone", Value::Count(u128::from(row.alone))),
         labelled(" missed ", "missed", Value::Count(u128::from(row.missed))),
-        labelled(" from ", "from", Value::Time(first_of(row.span))),
-        labelled(" until ", "until", Value::Time(last_of(row.span))),
+        labelled(" from ", "from", Value::Time(first)),
+        labelled(" until ", "until", Value::Time(last)),
     ]
 }
 
@@ -50,13 +50,16 @@ pub(crate) fn listener_fields<'a>(file: &'a str, row: &ListenerRow) -> [Field<'a
 pub(crate) fn pair_fields<'a>(file: &'a str, other: &'a str, row: &PairRow) -> [Field<'a>; 7]
     ensures { map field_lent result ≡ pair_fields file.now other.now row.now }
 {
+    let middle = row.quartiles.map(|all| all.middle);
+    let low = row.quartiles.map(|all| all.low);
+    let high = row.quartiles.map(|all| all.high);
     [
         labelled("", "file", Value::Words(file)),
         labelled(" ", "other", Value::Words(other)),
         labelled(" common ", "common", Value::Count(u128::from(row.common))),
-        labelled(" ahead ", "ahead", Value::Ahead(middle_of(row.quartiles))),
-        labelled(" from ", "low", Value::Ahead(low_of(row.quartiles))),
-        labelled(" to ", "high", Value::Ahead(high_of(row.quartiles))),
+        labelled(" ahead ", "ahead", Value::Ahead(middle)),
+        labelled(" from ", "low", Value::Ahead(low)),
+        labelled(" to ", "high", Value::Ahead(high)),
         labelled(" by ", "by", Value::Count(u128::from(row.by))),
     ]
 }
@@ -83,13 +86,15 @@ pub(crate) fn sender_fields<'a>(
     ensures line { map field_lent result ≡ sender_row_in Lines file.now row.now names.now }
     ensures cells { map field_lent (take (sender_count names.now) result) ≡ sender_row_in Pretty file.now row.now names.now }
 {
+    let first_heard = row.span.map(|span| span.first);
+    let last_heard = row.span.map(|span| span.last);
     [
         labelled("", "source", Value::Address(&row.source)),
         labelled(" ", "file", Value::Words(file)),
         labelled(" heard ", "heard", Value::Count(row.heard)),
         labelled(" missed ", "missed", Value::Count(u128::from(row.missed))),
-        labelled(" from ", "from", Value::Time(first_of(row.span))),
-        labelled(" until ", "until", Value::Time(last_of(row.span))),
+        labelled(" from ", "from", Value::Time(first_heard)),
+        labelled(" until ", "until", Value::Time(last_heard)),
         labelled("", "names", Value::Names(names)),
     ]
 }
@@ -118,26 +123,14 @@ pub(crate) fn sender_count(names: &[Name]) -> usize
 pub(crate) fn listener_heads() -> [Field<'static>; 6]
     ensures { map field_lent result ≡ heads_of Listeners }
 {
-    [
-        head("LISTENER"),
-        head("HEARD"),
-        head("ALONE"),
-        head("MISSED"),
-        head("FROM"),
-        head("UNTIL"),
-    ]
+    ["LISTENER", "HEARD", "ALONE", "MISSED", "FROM", "UNTIL"].map(head)
 }
 
 /// Returns the heads of a table of pairs.
 pub(crate) fn pair_heads() -> [Field<'static>; 4]
     ensures { map field_lent result ≡ heads_of Pairs }
 {
-    [
-        head("LISTENER"),
-        head("OTHER"),
-        head("COMMON"),
-        head("THE OTHER'S CLOCK"),
-    ]
+    ["LISTENER", "OTHER", "COMMON", "THE OTHER'S CLOCK"].map(head)
 }
 
 /// Returns the heads of a table of senders.
@@ -145,14 +138,9 @@ pub(crate) fn sender_heads() -> [Field<'static>; 7]
     ensures { map field_lent result ≡ heads_of Senders }
 {
     [
-        head("SENDER"),
-        head("LISTENER"),
-        head("HEARD"),
-        head("MISSED"),
-        head("FROM"),
-        head("UNTIL"),
-        head("NAMES"),
+        "SENDER", "LISTENER", "HEARD", "MISSED", "FROM", "UNTIL", "NAMES",
     ]
+    .map(head)
 }
 
 fn head(word: &'static str) -> Field<'static>
@@ -165,34 +153,4 @@ fn labelled<'a>(words: &'static str, name: &'static str, value: Value<'a>) -> Fi
     ensures { field_lent result ≡ labelled words.now name.now (value_lent value.entry) }
 {
     Field { words, name, value }
-}
-
-fn first_of(span: Option<Span>) -> Option<Moment>
-    ensures { result ≡ first_of span }
-{
-    Some(span?.first)
-}
-
-fn last_of(span: Option<Span>) -> Option<Moment>
-    ensures { result ≡ last_of span }
-{
-    Some(span?.last)
-}
-
-fn middle_of(quartiles: Option<Quartiles>) -> Option<i64>
-    ensures { result ≡ middle_of quartiles }
-{
-    Some(quartiles?.middle)
-}
-
-fn low_of(quartiles: Option<Quartiles>) -> Option<i64>
-    ensures { result ≡ low_of quartiles }
-{
-    Some(quartiles?.low)
-}
-
-fn high_of(quartiles: Option<Quartiles>) -> Option<i64>
-    ensures { result ≡ high_of quartiles }
-{
-    Some(quartiles?.high)
 }

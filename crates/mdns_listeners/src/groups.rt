@@ -72,7 +72,7 @@ pub fn unfit_prefix(prefixes: &[String], files: &[String]) -> Option<usize>
 
 // Checks that the prefix fits one of the files.
 fn fits_one(prefix: &[u8], files: &[String]) -> bool
-    ensures { result ≡ list_any (fits prefix.now) (map string_bytes files.now) }
+    ensures { result ≡ list_any (λ file. fits prefix.now (string_bytes file)) files.now }
 {
     files
         .iter()

@@ -61,10 +61,7 @@ impl MessageCollector {
     fn heard_at(&self, moment: Moment) -> HeardAt
         ensures { result ≡ heard_at self.now moment }
     {
-        let listener = match self.by_file.get(self.place) {
-            Some(listener) => *listener,
-            None => 0,
-        };
+        let listener = self.by_file.get(self.place).copied().unwrap_or(0);
         HeardAt { listener, moment }
     }
 
@@ -82,12 +79,7 @@ impl MessageCollector {
     fn next_place(&self) -> usize
         ensures { result ≡ min (suc self.now.place) (length self.now.by_file.items) }
     {
-        let len = self.by_file.len();
-        if self.place < len {
-            self.place + 1
-        } else {
-            len
-        }
+        self.place.saturating_add(1).min(self.by_file.len())
     }
 
     /// Hears a packet with a message that came before, without reading it again, and returns the number of its hearings.
@@ -160,13 +152,9 @@ impl Collector for MessageCollector {
         alloc: Global,
         reader: R,
     ) -> Result<Reading, ListenFault> {
-        match listen_with(alloc, reader, self) {
-            Ok(reading) => {
-                self.go_on();
-                Ok(reading)
-            }
-            Err(fault) => Err(fault),
-        }
+        let reading = listen_with(alloc, reader, self)?;
+        self.go_on();
+        Ok(reading)
     }
 }
 
@@ -293,11 +281,7 @@ fn facts_text(
 fn spans_in(alloc: Global, readings: &[Reading]) -> Result<Vec<Option<Span>>, Want>
     ensures { IfOk result (λ spans. spans.items ≡ map (λ reading. reading.span) readings.now) }
 {
-    let mut spans = Vec::new(alloc);
-    for reading in readings {
-        spans.push(reading.span)?;
-    }
-    Ok(spans)
+    Ok(readings.iter().map(|reading| reading.span).collect(alloc)?)
 }
 
 // Returns the rows of senders, each with the names that its sender goes by.

@@ -1,7 +1,7 @@
 //! Marks of the messages that a listener heard: enough to compare listeners by walking over these messages alone.
 
 ghost use Rattle.std.specs.{Prelude.{◌≡◌, ◌++◌, ◌∷◌, [], map, IfOk, OnOk}, List.{filter}};
-ghost use Rattle.mdns_listeners.specs.{Marks.{is_seen, marks_by, seen_by, seen_more, seen_of}, Numbers.{is_of}};
+ghost use Rattle.mdns_listeners.specs.{Marks.{is_seen, mark_at, marks_by, seen_by, seen_more, seen_of}, Numbers.{is_of}};
 
 use crate::heard_message::{HeardAt, HeardMessage};
 use mdns_capture::Moment;
@@ -46,13 +46,7 @@ impl Marks {
     pub(crate) fn new(alloc: Global, listener: usize, rows: &[HeardMessage]) -> Result<Marks, Want>
         ensures { IfOk result (λ made. made ≡ marks_by rows.now listener) }
     {
-        let mut items = Vec::new(alloc);
-        for (position, row) in rows.iter().enumerate() {
-            let seen = seen_in(listener, row.times());
-            if is_seen(seen) {
-                items.push(Mark { position, seen })?;
-            }
-        }
+        let items = all_marks(alloc, listener, rows)?;
         Ok(Marks { items })
     }
 
@@ -72,11 +66,8 @@ pub(crate) fn all_seen(
 ) -> Result<Vec<Seen>, Want>
     ensures { IfOk result (λ all. all.items ≡ map (seen_by listener) rows.now) }
 {
-    let mut all = Vec::with_capacity(alloc, rows.len())?;
-    for row in rows {
-        all.push(seen_in(listener, row.times()))?;
-    }
-    Ok(all)
+    let all = rows.iter().map(|row| seen_in(listener, row.times()));
+    Ok(all.collect(alloc)?)
 }
 
 /// Checks that a message was heard.
@@ -85,9 +76,27 @@ pub(crate) fn is_seen(seen: Seen) -> bool
 {
     match seen {
         Seen::Never => false,
-        Seen::Once(_) => true,
-        Seen::Often => true,
+        Seen::Once(_) | Seen::Often => true,
     }
+}
+
+// Returns a mark of each message that the listener heard.
+fn all_marks(alloc: Global, listener: usize, rows: &[HeardMessage]) -> Result<Vec<Mark>, Want>
+    ensures { IfOk result (λ marks. marks.items ≡ marks_by rows.now listener) }
+{
+    let messages = rows.iter().enumerate();
+    let marks = messages.filter_map(|(at, row)| mark_at(at, seen_in(listener, row.times())));
+    Ok(marks.collect(alloc)?)
+}
+
+// Returns the mark of a message, if it was heard.
+fn mark_at(position: usize, seen: Seen) -> Option<Mark>
+    ensures { result ≡ mark_at position seen }
+{
+    if is_seen(seen) {
+        return Some(Mark { position, seen });
+    }
+    None
 }
 
 // Returns how often a message was heard by the listener, given all of its times.
@@ -109,7 +118,6 @@ fn seen_more(seen: Seen, moment: Moment) -> Seen
 {
     match seen {
         Seen::Never => Seen::Once(moment),
-        Seen::Once(_) => Seen::Often,
-        Seen::Often => Seen::Often,
+        Seen::Once(_) | Seen::Often => Seen::Often,
     }
 }

@@ -17,8 +17,6 @@ pub struct NamedSender<'a> {
 pub(crate) fn listener_name_at(listener_names: &[String], listener: usize) -> &str
     ensures { result.now ≡ listener_name_at (map string_bytes listener_names.now) listener }
 {
-    match listener_names.get(listener) {
-        Some(file) => file.as_str(),
-        None => "",
-    }
+    let name = listener_names.get(listener);
+    name.map_or("", |name| name.as_str())
 }

@@ -1,10 +1,8 @@
 //! When each listener listened, and how much it heard, alone or not, and missed.
 
-ghost use Rattle.std.specs.Prelude.{◌≡◌, ◌<◌, ◌^◌, ◌++◌, ◌&&◌, [], if◌then◌else◌, nat_eq, nat_lt, length, slice_index_or, IfOk, OnOk, None};
-ghost use Rattle.std.specs.{List.{count_by, list_any}, Option.{option_to_list}};
-ghost use Rattle.mdns_survey.specs.Span.{joined_spans};
-ghost use Rattle.mdns_listeners.specs.Numbers.{alone, heard, is_alone, is_missed, is_of, is_within, listened, listener_row, listener_rows};
-ghost use Rattle.mdns_listeners.specs.Numbers.{missed, span_of_file, spans_of_listener, spans_of_listeners, times_heard};
+ghost use Rattle.std.specs.{Prelude.{◌≡◌, ◌<◌, ◌^◌, ◌&&◌, if◌then◌else◌, nat_eq, nat_lt, IfOk}, List.{count_by, list_any}};
+ghost use Rattle.mdns_listeners.specs.Numbers.{alone, file_spans, heard, is_alone, is_missed, is_of, is_within, listened, listener_row, listener_rows};
+ghost use Rattle.mdns_listeners.specs.Numbers.{missed, span_of_file, spans_of_listener, spans_of_listeners, times_heard, whole_span};
 
 use crate::heard_message::{HeardAt, HeardMessage};
 use mdns_capture::Moment;
@@ -51,29 +49,6 @@ impl Model for ListenerSpans {
 }
 
 impl ListenerSpans {
-    // Makes the spans of a listener that has no files.
-    fn new(alloc: Global) -> ListenerSpans
-        ensures spans { result.spans ≡ [] }
-        ensures whole { result.whole ≡ None }
-    {
-        ListenerSpans {
-            spans: Vec::new(alloc),
-            whole: None,
-        }
-    }
-
-    // Adds the span of one more file, if it has one.
-    fn push(&mut self, span: Option<Span>) -> Result<(), Want>
-        ensures spans { OnOk result (self.new.spans ≡ self.old.spans ++ option_to_list span) }
-        ensures whole { OnOk result (self.new.whole ≡ joined_spans self.old.whole span) }
-    {
-        self.whole = Span::both(self.whole, span);
-        if let Some(span) = span {
-            self.spans.push(span)?;
-        }
-        Ok(())
-    }
-
     /// Returns the time spans of the files that have packets.
     pub fn spans(&self) -> &[Span]
         ensures { result.now ≡ self.now.spans }
@@ -117,29 +92,38 @@ fn spans_of_one(
 ) -> Result<ListenerSpans, Want>
     ensures { IfOk result (λ spans. spans ≡ spans_of_listener by_file.now spans_by_file.now listener) }
 {
-    let mut spans = ListenerSpans::new(alloc);
-    for (file, of_file) in by_file.iter().enumerate() {
-        spans.push(span_of_file(listener, *of_file, span_at(spans_by_file, file)))?;
-    }
-    Ok(spans)
+    let spans = file_spans(alloc, listener, by_file, spans_by_file)?;
+    let whole = whole_span(spans.as_slice());
+    Ok(ListenerSpans { spans, whole })
+}
+
+// Returns the time spans of the listener's files.
+fn file_spans(
+    alloc: Global,
+    listener: usize,
+    by_file: &[usize],
+    spans_by_file: &[Option<Span>],
+) -> Result<Vec<Span>, Want>
+    ensures { IfOk result (λ spans. spans.items ≡ file_spans listener by_file.now spans_by_file.now) }
+{
+    let files = by_file.iter().zip(spans_by_file.iter());
+    let spans = files.filter_map(|(of_file, span)| span_of_file(listener, *of_file, *span));
+    Ok(spans.collect(alloc)?)
 }
 
 // Returns the time span of a file if it is the listener's, given the file's listener and time span.
 fn span_of_file(listener: usize, of_file: usize, span: Option<Span>) -> Option<Span>
-    ensures { option_to_list result ≡ span_of_file listener (of_file, span) }
+    ensures { result ≡ span_of_file listener (of_file, span) }
 {
     if of_file == listener { span } else { None }
 }
 
-// Returns the time span of a file; `None` if there is no such file.
-fn span_at(spans_by_file: &[Option<Span>], file: usize) -> Option<Span>
-    ensures { result ≡ slice_index_or spans_by_file.now file None }
+// Returns the time span from the earliest beginning to the latest end.
+fn whole_span(spans: &[Span]) -> Option<Span>
+    ensures { result ≡ whole_span spans.now }
 {
-    if file < spans_by_file.len() {
-        spans_by_file[file]
-    } else {
-        None
-    }
+    let spans = spans.iter();
+    spans.fold(None, |whole, span| Span::both(whole, Some(*span)))
 }
 
 /// Returns the rows of all listeners, in order, given the messages that they heard and the time spans of their files.
@@ -150,11 +134,9 @@ pub fn listener_rows(
 ) -> Result<Vec<ListenerRow>, Want>
     ensures { IfOk result (λ all. all.items ≡ listener_rows rows.now spans.now) }
 {
-    let mut all = Vec::with_capacity(alloc, spans.len())?;
-    for (listener, of_listener) in spans.iter().enumerate() {
-        all.push(listener_row(listener, of_listener, rows))?;
-    }
-    Ok(all)
+    let listeners = spans.iter().enumerate();
+    let all = listeners.map(|(listener, of_one)| listener_row(listener, of_one, rows));
+    Ok(all.collect(alloc)?)
 }
 
 fn listener_row(listener: usize, spans: &ListenerSpans, rows: &[HeardMessage]) -> ListenerRow
@@ -191,7 +173,7 @@ pub(crate) fn numbers_of(listener: usize, spans: &[Span], rows: &[HeardMessage])
 }
 
 // Returns the numbers of one message.
-#[tactic(auto, using(crate::proofs::NumberLemmas::missed_by_count))]
+#[tactic(auto, using(std::proofs::lemmas::Grind::common_steps, crate::proofs::NumberLemmas::alone_by_count, crate::proofs::NumberLemmas::missed_by_count))]
 fn numbers_in(listener: usize, spans: &[Span], row: &HeardMessage) -> Numbers
     ensures heard { result.heard ≡ times_heard listener row.now }
     ensures alone { result.alone ≡ (if is_alone listener row.now then 1 else 0) }
@@ -202,8 +184,8 @@ fn numbers_in(listener: usize, spans: &[Span], row: &HeardMessage) -> Numbers
     let count = times_of(listener, times);
     Numbers {
         heard: count as u128,
-        alone: one_if(is_some_and_all(count, times.len())),
-        missed: one_if(count == 0 && has_listened(spans, times)),
+        alone: u64::from(is_some_and_all(count, times.len())),
+        missed: u64::from(count == 0 && has_listened(spans, times)),
     }
 }
 
@@ -211,12 +193,6 @@ fn is_some_and_all(count: usize, all: usize) -> bool
     ensures { result ≡ (nat_lt 0 count && nat_eq count all) }
 {
     count > 0 && count == all
-}
-
-fn one_if(test: bool) -> u64
-    ensures { result ≡ (if test then 1 else 0) }
-{
-    if test { 1 } else { 0 }
 }
 
 // Returns how many of the times are the listener's.

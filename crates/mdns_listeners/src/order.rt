@@ -120,9 +120,7 @@ fn end_of_tied(kept: &[Kept], begin: usize) -> usize
     ensures within { result ≤ length kept.now }
 {
     let word = kept[begin].word();
-    let mut end = begin + 1;
-    while end < kept.len() && kept[end].word() == word {
-        end += 1;
-    }
-    end
+    let others = &kept[begin + 1..];
+    let tied = others.iter().position(|other| other.word() != word);
+    begin + 1 + tied.unwrap_or(others.len())
 }

@@ -132,37 +132,26 @@ fn differences(alloc: Global, seen: &[Seen], marks: &[Mark]) -> Result<Vec<i64>,
     ensures { IfOk result (λ ahead. ahead.items ≡ filter_map
         (λ mark. nanos_ahead (only_of (slice_index_or seen.now mark.position Never)) (only_of mark.seen)) marks.now) }
 {
-    let mut ahead = Vec::new(alloc);
-    for mark in marks {
-        if let Some(nanos) = nanos_ahead(seen_at(seen, mark.position), mark.seen) {
-            ahead.push(nanos)?;
-        }
-    }
-    Ok(ahead)
+    let marks = marks.iter();
+    let ahead = marks.filter_map(|mark| nanos_ahead(seen_at(seen, mark.position), mark.seen));
+    Ok(ahead.collect(alloc)?)
 }
 
 // Returns how often the message at a position was heard.
 fn seen_at(seen: &[Seen], position: usize) -> Seen
     ensures { result ≡ slice_index_or seen.now position Never }
 {
-    if position < seen.len() {
-        seen[position]
-    } else {
-        Seen::Never
-    }
+    seen.get(position).copied().unwrap_or(Seen::Never)
 }
 
 // Returns how many nanoseconds the other heard a message later than the one, if each heard it exactly once.
 fn nanos_ahead(one: Seen, other: Seen) -> Option<i64>
     ensures { result ≡ nanos_ahead (only_of one) (only_of other) }
 {
-    let Seen::Once(one) = one else {
-        return None;
-    };
-    let Seen::Once(other) = other else {
-        return None;
-    };
-    Some(nanos_between(one, other))
+    match (one, other) {
+        (Seen::Once(one), Seen::Once(other)) => Some(nanos_between(one, other)),
+        _ => None,
+    }
 }
 
 // Returns the nanoseconds from the one moment to the other.
@@ -205,11 +194,8 @@ fn is_pair(common: u64, one: Option<Span>, other: Option<Span>) -> bool
 pub(crate) fn meet(one: Option<Span>, other: Option<Span>) -> bool
     ensures { result ≡ meet one other }
 {
-    let Some(one) = one else {
-        return false;
-    };
-    let Some(other) = other else {
-        return false;
-    };
-    one.first <= other.last && other.first <= one.last
+    match (one, other) {
+        (Some(one), Some(other)) => one.first <= other.last && other.first <= one.last,
+        _ => false,
+    }
 }

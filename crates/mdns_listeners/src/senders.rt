@@ -1,12 +1,12 @@
 //! What each listener heard of each sender, and missed.
 
 ghost use Rattle.std.specs.Prelude.{◌≡◌, ◌≤◌, ◌++◌, [], true, false, length, None, IfOk, OnOk, slice_index, ◌==◌, if◌then◌else◌};
-ghost use Rattle.std.specs.{Cmp.Lexicographic.{slice_cmp}, List.{All, filter, fold}, Ordering.{nat_cmp}};
+ghost use Rattle.std.specs.{Cmp.Lexicographic.{slice_cmp}, List.{All}, Ordering.{nat_cmp}};
 ghost use Rattle.std.specs.List.Sorted.{IsPartitionPoint, IsPartitionedBy, IsStrictlySortedBy};
-ghost use Rattle.mdns_listeners.specs.{HeardMessage.{HasWholeAddress, messages_of}, Numbers.{is_of}, Senders.{heard_span, is_from}};
-ghost use Rattle.mdns_listeners.specs.Senders.{rows_of_sender, sender_in, sender_row, sender_rows, source_of, with_time};
+ghost use Rattle.mdns_listeners.specs.{HeardMessage.{HasWholeAddress, messages_of}, Senders.{heard_span, is_from}};
+ghost use Rattle.mdns_listeners.specs.Senders.{rows_of_sender, sender_in, sender_row, sender_rows, source_of, with_times};
 
-use crate::heard_message::{HeardAt, HeardMessage};
+use crate::heard_message::HeardMessage;
 use crate::numbers::{ListenerSpans, numbers_of};
 use mdns_capture::SourceAddress;
 use mdns_survey::reading::Span;
@@ -137,22 +137,17 @@ fn source_of(sender: &[u8]) -> SourceAddress
 fn heard_span(listener: usize, rows: &[HeardMessage]) -> Option<Span>
     ensures { result ≡ heard_span listener rows.now }
 {
-    let mut span = None;
-    for row in rows {
-        span = with_times(span, listener, row.times());
-    }
-    span
+    rows.iter()
+        .fold(None, |span, row| with_times(listener, span, row))
 }
 
-// Returns the time span that goes on to the times of the listener.
-fn with_times(begun: Option<Span>, listener: usize, times: &[HeardAt]) -> Option<Span>
-    ensures { result ≡ fold with_time begun (filter (is_of listener) times.now) }
+// Returns the time span that goes on to the times at which the listener heard a message.
+fn with_times(listener: usize, begun: Option<Span>, row: &HeardMessage) -> Option<Span>
+    ensures { result ≡ with_times listener begun row.now }
 {
-    let mut span = begun;
-    for at in times {
-        if at.listener == listener {
-            span = Span::both(span, Some(Span::at(at.moment)));
-        }
-    }
-    span
+    let own = row.times().iter().filter(|at| at.listener == listener);
+    own.fold(
+        begun,
+        |span, at| Span::both(span, Some(Span::at(at.moment))),
+    )
 }

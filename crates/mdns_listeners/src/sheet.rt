@@ -191,6 +191,7 @@ fn push_column(
 }
 
 // Widens the columns as much as the cells of a row need.
+#[tactic(auto, using(std::proofs::lemmas::Grind::common_steps, crate::proofs::TableLemmas::widened_more))]
 fn widen(widths: &mut Vec<usize>, scratch: &mut String, fields: &[Field<'_>]) -> Result<(), Want>
     ensures { OnOk result (widths.new.items ≡ widened widths.old.items (cells_of (map field_lent fields.now))) }
 {

@@ -41,13 +41,8 @@ fn keep_together(
 ) -> Result<Vec<PairRow>, Want>
     ensures { IfOk result (λ kept. kept.items ≡ filter (is_together spans.now) rows.now) }
 {
-    let mut kept = Vec::new(alloc);
-    for row in rows {
-        if is_together(spans, row) {
-            kept.push(*row)?;
-        }
-    }
-    Ok(kept)
+    let kept = rows.iter().copied().filter(|row| is_together(spans, row));
+    Ok(kept.collect(alloc)?)
 }
 
 /// Checks that the listeners of a row recorded together.
@@ -61,21 +56,14 @@ pub fn is_together(spans: &[ListenerSpans], row: &PairRow) -> bool
 fn span_at(spans: &[ListenerSpans], listener: usize) -> Option<Span>
     ensures { result ≡ span_at spans.now listener }
 {
-    if listener < spans.len() {
-        spans[listener].whole()
-    } else {
-        None
-    }
+    spans.get(listener)?.whole()
 }
 
 // Checks that two time spans meet, for at least half of the shorter one.
 fn recorded_together(one: Option<Span>, other: Option<Span>) -> bool
     ensures { result ≡ recorded_together one other }
 {
-    let Some(one) = one else {
-        return false;
-    };
-    let Some(other) = other else {
+    let (Some(one), Some(other)) = (one, other) else {
         return false;
     };
     meet(Some(one), Some(other))

@@ -5,7 +5,7 @@ ghost use Rattle.std.specs.{Fmt.{decimal}, List.{flat_map}, Net.Addr.{segments_o
 ghost use Rattle.dns_name.specs.Name.{name_text};
 ghost use Rattle.mdns_browse.specs.Json.{comma_unless, json_array, json_string, parted};
 ghost use Rattle.people_text.specs.Shown.{name_shown};
-ghost use Rattle.mdns_listeners.specs.Values.{Ahead, Time, cell_text, groups_text, json_text, names_shown, source_shown, source_text};
+ghost use Rattle.mdns_listeners.specs.Values.{cell_text, groups_text, json_text, names_shown, source_shown, source_text};
 ghost use Rattle.mdns_listeners.specs.Values.{value_lent, word_text};
 
 use crate::clock::push_clock_words;
@@ -41,8 +41,10 @@ pub(crate) fn push_word(to: &mut String, value: &Value<'_>) -> Result<(), Want>
     match *value {
         Value::Words(text) => push_text(to, text),
         Value::Count(number) => push_number(to, number),
-        Value::Time(moment) => push_moment(to, moment),
-        Value::Ahead(nanos) => push_ahead(to, nanos),
+        Value::Time(None) => push_text(to, "-"),
+        Value::Time(Some(moment)) => push_nanos(to, moment.nanos()),
+        Value::Ahead(None) => push_text(to, "-"),
+        Value::Ahead(Some(nanos)) => push_signed(to, nanos),
         Value::Address(source) => push_source(to, source),
         Value::Names(names) => push_names(to, names),
         Value::Clock(file, pair) => push_clock_words(to, file, pair),
@@ -98,24 +100,6 @@ fn push_number(to: &mut String, number: u128) -> Result<(), Want>
 {
     write!(to, "{number}")?;
     Ok(())
-}
-
-fn push_moment(to: &mut String, moment: Option<Moment>) -> Result<(), Want>
-    ensures { OnOk result (string_bytes to.new ≡ string_bytes to.old ++ word_text (Time moment)) }
-{
-    match moment {
-        Some(moment) => push_nanos(to, moment.nanos()),
-        None => push_text(to, "-"),
-    }
-}
-
-fn push_ahead(to: &mut String, nanos: Option<i64>) -> Result<(), Want>
-    ensures { OnOk result (string_bytes to.new ≡ string_bytes to.old ++ word_text (Ahead nanos)) }
-{
-    match nanos {
-        Some(nanos) => push_signed(to, nanos),
-        None => push_text(to, "-"),
-    }
 }
 
 // Appends an IPv4 address with dots, or all eight groups of an IPv6 address in hexadecimal.

@@ -24,10 +24,7 @@ pub fn warns(pair: &PairRow) -> bool
 fn agree(quartiles: Option<Quartiles>) -> bool
     ensures { result ≡ agree quartiles }
 {
-    match quartiles {
-        Some(quartiles) => is_one_clock(quartiles),
-        None => false,
-    }
+    quartiles.is_some_and(is_one_clock)
 }
 
 /// Appends what a warning of two listeners says of the second one's clock.

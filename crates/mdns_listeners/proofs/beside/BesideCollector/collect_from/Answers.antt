@@ -1,9 +1,9 @@
 use Rattle.mdns_listeners.proofs.{BesideLemmas.{hears-capture, hears-nothing}, ListenersLemmas.{gathers-none}}
 use Rattle.mdns_listeners.proofs.beside.BesideCollector.collect_from.Goals as goal
 
-pub returns-in-Ok-clause-heard : goal.returns-in-Ok-clause-heard
-returns-in-Ok-clause-heard g c =
-    let taken = c.in-Ok.ensures.taken in
+pub returns-clause-heard : goal.returns-clause-heard
+returns-clause-heard g c =
+    let taken = c.in_ok-reading.ensures.taken in
     let old = c.args.self.now in
     let Stands = g.H.Hearer.Stands in
     let took = taken.took old (hears-nothing Stands old.hearer, gathers-none old.messages) in

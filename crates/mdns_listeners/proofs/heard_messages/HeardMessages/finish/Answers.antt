@@ -29,12 +29,6 @@ returns-clause-heard c =
 
 pub returns-clause-addresses : goal.returns-clause-addresses
 returns-clause-addresses c =
-    let kept = c.self.inside.kept.items in
-    let sorted = c.sort.new.kept in
-    let long : length sorted ≡ c.self.inside.kept.len = search rules in
-    let moved = subst (λ ks. IsPermutation ks sorted) c.as_mut_slice.ensures.value c.sort.ensures.permutation in
-    let placed = subst (ArePlaced (kept_messages kept)) (sym (take_at sorted _ c.self.inside.kept.len long))
-    (placed-permuted kept sorted c.self.inside.times.items c.self.inside.names c.self.invariant moved) in
-    heard-whole _ c.in_ok-rows.rows.items (c.in_ok-rows.ensures (kept_messages kept) placed)
-    (subst (λ times. All (λ told. HasWholeAddress told.message) (told_by (kept_messages kept) times)) (sym c.as_slice.ensures.value)
-    (told-whole kept c.self.inside.times.items c.self.inside.names c.self.invariant))
+    heard-whole _ c.in_ok-rows.rows.items (returns-clause-heard c)
+    (subst (All (λ told. HasWholeAddress told.message)) (ap (λ (s : HeardSoFar). s.told) c.self.view_is)
+    (told-whole c.self.inside.kept.items c.self.inside.times.items c.self.inside.names c.self.invariant))

@@ -1,9 +1,9 @@
 use Rattle.mdns_listeners.proofs.ListenersLemmas.{gathers-none}
 use Rattle.mdns_listeners.proofs.listeners.MessageCollectorCollector.collect_from.Goals as goal
 
-pub returns-in-Ok-clause-heard : goal.returns-in-Ok-clause-heard
-returns-in-Ok-clause-heard g c =
-    let taken = c.in-Ok.ensures.taken in
+pub returns-clause-heard : goal.returns-clause-heard
+returns-clause-heard g c =
+    let taken = c.in_ok-reading.ensures.taken in
     record {
       packets = taken.packets;
       outcomes = taken.outcomes;
