@@ -15,11 +15,11 @@ use Rattle.people_text.specs.{MomentText.{duration_text}, Shown.{shown}}
 use Rattle.mdns_page.specs.{declared.axis.Axis.{Axis}, declared.captures.CaptureCounts.{CaptureCounts}, Bare.{BareRow}}
 use Rattle.mdns_page.specs.Bare.{bare_capture, bare_end, bare_file, bare_group, bare_groups, bare_instances, bare_live, bare_row}
 use Rattle.mdns_page.specs.{Bare.{bare_server, bare_text, is_some_filled, unsaid}, Captures.{Comparison, Facts, capture_text}}
-use Rattle.mdns_page.specs.{Captures.{captures_text, clock_text, compared_text, each_from}, Ticks.{symbols_text}, declared.look.Look.{Look}}
-use Rattle.mdns_page.specs.{OtherRows.{is_large}, Lanes.{bases_text}, Lead.{Ended}}
+use Rattle.mdns_page.specs.{Captures.{captures_text, clock_text, compared_text, each_from}, Ticks.{symbols_text}, declared.row_picture.Look.{Look}}
+use Rattle.mdns_page.specs.{Lanes.{bases_text}, Lead.{Ended}}
 use Rattle.mdns_page.specs.{Lead.{about_line, ending_warning, pair_warning}, Picture.{goes_on}, LiveSection.{address_html, live_group}}
 use Rattle.mdns_page.specs.{LiveSection.{live_row, live_text, server_html, text_html}, Document.{Shown, head, page}}
-use Rattle.mdns_page.specs.Timeline.{Row, content_name, count_last, group_text, is_open, lives_in, owner_of, row_text, timeline}
+use Rattle.mdns_page.specs.Timeline.{Row, content_name, count_last, group_text, is_large, is_open, lives_in, owner_of, row_text, timeline}
 use Rattle.mdns_page.specs.declared.kept_records.{TimelinePart.{TimelinePart}, TimelinePart.TheVariants.{Addresses, Instances, Names}}
 use Rattle.mdns_page.proofs.{GroupLemmas.{grouped_all}, LiveWordLemmas.{some-items}}
 use Rattle.mdns_page.proofs.SameLists.{append-same, count-same, flat_map-alike, flat_map-same, groups-same, length-same}
@@ -151,19 +151,21 @@ timeline-same axis lanes rows drawn addresses hosts names apart same_groups same
 
 -- ---- instances
 
--- how much longer an instance lives
-abbrev left_words : ℕ → GivenRow → List ℕ
-left_words now given = if given.last.ttl == 0 then codes "said goodbye" else duration_text (given.end - now) ++ codes " left"
+-- how much longer an instance lives that ends then, or that has said goodbye
+abbrev left_of : ℕ → Option ℕ → List ℕ
+left_of now None = codes "said goodbye"
+left_of now (Some end) = duration_text (end - now) ++ codes " left"
 
-left-same_by : (now : ℕ) (given other : GivenRow) (is was : Bool) → (given.last.ttl == 0) ≡ is → (other.last.ttl == 0) ≡ was
-    → bare_end given ≡ bare_end other → left_words now given ≡ left_words now other
-left-same_by now given other true true said said_too same = rw (said, said_too) refl
-left-same_by now given other true false said not same = grind arith
-left-same_by now given other false true not said same = grind arith
-left-same_by now given other false false not not_either same = grind arith
+left-is : (now end : ℕ) (said : Bool)
+    → (if said then codes "said goodbye" else duration_text (end - now) ++ codes " left") ≡ left_of now (if said then None else Some end)
+left-is now end true = refl
+left-is now end false = refl
 
-left-same : (now : ℕ) (given other : GivenRow) → bare_end given ≡ bare_end other → left_words now given ≡ left_words now other
-left-same now given other same = left-same_by now given other (given.last.ttl == 0) (other.last.ttl == 0) refl refl same
+left-same : (now : ℕ) (given other : GivenRow) → bare_end given ≡ bare_end other
+    → (if given.last.ttl == 0 then codes "said goodbye" else duration_text (given.end - now) ++ codes " left")
+    ≡ (if other.last.ttl == 0 then codes "said goodbye" else duration_text (other.end - now) ++ codes " left")
+left-same now given other same =
+    left-is now given.end (given.last.ttl == 0) ∙ ap (left_of now) same ∙ sym (left-is now other.end (other.last.ttl == 0))
 
 addresses-same : (addresses others : List Body) → map address_of addresses ≡ map address_of others
     → join_by address_html (32 ∷ []) addresses ≡ join_by address_html (32 ∷ []) others

@@ -1,7 +1,7 @@
 -- Files by listener, one more at a time.
 use Rattle.std.proofs.Common.{◌≡◌, refl, sym, ◌∙◌, ap, subst, ℕ, zero, suc, ◌+◌, ◌<◌, ◌==◌, Bool, true, false}
 use Rattle.std.proofs.Common.{if◌then◌else◌, arith, List, [], ◌∷◌, ◌++◌, append-nil, get_or, length, map}
-use Rattle.std.proofs.lemmas.{Bool.Decides.{nat_tests}, List.{get_or_past, map-append}, List.Concat.{flat_map-append}}
+use Rattle.std.proofs.lemmas.{Bool.Decides.{nat_tests}, List.{get_or_past, length-append, map-append}, List.Concat.{flat_map-append}}
 use Rattle.std.proofs.lemmas.List.{Elements.{All-head, All-tail}, FromFn.{get_or-map-range_with_len, length-map-range_with_len}}
 use Rattle.std.specs.{Prelude.{◌≢◌, min}, List.{All, flat_map, range_with_len}}
 use Rattle.mdns_capture.specs.Savefile.{PacketAt}
@@ -123,10 +123,6 @@ joined-in [] joined many = refl
 joined-in (capture ∷ []) joined many = absurd (many refl)
 joined-in (first ∷ second ∷ captures) joined many = refl
 
-length-more : {X : Type 0} (xs : List X) (x : X) → length (xs ++ x ∷ []) ≡ suc (length xs)
-length-more [] x = refl
-length-more (y ∷ ys) x = ap suc (length-more ys x)
-
 pub adds-file : (old new : ListenerLives) (file : Accounts) (heard : List Hearing) → Chronicles file heard
     → new.by_file ≡ old.by_file → new.place ≡ min (suc old.place) (length old.by_file.items)
     → (length old.captures.items ≢ 1 → AddsTo old.joined file new.joined)
@@ -140,7 +136,7 @@ adds-file old new file heard told same counted joins adds = λ groups each holds
     let long : length new.captures.items ≡ count =
     adds.count ∙ count-old groups.by_file each heard file told old.captures.items new.captures.items adds_at count holds.captures in
     let files : length old.by_file.items ≡ length groups.by_file = ap length holds.by_file in
-    let more = length-more each heard in
+    let more = length-append each (heard ∷ []) in
     record {
       within = holds.within;
       by_file = ap (λ of. of.items) same ∙ holds.by_file;

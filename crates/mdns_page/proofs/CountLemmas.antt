@@ -78,3 +78,5 @@ commas-decimal number high = without (decimal number) (decimal_is_IsNumeral_wide
 -- WHAT FUNCTIONS ARE PROVED BY
 
 pub ruleset for_counts = (commas-decimal, commas-few, commas-more)
+
+pub ruleset for_push_commas = (commas-few, commas-written)

@@ -1,7 +1,7 @@
 -- Rows in groups by type.
 use Rattle.std.proofs.Common.{◌≡◌, refl, sym, ◌∙◌, ap, subst, ℕ, suc, ◌+◌, ◌<◌, ◌≤◌, true, false}
 use Rattle.std.proofs.Common.{if◌then◌else◌, List, [], ◌∷◌, ◌++◌, Bool, length, take, drop, map, get_or, arith}
-use Rattle.std.proofs.lemmas.{List.{append_assoc, append-nil, at_drop_all, drop_more, drop-map, take-map}, Simd.{map-map}}
+use Rattle.std.proofs.lemmas.{Bool.{cond_both}, List.{append_assoc, append-nil, at_drop_all, drop_more, drop-map, take-map}, Simd.{map-map}}
 use Rattle.std.specs.List.{flat_map}
 use Rattle.mdns_browse.specs.Services.{same_text}
 use Rattle.mdns_page.specs.Group.{AreGroups, following, grouped, grouped_with, leading}
@@ -87,19 +87,15 @@ module _ {R : Type 0} (owner : R → List ℕ) where
 
   -- ---- what the groups are
 
-  with-all_by : (row other : R) (others : List R) (groups : List (List R)) (same : Bool)
-      → flat_map (λ (group : List R). group)
-      (if same then (row ∷ other ∷ others) ∷ groups else (row ∷ []) ∷ (other ∷ others) ∷ groups)
-      ≡ row ∷ flat_map (λ (group : List R). group) ((other ∷ others) ∷ groups)
-  with-all_by row other others groups true = refl
-  with-all_by row other others groups false = refl
-
   with-all : (row : R) (groups : List (List R))
       → flat_map (λ (group : List R). group) (grouped_with owner row groups)
       ≡ row ∷ flat_map (λ (group : List R). group) groups
   with-all row [] = refl
   with-all row ([] ∷ groups) = refl
-  with-all row ((other ∷ others) ∷ groups) = with-all_by row other others groups (same_text (owner row) (owner other))
+  with-all row ((other ∷ others) ∷ groups) =
+      cond_both (same_text (owner row) (owner other)) ((row ∷ other ∷ others) ∷ groups) ((row ∷ []) ∷ (other ∷ others) ∷ groups)
+      (λ all. flat_map (λ (group : List R). group) all ≡ row ∷ flat_map (λ (group : List R). group) ((other ∷ others) ∷ groups))
+      (λ _. refl) (λ _. refl)
 
   -- all rows are there, in their order
   pub grouped_all : (rows : List R) → flat_map (λ (group : List R). group) (grouped owner rows) ≡ rows
@@ -107,16 +103,12 @@ module _ {R : Type 0} (owner : R → List ℕ) where
   grouped_all [] = refl
   grouped_all (row ∷ rows) = with-all row (grouped owner rows) ∙ ap (λ rest. row ∷ rest) (grouped_all rows)
 
-  with-types_by : (row other : R) (others : List R) (groups : List (List R)) (same : Bool)
-      → same_text (owner row) (owner other) ≡ same → AreGroups owner ((other ∷ others) ∷ groups)
-      → AreGroups owner (if same then (row ∷ other ∷ others) ∷ groups else (row ∷ []) ∷ (other ∷ others) ∷ groups)
-  with-types_by row other others groups true is rest = ((is, rest.0), rest.1)
-  with-types_by row other others groups false is rest = (tt, rest)
-
   with-types : (row : R) (groups : List (List R)) → AreGroups owner groups → AreGroups owner (grouped_with owner row groups)
   with-types row [] rest = (tt, tt)
   with-types row ([] ∷ groups) rest = absurd rest.0
-  with-types row ((other ∷ others) ∷ groups) rest = grind (arith, with-types_by)
+  with-types row ((other ∷ others) ∷ groups) rest =
+      cond_both (same_text (owner row) (owner other)) ((row ∷ other ∷ others) ∷ groups) ((row ∷ []) ∷ (other ∷ others) ∷ groups)
+      (AreGroups owner) (λ is. ((is, rest.0), rest.1)) (λ _. (tt, rest))
 
   -- each group is of one type
   pub grouped_types : (rows : List R) → AreGroups owner (grouped owner rows)

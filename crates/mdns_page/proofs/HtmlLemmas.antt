@@ -2,8 +2,8 @@
 use Rattle.std.proofs.Common.{◌≡◌, refl, ap, subst, ℕ, zero, suc, ◌+◌, ◌<◌, ◌==◌, ◌||◌, Bool, true}
 use Rattle.std.proofs.Common.{false, not, ◌&&◌, cond, List, [], ◌∷◌, ◌++◌, codes, length, take, drop, get_or, add-zero, arith}
 use Rattle.std.proofs.{Common.{append_assoc}, lemmas.{Bool.Decides.{nat_tests}, Grind.{flat_map-append}, Str.{IsCharBoundary-after_ascii}}}
-use Rattle.std.proofs.lemmas.{List.{get_or-drop, length-drop, take-append-drop, take_more}, List.Elements.{All-append, All-cons, All-nil}}
-use Rattle.std.specs.{Bool.{IsTrue}, List.{All}, Str.{IsCharBoundary, IsUtf8}}
+use Rattle.std.proofs.lemmas.{List.{get_or-drop, length-drop, take-append-drop, take_more}, List.Folds.{list_all-append}, List.Sums.{AllPass-from_list_all}}
+use Rattle.std.specs.{Bool.{IsTrue}, List.{All, list_all}, Str.{IsCharBoundary, IsUtf8}}
 use Rattle.mdns_page.specs.Html.{html_byte, html_text, is_marked, references, BeginsReference, IsHarmless}
 use Rattle.std.proofs.lemmas.List.{append-nil}
 
@@ -62,33 +62,28 @@ cut-after text bytes rest others len same back also utf8 marked some =
 
 -- ---- text of the network within markup
 
--- no byte of these begins or ends a tag or the value of an attribute
-are_harmless : List ℕ → Bool
-are_harmless [] = true
-are_harmless (b ∷ bytes) = not ((b == 60) || (b == 62) || (b == 34) || (b == 39)) && are_harmless bytes
+-- the byte neither begins nor ends a tag or the value of an attribute
+abbrev is_harmless : ℕ → Bool
+is_harmless b = not ((b == 60) || (b == 62) || (b == 34) || (b == 39))
 
-harmless-one : (b : ℕ) (others : Bool) → (not ((b == 60) || (b == 62) || (b == 34) || (b == 39)) && others) ≡ true → IsHarmless b
-harmless-one b others is = grind (arith, nat_tests)
+harmless-one : (b : ℕ) → is_harmless b ≡ true → IsHarmless b
+harmless-one b is = grind (arith, nat_tests)
 
-harmless-others : (one others : Bool) → (one && others) ≡ true → others ≡ true
-harmless-others true others is = is
-harmless-others false others is = cc
+harmless-byte : (b : ℕ) → list_all is_harmless (html_byte b) ≡ true
+harmless-byte b = grind (arith, nat_tests)
 
-harmless-all : (bytes : List ℕ) → are_harmless bytes ≡ true → All IsHarmless bytes
-unfolding are_harmless
-harmless-all [] is = All-nil IsHarmless
-harmless-all (b ∷ bytes) is =
-    All-cons IsHarmless b bytes (harmless-one b (are_harmless bytes) is)
-    (harmless-all bytes (harmless-others (not ((b == 60) || (b == 62) || (b == 34) || (b == 39))) (are_harmless bytes) is))
-
-harmless-byte : (b : ℕ) → All IsHarmless (html_byte b)
-unfolding are_harmless
-harmless-byte b = grind (arith, harmless-all)
+harmless-all : (text : List ℕ) → list_all is_harmless (html_text text) ≡ true
+unfolding html_text
+harmless-all [] = refl
+harmless-all (b ∷ text) = grind (arith, list_all-append, harmless-byte, harmless-all text)
 
 pub harmless_text : (text : List ℕ) → All IsHarmless (html_text text)
-unfolding html_text
-harmless_text [] = All-nil IsHarmless
-harmless_text (b ∷ text) = All-append IsHarmless (html_byte b) (html_text text) (harmless-byte b) (harmless_text text)
+harmless_text text k d within =
+    harmless-one (get_or (html_text text) k d) (AllPass-from_list_all is_harmless (html_text text) (harmless-all text) k d within)
+
+one-of_both : (one others : Bool) → (one && others) ≡ true → others ≡ true
+one-of_both true others is = is
+one-of_both false others is = cc
 
 -- each `&` of the bytes begins a reference
 abbrev Refer : List ℕ → Type 0
@@ -106,7 +101,7 @@ refer-none : (bytes rest : List ℕ) → have_none bytes ≡ true → Refer rest
 unfolding have_none
 refer-none [] rest is after = after
 refer-none (b ∷ bytes) rest is after =
-    grind (arith, refer-one, refer-none bytes rest (harmless-others (not (b == 38)) (have_none bytes) is) after)
+    grind (arith, refer-one, refer-none bytes rest (one-of_both (not (b == 38)) (have_none bytes) is) after)
 
 refer-reference : (k : ℕ) (tail rest : List ℕ) → k < length references → get_or references k (38 ∷ tail) ≡ 38 ∷ tail
     → have_none tail ≡ true → Refer rest → Refer ((38 ∷ tail) ++ rest)

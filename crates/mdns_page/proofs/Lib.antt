@@ -7,7 +7,6 @@ mod GroupLemmas
 mod HearerLemmas
 pub mod HtmlLemmas
 mod KeptLemmas
-mod LaneLemmas
 pub mod LiveLemmas
 pub mod LiveWordLemmas
 mod MarkLemmas

@@ -1,7 +1,7 @@
 -- Readings of captures agree in all that a page tells.
-use Rattle.std.proofs.Common.{◌≡◌, ℕ, suc, ◌+◌, ◌==◌, if◌then◌else◌, Bool, true, false, ap, inl, inr, refl, subst, arith}
-use Rattle.std.proofs.{Common.{List, [], ◌∷◌, ◌++◌, Option, Some, None, drop, get_or, length, map}, lemmas.List.Sums.{sum_by-cons}}
-use Rattle.std.specs.{Prelude.{codes, sum_by}, List.{flat_map, range_with_len}}
+use Rattle.std.proofs.Common.{◌≡◌, ◌∙◌, ℕ, suc, sym, ◌+◌, ◌==◌, if◌then◌else◌, Bool, true, false, ap, inl, inr, refl, subst, arith}
+use Rattle.std.proofs.{Common.{List, [], ◌∷◌, ◌++◌, Option, Some, None, drop, get_or, length, map}, lemmas.List.Sums.{sum-map}}
+use Rattle.std.specs.{Prelude.{codes, sum, sum_by}, List.{flat_map, range_with_len}}
 use Rattle.mdns_capture.specs.{declared.cause.Cause.{Cause}, Savefile.{PacketAt}}
 use Rattle.mdns_message.specs.Message.{IsIgnored, IsQuery}
 use Rattle.mdns_browse.specs.Services.{AreEach}
@@ -84,23 +84,20 @@ module _ (payload : OnePayload) (never : NeverBoth) (by_cause : SkipsByCause) wh
 
 -- ---- what a page tells of readings
 
--- a sum over them
-sums-alike : (of : Reading → ℕ) → ((a b : Reading) → IsAlike a b → of a ≡ of b) → (readings others : List Reading)
-    → AreEach IsAlike readings others → sum_by of readings ≡ sum_by of others
-sums-alike of same [] [] alike = refl
-sums-alike of same [] (y ∷ ys) alike = absurd alike
-sums-alike of same (x ∷ xs) [] alike = absurd alike
-sums-alike of same (x ∷ xs) (y ∷ ys) alike = grind (arith, sum_by-cons, sums-alike of same xs ys alike.1)
-
-pub lost-alike : (readings others : List Reading) → AreEach IsAlike readings others → lost_in readings ≡ lost_in others
-lost-alike = grind (arith, sums-alike)
-
 maps-alike : {Y : Type 0} (of : Reading → Y) → ((a b : Reading) → IsAlike a b → of a ≡ of b) → (readings others : List Reading)
     → AreEach IsAlike readings others → map of readings ≡ map of others
 maps-alike of same [] [] alike = refl
 maps-alike of same [] (y ∷ ys) alike = absurd alike
 maps-alike of same (x ∷ xs) [] alike = absurd alike
 maps-alike of same (x ∷ xs) (y ∷ ys) alike = grind (arith, maps-alike of same xs ys alike.1)
+
+-- a sum over them
+sums-alike : (of : Reading → ℕ) → ((a b : Reading) → IsAlike a b → of a ≡ of b) → (readings others : List Reading)
+    → AreEach IsAlike readings others → sum_by of readings ≡ sum_by of others
+sums-alike of same xs ys alike = sym (sum-map of xs) ∙ ap sum (maps-alike of same xs ys alike) ∙ sum-map of ys
+
+pub lost-alike : (readings others : List Reading) → AreEach IsAlike readings others → lost_in readings ≡ lost_in others
+lost-alike = grind (arith, sums-alike)
 
 keeps-alike : (b : Bool) (x y : Reading) (xs ys : List Reading) → IsAlike x y → AreEach IsAlike xs ys
     → AreEach IsAlike (if b then x ∷ xs else xs) (if b then y ∷ ys else ys)

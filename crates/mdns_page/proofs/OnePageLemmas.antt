@@ -1,6 +1,6 @@
 -- Captures have one page.
 use Rattle.std.proofs.{Common.{◌≡◌, ◌∙◌, ℕ, ◌+◌, ◌<◌, Bool, false, List, [], ◌∷◌, Some, ap, arith, inl, inr}, lemmas.Option.{same_Some}}
-use Rattle.std.proofs.{Common.{length, map, refl, subst, sym}, lemmas.Cmp.{ranked}, lemmas.List.Elements.{All-head, All-tail}}
+use Rattle.std.proofs.{Common.{length, map, refl, subst, sym}, lemmas.List.Elements.{All-head, All-tail}}
 use Rattle.std.specs.{Prelude.{Contains, max, nat_lt}, List.{All, AllByRecursion}, List.Sorted.{IsStrictlySortedBy}, Ordering.{nat_cmp}}
 use Rattle.std.specs.declared.cmp.Ordering.TheVariants.{Less}
 use Rattle.mdns_capture.specs.Savefile.{PacketAt}
@@ -21,17 +21,22 @@ use Rattle.mdns_listeners.specs.Groups.{Grouped}
 use Rattle.mdns_page.specs.{Axis.{bound_or, dates_of}, ByListener.{hearings_by}, Captures.{Comparison}, Collected.{Compares}}
 use Rattle.mdns_page.specs.declared.{axis.Axis.{Axis}, kept_records.TimelinePart.{TimelinePart}}
 use Rattle.mdns_page.specs.{declared.kept_records.TimelinePart.TheVariants.{Addresses, Instances, Names}, TimelineRows.{IsCounted}}
-use Rattle.mdns_page.specs.{OtherRows.{is_large}, Html.{isolated}, Document.{page}, Servers.{servers_of}, KeptRecords.{AreRows, kept_of}}
-use Rattle.mdns_page.specs.{Lead.{known_of}, Page.{SurveysPage, WritesPage, live_at_end}, Timeline.{Row, is_open}}
-use Rattle.mdns_page.proofs.{ComparedLemmas.{OneListOfRows, one-comparison}, CountedLemmas.{record_in, shown_seconds}}
+use Rattle.mdns_page.specs.{Html.{isolated}, Document.{page}, Servers.{servers_of}, KeptRecords.{AreRows, kept_of}}
+use Rattle.mdns_page.specs.{Lead.{known_of}, Page.{SurveysPage, WritesPage, live_at_end}, Timeline.{Row, is_large, is_open}}
+use Rattle.mdns_page.proofs.{ComparedLemmas.{OneListOfRows, one-comparison}, CountedLemmas.{record_in, shown_seconds}, MarkLemmas.{after-second}}
 use Rattle.mdns_page.proofs.OneCaptureLemmas.{IsAlike, are-alike, endings-alike, facts-alike, lost-alike, section-alike, one-each}
 
 -- ---- the seconds in which a record was heard
 
-later : (n : ℕ) (seconds : List SecondHeard) (s : SecondHeard)
-    → AllByRecursion (λ m. nat_cmp n m ≡ Less) (map number_of seconds) → Contains seconds s → n < number_of s
-later n [] s all among = absurd (omega (arith, among.1))
-later n (first ∷ seconds) s all among = grind (arith, Contains-cases, ranked, later n seconds s all.1)
+-- what follows the first is among what follows the first of the others
+rest-within : (x y : SecondHeard) (xs ys : List SecondHeard) → x ≡ y → AllByRecursion (λ m. nat_cmp (number_of x) m ≡ Less) (map number_of xs)
+    → ((s : SecondHeard) → Contains (x ∷ xs) s → Contains (y ∷ ys) s) → (s : SecondHeard) → Contains xs s → Contains ys s
+rest-within x y xs ys same after into s among =
+    let past = after-second (number_of x) xs s after among in
+    elim (Contains-cases y ys s (into s (Contains-later x xs s among))) [
+      | inl is ↦ absurd (omega (arith, past, ap number_of (same ∙ is)))
+      | inr found ↦ found
+    ]
 
 -- seconds in order with the same members are the same
 same-members : (xs ys : List SecondHeard) → IsStrictlySortedBy nat_cmp (map number_of xs)
@@ -46,26 +51,10 @@ same-members (x ∷ xs) (y ∷ ys) p q into back =
       | inl is ↦ sym is
       | inr after ↦ elim (Contains-cases x xs y (back y (Contains-head y ys))) [
         | inl is ↦ is
-        | inr before ↦ absurd (omega (arith, later (number_of x) xs y p.0 before, later (number_of y) ys x q.0 after))
+        | inr before ↦ absurd (omega (arith, after-second (number_of x) xs y p.0 before, after-second (number_of y) ys x q.0 after))
       ]
     ] in
-    let rest : xs ≡ ys = same-members xs ys p.1 q.1
-    (λ s among. elim (Contains-cases y ys s (into s (Contains-later x xs s among))) [
-      | inl is ↦ absurd (omega (
-        arith,
-        subst (λ (t : SecondHeard). number_of x < number_of t) (sym is ∙ sym first)
-            (later (number_of x) xs s p.0 among),
-      ))
-      | inr after ↦ after
-    ])
-    (λ s among. elim (Contains-cases x xs s (back s (Contains-later y ys s among))) [
-      | inl is ↦ absurd (omega (
-        arith,
-        subst (λ (t : SecondHeard). number_of y < number_of t) (sym is ∙ first)
-            (later (number_of y) ys s q.0 among),
-      ))
-      | inr after ↦ after
-    ]) in
+    let rest = same-members xs ys p.1 q.1 (rest-within x y xs ys first p.0 into) (rest-within y x ys xs (sym first) q.0 back) in
     λ i. first i ∷ rest i
 
 abbrev second_by : Ends → SecondHeard

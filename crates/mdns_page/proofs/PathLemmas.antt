@@ -1,5 +1,5 @@
 -- Strokes as one path.
-use Rattle.std.proofs.Common.{◌≡◌, refl, ap, sym, Bool, true, false, if◌then◌else◌, Option, None, Some, List, [], ◌∷◌, arith}
+use Rattle.std.proofs.Common.{◌≡◌, ◌∙◌, refl, ap, sym, Bool, true, false, if◌then◌else◌, Option, None, Some, List, [], ◌∷◌, arith}
 use Rattle.std.proofs.{Common.{◌++◌, ℕ, ◌+◌, ◌<◌, ◌≤◌, append_assoc, codes, drop, get_or, length}, lemmas.List.{drop_all, drop_more}}
 use Rattle.std.specs.List.{cons_option, filter_map, flat_map}
 use Rattle.mdns_page.specs.{Picture.{differing, is_same, mark_text, path_begin, path_last, path_rest}, declared.picture.Mark.{Mark}}
@@ -14,34 +14,26 @@ path-first : (stroke : Stroke) (mark : Mark) (marks : List Mark)
 unfolding path_rest
 path-first stroke mark marks = grind (arith, in_pairs)
 
--- one that is the same as the one before
-rest_by : Stroke → Mark → Mark → List Mark → Bool → List ℕ
-rest_by stroke before mark marks same =
-    flat_map (mark_text stroke) (if same then differing (Some before) marks else mark ∷ differing (Some mark) marks) ++ codes "\"/>"
-
-rest_by-is : (stroke : Stroke) (before mark : Mark) (marks : List Mark)
-    → path_rest stroke (Some before) (mark ∷ marks) ≡ rest_by stroke before mark marks (is_same before mark)
-unfolding path_rest rest_by
-rest_by-is stroke before mark marks = refl
-
-rest_by-same : (stroke : Stroke) (before mark : Mark) (marks : List Mark)
-    → rest_by stroke before mark marks true ≡ path_rest stroke (Some before) marks
-unfolding rest_by path_rest
-rest_by-same stroke before mark marks = refl
-
-rest_by-other : (stroke : Stroke) (before mark : Mark) (marks : List Mark)
-    → rest_by stroke before mark marks false ≡ mark_text stroke mark ++ path_rest stroke (Some mark) marks
-unfolding rest_by path_rest
-rest_by-other stroke before mark marks = grind (arith, append_assoc)
+-- the rest of a path with one mark more, which may be the same as the one before
+rest_by : (stroke : Stroke) (before mark : Mark) (marks : List Mark) (same : Bool) → is_same before mark ≡ same
+    → path_rest stroke (Some before) (mark ∷ marks)
+    ≡ flat_map (mark_text stroke) (if same then differing (Some before) marks else mark ∷ differing (Some mark) marks) ++ codes "\"/>"
+unfolding path_rest
+rest_by stroke before mark marks same is =
+    ap (λ (b : Bool). flat_map (mark_text stroke) (if b then differing (Some before) marks else mark ∷ differing (Some mark) marks)
+    ++ codes "\"/>") is
 
 path-same : (stroke : Stroke) (before mark : Mark) (marks : List Mark) → is_same before mark ≡ true
     → path_rest stroke (Some before) (mark ∷ marks) ≡ path_rest stroke (Some before) marks
-path-same stroke before mark marks same = grind (arith, rest_by-is, rest_by-same)
+unfolding path_rest
+path-same stroke before mark marks same = rest_by stroke before mark marks true same
 
--- one more
 path-other : (stroke : Stroke) (before mark : Mark) (marks : List Mark) → is_same before mark ≡ false
     → path_rest stroke (Some before) (mark ∷ marks) ≡ mark_text stroke mark ++ path_rest stroke (Some mark) marks
-path-other stroke before mark marks other = grind (arith, rest_by-is, rest_by-other)
+unfolding path_rest
+path-other stroke before mark marks other =
+    rest_by stroke before mark marks false other
+    ∙ append_assoc (mark_text stroke mark) (flat_map (mark_text stroke) (differing (Some mark) marks)) (codes "\"/>")
 
 -- ---- what was written
 
@@ -95,8 +87,6 @@ module _ {X : Type 0} (mark_of : X → Option Mark) (stroke : Stroke) (xs : List
 
 -- WHAT FUNCTIONS ARE PROVED BY
 
-pub ruleset for_push_ticks_path = (path-all, path-more)
+pub ruleset for_push_path = (path-all, path-more)
 
 pub ruleset for_push_next = (none_if, path-begins, path-goes_on, path-keeps, path-passed)
-
-pub ruleset for_push_path = (path-all, path-more)

@@ -1,32 +1,31 @@
 -- Lists whose items agree in one respect, and what is made of that respect alone.
 use Rattle.std.proofs.Common.{◌≡◌, refl, sym, ◌∙◌, ap, ℕ, Bool, cond, List, [], ◌∷◌, ◌++◌, length, map, arith}
-use Rattle.std.proofs.lemmas.{List.{map-append}, List.Sums.{sum_by-cons}}
-use Rattle.std.specs.List.{count_by, flat_map, sum_by}
+use Rattle.std.proofs.lemmas.{List.{length-map, map-append}, List.Folds.{flat_map-map}, List.Sums.{sum-map}}
+use Rattle.std.specs.{Prelude.{sum}, List.{count_by, flat_map}}
 
 module _ {X Y : Type 0} (bare : X → Y) where
+  -- what is made of each item
+  map-same : {Z : Type 0} (f : X → Z) → ((x y : X) → bare x ≡ bare y → f x ≡ f y) → (xs ys : List X) → map bare xs ≡ map bare ys
+      → map f xs ≡ map f ys
+  map-same f each [] [] same = refl
+  map-same f each [] (y ∷ ys) same = cc
+  map-same f each (x ∷ xs) [] same = cc
+  map-same f each (x ∷ xs) (y ∷ ys) same = grind (arith, map-same f each xs ys cc)
+
   pub length-same : (xs ys : List X) → map bare xs ≡ map bare ys → length xs ≡ length ys
-  length-same [] [] same = refl
-  length-same [] (y ∷ ys) same = cc
-  length-same (x ∷ xs) [] same = cc
-  length-same (x ∷ xs) (y ∷ ys) same = grind (arith, length-same xs ys cc)
+  length-same xs ys same = sym (length-map xs bare) ∙ ap length same ∙ length-map ys bare
 
   pub flat_map-same : {Z : Type 0} (text : X → List Z) → ((x y : X) → bare x ≡ bare y → text x ≡ text y) → (xs ys : List X)
       → map bare xs ≡ map bare ys → flat_map text xs ≡ flat_map text ys
-  flat_map-same text each [] [] same = refl
-  flat_map-same text each [] (y ∷ ys) same = cc
-  flat_map-same text each (x ∷ xs) [] same = cc
-  flat_map-same text each (x ∷ xs) (y ∷ ys) same = grind (arith, flat_map-same text each xs ys cc)
-
-  pub sum-same : (of : X → ℕ) → ((x y : X) → bare x ≡ bare y → of x ≡ of y) → (xs ys : List X)
-      → map bare xs ≡ map bare ys → sum_by of xs ≡ sum_by of ys
-  sum-same of each [] [] same = refl
-  sum-same of each [] (y ∷ ys) same = cc
-  sum-same of each (x ∷ xs) [] same = cc
-  sum-same of each (x ∷ xs) (y ∷ ys) same = grind (arith, sum_by-cons, sum-same of each xs ys cc)
+  flat_map-same {Z} text each xs ys same =
+      sym (flat_map-map (λ (zs : List Z). zs) text xs) ∙ ap (flat_map (λ (zs : List Z). zs)) (map-same text each xs ys same)
+      ∙ flat_map-map (λ (zs : List Z). zs) text ys
 
   pub count-same : (is : X → Bool) → ((x y : X) → bare x ≡ bare y → is x ≡ is y) → (xs ys : List X)
       → map bare xs ≡ map bare ys → count_by is xs ≡ count_by is ys
-  count-same is each = sum-same (λ x. cond (is x) 1 0) (λ x y same. ap (λ (b : Bool). cond b 1 0) (each x y same))
+  count-same is each xs ys same =
+      let one = λ (x : X). cond (is x) 1 0 in
+      sym (sum-map one xs) ∙ ap sum (map-same one (λ x y e. ap (λ (b : Bool). cond b 1 0) (each x y e)) xs ys same) ∙ sum-map one ys
 
   -- lists one after another
   pub append-same : (xs ys others more : List X) → map bare xs ≡ map bare ys → map bare others ≡ map bare more

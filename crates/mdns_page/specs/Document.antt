@@ -5,7 +5,7 @@ use Rattle.mdns_lives.specs.declared.life.Life.{Life}
 use Rattle.mdns_browse.specs.declared.about.Subject.{Subject}
 use Rattle.mdns_page.specs.{Axis.{is_same_date}, Captures.{Comparison, Facts, captures_text, comparison_lent, facts_lent}}
 use Rattle.mdns_page.specs.Lead.{Ended, about_line, ended_lent, ending_warning, known_lent, live_line, lost_warning, pair_warning, window_line}
-use Rattle.mdns_page.specs.{OtherRows.{is_large}, Lanes.{height}, Ticks.{symbols_text}, Timeline.{Row, counted_lent, timeline}}
+use Rattle.mdns_page.specs.{Lanes.{height}, Ticks.{symbols_text}, Timeline.{Row, counted_lent, is_large, timeline}}
 use Rattle.mdns_page.specs.declared.{axis.Axis.{Axis}, document.PageParts.{PageParts}, style.TheConstants.{STYLE}}
 
 -- ---- the head

@@ -7,7 +7,6 @@ pub mod TimelineRows
 pub mod Counts
 pub mod Group
 pub mod HeardWords
-pub mod OtherRows
 pub mod Html
 pub mod KeptRecords
 pub mod Legend

@@ -14,7 +14,7 @@ use Rattle.mdns_listeners.specs.Groups.{Grouped}
 use Rattle.mdns_page.specs.declared.{axis.Axis.{Axis}, kept_records.TimelinePart.TheVariants.{Addresses, Instances, Names}}
 use Rattle.mdns_page.specs.{Axis.{IsAxis}, ByListener.{facts_by, hearings_by}, Captures.{Comparison}, Collected.{Compares}}
 use Rattle.mdns_page.specs.{KeptRecords.{AreRows, is_drawn, kept_of, looked_up}, LiveSection.{live_text}, SkippedSection.{skipped_text}}
-use Rattle.mdns_page.specs.{Document.{page}, Html.{isolated}, Lead.{Ended, known_of}, OtherRows.{is_large}, Timeline.{Row, is_open}}
+use Rattle.mdns_page.specs.{Document.{page}, Html.{isolated}, Lead.{Ended, known_of}, Timeline.{Row, is_large, is_open}}
 
 -- ---- what was live at the end
 

@@ -2,7 +2,7 @@
 use Rattle.std.specs.{Prelude.{ℕ, ◌==◌, if◌then◌else◌, List, [], ◌++◌, codes}, Fmt.{decimal}, List.{flat_map}}
 use Rattle.mdns_lives.specs.declared.life.{Life.{Life}, EndReason.TheVariants.{Expired, Goodbye, Flushed}}
 use Rattle.mdns_lives.specs.declared.seconds_heard.SecondHeard.{SecondHeard}
-use Rattle.mdns_page.specs.{Captures.{each_from}, Lanes.{height, lane_text}, Picture.{bars, mark_of, path}, declared.look.Look.{Look}}
+use Rattle.mdns_page.specs.{Captures.{each_from}, Lanes.{height, lane_text}, Picture.{bars, mark_of, path}, declared.row_picture.Look.{Look}}
 use Rattle.mdns_page.specs.declared.picture.Stroke.TheVariants.{Bar, Server, Pin, Head}
 
 -- the picture of some lives, in order of time: a bar for each, those of servers, for each that ended a pin that tells why, and in

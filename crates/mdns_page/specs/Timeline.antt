@@ -9,10 +9,10 @@ use Rattle.people_text.specs.Shown.{name_shown}
 use Rattle.mdns_browse.specs.RecordShown.{shown_address, shown_instance}
 use Rattle.mdns_cache.specs.LentRecords.{last_lent}
 use Rattle.mdns_page.specs.{Counts.{commas, count_text}, Group.{axis_picture, first_owner, group, grouped, item}, HeardWords.{heard_text}}
-use Rattle.mdns_page.specs.{OtherRows.{is_large}, Legend.{key}, Picture.{goes_on}, RowPicture.{picture}, LifeWords.{lives_words}}
+use Rattle.mdns_page.specs.{Legend.{key}, Picture.{goes_on}, RowPicture.{picture}, LifeWords.{lives_words}}
 use Rattle.mdns_page.specs.declared.{axis.Axis.{Axis}, kept_records.TimelinePart.{TimelinePart}}
 use Rattle.mdns_page.specs.declared.kept_records.TimelinePart.TheVariants.{Addresses, Instances, Names}
-use Rattle.mdns_page.specs.declared.{timeline_rows.CountedRow.{CountedRow}, look.Look.{Look}}
+use Rattle.mdns_page.specs.declared.{timeline_rows.CountedRow.{CountedRow}, row_picture.Look.{Look}}
 
 -- ---- rows of records
 
@@ -100,6 +100,10 @@ abbrev pub others_text : (List ℕ → List ℕ) → Look → (opened : Bool) �
 others_text say look opened part rows = if length rows == 0 then [] else group_text say look opened part rows
 
 -- ---- the whole
+
+-- so many instances that other records have no rows, and no row has lanes
+abbrev pub is_large : ℕ → Bool
+is_large instances = nat_lt 1000 instances
 
 -- so few rows that they all show at first
 abbrev pub is_open : ℕ → Bool

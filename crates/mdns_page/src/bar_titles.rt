@@ -49,10 +49,7 @@ fn left_after(count: usize, rows: &[CountedRow<'_>]) -> Option<usize>
 {
     let mut left = count;
     for row in rows {
-        match less_row(left, row) {
-            Some(rest) => left = rest,
-            None => return None,
-        }
+        left = less_row(left, row)?;
     }
     Some(left)
 }

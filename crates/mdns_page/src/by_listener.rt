@@ -106,9 +106,7 @@ fn ending_of(readings: &[&Reading]) -> Ending
 fn span_of(readings: &[&Reading]) -> Option<Span>
     ensures { result ≡ span_of (map (λ reading. reading.now) readings.now) }
 {
-    let mut span = None;
-    for reading in readings {
-        span = Span::both(span, reading.span);
-    }
-    span
+    readings
+        .iter()
+        .fold(None, |span, reading| Span::both(span, reading.span))
 }

@@ -336,12 +336,7 @@ fn push_clock_of(
 fn first_shared(pairs: &[PairRow], index: usize) -> Option<PairRow>
     ensures { result ≡ find (is_shared_by index) pairs.now }
 {
-    for pair in pairs {
-        if is_shared_by(pair, index) {
-            return Some(*pair);
-        }
-    }
-    None
+    pairs.iter().copied().find(|pair| is_shared_by(pair, index))
 }
 
 // Checks that a pair is of an earlier capture that has messages in common with this one.

@@ -18,6 +18,7 @@ pub(crate) fn push_count(to: &mut String, count: u128, one: &str, many: &str) ->
 }
 
 /// Appends a number with commas between thousands: `1,234`.
+#[tactic(auto, using(crate::proofs::CountLemmas::for_push_commas))]
 pub(crate) fn push_commas(to: &mut String, number: u128) -> Result<(), Want>
     ensures { OnOk result (string_bytes to.new ≡ string_bytes to.old ++ commas number) }
 {

@@ -69,33 +69,24 @@ fn push_together(
 fn times_of(heard: &[Vec<SecondHeard>]) -> u128
     ensures { result ≡ sum_by length (map seconds_lent heard.now) }
 {
-    let mut times = 0;
-    for seconds in heard {
-        times += seconds.len() as u128;
-    }
-    times
+    heard.iter().map(|seconds| seconds.len() as u128).sum()
 }
 
 // Returns how many of the seconds of all captures together have a goodbye.
 fn goodbyes_of(heard: &[Vec<SecondHeard>]) -> u128
     ensures { result ≡ sum_by (count_by is_goodbye) (map seconds_lent heard.now) }
 {
-    let mut ended = 0;
-    for seconds in heard {
-        ended += goodbyes(seconds.as_slice()) as u128;
-    }
-    ended
+    heard
+        .iter()
+        .map(|seconds| goodbyes(seconds.as_slice()) as u128)
+        .sum()
 }
 
 // Returns how many seconds have a goodbye.
 fn goodbyes(seconds: &[SecondHeard]) -> usize
     ensures { result ≡ count_by is_goodbye seconds.now }
 {
-    let mut count = 0;
-    for second in seconds {
-        count += usize::from(is_goodbye(second));
-    }
-    count
+    seconds.iter().filter(|second| is_goodbye(second)).count()
 }
 
 fn push_each(to: &mut String, heard: &[Vec<SecondHeard>]) -> Result<(), Want>

@@ -6,7 +6,7 @@ ghost use Rattle.mdns_message.specs.{Parts.{address_of}, Resource.{key_cmp}};
 ghost use Rattle.mdns_cache.specs.{Live.{key_of_last}, LentRecords.{last_lent}};
 ghost use Rattle.mdns_lives.specs.{LentLives.{row_lent}, Window.{meets}};
 ghost use Rattle.mdns_browse.specs.Services.{body_of, other_given};
-ghost use Rattle.mdns_page.specs.KeptRecords.{is_drawn, is_kept, is_of, is_shown};
+ghost use Rattle.mdns_page.specs.KeptRecords.{is_drawn, is_kept, is_of, is_shown, looked_up};
 
 use crate::other_rows::has_address;
 use crate::servers::is_server;
@@ -25,6 +25,26 @@ pub(crate) enum TimelinePart {
     Addresses,
     /// Those that point from a service type to a name that isn't one label and the type.
     Names,
+}
+
+/// Collects the last hearings of all records, in key order; none where there are no subjects, since nothing is looked up
+/// then.
+pub(crate) fn heard_rows<'a>(
+    alloc: Global,
+    rows: LivesWalk<'a>,
+    about: &[Subject],
+) -> Result<Vec<Last<'a>>, Want>
+    ensures { IfOk result (λ heard. map last_lent heard.items ≡ looked_up about.now rows.entry) }
+{
+    let mut heard = Vec::new(alloc);
+    if about.is_empty() {
+        return Ok(heard);
+    }
+    let mut walk = rows;
+    while let Some(row) = walk.next()? {
+        heard.push(row.last)?;
+    }
+    Ok(heard)
 }
 
 /// Collects the records that a page keeps, in key order.

@@ -126,7 +126,7 @@ fn push_lane(
 }
 
 // Appends the ticks of a kind as one path; nothing where no second has one.
-#[tactic(auto, using(std::proofs::lemmas::Result::on_ok_weaker, crate::proofs::PathLemmas::for_push_ticks_path), unfolding(crate::specs::Picture::path, crate::specs::Picture::path_rest))]
+#[tactic(auto, using(std::proofs::lemmas::Result::on_ok_weaker, crate::proofs::PathLemmas::for_push_path), unfolding(crate::specs::Picture::path, crate::specs::Picture::path_rest))]
 fn push_ticks_path(
     to: &mut String,
     axis: Axis,
@@ -146,34 +146,11 @@ fn push_ticks_path(
 fn second_mark(axis: Axis, stroke: Stroke, second: &SecondHeard) -> Option<Mark>
     ensures { result ≡ second_mark axis stroke second.now }
 {
-    match stroke {
-        Stroke::Tick(_) => tick_mark(axis, second),
-        Stroke::GoodbyeTick(_) => goodbye_mark(axis, second),
-        Stroke::Bar => None,
-        Stroke::Server => None,
-        Stroke::Pin(_) => None,
-        Stroke::Head(_) => None,
+    match (stroke, is_goodbye(second)) {
+        (Stroke::Tick(_), false) => point(axis, second.first),
+        (Stroke::GoodbyeTick(_), true) => point(axis, goodbye_of(second)),
+        _ => None,
     }
-}
-
-// Returns where a second has a tick: at its first hearing, unless it has a goodbye.
-fn tick_mark(axis: Axis, second: &SecondHeard) -> Option<Mark>
-    ensures { result ≡ (if is_goodbye second.now then None else point axis second.now.first) }
-{
-    if is_goodbye(second) {
-        return None;
-    }
-    point(axis, second.first)
-}
-
-// Returns where a second has a thick tick: at its goodbye.
-fn goodbye_mark(axis: Axis, second: &SecondHeard) -> Option<Mark>
-    ensures { result ≡ (if is_goodbye second.now then point axis (goodbye_of second.now) else None) }
-{
-    if is_goodbye(second) {
-        return point(axis, goodbye_of(second));
-    }
-    None
 }
 
 // Returns the place of a hearing, if it was in the window.

@@ -2,7 +2,6 @@
 //! captures lack.
 
 ghost use Rattle.std.specs.{Prelude.{◌≡◌, ◌&&◌, ◌∷◌, ◌++◌, codes, map, OnOk}, List.{flat_map}, String.{string_bytes}};
-ghost use Rattle.mdns_capture.specs.Text.{ending_text};
 ghost use Rattle.mdns_lives.specs.declared.life.EndReason.TheVariants.{Goodbye};
 ghost use Rattle.people_text.specs.Shown.{shown};
 ghost use Rattle.mdns_page.specs.{Captures.{facts_lent}, Document.{lead, parts_lent}, Html.{isolated}, Picture.{goes_on, is_for}};
@@ -102,11 +101,9 @@ fn push_said(to: &mut String, count: usize) -> Result<(), Want>
 fn live_count(axis: Axis, kept: &[RecordLives<'_>]) -> usize
     ensures { result ≡ count_known (goes_on axis) (map known_lent kept.now) }
 {
-    let mut count = 0;
-    for record in kept {
-        count += usize::from(is_live(axis, record.lives.as_slice()) && is_instance(record));
-    }
-    count
+    kept.iter()
+        .filter(|record| is_live(axis, record.lives.as_slice()) && is_instance(record))
+        .count()
 }
 
 fn is_instance(record: &RecordLives<'_>) -> bool
@@ -119,44 +116,34 @@ fn is_instance(record: &RecordLives<'_>) -> bool
 fn said_count(axis: Axis, kept: &[RecordLives<'_>]) -> usize
     ensures { result ≡ count_known (λ life. goes_on axis life && is_for Goodbye life.reason) (map known_lent kept.now) }
 {
-    let mut count = 0;
-    for record in kept {
-        count += usize::from(has_said(axis, record.lives.as_slice()) && is_instance(record));
-    }
-    count
+    kept.iter()
+        .filter(|record| has_said(axis, record.lives.as_slice()) && is_instance(record))
+        .count()
 }
 
 // Checks that the last of some lives goes on, after a goodbye.
 fn has_said(axis: Axis, lives: &[Life]) -> bool
     ensures { result ≡ is_last (λ life. goes_on axis life && is_for Goodbye life.reason) lives.now }
 {
-    match lives.last() {
-        Some(life) => goes_on(axis, life) && is_for(EndReason::Goodbye, life.reason),
-        None => false,
-    }
+    lives.last().is_some_and(|life| goes_on(axis, life) && is_for(EndReason::Goodbye, life.reason))
 }
 
 // Returns how many instances' last lives ended for a reason.
 fn ended_count(axis: Axis, reason: EndReason, kept: &[RecordLives<'_>]) -> usize
     ensures { result ≡ count_known (is_ended axis reason) (map known_lent kept.now) }
 {
-    let mut count = 0;
-    for record in kept {
-        count += usize::from(
-            has_ended(axis, reason, record.lives.as_slice()) && is_instance(record),
-        );
-    }
-    count
+    kept.iter()
+        .filter(|record| has_ended(axis, reason, record.lives.as_slice()) && is_instance(record))
+        .count()
 }
 
 // Checks that the last of some lives ended for a reason.
 fn has_ended(axis: Axis, reason: EndReason, lives: &[Life]) -> bool
     ensures { result ≡ is_last (is_ended axis reason) lives.now }
 {
-    match lives.last() {
-        Some(life) => is_ended(axis, reason, life),
-        None => false,
-    }
+    lives
+        .last()
+        .is_some_and(|life| is_ended(axis, reason, life))
 }
 
 // Checks that a life ended for a reason before the end of the captures.
@@ -298,15 +285,8 @@ fn push_ending_warning(to: &mut String, file: &FileEnding<'_>) -> Result<(), Wan
     to.push_str("<p class=\"warn\">")?;
     push_shown_word(to, file.name)?;
     to.push_str(": ")?;
-    push_ending_text(to, file.ending)?;
+    write!(to, "{}", file.ending)?;
     to.push_str(". What came later is missing, goodbyes too.</p>\n")?;
-    Ok(())
-}
-
-fn push_ending_text(to: &mut String, ending: Ending) -> Result<(), Want>
-    ensures { OnOk result (string_bytes to.new ≡ string_bytes to.old ++ ending_text ending) }
-{
-    write!(to, "{ending}")?;
     Ok(())
 }
 

@@ -4,7 +4,6 @@
 //! contents of a text that was appended to are not specified.
 #![tactic(auto)]
 
-mod about_heard;
 mod axis;
 mod bar_titles;
 mod by_listener;
@@ -26,7 +25,6 @@ mod listener_lives;
 mod live_section;
 mod live_sheet;
 mod live_words;
-mod look;
 mod other_rows;
 mod owners;
 pub mod page;

@@ -2,7 +2,7 @@
 
 ghost use Rattle.std.specs.Prelude.{◌≡◌, ◌-◌, ◌==◌, ◌∷◌, [], ◌++◌, codes, if◌then◌else◌, option_map, true};
 ghost use Rattle.std.specs.{Prelude.{unwrap_or, IfOk, OnOk}, Fmt.{decimal}, String.{string_bytes}};
-ghost use Rattle.mdns_message.specs.{Borrowed.{body_lent}, Parts.{address_of}};
+ghost use Rattle.mdns_message.specs.Borrowed.{body_lent};
 ghost use Rattle.people_text.specs.MomentText.{duration_text};
 ghost use Rattle.mdns_browse.specs.{Given.{given_lent, nanos_in}, Json.{first_after}};
 ghost use Rattle.mdns_browse.specs.RecordShown.{shown_address, shown_order, shown_string, shown_strings, spaced_wide};
@@ -91,7 +91,8 @@ fn push_paragraph(to: &mut String, text: &str) -> Result<(), Want>
     push_word(to, "</p>")
 }
 
-/// Appends an address of a server, with a space before it unless it is the first.
+/// Appends an address of a server, with a space before it unless it is the first. Only A and AAAA records have one.
+#[tactic(auto, using(crate::proofs::LiveWordLemmas::address_lent))]
 pub(crate) fn push_address(
     to: &mut String,
     first: bool,
@@ -103,19 +104,11 @@ pub(crate) fn push_address(
         to.push(' ')?;
     }
     to.push_str("<code>")?;
-    push_octets(to, address)?;
+    push_address_if(to, address.address())?;
     push_word(to, "</code>")
 }
 
-// Appends an address as people read it. Only A and AAAA records have one.
-#[tactic(auto, using(std::proofs::lemmas::Result::on_ok_weaker, crate::proofs::LiveWordLemmas::address_lent))]
-fn push_octets(to: &mut String, address: &BorrowedBody<'_>) -> Result<(), Want>
-    ensures { OnOk result (string_bytes to.new
-        ≡ string_bytes to.old ++ unwrap_or (option_map shown_address (address_of (body_lent address.now))) []) }
-{
-    push_address_if(to, address.address())
-}
-
+// Appends an address as people read it, if there is one.
 fn push_address_if(to: &mut String, address: Option<Address>) -> Result<(), Want>
     ensures { OnOk result (string_bytes to.new ≡ string_bytes to.old ++ unwrap_or (option_map shown_address address) []) }
 {

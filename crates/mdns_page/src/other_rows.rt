@@ -4,7 +4,7 @@
 ghost use Rattle.std.specs.{Prelude.{◌≡◌, ◌++◌, codes, is_some, OnOk}, String.{string_bytes}};
 ghost use Rattle.mdns_message.specs.Parts.{address_of};
 ghost use Rattle.mdns_browse.specs.RecordShown.{shown_address};
-ghost use Rattle.mdns_page.specs.{OtherRows.{is_large}, Html.{isolated}};
+ghost use Rattle.mdns_page.specs.{Html.{isolated}, Timeline.{is_large}};
 ghost use Rattle.people_text.specs.Shown.{name_shown};
 
 use crate::html::push_isolated;

@@ -9,12 +9,11 @@ ghost use Rattle.mdns_browse.specs.{Given.{given_lent}, Services.{AreAscending, 
 ghost use Rattle.mdns_page.specs.{ByListener.{all_of}, Collected.{rows_lent}, KeptRecords.{is_drawn, looked_up}, Lead.{ended_lent}};
 ghost use Rattle.mdns_page.specs.Page.{WritesPage, endings_of, given_of_since, live_at_end};
 
-use crate::about_heard::heard_rows;
 use crate::axis::{Axis, axis_of};
 use crate::by_listener::facts_by;
 use crate::collector::{ComparisonRows, PageCollector, compared};
 use crate::document::{PageParts, push_page};
-use crate::kept_records::{TimelinePart, is_drawn, kept_rows, unless_large};
+use crate::kept_records::{TimelinePart, heard_rows, is_drawn, kept_rows, unless_large};
 use crate::lead::FileEnding;
 use crate::listener_lives::ListenerLives;
 use crate::live_section::push_live;
@@ -227,6 +226,7 @@ fn live_of(
     Ok(text)
 }
 
+#[tactic(auto, using(crate::proofs::KeptLemmas::for_push_kept))]
 fn push_given<'a>(
     to: &mut Vec<InstancePointer<'a>>,
     row: &LiveSince<'a>,

@@ -1,6 +1,6 @@
 //! The strokes of pictures: a bar for each life, a thin one for each life of a server, and a pin where a life ended.
 
-ghost use Rattle.std.specs.{Prelude.{◌≡◌, ◌++◌, codes, List, IfOk, OnOk, map}, List.{cons_option, flat_map}};
+ghost use Rattle.std.specs.{Prelude.{◌≡◌, ◌++◌, List, IfOk, OnOk, map}, List.{cons_option, flat_map}};
 ghost use Rattle.std.specs.String.{string_bytes};
 ghost use Rattle.mdns_page.specs.declared.picture.{Mark.{Mark}, Stroke.TheVariants.{Server}};
 ghost use Rattle.mdns_page.specs.Picture.{bar_mark, bars, class_of, drawn_bar, end_mark, goes_on, is_for, is_same, mark_of};
@@ -157,7 +157,7 @@ pub(crate) fn push_path_last(to: &mut String, last: Option<Mark>) -> Result<(), 
     ensures { OnOk result (string_bytes to.new ≡ string_bytes to.old ++ path_last last) }
 {
     match last {
-        Some(_) => push_path_end(to),
+        Some(_) => Ok(to.push_str("\"/>")?),
         None => Ok(()),
     }
 }
@@ -170,10 +170,8 @@ fn mark_of(axis: Axis, stroke: Stroke, life: &Life) -> Option<Mark>
         return None;
     }
     match stroke {
-        Stroke::Bar => Some(bar_mark(axis, life)),
-        Stroke::Server => Some(bar_mark(axis, life)),
-        Stroke::Pin(reason) => end_mark(axis, reason, life),
-        Stroke::Head(reason) => end_mark(axis, reason, life),
+        Stroke::Bar | Stroke::Server => Some(bar_mark(axis, life)),
+        Stroke::Pin(reason) | Stroke::Head(reason) => end_mark(axis, reason, life),
         Stroke::Tick(_) | Stroke::GoodbyeTick(_) => None,
     }
 }
@@ -240,13 +238,6 @@ fn push_path_begin(to: &mut String, stroke: Stroke) -> Result<(), Want>
     to.push_str("<path class=\"")?;
     to.push_str(class_of(stroke))?;
     to.push_str("\" d=\"")?;
-    Ok(())
-}
-
-fn push_path_end(to: &mut String) -> Result<(), Want>
-    ensures { OnOk result (string_bytes to.new ≡ string_bytes to.old ++ codes "\"/>") }
-{
-    to.push_str("\"/>")?;
     Ok(())
 }
 

@@ -3,11 +3,21 @@
 ghost use Rattle.std.specs.{Prelude.{◌≡◌, ◌++◌, codes, map, OnOk}, Fmt.{decimal}, String.{string_bytes}};
 ghost use Rattle.mdns_page.specs.{Lanes.{height}, RowPicture.{picture}, Timeline.{lives_lent, seconds_lent}};
 
+use crate::axis::Axis;
 use crate::lanes::{push_height, push_lanes};
-use crate::look::Look;
 use crate::picture::{Stroke, push_bars, push_path, push_servers};
 use mdns_lives::{EndReason, Life, RecordLives, SecondHeard};
 use mdns_message::Want;
+
+/// What the pictures of all rows of a page share.
+#[derive(Clone, Copy)]
+pub(crate) struct Look {
+    pub(crate) axis: Axis,
+    /// Whether bars have titles.
+    pub(crate) titled: bool,
+    /// How many lanes pictures have.
+    pub(crate) lanes: u32,
+}
 
 /// Appends the picture of some lives, which are in order of time: a bar for each, one for each life of the servers,
 /// for each that ended before the end of the axis a pin that tells why, and in lanes the seconds in which each

@@ -11,15 +11,14 @@ use crate::heard_words::push_heard;
 use crate::html::push_isolated;
 use crate::kept_records::TimelinePart;
 use crate::life_words::push_lives_words;
-use crate::look::Look;
 use crate::other_rows::{push_host_name, push_whole_name};
 use crate::owners::HasOwner;
 use crate::picture::goes_on;
-use crate::row_picture::push_picture;
+use crate::row_picture::{Look, push_picture};
 use crate::timeline_rows::CountedRow;
 use mdns_browse::push_shown_instance;
 use mdns_lives::Life;
-use mdns_message::{BorrowedName, Content, Name, Resource, Want};
+use mdns_message::{BorrowedName, Content, Name, Want};
 
 impl HasOwner for CountedRow<'_> {
     ghost owner = { λ row. owner_of (counted_lent row) };
@@ -34,21 +33,16 @@ impl HasOwner for CountedRow<'_> {
 pub(crate) fn live_rows(axis: Axis, rows: &[CountedRow<'_>]) -> usize
     ensures { result ≡ count_last (goes_on axis) (map counted_lent rows.now) }
 {
-    let mut count = 0;
-    for row in rows {
-        count += usize::from(is_live(axis, row.record.lives.as_slice()));
-    }
-    count
+    rows.iter()
+        .filter(|row| is_live(axis, row.record.lives.as_slice()))
+        .count()
 }
 
 /// Checks that the last of some lives goes on after the end of the captures.
 pub(crate) fn is_live(axis: Axis, lives: &[Life]) -> bool
     ensures { result ≡ is_last (goes_on axis) lives.now }
 {
-    match lives.last() {
-        Some(life) => goes_on(axis, life),
-        None => false,
-    }
+    lives.last().is_some_and(|life| goes_on(axis, life))
 }
 
 /// Appends rows of a part of the timeline. `scratch` is only room.
@@ -103,25 +97,14 @@ fn push_name(
         ++ heard_text row.now.capture_count (map seconds_lent row.now.heard.items))) }
 {
     let record = row.record;
-    push_record_name(to, scratch, part, record.last.resource)?;
+    let resource = record.last.resource;
+    let body = resource.body.borrowed();
+    push_content_name(to, scratch, part, &resource.owner, body.content())?;
     push_heard(to, row.capture_count, row.heard.as_slice())
 }
 
 // Appends what a record names, by way of `scratch`: an instance or another whole name, or a host with its address; nothing
 // for other records.
-fn push_record_name(
-    to: &mut String,
-    scratch: &mut String,
-    part: TimelinePart,
-    resource: &Resource,
-) -> Result<(), Want>
-    ensures { OnOk result (string_bytes to.new
-        ≡ string_bytes to.old ++ content_name isolated part resource.now.owner (content_of resource.now.body)) }
-{
-    let body = resource.body.borrowed();
-    push_content_name(to, scratch, part, &resource.owner, body.content())
-}
-
 fn push_content_name(
     to: &mut String,
     scratch: &mut String,

@@ -16,6 +16,7 @@ use mdns_message::{Body, Name, RecordType, Resource};
 use std::cmp::Ordering;
 
 /// Checks that a record is an SRV record.
+#[tactic(auto, using(crate::proofs::KeptLemmas::some_mapped))]
 pub(crate) fn is_server(last: &Last<'_>) -> bool
     ensures { result ≡ is_some (service_of (body_of (last_lent last.now))) }
 {

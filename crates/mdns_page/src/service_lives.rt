@@ -1,17 +1,14 @@
 //! The lives of the service instances of captures.
 
 ghost use Rattle.std.specs.Prelude.{◌≡◌, ◌++◌, ◌≤◌, ◌∷◌, [], Contains, IfOk, OnOk, map, string_bytes, List};
-ghost use Rattle.std.specs.List.{All, filter, flat_map, list_any};
+ghost use Rattle.std.specs.List.{All, filter, list_any};
 ghost use Rattle.mdns_message.specs.{Parts.{service_lent}, declared.hearing.Hearing.{Hearing}};
 ghost use Rattle.mdns_lives.specs.{Chronicle.{Chronicles}, LentLives.{row_lent}, Window.{meets}, declared.life.Life.{Life}};
 ghost use Rattle.mdns_browse.specs.{LifeText.{nanos_if_some}, ServiceLifeText.{service_life_lent}};
-ghost use Rattle.mdns_page.specs.declared.kept_records.TimelinePart.TheVariants.{Instances};
-ghost use Rattle.mdns_page.specs.KeptRecords.{is_shown};
 ghost use Rattle.mdns_page.specs.ServiceLives.{AreRecords, IsWithin, WritesServiceLives};
 ghost use Rattle.mdns_page.specs.ServiceLives.{lives_given, lives_meet, lives_named, meets_span, servers_in, service_lives};
 
-use crate::about_heard::heard_rows;
-use crate::kept_records::{TimelinePart, is_shown, kept_rows};
+use crate::kept_records::{TimelinePart, heard_rows, is_shown, kept_rows};
 use crate::servers::servers_named;
 use mdns_browse::report::{Form, ReportFault};
 use mdns_browse::service_life_text::{ServiceLife, service_lives_text};
@@ -118,6 +115,7 @@ fn text_of(
 }
 
 // Collects the lives of the records that give an instance, with the servers among all records that are kept.
+#[tactic(auto, using(crate::proofs::ServedLemmas::one_more))]
 fn service_lives<'a>(
     alloc: Global,
     window: Window,
@@ -128,26 +126,12 @@ fn service_lives<'a>(
 {
     let mut services = Vec::new(alloc);
     for record in kept {
-        push_shown(&mut services, window, record, kept)?;
+        if !is_shown(TimelinePart::Instances, window, record) {
+            continue;
+        }
+        push_given(&mut services, window, record, kept)?;
     }
     Ok(services)
-}
-
-// Appends the lives of a record that has a row.
-fn push_shown<'a>(
-    to: &mut Vec<ServiceLife<'a>>,
-    window: Window,
-    record: &'a RecordLives<'a>,
-    kept: &'a [RecordLives<'a>],
-) -> Result<(), Want>
-    ensures { OnOk result (AreRecords (map row_lent kept.now)
-        → map service_life_lent to.new.items ≡ map service_life_lent to.old.items
-        ++ flat_map (lives_given window (map row_lent kept.now)) (filter (is_shown Instances window) (row_lent «record».now ∷ []))) }
-{
-    if is_shown(TimelinePart::Instances, window, record) {
-        return push_given(to, window, record, kept);
-    }
-    Ok(())
 }
 
 // Appends the lives in the window of the instance that a record gives.

@@ -43,11 +43,12 @@ fn push_packets(to: &mut String, readings: &[Reading]) -> Result<(), Want>
 fn untold(readings: &[Reading]) -> u128
     ensures { result ≡ sum_by (λ reading. reading.summary.tally.skipped + reading.summary.tally.refused) readings.now }
 {
-    let mut untold = 0;
-    for reading in readings {
-        untold += reading.summary.tally.skipped as u128 + reading.summary.tally.refused as u128;
-    }
-    untold
+    readings
+        .iter()
+        .map(|reading| {
+            reading.summary.tally.skipped as u128 + reading.summary.tally.refused as u128
+        })
+        .sum()
 }
 
 #[tactic(auto, unfolding(crate::specs::SkippedSection::table_text))]

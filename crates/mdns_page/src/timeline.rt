@@ -3,10 +3,9 @@
 
 ghost use Rattle.std.specs.Prelude.{◌≡◌, ◌+◌, [], ◌++◌, ◌<◌, codes, if◌then◌else◌, length, map, OnOk};
 ghost use Rattle.std.specs.{List.{flat_map}, String.{string_bytes}};
-ghost use Rattle.mdns_page.specs.{Counts.{commas}, Group.{first_owner, grouped}, Html.{isolated}};
+ghost use Rattle.mdns_page.specs.{Counts.{commas}, Group.{grouped}, Html.{isolated}};
 ghost use Rattle.mdns_page.specs.Timeline.{counted_lent, group_count, group_name, group_text, is_open, others_text, owner_of, timeline};
 ghost use Rattle.mdns_page.specs.{Timeline.{timeline_begin}, declared.kept_records.TimelinePart.TheVariants.{Instances}};
-ghost use Rattle.people_text.specs.Shown.{name_shown};
 
 use crate::axis::Axis;
 use crate::bar_titles::are_titled;
@@ -15,9 +14,9 @@ use crate::group::{push_axis_picture, push_group_begin};
 use crate::html::push_isolated;
 use crate::kept_records::TimelinePart;
 use crate::legend::push_key;
-use crate::look::Look;
 use crate::other_rows::{is_large, push_whole_name};
 use crate::owners::following_len;
+use crate::row_picture::Look;
 use crate::row_text::{live_rows, push_rows};
 use crate::timeline_rows::CountedRow;
 use mdns_message::Want;
@@ -66,13 +65,11 @@ fn push_begin(to: &mut String, titled: bool, large: bool, lanes: u32) -> Result<
     ensures { OnOk result (string_bytes to.new ≡ string_bytes to.old ++ timeline_begin titled large lanes) }
 {
     to.push_str(
-        "<h2 id=\"timeline\">Timeline</h2>\n<p class=\"note\">Times are UTC, cut off at seconds. ",
+        "<h2 id=\"timeline\">Timeline</h2>\n<p class=\"note\">Times are UTC, cut off at seconds. \
+         A bar begins when the record was first heard; it may have stood before. \
+         A goodbye ends it one second later, unless it is announced again before. \
+         Heard 3&#215;: in three different seconds.",
     )?;
-    to.push_str(
-        "A bar begins when the record was first heard; it may have stood before. \
-         A goodbye ends it one second later, unless it is announced again before. ",
-    )?;
-    to.push_str("Heard 3&#215;: in three different seconds.")?;
     push_if(to, titled, " Point at a bar for milliseconds.")?;
     push_if(
         to,
@@ -161,23 +158,13 @@ fn push_group_name(
         ≡ string_bytes to.old ++ isolated (group_name part (map counted_lent rows.now))) }
 {
     match part {
-        TimelinePart::Instances => push_type_name(to, scratch, rows),
+        TimelinePart::Instances => {
+            let record = rows[0].record;
+            push_whole_name(to, scratch, &record.last.resource.owner.borrowed())
+        }
         TimelinePart::Addresses => push_isolated(to, "Addresses of hosts"),
         TimelinePart::Names => push_isolated(to, "Names that aren't one label and the type"),
     }
-}
-
-fn push_type_name(
-    to: &mut String,
-    scratch: &mut String,
-    rows: &[CountedRow<'_>],
-) -> Result<(), Want>
-    requires { 0 < length rows.now }
-    ensures { OnOk result (string_bytes to.new
-        ≡ string_bytes to.old ++ isolated (name_shown (first_owner owner_of (map counted_lent rows.now)))) }
-{
-    let first = rows[0].record;
-    push_whole_name(to, scratch, &first.last.resource.owner.borrowed())
 }
 
 // Appends how many rows a group has, and how many of them are of live records.

@@ -1,8 +1,8 @@
 use Rattle.std.proofs.Common.{◌≡◌, ◌∙◌, ◌++◌, Bool, ℕ, ap, if◌then◌else◌, length, nat_lt, sym, codes}
 use Rattle.std.proofs.lemmas.List.{length-map}
 use Rattle.std.specs.String.{string_bytes}
-use Rattle.mdns_page.specs.{Captures.{captures_text, facts_lent}, OtherRows.{is_large}, Html.{isolated}, Document.{head, lead, parts_lent}}
-use Rattle.mdns_page.specs.Timeline.{counted_lent, timeline}
+use Rattle.mdns_page.specs.{Captures.{captures_text, facts_lent}, Html.{isolated}, Document.{head, lead, parts_lent}}
+use Rattle.mdns_page.specs.Timeline.{counted_lent, is_large, timeline}
 use Rattle.mdns_page.proofs.PartLemmas.{parts8}
 use Rattle.mdns_page.proofs.document.push_page.Goals as goal
 

@@ -1,4 +1,4 @@
-use Rattle.mdns_page.proofs.{LaneLemmas.{ticks-in_order}, MarkLemmas.{marks-in_order}}
+use Rattle.mdns_page.proofs.MarkLemmas.{marks-in_order, ticks-in_order}
 use Rattle.mdns_page.proofs.laws.strokes.Goals as goal
 
 pub returns : goal.returns

@@ -10,4 +10,4 @@ returns c =
     let not : is_whole c.args.file.now.ending ≡ false = sym c.is_whole.ensures ∙ c.if-is_whole.false in
     rw not
     (parts5 _ _ _ _ _ _ _ _ _ _ _ c.in_ok-push_str.ensures.bytes c.in_ok-push_shown_word.ensures c.in_ok-push_str-2.ensures.bytes
-    c.in_ok-push_ending_text.ensures c.in_ok-push_str-3.ensures.bytes)
+    c.in_ok-write.ensures.bytes c.in_ok-push_str-3.ensures.bytes)

@@ -7,8 +7,8 @@ use Rattle.mdns_join.specs.declared.latest.Latest.{Latest}
 use Rattle.mdns_lives.specs.{Chronicle.{Accounts, Chronicles}, LentLives.{row_lent}, declared.life.Life.{Life}}
 use Rattle.mdns_browse.specs.{declared.about.Subject.{Subject}, Services.{AreEach}}
 use Rattle.mdns_page.specs.{Captures.{comparison_lent, facts_lent}, Collected.{rows_lent}, Html.{isolated}, Lead.{ended_lent, known_lent, known_of}}
-use Rattle.mdns_page.specs.{OtherRows.{is_large}, KeptRecords.{AreRows, is_kept, is_shown, kept_of, looked_up}, SkippedSection.{skipped_text}}
-use Rattle.mdns_page.specs.{Document.{Shown, page}, Page.{WritesPage, live_at_end}, Timeline.{Row, counted_lent, is_open}}
+use Rattle.mdns_page.specs.{KeptRecords.{AreRows, is_kept, is_shown, kept_of, looked_up}, SkippedSection.{skipped_text}}
+use Rattle.mdns_page.specs.{Document.{Shown, page}, Page.{WritesPage, live_at_end}, Timeline.{Row, counted_lent, is_large, is_open}}
 use Rattle.mdns_page.specs.declared.kept_records.{TimelinePart.{TimelinePart}, TimelinePart.TheVariants.{Addresses, Instances, Names}}
 use Rattle.mdns_page.proofs.KeptLemmas.{few-sorted, looked_up-sorted, some-sorted}
 use Rattle.mdns_page.proofs.page.page_of.Goals as goal

@@ -1,4 +1,4 @@
-use Rattle.std.proofs.Common.{◌≡◌, ◌++◌, ◌∙◌, ap, codes, List, map}
+use Rattle.std.proofs.Common.{◌++◌, ◌∙◌, ap, List, map}
 use Rattle.std.specs.{String.{string_bytes}, Global.{Vec}}
 use Rattle.mdns_lives.specs.declared.{life.Life.{Life}, seconds_heard.SecondHeard.{SecondHeard}}
 use Rattle.mdns_page.specs.{RowPicture.{picture}, Timeline.{lives_lent, row_text, seconds_lent}, LifeWords.{lives_words}}
@@ -11,18 +11,12 @@ returns c =
     let look = c.args.look in
     let lives = c.args.row.now.record.now.lives.items in
     let servers = map lives_lent c.args.row.now.servers.now in
-    let heard = map seconds_lent c.args.row.now.heard.items in
-    let is : c.as_slice-lives.result.now ≡ lives = c.as_slice-lives.ensures.value in
-    parts7 (string_bytes c.args.to.now) (codes "<li><div>") _ (codes "</div>")
-    (picture look lives servers heard) (codes "<div>") (lives_words look.axis lives) (codes "</div></li>\n") (string_bytes c.push_str.new.self)
-    (string_bytes c.push_name.new.to) (string_bytes c.push_str-2.new.self) (string_bytes c.push_picture.new.to)
-    (string_bytes c.push_str-3.new.self) (string_bytes c.push_lives_words.new.to) (string_bytes c.push_str-4.new.self)
-    c.in_ok-push_str.ensures.bytes c.in_ok-push_name.ensures c.in_ok-push_str-2.ensures.bytes
+    let is = c.as_slice-lives.ensures.value in
+    parts7 _ _ _ _ _ _ _ _ _ _ _ _ _ _ _ c.in_ok-push_str.ensures.bytes c.in_ok-push_name.ensures c.in_ok-push_str-2.ensures.bytes
     (c.in_ok-push_picture.ensures
-    ∙ ap (λ (l : List Life). string_bytes c.push_str-2.new.self
-    ++ picture look l servers (map seconds_lent c.as_slice.result.now)) is
-    ∙ ap (λ (h : List (Vec SecondHeard)). string_bytes c.push_str-2.new.self
-    ++ picture look lives servers (map seconds_lent h)) c.as_slice.ensures.value)
+    ∙ ap (λ (l : List Life). string_bytes c.push_str-2.new.self ++ picture look l servers (map seconds_lent c.as_slice.result.now)) is
+    ∙ ap (λ (h : List (Vec SecondHeard)). string_bytes c.push_str-2.new.self ++ picture look lives servers (map seconds_lent h))
+    c.as_slice.ensures.value)
     c.in_ok-push_str-3.ensures.bytes
     (c.in_ok-push_lives_words.ensures ∙ ap (λ (l : List Life). string_bytes c.push_str-3.new.self ++ lives_words look.axis l) is)
     c.in_ok-push_str-4.ensures.bytes

@@ -2,7 +2,7 @@ use Rattle.std.proofs.Common.{◌≡◌, ◌++◌, List, length, map}
 use Rattle.mdns_cache.specs.LentRecords.{last_lent}
 use Rattle.mdns_join.specs.declared.latest.Latest.{Latest}
 use Rattle.mdns_lives.specs.declared.life.Life.{Life}
-use Rattle.mdns_page.proofs.about_heard.heard_rows.Given as goal
+use Rattle.mdns_page.proofs.kept_records.heard_rows.Given as goal
 
 -- the last hearings so far were collected, and the others are left
 abbrev pub invariant-loop-heard : goal.invariant-loop-heard
