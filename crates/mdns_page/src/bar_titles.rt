@@ -3,9 +3,10 @@
 ghost use Rattle.std.specs.{Prelude.{◌≡◌, ◌++◌, codes, if◌then◌else◌, length, map, nat_le, OnOk}, List.{flat_map}};
 ghost use Rattle.std.specs.String.{string_bytes};
 ghost use Rattle.mdns_browse.specs.LifeText.{open_text, reason_text};
-ghost use Rattle.mdns_page.specs.{Timeline.{counted_lent, lives_in, lives_lent}, BarTitles.{IsLess, life_title}};
+ghost use Rattle.mdns_page.specs.{Timeline.{counted_lent, lives_in, lives_lent}, BarTitles.{IsLess, end_words, life_title}};
 
 use crate::timeline_rows::CountedRow;
+use mdns_browse::life_end::push_taken_back;
 use mdns_lives::{EndReason, Life, RecordLives};
 use mdns_message::Want;
 use people_text::durations::push_duration;
@@ -95,23 +96,24 @@ pub(crate) fn push_life_title(to: &mut String, goes_on: bool, life: &Life) -> Re
     to.push_str(", ")?;
     push_duration(to, life.until.saturating_sub(from))?;
     to.push_str(": ")?;
-    to.push_str(end_word(goes_on, life.reason))?;
-    Ok(())
+    push_end_words(to, goes_on, life)
 }
 
-// Returns why a life ended, or that it goes on.
-fn end_word(goes_on: bool, reason: EndReason) -> &'static str
-    ensures { result.now ≡ (if goes_on then codes "still " ++ open_text reason else reason_text reason) }
+/// Appends why a life ended, or that it goes on, and the goodbye that was taken back in it, if there is one.
+pub(crate) fn push_end_words(to: &mut String, goes_on: bool, life: &Life) -> Result<(), Want>
+    ensures { OnOk result (string_bytes to.new ≡ string_bytes to.old ++ end_words goes_on life.now) }
 {
-    if goes_on {
-        return open_word(reason);
-    }
-    reason_word(reason)
+    to.push_str(if goes_on {
+        open_word(life.reason)
+    } else {
+        reason_word(life.reason)
+    })?;
+    push_taken_back(to, life)
 }
 
-/// Returns what is said of a life that goes on after the end of the captures: a flush or a goodbye ends it, unless the
-/// record is heard again.
-pub(crate) fn open_word(reason: EndReason) -> &'static str
+// Returns what is said of a life that goes on after the end of the captures: a flush or a goodbye ends it, unless the
+// record is heard again.
+fn open_word(reason: EndReason) -> &'static str
     ensures { result.now ≡ codes "still " ++ open_text reason }
 {
     match reason {
@@ -121,8 +123,8 @@ pub(crate) fn open_word(reason: EndReason) -> &'static str
     }
 }
 
-/// Returns why a life ended, as a word.
-pub(crate) fn reason_word(reason: EndReason) -> &'static str
+// Returns why a life ended, as a word.
+fn reason_word(reason: EndReason) -> &'static str
     ensures { result.now ≡ reason_text reason }
 {
     match reason {

@@ -2,12 +2,11 @@
 
 ghost use Rattle.std.specs.{Prelude.{◌≡◌, ◌==◌, ◌∷◌, [], ◌++◌, codes, if◌then◌else◌, OnOk}, List.{flat_map}};
 ghost use Rattle.std.specs.String.{string_bytes};
-ghost use Rattle.mdns_page.specs.{Counts.{commas}, LifeWords.{life_words, lives_words}, Axis.{is_same_date, short_text}, Picture.{goes_on}};
+ghost use Rattle.mdns_page.specs.{BarTitles.{end_words}, Counts.{commas}, LifeWords.{life_words, lives_words}, Axis.{is_same_date, short_text}, Picture.{goes_on}};
 ghost use Rattle.mdns_page.specs.declared.axis.Dates.TheVariants.{Omitted};
-ghost use Rattle.mdns_browse.specs.LifeText.{open_text, reason_text};
 
 use crate::axis::{Axis, Dates, is_same_date, push_short};
-use crate::bar_titles::{open_word, reason_word};
+use crate::bar_titles::push_end_words;
 use crate::counts::push_commas;
 use crate::picture::goes_on;
 use mdns_lives::Life;
@@ -63,13 +62,13 @@ fn push_life(to: &mut String, axis: Axis, life: &Life) -> Result<(), Want>
 
 fn push_end(to: &mut String, axis: Axis, life: &Life) -> Result<(), Want>
     ensures { OnOk result (string_bytes to.new ≡ string_bytes to.old
-        ++ (if goes_on axis life.now then codes "<b>" ++ (codes "still " ++ open_text life.now.reason) ++ codes "</b>"
+        ++ (if goes_on axis life.now then codes "<b>" ++ end_words true life.now ++ codes "</b>"
         else short_text (if is_same_date life.now.from.nanos life.now.until then Omitted else axis.dates) life.now.until
-        ++ 32 ∷ reason_text life.now.reason)) }
+        ++ 32 ∷ end_words false life.now)) }
 {
     if goes_on(axis, life) {
         to.push_str("<b>")?;
-        to.push_str(open_word(life.reason))?;
+        push_end_words(to, true, life)?;
         to.push_str("</b>")?;
         return Ok(());
     }
@@ -77,6 +76,5 @@ fn push_end(to: &mut String, axis: Axis, life: &Life) -> Result<(), Want>
     let dates = if same { Dates::Omitted } else { axis.dates };
     push_short(to, dates, life.until)?;
     to.push(' ')?;
-    to.push_str(reason_word(life.reason))?;
-    Ok(())
+    push_end_words(to, false, life)
 }
