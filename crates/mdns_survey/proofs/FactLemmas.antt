@@ -5,10 +5,12 @@ use Rattle.std.specs.Prelude.{Contains}
 use Rattle.std.proofs.lemmas.List.Elements.{Contains-append_cases, Contains-append_left, Contains-append_right}
 use Rattle.mdns_capture.specs.{declared.moment.Moment.{Moment}, declared.savefile.Ending.{Ending}, Savefile.{CaptureReads, PacketAt}}
 use Rattle.mdns_message.specs.declared.hearing.Hearing.{Hearing}
+use Rattle.mdns_cache.specs.Live.{SameHearings}
 use Rattle.mdns_cache.proofs.StandsPartLemmas.{Contains-cases, Contains-head, Contains-later}
 use Rattle.mdns_survey.specs.{declared.summary.Summary.{Summary}, Outcomes.{AllCome, AllRead, CaptureTells, Counts, Outcome, hearings_in}}
-use Rattle.mdns_survey.specs.{Laws.{SameCaptures}, Listen.{packet_moments}, Readings.{all_moments}, Surveys.{all_hearings}}
-use Rattle.mdns_survey.proofs.{OneSurveyLemmas.{one-read}, OutcomeLemmas.{OneReading, OneTelling}}
+use Rattle.mdns_survey.specs.{declared.filter.Filter.{Filter}, Filter.{counted}, Laws.{SameCaptures}, Listen.{packet_moments}}
+use Rattle.mdns_survey.specs.{Readings.{all_moments}, Surveys.{all_hearings}}
+use Rattle.mdns_survey.proofs.{OneSurveyLemmas.{one-read}, OutcomeLemmas.{OneReading, OneTelling}, SelectedLemmas.{same_counted}}
 
 -- a hearing, or the moment of a packet
 abbrev pub Fact : Type 0
@@ -91,28 +93,28 @@ pub record Yields (captures others : List (List ℕ)) : Type 0 where
 
 -- THE ANSWER
 
--- these hearings and moments are those
-pub record AreSame (heard others : List Hearing) (moments more : List Moment) : Type 0 where
-  pub into : (fact : Fact) → Has fact heard moments → Has fact others more
-  pub back : (fact : Fact) → Has fact others more → Has fact heard moments
+-- the moments of one list are among those of another
+abbrev pub Within : List Moment → List Moment → Type 0
+Within moments others = (moment : Moment) → Contains moments moment → Contains others moment
 
--- the text is written by the hearings of captures and the moments of their packets
-pub record WritesBy (Writes : List Hearing → List Moment → List ℕ → Type 0) (captures : List (List ℕ)) (summaries : List Summary)
-    (text : List ℕ) : Type 0 where
+-- the text is written by those hearings of captures that count, and the moments of their packets
+pub record WritesBy (which : Filter) (Writes : List Hearing → List Moment → List ℕ → Type 0) (captures : List (List ℕ))
+    (summaries : List Summary) (text : List ℕ) : Type 0 where
   pub packets : List (List PacketAt)
   pub outcomes : List (List Outcome)
   pub read : AllRead captures packets outcomes summaries
-  pub writes : Writes (all_hearings outcomes) (all_moments packets) text
+  pub writes : Writes (counted which outcomes) (all_moments packets) text
 
 -- a survey writes a text by them: the same ones have the same text, and no other
 pub record IsByFacts (Survey : List (List ℕ) → List Summary → List ℕ → Type 0) : Type 1 where
+  pub which : Filter
   pub Writes : List Hearing → List Moment → List ℕ → Type 0
   pub to : (captures : List (List ℕ)) (summaries : List Summary) (text : List ℕ) → Survey captures summaries text
-      → WritesBy Writes captures summaries text
-  pub from : (captures : List (List ℕ)) (summaries : List Summary) (text : List ℕ) → WritesBy Writes captures summaries text
+      → WritesBy which Writes captures summaries text
+  pub from : (captures : List (List ℕ)) (summaries : List Summary) (text : List ℕ) → WritesBy which Writes captures summaries text
       → Survey captures summaries text
-  pub shared : (heard others : List Hearing) (moments more : List Moment) (text : List ℕ) → AreSame heard others moments more
-      → Writes heard moments text → Writes others more text
+  pub shared : (heard others : List Hearing) (moments more : List Moment) (text : List ℕ) → SameHearings heard others
+      → Within moments more → Within more moments → Writes heard moments text → Writes others more text
   pub one : (heard : List Hearing) (moments : List Moment) (text other : List ℕ) → Writes heard moments text
       → Writes heard moments other → text ≡ other
 
@@ -169,9 +171,9 @@ module _ (one : OneReading) (telling : OneTelling) where
         let b = by.to captures more other second in
         let same = one-read one telling captures a.packets b.packets a.outcomes b.outcomes summaries more a.read b.read in (
           same.2,
-          by.one (all_hearings a.outcomes) (all_moments a.packets) text other a.writes
-              (subst (λ (ps : List (List PacketAt)). by.Writes (all_hearings a.outcomes) (all_moments ps) other) (sym same.0)
-              (subst (λ (os : List (List Outcome)). by.Writes (all_hearings os) (all_moments b.packets) other) (sym same.1) b.writes)),
+          by.one (counted by.which a.outcomes) (all_moments a.packets) text other a.writes
+              (subst (λ (ps : List (List PacketAt)). by.Writes (counted by.which a.outcomes) (all_moments ps) other) (sym same.0)
+              (subst (λ (os : List (List Outcome)). by.Writes (counted by.which os) (all_moments b.packets) other) (sym same.1) b.writes)),
         )
 
     pub told-by : (captures : List (List ℕ)) (summaries : List Summary) (text : List ℕ) → Survey captures summaries text
@@ -184,21 +186,26 @@ module _ (one : OneReading) (telling : OneTelling) where
         → Survey captures summaries text → (more : List Summary) × Survey others more text
     shared-survey captures others summaries text yields survey =
         let a = by.to captures summaries text survey in
-        let b = read-all others yields.told in (
+        let b = read-all others yields.told in
+        let into : (fact : Fact) → Has fact (all_hearings a.outcomes) (all_moments a.packets)
+        → Has fact (all_hearings b.outcomes) (all_moments b.packets) =
+        λ fact has. in-all others b.packets b.outcomes b.summaries b.read fact
+        (yields.into fact (in-some captures a.packets a.outcomes summaries a.read fact has)) in
+        let back : (fact : Fact) → Has fact (all_hearings b.outcomes) (all_moments b.packets)
+        → Has fact (all_hearings a.outcomes) (all_moments a.packets) =
+        λ fact has. in-all captures a.packets a.outcomes summaries a.read fact
+        (yields.back fact (in-some others b.packets b.outcomes b.summaries b.read fact has)) in (
           b.summaries,
           by.from others b.summaries text
               record {
                 packets = b.packets;
                 outcomes = b.outcomes;
                 read = b.read;
-                writes = by.shared (all_hearings a.outcomes) (all_hearings b.outcomes) (all_moments a.packets) (all_moments b.packets) text
-                    record {
-                      into = λ fact has. in-all others b.packets b.outcomes b.summaries b.read fact
-                          (yields.into fact (in-some captures a.packets a.outcomes summaries a.read fact has));
-                      back = λ fact has. in-all captures a.packets a.outcomes summaries a.read fact
-                          (yields.back fact (in-some others b.packets b.outcomes b.summaries b.read fact has));
-                    }
-                    a.writes;
+                writes = by.shared (counted by.which a.outcomes) (counted by.which b.outcomes) (all_moments a.packets)
+                    (all_moments b.packets) text
+                    (same_counted by.which a.outcomes b.outcomes
+                    record { into = λ hearing has. into (inl hearing) has; back = λ hearing has. back (inl hearing) has })
+                    (λ moment has. into (inr moment) has) (λ moment has. back (inr moment) has) a.writes;
               },
         )
 

@@ -5,8 +5,7 @@ use Rattle.mdns_capture.specs.Savefile.{PacketAt, snap_length}
 use Rattle.mdns_message.specs.declared.hearing.Hearing.{Hearing}
 use Rattle.mdns_cache.specs.{Contents.{Contents, StandsFor}, Repeats.{Listened, StandsWith}}
 use Rattle.mdns_survey.specs.{declared.reading.Reading.{Reading}, Outcomes.{Outcome, hearings_in, hearings_of_outcome}}
-use Rattle.mdns_survey.specs.{Listen.{HearsCapture, HearsPackets, Listens, TakesCapture}, Reading.{ReadsCapture}}
-use Rattle.std.proofs.lemmas.Result.{IfOk-weaker}
+use Rattle.mdns_survey.specs.{Listen.{HearsPackets, Listens, TakesCapture}, Reading.{ReadsCapture}}
 
 module _ {H : Type 0} (Stands : H → H → List Hearing → Type 0) where
   -- a hearer takes these hearings
@@ -26,16 +25,6 @@ module _ {H : Type 0} (Stands : H → H → List Hearing → Type 0) where
       → HearsPackets Stands first new_hearer (packets ++ packet ∷ []) (outcomes ++ outcome ∷ [])
   hears-more first hearer new_hearer packets outcomes packet outcome takes hears begun heard before =
       grind (arith, flat_map-append, append-nil, append_assoc)
-
-  -- a capture whose packets a hearer took was heard
-  pub hears-taken : (left : Option (List ℕ)) (first hearer : H) (reading : Reading)
-      → TakesCapture (HearsPackets Stands) left first hearer reading → HearsCapture Stands left first hearer reading
-  hears-taken left first hearer reading taken = record {
-    packets = taken.packets;
-    outcomes = taken.outcomes;
-    is_reading = taken.is_reading;
-    hears = taken.took first (hears-nothing first);
-  }
 
 -- a consumer took all packets of a capture that was read whole
 pub takes_read : {C : Type 0} (Took : C → C → List PacketAt → List Outcome → Type 0) (left : Option (List ℕ)) (old new : C)
@@ -60,7 +49,7 @@ takes_read Took left old new reading states read = record {
 pub listens-heard : (left : Option (List ℕ)) (empty gathering : Listened) (cache : Contents) (reading : Reading)
     → StandsWith empty.contents empty.memory []
     → ((heard : List Hearing) → StandsWith gathering.contents gathering.memory heard → StandsFor cache heard)
-    → HearsCapture (λ _ (l : Listened). StandsWith l.contents l.memory) left empty gathering reading
+    → TakesCapture (HearsPackets (λ _ (l : Listened). StandsWith l.contents l.memory)) left empty gathering reading
     → IfSome left (λ bytes. Listens bytes
     (record { cache = cache; tally = reading.summary.tally; ending = reading.summary.ending }))
 listens-heard None empty gathering cache reading nothing finish heard = tt
@@ -68,9 +57,6 @@ listens-heard (Some bytes) empty gathering cache reading nothing finish heard = 
   outcomes = heard.outcomes;
   tells = record { packets = heard.packets; reads = heard.is_reading.reads; come = heard.is_reading.come };
   counts = heard.is_reading.counts;
-  stands = finish (hearings_in heard.outcomes) (heard.hears empty [] nothing);
+  stands = finish (hearings_in heard.outcomes)
+      (heard.took empty (hears-nothing (λ _ (l : Listened). StandsWith l.contents l.memory) empty) empty [] nothing);
 }
-
--- WHAT FUNCTIONS ARE PROVED BY
-
-pub ruleset for_hear_capture = (hears-taken, IfOk-weaker)

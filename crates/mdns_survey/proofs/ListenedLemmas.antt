@@ -7,8 +7,9 @@ use Rattle.mdns_message.specs.declared.hearing.Hearing.{Hearing}
 use Rattle.mdns_browse.specs.declared.report.{Form.{Form}, Form.TheVariants.{Pretty}}
 use Rattle.mdns_survey.specs.declared.{reading.Reading.{Reading}, summary.Summary.{Summary}}
 use Rattle.mdns_survey.specs.{Outcomes.{AllRead, Outcome, hearings_in}, Head.{Heads, IsHead, lost_text, unheard_text}}
-use Rattle.mdns_survey.specs.{Listen.{HearsCapture, IsReadingOf, ListensTo}, Reasons.{lost_frames}}
+use Rattle.mdns_survey.specs.{Listen.{HearsPackets, IsReadingOf, ListensTo, TakesCapture}, Reasons.{lost_frames}}
 use Rattle.mdns_survey.specs.{Readings.{CountLosses, HaveSpans, lost_in, summaries_of}, Surveys.{AllLeft, HearsAll, Listened, all_hearings}}
+use Rattle.mdns_survey.proofs.HeardLemmas.{hears-nothing}
 
 -- ONE READER MORE
 
@@ -29,9 +30,15 @@ all_hearings-more (o ∷ os) more = append_assoc (hearings_in o) (all_hearings o
 
 -- a hearer of a capture has heard one capture more
 pub hears-more : {H : Type 0} (Stands : H → H → List Hearing → Type 0) (left : Option (List ℕ)) (hearer new_hearer : H)
-    (reading : Reading) → HearsCapture Stands left hearer new_hearer reading
+    (reading : Reading) → TakesCapture (HearsPackets Stands) left hearer new_hearer reading
     → ListensTo (HearsAll Stands) left hearer new_hearer reading
-hears-more Stands left hearer new_hearer reading heard = grind (arith, all_hearings-more)
+hears-more Stands left hearer new_hearer reading taken = record {
+  packets = taken.packets;
+  outcomes = taken.outcomes;
+  is_reading = taken.is_reading;
+  hears = λ begun earlier before stood. subst (Stands begun new_hearer) (all_hearings-more before taken.outcomes)
+      (taken.took hearer (hears-nothing Stands hearer) begun (all_hearings before) stood);
+}
 
 -- one reader was listened to more
 pub listened-more : {R L : Type 0} (HeardAll : L → L → List (List PacketAt) → List (List Outcome) → Type 0)
@@ -102,6 +109,12 @@ lost-counted (p ∷ ps) (r ∷ rs) count =
     sum_by-cons (λ (s : Summary). s.tally.refused) r.summary (summaries_of rs) in
     omega (arith, lost, frames, refused, here, lost-counted ps rs after)
 
+-- and a number that the readings say
+pub lost-by-readings : (packets : List (List PacketAt)) (readings : List Reading) (lost : ℕ) → lost ≡ lost_in readings
+    → CountLosses packets readings
+    → lost ≡ sum_by lost_frames packets + sum_by (λ (s : Summary). s.tally.refused) (summaries_of readings)
+lost-by-readings packets readings lost is count = is ∙ lost-counted packets readings count
+
 -- WHERE THE BYTES OF ALL READERS ARE KNOWN
 
 all_known : (captures : List (List ℕ)) (packets : List (List PacketAt)) (outcomes : List (List Outcome)) (readings : List Reading)
@@ -131,6 +144,6 @@ known-head form lefts packets outcomes readings head heads read captures known =
 
 -- WHAT FUNCTIONS ARE PROVED BY
 
-pub ruleset for_lost_packets = (lost-counted)
+pub ruleset for_lost_packets = (lost-by-readings)
 
 pub ruleset for_collect_all = (listened-nothing, listened-more)

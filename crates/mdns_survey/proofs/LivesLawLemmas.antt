@@ -1,5 +1,5 @@
 -- The same hearings and moments have the same lives.
-use Rattle.std.proofs.Common.{◌≡◌, ◌∙◌, ℕ, ◌≤◌, List, [], ◌∷◌, Option, Some, refl, sym, ap, subst, inl, inr, arith}
+use Rattle.std.proofs.Common.{◌≡◌, ◌∙◌, ℕ, ◌≤◌, List, [], ◌∷◌, Option, Some, refl, ap, subst, inl, inr, arith}
 use Rattle.std.specs.Prelude.{Contains}
 use Rattle.std.proofs.Math.Nat.{le-max_left, le-max_right, max-le}
 use Rattle.mdns_capture.specs.declared.moment.Moment.{Moment}
@@ -12,8 +12,8 @@ use Rattle.mdns_browse.specs.{declared.about.Subject.{Subject}, declared.report.
 use Rattle.mdns_cache.proofs.StandsPartLemmas.{Contains-cases, Contains-head, Contains-later}
 use Rattle.mdns_survey.specs.declared.request.{AsOf.{AsOf}, AsOf.TheVariants.{Newest, At, Before}}
 use Rattle.mdns_survey.specs.LivesAnswer.{SurveysLives, WritesLives, captures_begin, earliest_nanos, captures_end, kept_rows, latest_nanos}
-use Rattle.mdns_survey.specs.{Filter.{filter_of, selected}, Readings.{all_moments}}
-use Rattle.mdns_survey.proofs.{FactLemmas.{IsByFacts}, SelectedLemmas.{counted-all, same_selected}}
+use Rattle.mdns_survey.specs.Filter.{filter_of}
+use Rattle.mdns_survey.proofs.FactLemmas.{IsByFacts, Within}
 
 -- THE LAWS BELOW
 
@@ -67,10 +67,6 @@ earliest_greatest end (first ∷ moments) least by each =
       each first (Contains-head first moments),
       earliest_greatest end moments least by (λ moment among. each moment (Contains-later first moments moment among)),
     )
-
--- the moments of one list are among those of another
-abbrev pub Within : List Moment → List Moment → Type 0
-Within moments others = (moment : Moment) → Contains moments moment → Contains others moment
 
 module _ (moments others : List Moment) (into : Within moments others) (back : Within others moments) where
   -- the same moments have the same latest one
@@ -134,30 +130,15 @@ one_text one which window form about heard begin end text other first second = g
 pub lives-by-facts : SharedLives → OneLives → (which : Which) (window : Window) (form : Form) (about : List Subject) (as_of : AsOf)
     → IsByFacts (λ captures. SurveysLives which window form about captures as_of)
 lives-by-facts shared one which window form about as_of = record {
-  Writes = λ heard moments.
-      WritesLives which window form about (selected (filter_of as_of) heard) (captures_begin as_of moments) (captures_end as_of moments);
-  to = λ captures summaries text survey. record {
-    packets = survey.packets;
-    outcomes = survey.outcomes;
-    read = survey.read;
-    writes = subst (λ (hs : List Hearing). WritesLives which window form about hs (captures_begin as_of (all_moments survey.packets))
-        (captures_end as_of (all_moments survey.packets)) text) (counted-all (filter_of as_of) survey.outcomes) survey.writes;
-  };
-  from = λ captures summaries text by. record {
-    packets = by.packets;
-    outcomes = by.outcomes;
-    read = by.read;
-    writes = subst (λ (hs : List Hearing). WritesLives which window form about hs (captures_begin as_of (all_moments by.packets))
-        (captures_end as_of (all_moments by.packets)) text) (sym (counted-all (filter_of as_of) by.outcomes)) by.writes;
-  };
-  shared = λ heard others moments more text same writes.
-      shared_lives shared which window form about (selected (filter_of as_of) heard) (selected (filter_of as_of) others)
-      (captures_begin as_of moments) (captures_begin as_of more) (captures_end as_of moments) (captures_end as_of more) text
-      (same_selected (filter_of as_of) heard others
-      record { into = λ hearing among. same.into (inl hearing) among; back = λ hearing among. same.back (inl hearing) among })
-      (same_begin moments more (λ m among. same.into (inr m) among) (λ m among. same.back (inr m) among) as_of)
-      (same_end moments more (λ m among. same.into (inr m) among) (λ m among. same.back (inr m) among) as_of) writes;
+  which = filter_of as_of;
+  Writes = λ heard moments. WritesLives which window form about heard (captures_begin as_of moments) (captures_end as_of moments);
+  to = λ captures summaries text survey.
+      record { packets = survey.packets; outcomes = survey.outcomes; read = survey.read; writes = survey.writes };
+  from = λ captures summaries text by. record { packets = by.packets; outcomes = by.outcomes; read = by.read; writes = by.writes };
+  shared = λ heard others moments more text same into back writes.
+      shared_lives shared which window form about heard others (captures_begin as_of moments) (captures_begin as_of more)
+      (captures_end as_of moments) (captures_end as_of more) text same (same_begin moments more into back as_of)
+      (same_end moments more into back as_of) writes;
   one = λ heard moments text other first second.
-      one_text one which window form about (selected (filter_of as_of) heard) (captures_begin as_of moments) (captures_end as_of moments)
-      text other first second;
+      one_text one which window form about heard (captures_begin as_of moments) (captures_end as_of moments) text other first second;
 }

@@ -1,15 +1,14 @@
 -- What is asked about in vain.
 use Rattle.std.proofs.Common.{◌≡◌, ◌∙◌, ◌↔◌, ◌||◌, Bool, true, false, IsTrue, List, [], ◌∷◌, Option, Some, None, refl, sym, ap}
-use Rattle.std.proofs.Common.{Contains, MatchOption, inl, inr}
-use Rattle.std.proofs.lemmas.{Bool.{false≢true}, Cmp.{eq_by_cmp_equiv}, Map.Keys.{IsDistinct-from_sorted}}
+use Rattle.std.proofs.Common.{Contains, MatchOption}
+use Rattle.std.proofs.lemmas.{Cmp.{eq_by_cmp_equiv}, List.Folds.{Any-from_list_any, list_any-from_Any}, Map.Keys.{IsDistinct-from_sorted}}
 use Rattle.std.proofs.lemmas.Map.Views.{Contains-from_lookup, lookup-from_Contains}
 use Rattle.std.specs.{List.{list_any}, Map.{keys_of}}
 use Rattle.mdns_message.specs.{declared.hearing.Hearing.{Hearing}, declared.key.Key.{Key}, Resource.{key_cmp}}
 use Rattle.mdns_message.specs.laws.Resource.{key_cmp-total}
 use Rattle.mdns_join.specs.declared.latest.Latest.{Latest}
 use Rattle.mdns_cache.specs.{Contents.{Contents, StandsFor, last_at}, Live.{IsLast, IsUnheard, key_of_last}}
-use Rattle.mdns_cache.proofs.{MeaningLemmas.{IsLast-held, key_eq-exact}, StandsPartLemmas.{Contains-cases, Contains-head, Contains-later}}
-use Rattle.mdns_cache.proofs.StandsPartLemmas.{Contains-nil, IsLast-same, same-itself}
+use Rattle.mdns_cache.proofs.{MeaningLemmas.{IsLast-held, key_eq-exact}, StandsPartLemmas.{IsLast-same, same-itself}}
 use Rattle.mdns_lives.specs.{Chronicle.{AreAllLives}, declared.life.Life.{Life}}
 use Rattle.mdns_browse.specs.{About.{keeps_record}, declared.about.Subject.{Subject}}
 use Rattle.mdns_survey.specs.Missed.{IsHeardAbout}
@@ -33,24 +32,10 @@ module _ {X : Type 0} (p : X → Bool) where
 
   -- an element that passes
   pub some-passes : (xs : List X) → list_any p xs ≡ true → (x : X) × Contains xs x × (p x ≡ true)
-  some-passes [] any = absurd (false≢true any)
-  some-passes (x ∷ xs) any = by (p x) (some-passes xs) refl any
-    where
-      by : (b : Bool) → (list_any p xs ≡ true → (y : X) × Contains xs y × (p y ≡ true)) → p x ≡ b → (b || list_any p xs) ≡ true
-          → (y : X) × Contains (x ∷ xs) y × (p y ≡ true)
-      by true rest passes any = (x, Contains-head x xs, passes)
-      by false rest fails any = (let w = rest any in (w.0, Contains-later x xs w.0 w.1, w.2))
-
-  or-true : (b : Bool) → (b || true) ≡ true
-  or-true true = refl
-  or-true false = refl
+  some-passes xs any = let (place, x, within, at, passes) = Any-from_list_any p xs any in (x, (place, within, at), passes)
 
   pub any-passes : (xs : List X) (y : X) → Contains xs y → p y ≡ true → list_any p xs ≡ true
-  any-passes [] y among passes = absurd (Contains-nil y among)
-  any-passes (x ∷ xs) y among passes = elim (Contains-cases x xs y among) [
-    | inl same ↦ ap (λ b. b || list_any p xs) (ap p same ∙ passes)
-    | inr after ↦ ap (λ b. p x || b) (any-passes xs y after passes) ∙ or-true (p x)
-  ]
+  any-passes xs y (place, within, at) passes = list_any-from_Any p xs (place, y, within, at, passes)
 
 -- RECORDS IN A CACHE
 

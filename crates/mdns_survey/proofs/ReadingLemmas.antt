@@ -13,13 +13,12 @@ use Rattle.mdns_survey.proofs.SpanLemmas.{span-more}
 
 -- ONE PACKET MORE
 
-come-more : (packets : List PacketAt) (outcomes : List Outcome) (packet : PacketAt) (outcome : Outcome)
-    → AllCome packets outcomes → ComesTo packet.moment packet.frame outcome → AllCome (packets ++ packet ∷ []) (outcomes ++ outcome ∷ [])
-come-more [] [] packet outcome all comes = (comes, tt)
-come-more [] (other ∷ outcomes) packet outcome all comes = absurd all
-come-more (first ∷ packets) [] packet outcome all comes = absurd all
-come-more (first ∷ packets) (other ∷ outcomes) packet outcome all comes =
-    (all.0, come-more packets outcomes packet outcome all.1 comes)
+pub come-append : (front back : List PacketAt) (first second : List Outcome) → AllCome front first → AllCome back second
+    → AllCome (front ++ back) (first ++ second)
+come-append [] back [] second come after = after
+come-append [] back (outcome ∷ first) second come after = absurd come
+come-append (packet ∷ front) back [] second come after = absurd come
+come-append (packet ∷ front) back (outcome ∷ first) second come after = (come.0, come-append front back first second come.1 after)
 
 stand-more : (format : Format) (at : ℕ) (bytes : List ℕ) (packets : List PacketAt) (left : List ℕ) (packet : PacketAt) (rest : List ℕ)
     → PacketsStand format at bytes packets left → BeginsWith format (offset_after at packets) left packet rest
@@ -98,7 +97,7 @@ read-more Took left old new packet first now next tally new_tally lost new_lost 
     record {
       packets = so_far.packets ++ packet ∷ [];
       outcomes = so_far.outcomes ++ outcome ∷ [];
-      come = come-more so_far.packets so_far.outcomes packet outcome so_far.come takes.comes;
+      come = come-append so_far.packets (packet ∷ []) so_far.outcomes (outcome ∷ []) so_far.come (takes.comes, tt);
       counts = counts;
       counted = omega (
         arith,

@@ -29,7 +29,12 @@ pub counted-all : (which : Filter) (outcomes : List (List Outcome)) → counted 
 counted-all which [] = refl
 counted-all which (capture ∷ outcomes) = grind (arith, filter-append, counted-all which outcomes)
 
--- and so they are what was heard by a filter
+-- and so the same hearings have the same ones that count
+pub same_counted : (which : Filter) (outcomes others : List (List Outcome)) → SameHearings (all_hearings outcomes) (all_hearings others)
+    → SameHearings (counted which outcomes) (counted which others)
+same_counted which outcomes others same = grind (arith, counted-all, same_selected)
+
+-- they are what was heard by a filter
 pub counted-heard : (P : List Hearing → Type 0) (which other : Filter) (outcomes : List (List Outcome)) → which ≡ other
     → P (selected which (all_hearings outcomes)) → P (counted other outcomes)
 counted-heard P which other outcomes same heard =

@@ -10,6 +10,7 @@ use Rattle.mdns_survey.specs.{Laws.{with_both_parts, with_capture}, Listen.{pack
 use Rattle.mdns_survey.proofs.{CountLemmas.{AreFew, tallied, tallied_together}, FactLemmas.{AllTold, Fact, Has, IsByFacts, IsIn, IsTold}}
 use Rattle.mdns_survey.proofs.FactLemmas.{Told, has-cases, has-left, has-right, one-survey, one-told, shared-survey, told-by}
 use Rattle.mdns_survey.proofs.{FewLemmas.{few_come, frames_of_parts}, OutcomeLemmas.{OneReading, OneTelling, SomeOutcome, some_outcomes}}
+use Rattle.mdns_survey.proofs.ReadingLemmas.{come-append}
 
 abbrev pub NotMany : Ending → Type 0
 NotMany ending = (at : ℕ) → ending ≢ Many at
@@ -29,13 +30,6 @@ SecondPart =
     → CaptureReads (part_from (offset_after 24 front) bytes) (moved_to 24 back) (ending_at (offset_after 24 back) ending)
 
 -- PACKETS
-
-come-append : (front back : List PacketAt) (first second : List Outcome) → AllCome front first → AllCome back second
-    → AllCome (front ++ back) (first ++ second)
-come-append [] back [] second come after = after
-come-append [] back (outcome ∷ first) second come after = absurd come
-come-append (packet ∷ front) back [] second come after = absurd come
-come-append (packet ∷ front) back (outcome ∷ first) second come after = (come.0, come-append front back first second come.1 after)
 
 -- packets at other offsets come to the same outcomes
 come-moved : (place : ℕ) (packets : List PacketAt) (outcomes : List Outcome)

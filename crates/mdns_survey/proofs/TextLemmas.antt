@@ -6,8 +6,8 @@ use Rattle.mdns_message.specs.declared.hearing.Hearing.{Hearing}
 use Rattle.mdns_cache.specs.Live.{IsNewest, SameHearings}
 use Rattle.mdns_browse.specs.{declared.about.Subject.{Subject}, declared.report.Ask.{Ask}, declared.report.Form.{Form}, Report.{IsReportIn}}
 use Rattle.mdns_survey.specs.declared.request.{AsOf.{AsOf}, AsOf.TheVariants.{Newest, At, Before}, ReportRequest.{ReportRequest}}
-use Rattle.mdns_survey.specs.{Filter.{filter_of, selected}, Surveys.{IsAsOf, ReportsRequest, SurveysReport}}
-use Rattle.mdns_survey.proofs.{FactLemmas.{IsByFacts}, SelectedLemmas.{counted-all, same_selected}}
+use Rattle.mdns_survey.specs.{Filter.{filter_of}, Surveys.{IsAsOf, ReportsRequest, SurveysReport}}
+use Rattle.mdns_survey.proofs.FactLemmas.{IsByFacts}
 
 -- THE LAWS BELOW
 
@@ -96,26 +96,11 @@ one_text one request hearings text other first second =
 -- a report is written by the hearings that count
 pub report-by-facts : SharedReport → OneReport → (request : ReportRequest) → IsByFacts (λ captures. SurveysReport captures request)
 report-by-facts shared one request = record {
-  Writes = λ heard moments. ReportsRequest request (selected (filter_of request.as_of) heard);
-  to = λ captures summaries text survey. record {
-    packets = survey.packets;
-    outcomes = survey.outcomes;
-    read = survey.read;
-    writes = subst (λ (hs : List Hearing). ReportsRequest request hs text) (counted-all (filter_of request.as_of) survey.outcomes)
-        survey.reports;
-  };
-  from = λ captures summaries text by. record {
-    packets = by.packets;
-    outcomes = by.outcomes;
-    read = by.read;
-    reports = subst (λ (hs : List Hearing). ReportsRequest request hs text)
-        (sym (counted-all (filter_of request.as_of) by.outcomes))
-        by.writes;
-  };
-  shared = λ heard others moments more text same writes.
-      shared_text shared request (selected (filter_of request.as_of) heard) (selected (filter_of request.as_of) others) text
-      (same_selected (filter_of request.as_of) heard others
-      record { into = λ hearing among. same.into (inl hearing) among; back = λ hearing among. same.back (inl hearing) among }) writes;
-  one = λ heard moments text other first second.
-      one_text one request (selected (filter_of request.as_of) heard) text other first second;
+  which = filter_of request.as_of;
+  Writes = λ heard moments. ReportsRequest request heard;
+  to = λ captures summaries text survey.
+      record { packets = survey.packets; outcomes = survey.outcomes; read = survey.read; writes = survey.reports };
+  from = λ captures summaries text by. record { packets = by.packets; outcomes = by.outcomes; read = by.read; reports = by.writes };
+  shared = λ heard others moments more text same into back writes. shared_text shared request heard others text same writes;
+  one = λ heard moments text other first second. one_text one request heard text other first second;
 }

@@ -66,14 +66,6 @@ pub record TakesCapture {C : Type 0} (Took : C → C → List PacketAt → List 
   pub is_reading : IsReadingOf left packets outcomes reading
   pub took : (begun : C) → Took begun old [] [] → Took begun new packets outcomes
 
--- The reading is that of a capture, and all hearings of its packets were taken.
-pub record HearsCapture {H : Type 0} (Stands : H → H → List Hearing → Type 0) (left : Option (List ℕ)) (hearer new_hearer : H)
-    (reading : Reading) : Type 0 where
-  pub packets : List PacketAt
-  pub outcomes : List Outcome
-  pub is_reading : IsReadingOf left packets outcomes reading
-  pub hears : HearsPackets Stands hearer new_hearer packets outcomes
-
 -- The reading is that of a capture, and its packets, with their outcomes, were heard after those of the captures before it.
 pub record ListensTo {L : Type 0} (HeardAll : L → L → List (List PacketAt) → List (List Outcome) → Type 0)
     (left : Option (List ℕ)) (collector new_collector : L) (reading : Reading) : Type 0 where

@@ -3,7 +3,7 @@
 ghost use Rattle.std.specs.Prelude.{◌≡◌, IsTrue, IfOk, IfErr, IfSome, List, None};
 ghost use Rattle.mdns_capture.specs.{Capture.{IsOver}, Savefile.{PacketAt, header_fault}};
 ghost use Rattle.mdns_survey.specs.Outcomes.{Outcome};
-ghost use Rattle.mdns_survey.specs.Listen.{Listens, ListensTo, HearsCapture, TakesCapture, HasListenFault, IsNoReadFault};
+ghost use Rattle.mdns_survey.specs.Listen.{Listens, ListensTo, TakesCapture, HasListenFault, IsNoReadFault};
 
 use crate::hearer::Hearer;
 use crate::reading::{Consumer, Reading, ReadingFault, read_capture};
@@ -47,7 +47,7 @@ pub fn listen<R: Source + Drop>(alloc: Global, reader: R) -> Result<Heard, Liste
     ensures steady { IsTrue (R.steady reader) → IfErr result IsNoReadFault }
 {
     let mut gathering = MessageGathering::new(alloc);
-    let reading = match hear_capture(alloc, reader, &mut gathering) {
+    let reading = match listen_with(alloc, reader, &mut gathering) {
         Ok(reading) => reading,
         // The clauses name this very fault, and `?` would convert it.
         Err(fault) => return Err(fault),
@@ -61,23 +61,6 @@ pub fn listen<R: Source + Drop>(alloc: Global, reader: R) -> Result<Heard, Liste
         tally: reading.summary.tally,
         ending: reading.summary.ending,
     })
-}
-
-// Listens to a capture, and passes its hearings to `hearer`, of which nothing is promised after an error. It stops after
-// 4,294,967,295 packets.
-#[tactic(auto, using(crate::proofs::HeardLemmas::for_hear_capture))]
-fn hear_capture<R: Source + Drop, H: Hearer>(
-    alloc: Global,
-    reader: R,
-    hearer: &mut H,
-) -> Result<Reading, ListenFault>
-    ensures heard { IfOk result (HearsCapture H.Stands (R.remaining reader) hearer.old hearer.new) }
-    ensures fault { IfErr result (λ fault. HasListenFault fault (R.remaining reader)) }
-    ensures sound { IfOk result (λ _. IfSome (R.remaining reader) (λ bytes. header_fault bytes ≡ None)) }
-    ensures over { IfOk result (λ reading. IsOver reading.summary.ending) }
-    ensures steady { IsTrue (R.steady reader) → IfErr result IsNoReadFault }
-{
-    listen_with(alloc, reader, hearer)
 }
 
 /// Listens to a capture, and passes its packets to `consumer`, whose only fault is a failed allocation, and of which nothing
@@ -129,6 +112,6 @@ impl<H: Hearer> Collector for H {
         alloc: Global,
         reader: R,
     ) -> Result<Reading, ListenFault> {
-        hear_capture(alloc, reader, self)
+        listen_with(alloc, reader, self)
     }
 }

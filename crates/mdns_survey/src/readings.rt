@@ -18,48 +18,44 @@ use std::alloc::Global;
 pub fn summaries_of(alloc: Global, readings: &[Reading]) -> Result<Vec<Summary>, Want>
     ensures { IfOk result (λ summaries. summaries.items ≡ summaries_of readings.now) }
 {
-    let mut summaries = Vec::with_capacity(alloc, readings.len())?;
-    for reading in readings {
-        summaries.push(reading.summary)?;
-    }
+    let summaries = readings
+        .iter()
+        .map(|reading| reading.summary)
+        .collect(alloc)?;
     Ok(summaries)
 }
 
 /// Returns how many packets of all captures were lost: frames that lost what they said, and damaged messages.
-#[tactic(auto, using(std::proofs::lemmas::List::take_all, std::proofs::lemmas::List::Sums::sum_by_more, crate::proofs::ListenedLemmas::for_lost_packets))]
+#[tactic(auto, using(crate::proofs::ListenedLemmas::for_lost_packets))]
 pub fn lost_packets(readings: &[Reading]) -> u128
     ensures value { result ≡ lost_in readings.now }
     ensures packets { (packets : List (List PacketAt)) → CountLosses packets readings.now
         → result ≡ sum_by lost_frames packets + sum_by (λ summary. summary.tally.refused) (summaries_of readings.now) }
 {
-    let mut lost = 0;
-    for reading in readings {
-        lost += reading.lost as u128 + reading.summary.tally.refused as u128;
-    }
-    lost
+    readings
+        .iter()
+        .map(|reading| reading.lost as u128 + reading.summary.tally.refused as u128)
+        .sum()
 }
 
 /// Returns how many packets of all captures were skipped for this reason.
-#[tactic(auto, using(std::proofs::lemmas::List::Sums::sum_by_more))]
 pub fn skipped_packets(readings: &[Reading], why: SkipReason) -> u128
     ensures { result ≡ skipped_in why readings.now }
 {
-    let mut skipped = 0;
-    for reading in readings {
-        skipped += reading.skips.count(why) as u128;
-    }
-    skipped
+    readings
+        .iter()
+        .map(|reading| reading.skips.count(why) as u128)
+        .sum()
 }
 
 /// Returns how many messages of all captures are damaged.
 pub fn refused_packets(readings: &[Reading]) -> u128
     ensures { result ≡ refused_in readings.now }
 {
-    let mut refused = 0;
-    for reading in readings {
-        refused += reading.summary.tally.refused as u128;
-    }
-    refused
+    readings
+        .iter()
+        .map(|reading| reading.summary.tally.refused as u128)
+        .sum()
 }
 
 /// Returns the span of the packets of all captures; `None` if there are no packets.
