@@ -1,15 +1,15 @@
 -- Which bytes are the file header of a capture.
 use Rattle.std.proofs.Common.{◌≡◌, ◌∙◌, ◌⊎◌, ◌+◌, ◌-◌, ◌<◌, ◌≤◌, ℕ, true, false, min, List, [], ◌++◌}
 use Rattle.std.proofs.Common.{length, take, drop, Option, Some, None, IfSome, Result, inl, inr, refl, sym, ap, arith}
-use Rattle.std.proofs.Common.{append-nil, drop-drop, length-drop, length-take-le, lt-ltb, take-append-drop, take_all}
+use Rattle.std.proofs.Common.{append-nil, drop-drop, length-append, length-drop, length-take-le, lt-ltb, take-append-drop, take_all}
+use lib.Seq.{take-append_seam}
 use Rattle.std.specs.Io.KnownBytes.{Consumes, IsAtEnd, Keeps, ReadConsumes, prepend_known}
-use Rattle.std.proofs.{KnownBytes.{prepend_known-nil}, lemmas.Bool.{cases_lt}, lemmas.List.{drop_all}}
+use Rattle.std.proofs.{KnownBytes.{Keeps-refl, prepend_known-nil, prepend_known-read}, lemmas.Bool.{cases_lt}, lemmas.List.{drop_all}}
 use Rattle.mdns_capture.specs.declared.savefile.{BeginFault.{BeginFault}, Format.{Format}, Order.TheVariants.{Big}}
 use Rattle.mdns_capture.specs.Savefile.{format_fault, format_of, header_fault, number_at}
 use Rattle.mdns_capture.specs.declared.savefile.BeginFault.TheVariants as fault
 use Rattle.mdns_capture.proofs.HeaderLemmas.{header_fault-append}
 use Rattle.mdns_trace.specs.{declared.flaw.Flaw.{Flaw}, Flaw.{flaw_in, flaw_of, head_of, is_ethernet}, Verdict.{IsNoCapture}}
-use Rattle.mdns_trace.proofs.VerdictLemmas.{head-read}
 
 -- ---- a whole file header
 
@@ -77,7 +77,13 @@ pub header-read : (header left to copied : List ℕ) (at n : ℕ) (known : Optio
     → Consumes (prepend_known (drop at header) known) (prepend_known (drop (at + n) header) known) (take n (copied ++ drop n to))
     × (n ≡ 0 → 0 < length (copied ++ drop n to) → IsAtEnd (prepend_known (drop (at + n) header) known))
 header-read header left to copied at n known whole some least same =
-    let all = drop at header in
-    let rest : take (length all - n) (drop n all) ≡ drop (at + n) header =
-    take_all (length all - n) (drop n all) (omega (arith, length-drop n all)) ∙ drop-drop n at header in
-    grind (arith, head-read, length-drop)
+    let long : length copied ≡ n = ap length same ∙ length-take-le n left (omega (arith, least)) in
+    let front : take n (copied ++ drop n to) ≡ take n left =
+    ap (λ (k : ℕ). take k (copied ++ drop n to)) (sym long) ∙ take-append_seam copied (drop n to) ∙ same in
+    let never : (n ≡ 0) × (0 < length (copied ++ drop n to)) → ⊥ =
+    λ p. omega (arith, least, long, p.0, p.1, length-append copied (drop n to), length-drop n to, ap length whole, length-drop at header) in
+    let parts : drop at header ≡ take n left ++ drop (at + n) header = sym whole ∙ sym (take-append-drop n left)
+    ∙ ap (λ (rest : List ℕ). take n left ++ rest) (ap (drop n) whole ∙ drop-drop n at header) in
+    let read = prepend_known-read (prepend_known (drop at header) known) known (drop at header) (drop (at + n) header) (take n left)
+    ((n ≡ 0) × (0 < length (copied ++ drop n to))) (Keeps-refl _) parts (λ p. absurd (never p)) in
+    (rw front read.0, λ zero room. read.1 (zero, room))

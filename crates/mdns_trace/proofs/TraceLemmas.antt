@@ -2,51 +2,48 @@
 use Rattle.std.proofs.Common.{◌≡◌, ℕ, List, [], ◌∷◌, ◌++◌, Option, Some, None, IfSome, IsTrue, string_bytes, arith}
 use Rattle.std.proofs.{Common.{subst, append_assoc, append-nil}, KnownBytes.{Appends-nil, Appends-trans}}
 use Rattle.std.specs.Io.KnownBytes.{Appends}
-use Rattle.mdns_browse.specs.declared.about.Subject.{Subject}
 use Rattle.mdns_capture.specs.{Capture.{IsOver}, Savefile.{PacketAt}, Stream.{OneMoreFailed}, declared.stream.Sink.{Ghosts as SinkGhosts}}
 use Rattle.mdns_capture.specs.{declared.stream.Source.{Ghosts as SourceGhosts}, Output.{AppendsPrefix}}
 use Rattle.mdns_survey.specs.declared.{listen.ListenFault.TheVariants.{Begin, Read, Memory}, reading.ReadingFault.{ReadingFault}}
 use Rattle.mdns_survey.specs.declared.reading.{ReadingFault.TheVariants.{Listen as OfListen, Consumer as OfConsumer}, Reading.{Reading}}
 use Rattle.mdns_survey.specs.Outcomes.{Outcome, AllCome}
 use Rattle.mdns_survey.specs.Reading.{CaptureBegins, HasReadFault, IsNoCaptureRead, LeavesConsumer, ReadsCapture}
-use Rattle.mdns_lives.specs.declared.window.Window.{Window}
-use Rattle.mdns_trace.specs.declared.{inquiry.Trace.{Trace}, trace.Lines.{Lines}, trace.TraceFault.{TraceFault}}
+use Rattle.mdns_trace.specs.declared.trace.{Lines.{Lines}, TraceFault.{TraceFault}}
 use Rattle.mdns_trace.specs.{declared.trace.TraceFault.TheVariants.{Listen, Write}, TraceFaults.{Stops, WritesLines}}
-use Rattle.mdns_trace.specs.Trace.{AddsLines, AreAllLines, AreLinesIn, LeavesLines, LinesBroke, LinesTook, PrintsPart, TracesCapture}
-use Rattle.mdns_trace.specs.Trace.{TracesFront, trace_fault}
+use Rattle.mdns_trace.specs.Trace.{AddsLines, AreAllLines, AreWanted, LeavesLines, LinesBroke, LinesTook, PrintsPart, TracesCapture}
+use Rattle.mdns_trace.specs.Trace.{TracesFront, Wording, trace_fault}
 use Rattle.std.proofs.lemmas.Bool.{false≢true}
-
--- THE LINE OF A RESPONSE
 
 -- ONE PACKET MORE
 
-lines-more : (trace : Trace) (about : List Subject) (window : Window) (file : List ℕ) (packets : List PacketAt)
-    (outcomes : List Outcome) (text : List ℕ)
-    (packet : PacketAt) (outcome : Outcome) (lines : List ℕ)
-    → AreAllLines trace about window file packets outcomes text → AreLinesIn trace about window file packet outcome lines
-    → AreAllLines trace about window file (packets ++ packet ∷ []) (outcomes ++ outcome ∷ []) (text ++ lines)
-lines-more trace about window file [] [] text packet outcome lines all are = grind (arith, append-nil)
-lines-more trace about window file [] (other ∷ outcomes) text packet outcome lines all are = absurd all
-lines-more trace about window file (first ∷ packets) [] text packet outcome lines all are = absurd all
-lines-more trace about window file (first ∷ packets) (other ∷ outcomes) text packet outcome lines all are =
-    grind (arith, append_assoc, lines-more trace about window file packets outcomes all.1.0 packet outcome lines all.1.3 are)
+lines-more : (AreLines : Wording) (packets : List PacketAt) (outcomes : List Outcome) (text : List ℕ) (packet : PacketAt)
+    (outcome : Outcome) (lines : List ℕ) → AreAllLines AreLines packets outcomes text → AreLines packet outcome lines
+    → AreAllLines AreLines (packets ++ packet ∷ []) (outcomes ++ outcome ∷ []) (text ++ lines)
+lines-more AreLines [] [] text packet outcome lines all are = grind (arith, append-nil)
+lines-more AreLines [] (other ∷ outcomes) text packet outcome lines all are = absurd all
+lines-more AreLines (first ∷ packets) [] text packet outcome lines all are = absurd all
+lines-more AreLines (first ∷ packets) (other ∷ outcomes) text packet outcome lines all are =
+    grind (arith, append_assoc, lines-more AreLines packets outcomes all.1.0 packet outcome lines all.1.3 are)
 
--- of what waited a part was written
-pub part-on : {trace : Trace} {about : List Subject} {window : Window} {file : List ℕ} {packets : List PacketAt} {outcomes : List Outcome}
-    {old now waiting : _} (next : Option (List ℕ)) (piece rest : List ℕ)
-    → PrintsPart trace about window file packets outcomes old now waiting
-    → waiting ≡ piece ++ rest → Appends now next piece → PrintsPart trace about window file packets outcomes old next rest
-part-on {trace} {about} {window} {file} {packets} {outcomes} next piece rest prints parts written =
-    grind (arith, append_assoc, Appends-trans)
+module _ {AreLines : Wording} where
+  -- of what waited a part was written
+  pub part-on : {packets : List PacketAt} {outcomes : List Outcome} {old now waiting : _} (next : Option (List ℕ)) (piece rest : List ℕ)
+      → PrintsPart AreLines packets outcomes old now waiting → waiting ≡ piece ++ rest → Appends now next piece
+      → PrintsPart AreLines packets outcomes old next rest
+  part-on next piece rest prints parts written = grind (arith, append_assoc, Appends-trans)
 
--- a packet's lines were added to those that wait
-pub part-more : {trace : Trace} {about : List Subject} {window : Window} {file : List ℕ} {packets : List PacketAt} {outcomes : List Outcome}
-    {old now waiting : _} (packet : PacketAt) (outcome : Outcome) (more : List ℕ)
-    → PrintsPart trace about window file packets outcomes old now waiting
-    → AddsLines (AreLinesIn trace about window file packet outcome) waiting more
-    → PrintsPart trace about window file (packets ++ packet ∷ []) (outcomes ++ outcome ∷ []) old now more
-part-more {trace} {about} {window} {file} {packets} {outcomes} {old} {now} {waiting} packet outcome more prints adds =
-    grind (arith, append_assoc, lines-more)
+  -- a packet's lines were added to those that wait
+  pub part-more : {packets : List PacketAt} {outcomes : List Outcome} {old now waiting : _} (packet : PacketAt) (outcome : Outcome)
+      (more : List ℕ) → PrintsPart AreLines packets outcomes old now waiting → AddsLines (AreLines packet outcome) waiting more
+      → PrintsPart AreLines (packets ++ packet ∷ []) (outcomes ++ outcome ∷ []) old now more
+  part-more {packets} {outcomes} {waiting = waiting} packet outcome more prints adds =
+      grind (arith, append_assoc, lines-more AreLines packets outcomes (prints.printed ++ waiting) packet outcome adds.0 prints.lines adds.1)
+
+  traces-front : {packets : List PacketAt} {outcomes : List Outcome} {old new : Option (List ℕ)} (left : Option (List ℕ))
+      (rest : List ℕ) → AllCome packets outcomes → IfSome left (λ bytes. CaptureBegins bytes packets)
+      → PrintsPart AreLines packets outcomes old new rest → IfSome left (λ bytes. TracesFront AreLines bytes old new)
+  traces-front None rest come begins prints = tt
+  traces-front (Some bytes) rest come begins prints = grind arith
 
 -- THE ENDS
 
@@ -54,22 +51,12 @@ part-more {trace} {about} {window} {file} {packets} {outcomes} {old} {now} {wait
 nothing-taken : {W : Type 0} (sink : SinkGhosts W) (old : Lines W) → string_bytes old.text ≡ [] → LinesTook sink old old [] []
 nothing-taken sink old empty = grind (arith, Appends-nil)
 
-traces-front : {trace : Trace} {about : List Subject} {window : Window} {file : List ℕ} {packets : List PacketAt} {outcomes : List Outcome}
-    {old new : Option (List ℕ)} (left : Option (List ℕ)) (rest : List ℕ) → AllCome packets outcomes
-    → IfSome left (λ bytes. CaptureBegins bytes packets)
-    → PrintsPart trace about window file packets outcomes old new rest
-    → IfSome left (λ bytes. TracesFront trace about window file bytes old new)
-traces-front None rest come begins prints = tt
-traces-front {trace} {about} {window} {file} {packets} {outcomes} (Some bytes) rest come begins prints = grind arith
-
 pub lines-stop : {R W : Type 0} (source : SourceGhosts R) (sink : SinkGhosts W) (reader : R) (old new : Lines W)
     (fault : ReadingFault TraceFault) → string_bytes old.text ≡ [] → HasReadFault (source.remaining reader) fault
     → (IsTrue (source.steady reader) → IsNoCaptureRead fault)
     → LeavesConsumer (LinesTook sink) (LinesBroke sink) (source.remaining reader) old new fault
     → (new.out.ghost_name ≡ old.out.ghost_name) × Stops source sink
-    (LeavesLines sink old.wanted.trace old.wanted.about.now old.wanted.window old.wanted.file.now (source.remaining reader))
-    reader old.out.now new.out.now
-    (trace_fault fault)
+    (LeavesLines sink (AreWanted old.wanted) (source.remaining reader)) reader old.out.now new.out.now (trace_fault fault)
 lines-stop {R} {W} source sink reader old new (OfListen (Begin fault)) empty has spares leaves = grind arith
 lines-stop source sink reader old new (OfListen Read) empty has spares leaves = grind (arith, nothing-taken sink old empty, traces-front)
 lines-stop source sink reader old new (OfListen Memory) empty has spares leaves = grind (arith, nothing-taken sink old empty, traces-front)
@@ -84,7 +71,7 @@ lines-whole : {W : Type 0} (sink : SinkGhosts W) (left : Option (List ℕ)) (old
     → string_bytes old.text ≡ [] → ReadsCapture (LinesTook sink) left old new reading
     → Appends (sink.written new.out.now) (sink.written next) (string_bytes new.text)
     → IfSome left (λ bytes. (text : List ℕ)
-    × TracesCapture old.wanted.trace old.wanted.about.now old.wanted.window old.wanted.file.now bytes reading.summary text
+    × TracesCapture (AreWanted old.wanted) bytes reading.summary text
     × Appends (sink.written old.out.now) (sink.written next) text)
 lines-whole sink None old new next reading empty read written = tt
 lines-whole sink (Some bytes) old new next reading empty read written =
@@ -105,7 +92,7 @@ pub lines-written : {R W : Type 0} (source : SourceGhosts R) (sink : SinkGhosts 
     → IsOver reading.summary.ending → Appends (sink.written new.out.now) (sink.written next) (string_bytes new.text)
     → sink.failures next ≡ sink.failures new.out.now → (IsTrue (sink.steady new.out.now) → IsTrue (sink.steady next))
     → (new.out.ghost_name ≡ old.out.ghost_name) × WritesLines source sink
-    (TracesCapture old.wanted.trace old.wanted.about.now old.wanted.window old.wanted.file.now) reader old.out.now next reading.summary
+    (TracesCapture (AreWanted old.wanted)) reader old.out.now next reading.summary
 lines-written source sink reader old new next reading empty read over written unfailed stays =
     grind (arith, nothing-taken sink old empty, lines-whole sink (source.remaining reader) old new next reading empty read written)
 
@@ -116,8 +103,7 @@ pub lines-cut : {R W : Type 0} (source : SourceGhosts R) (sink : SinkGhosts W) (
     → AppendsPrefix (sink.written new.out.now) (sink.written next) (string_bytes new.text)
     → OneMoreFailed (sink.failures new.out.now) (sink.failures next) → (IsTrue (sink.steady new.out.now) → ⊥)
     → (new.out.ghost_name ≡ old.out.ghost_name) × Stops source sink
-    (LeavesLines sink old.wanted.trace old.wanted.about.now old.wanted.window old.wanted.file.now (source.remaining reader))
-    reader old.out.now next Write
+    (LeavesLines sink (AreWanted old.wanted) (source.remaining reader)) reader old.out.now next Write
 lines-cut source sink reader old new next reading empty read sound prefix failed unsteady =
     let took = read.took old (nothing-taken sink old empty) in (
       took.same,

@@ -1,38 +1,33 @@
 -- What a file is, from the bytes that were read of it.
-use Rattle.std.proofs.Common.{◌≡◌, ◌≢◌, ℕ, zero, suc, ◌+◌, ◌-◌, ◌<◌, ◌≤◌, min, List, [], ◌∷◌}
-use Rattle.std.proofs.Common.{◌++◌, length, take, drop, Option, Some, None, IfSome, refl, sym, ap, ◌∙◌, arith, append-nil}
-use Rattle.std.proofs.{Common.{length-append, length-drop, take-append-drop, length-take-le}, KnownBytes.{prepend_known-read, Keeps-refl}}
-use Rattle.std.specs.Io.KnownBytes.{Consumes, IsAtEnd, prepend_known}
-use lib.Seq.{take-append-add, take-append_seam}
-use Rattle.mdns_capture.specs.Limits.{file_header_size}
-use Rattle.mdns_trace.specs.Flaw.{head_of}
-use Rattle.std.proofs.lemmas.Bool.{false≢true}
+use Rattle.std.proofs.Common.{◌≡◌, ℕ, zero, suc, ◌+◌, ◌-◌, ◌<◌, ◌≤◌, List, [], ◌++◌, length, take, Option, Some, None, IfSome, IsTrue}
+use Rattle.std.proofs.Common.{refl, ap, arith, append-nil, length-take-le}
+use Rattle.std.specs.Io.KnownBytes.{IsAtEnd, Keeps}
+use lib.Seq.{take-append-add}
+use Rattle.mdns_capture.specs.{Capture.{IsOver}, Limits.{file_header_size}, declared.stream.Source.{Ghosts as SourceGhosts}}
+use Rattle.mdns_trace.specs.declared.{peeked.Begun.{Begun}, span_line.Spanned.{Spanned}, verdict.Verdict.TheVariants.{Capture, Unread}}
+use Rattle.mdns_trace.specs.{Flaw.{head_of}, SpanLine.{IsSpanned}, Usable.{IsUsable, bytes_of}, Verdict.{IsReading, IsVerdict}}
 
--- BYTES THAT WERE READ BEFORE
+-- A WHOLE CAPTURE
 
-take-min : (n : ℕ) (head : List ℕ) → n ≤ length head → take n head ++ take (length head - n) (drop n head) ≡ head
-take-min n head within =
-    grind (arith, length-drop n head, append-nil (drop n head), take-append_seam (drop n head) [], take-append-drop n head)
+reading-kept : (left kept : Option (List ℕ)) (spanned : Spanned) → Keeps left kept → IsSpanned kept spanned → IsReading left spanned.reading
+reading-kept None kept spanned same is = grind arith
+reading-kept (Some bytes) None spanned same is = absurd same
+reading-kept (Some bytes) (Some again) spanned same is = (is.packets, (is.outcomes, rw same at is.is_reading))
 
-some-bytes : (head : List ℕ) → head ≢ [] → 0 < length head
-some-bytes [] some = absurd (some refl)
-some-bytes (byte ∷ head) some = omega arith
+module _ {R : Type 0} (source : SourceGhosts R) where
+  -- a capture that was begun was read to its end
+  pub judged : (reader : Option R) (begun : Begun R) (spanned : Spanned) → IsUsable source reader begun
+      → IsSpanned (bytes_of source begun) spanned → IsOver spanned.reading.summary.ending → IsVerdict source reader (Capture spanned.reading)
+  judged None begun spanned is spans over = absurd is
+  judged (Some reader) begun spanned is spans over = (over, reading-kept _ _ spanned is.bytes spans)
 
--- a read of the bytes before gives their front
-pub head-read : (head to copied : List ℕ) (n : ℕ) (known : Option (List ℕ)) → head ≢ [] → n ≡ min (length head) (length to)
-    → copied ≡ take n head
-    → Consumes (prepend_known head known) (prepend_known (take (length head - n) (drop n head)) known) (take n (copied ++ drop n to))
-    × (n ≡ 0 → 0 < length (copied ++ drop n to) → IsAtEnd (prepend_known (take (length head - n) (drop n head)) known))
-head-read head to copied n known some least same =
-    let within : n ≤ length head = omega (arith, least) in
-    let rest = take (length head - n) (drop n head) in
-    let long : length copied ≡ n = ap length same ∙ length-take-le n head within in
-    let front : take n (copied ++ drop n to) ≡ take n head =
-    ap (λ (k : ℕ). take k (copied ++ drop n to)) (sym long) ∙ take-append_seam copied (drop n to) ∙ same in
-    let never : (n ≡ 0) × (0 < length (copied ++ drop n to)) → ⊥ = grind (arith, some-bytes, length-append, length-drop) in
-    let read = prepend_known-read (prepend_known head known) known head rest (take n head)
-    ((n ≡ 0) × (0 < length (copied ++ drop n to))) (Keeps-refl _) (sym (take-min n head within)) (λ p. absurd (never p)) in
-    (rw front read.0, λ zero room. read.1 (zero, room))
+  -- or a read failed
+  pub unread : (reader : Option R) (begun : Begun R) → IsUsable source reader begun → (IsTrue (source.steady begun.inner) → ⊥)
+      → IsVerdict source reader Unread
+  unread None begun is failed = absurd is
+  unread (Some reader) begun is failed = λ steady. failed (is.stays steady)
+
+-- THE FIRST BYTES
 
 none-left : (n : ℕ) (rest : List ℕ) → (0 < n → rest ≡ []) → take n rest ≡ []
 none-left zero rest ended = refl
@@ -52,4 +47,4 @@ head-known (Some rest) to count room within ended =
 
 -- WHAT FUNCTIONS ARE PROVED BY
 
-pub ruleset for_read = (head-read, false≢true)
+pub ruleset for_judge = (judged, unread)

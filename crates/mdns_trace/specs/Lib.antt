@@ -12,7 +12,6 @@ pub mod TraceJson
 pub mod PacketLine
 pub mod TraceColumns
 pub mod TraceCsv
-pub mod TraceLines
 pub mod SpanLine
 pub mod SpanWritten
 pub mod Trace

@@ -11,6 +11,7 @@ use Rattle.mdns_survey.specs.{Outcomes.{Outcome, skipped, refused, heard, AllCom
 use Rattle.mdns_survey.specs.Why.{IsRefusedFor, IsSkippedFor}
 use Rattle.mdns_survey.specs.declared.reading.ReadingFault.TheVariants as reading
 use Rattle.mdns_trace.specs.declared.{entry.Untold.{Untold}, inquiry.Trace.{Trace}, inquiry.Trace.TheVariants.{Hearings, Packets, Spans}}
+use Rattle.mdns_trace.specs.declared.inquiry.Wanted.{Wanted}
 use Rattle.mdns_trace.specs.declared.trace.{Lines.{Lines}, TraceFault.{TraceFault}, TraceFault.TheVariants.{Listen, Write}}
 use Rattle.mdns_lives.specs.{declared.window.Window.{Window}, Window.{in_window}}
 use Rattle.mdns_trace.specs.{Entry.{hearing_entry, packet_entry}, EntryText.{entry_text}}
@@ -60,49 +61,50 @@ abbrev pub AreLinesIn : Trace → List Subject → Window → List ℕ → Packe
 AreLinesIn trace about window file packet outcome text =
     If (in_window window packet.moment) (AreLinesOf trace about file packet outcome text) (text ≡ [])
 
+-- which text is the lines of a packet that comes to an outcome
+abbrev pub Wording : Type 1
+Wording = PacketAt → Outcome → List ℕ → Type 0
+
 -- the text is the lines of packets that come to these outcomes, packet after packet
-abbrev pub AreAllLines : Trace → List Subject → Window → List ℕ → List PacketAt → List Outcome → List ℕ → Type 0
-AreAllLines trace about window file [] [] text = text ≡ []
-AreAllLines trace about window file [] (outcome ∷ outcomes) text = ⊥
-AreAllLines trace about window file (packet ∷ packets) [] text = ⊥
-AreAllLines trace about window file (packet ∷ packets) (outcome ∷ outcomes) text =
-    (lines : List ℕ) × ((rest : List ℕ) × (text ≡ lines ++ rest)
-    × AreLinesIn trace about window file packet outcome lines × AreAllLines trace about window file packets outcomes rest)
+abbrev pub AreAllLines : Wording → List PacketAt → List Outcome → List ℕ → Type 0
+AreAllLines AreLines [] [] text = text ≡ []
+AreAllLines AreLines [] (outcome ∷ outcomes) text = ⊥
+AreAllLines AreLines (packet ∷ packets) [] text = ⊥
+AreAllLines AreLines (packet ∷ packets) (outcome ∷ outcomes) text =
+    (lines : List ℕ) × ((rest : List ℕ) × (text ≡ lines ++ rest) × AreLines packet outcome lines × AreAllLines AreLines packets outcomes rest)
 
 -- The bytes are a capture with the summary's ending, its tally counts what the packets come to, and the text is the
 -- lines of all of them.
-pub record TracesCapture (trace : Trace) (about : List Subject) (window : Window) (file bytes : List ℕ) (summary : Summary)
-    (text : List ℕ) : Type 0 where
+pub record TracesCapture (AreLines : Wording) (bytes : List ℕ) (summary : Summary) (text : List ℕ) : Type 0 where
   pub outcomes : List Outcome
   pub tells : CaptureTells bytes outcomes summary.ending
   pub counts : Counts outcomes summary.tally
-  pub lines : AreAllLines trace about window file tells.packets outcomes text
+  pub lines : AreAllLines AreLines tells.packets outcomes text
 
 -- WHAT WENT OUT BEFORE A FAULT
 
 -- Of the lines of these packets a prefix was written, and the rest wasn't.
-pub record PrintsPart (trace : Trace) (about : List Subject) (window : Window) (file : List ℕ) (packets : List PacketAt)
-    (outcomes : List Outcome) (old new : Option (List ℕ)) (rest : List ℕ) : Type 0 where
+pub record PrintsPart (AreLines : Wording) (packets : List PacketAt) (outcomes : List Outcome) (old new : Option (List ℕ))
+    (rest : List ℕ) : Type 0 where
   pub printed : List ℕ
-  pub lines : AreAllLines trace about window file packets outcomes (printed ++ rest)
+  pub lines : AreAllLines AreLines packets outcomes (printed ++ rest)
   pub written : Appends old new printed
 
 -- The bytes begin as a capture, and of the lines of its first packets a prefix went out, which may be the whole.
-pub record TracesFront (trace : Trace) (about : List Subject) (window : Window) (file bytes : List ℕ)
-    (old new : Option (List ℕ)) : Type 0 where
+pub record TracesFront (AreLines : Wording) (bytes : List ℕ) (old new : Option (List ℕ)) : Type 0 where
   pub packets : List PacketAt
   pub outcomes : List Outcome
   pub begins : CaptureBegins bytes packets
   pub come : AllCome packets outcomes
   pub rest : List ℕ
-  pub prints : PrintsPart trace about window file packets outcomes old new rest
+  pub prints : PrintsPart AreLines packets outcomes old new rest
 
 -- what went out before a fault: nothing before the file header was read, and after it a prefix of the lines of the
 -- packets that were read
-abbrev pub LeavesLines : {W : Type 0} → Ghosts W → Trace → List Subject → Window → List ℕ → Option (List ℕ) → W → W → TraceFault → Type 0
-LeavesLines sink trace about window file left old new (Listen (Begin fault)) = new ≡ old
-LeavesLines sink trace about window file left old new fault =
-    IfSome left (λ bytes. TracesFront trace about window file bytes (sink.written old) (sink.written new))
+abbrev pub LeavesLines : {W : Type 0} → Ghosts W → Wording → Option (List ℕ) → W → W → TraceFault → Type 0
+LeavesLines sink AreLines left old new (Listen (Begin fault)) = new ≡ old
+LeavesLines sink AreLines left old new fault =
+    IfSome left (λ bytes. TracesFront AreLines bytes (sink.written old) (sink.written new))
 
 -- WHILE A CAPTURE IS READ
 
@@ -110,13 +112,17 @@ LeavesLines sink trace about window file left old new fault =
 abbrev pub AddsLines : (List ℕ → Type 0) → List ℕ → List ℕ → Type 0
 AddsLines AreLines old new = (lines : List ℕ) × AreLines lines × (new ≡ old ++ lines)
 
+-- the lines of a packet that are wanted
+abbrev pub AreWanted : Wanted → Wording
+AreWanted wanted = AreLinesIn wanted.trace wanted.about.now wanted.window wanted.file.now
+
 -- A consumer took these packets: of their lines some went out, no write failed, and the others wait.
 pub record LinesTook {W : Type 0} (sink : Ghosts W) (begun now : Lines W) (packets : List PacketAt) (outcomes : List Outcome)
     : Type 0 where
   pub wanted : now.wanted ≡ begun.wanted
   pub same : now.out.ghost_name ≡ begun.out.ghost_name
-  pub prints : PrintsPart begun.wanted.trace begun.wanted.about.now begun.wanted.window begun.wanted.file.now packets outcomes
-      (sink.written begun.out.now) (sink.written now.out.now) (string_bytes now.text)
+  pub prints : PrintsPart (AreWanted begun.wanted) packets outcomes (sink.written begun.out.now) (sink.written now.out.now)
+      (string_bytes now.text)
   pub unfailed : sink.failures now.out.now ≡ sink.failures begun.out.now
   pub stays : IsTrue (sink.steady begun.out.now) → IsTrue (sink.steady now.out.now)
 
@@ -131,8 +137,7 @@ pub record LinesBroke {W : Type 0} (sink : Ghosts W) (begun now : Lines W) (pack
     (fault : TraceFault) : Type 0 where
   pub same : now.out.ghost_name ≡ begun.out.ghost_name
   pub rest : List ℕ
-  pub prints : PrintsPart begun.wanted.trace begun.wanted.about.now begun.wanted.window begun.wanted.file.now packets outcomes
-      (sink.written begun.out.now) (sink.written now.out.now) rest
+  pub prints : PrintsPart (AreWanted begun.wanted) packets outcomes (sink.written begun.out.now) (sink.written now.out.now) rest
   pub fails : FailsLines sink begun.out.now now.out.now fault
 
 -- the fault of a trace for that of its reading

@@ -8,8 +8,7 @@ use Rattle.mdns_capture.specs.Savefile.{PacketAt}
 use Rattle.mdns_message.specs.{declared.hearing.Hearing.{Hearing}, Resource.{type_name, type_of}}
 use Rattle.mdns_survey.specs.declared.reading.Span.{Span}
 use Rattle.mdns_trace.specs.declared.{entry.Untold.{Untold}, span_line.Spanned.{Spanned}}
-use Rattle.mdns_trace.specs.{Entry.{Entry, hearing_entry, packet_entry, span_entry, file_entry}, HearingLine.{flush_text}}
-use Rattle.mdns_trace.specs.{PacketLine.{untold_text}, Verdict.{verdict_text}}
+use Rattle.mdns_trace.specs.{HearingLine.{flush_text}, PacketLine.{untold_text}}
 
 -- HEARINGS
 
@@ -52,12 +51,3 @@ unfoldable pub span_row : List ℕ → Spanned → List ℕ
 span_row file spanned =
     file ++ codes "  packets " ++ bounds_shown spanned.reading.span ++ codes "  hearings " ++ bounds_shown spanned.hearings
     ++ codes "  snap " ++ decimal spanned.reading.snap_length ++ 10 ∷ []
-
--- ENTRIES
-
--- what a file is stands in lines of words
-abbrev pub entry_columns : List ℕ → Entry → List ℕ
-entry_columns file (hearing_entry source hearing) = hearing_row file source hearing
-entry_columns file (packet_entry packet untold) = packet_row file packet untold
-entry_columns file (span_entry spanned) = span_row file spanned
-entry_columns file (file_entry verdict) = verdict_text file verdict

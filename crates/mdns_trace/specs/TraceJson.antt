@@ -5,8 +5,7 @@ use Rattle.mdns_capture.specs.{declared.source_address.SourceAddress.{SourceAddr
 use Rattle.mdns_message.specs.declared.hearing.Hearing.{Hearing}
 use Rattle.mdns_survey.specs.{declared.reading.Span.{Span}, Reasons.{row_of}}
 use Rattle.mdns_trace.specs.declared.{entry.Untold.{Untold}, span_line.Spanned.{Spanned}}
-use Rattle.mdns_trace.specs.{Entry.{Entry, hearing_entry, packet_entry, span_entry, file_entry}, HearingLine.{address_text}}
-use Rattle.mdns_trace.specs.{MomentMember.{moment_member}, PacketLine.{fault_at, fault_text}, VerdictJson.{verdict_json}}
+use Rattle.mdns_trace.specs.{HearingLine.{address_text}, MomentMember.{moment_member}, PacketLine.{fault_at, fault_text}}
 use Rattle.mdns_trace.specs.declared.entry.Untold.TheVariants as untold
 
 -- HEARINGS
@@ -63,11 +62,3 @@ span_members spanned =
 -- the line of a time span
 unfoldable pub span_json : List ℕ → Spanned → List ℕ
 span_json file spanned = json_object (json_member (codes "file") (json_string file) ∷ span_members spanned) ++ 10 ∷ []
-
--- ENTRIES
-
-abbrev pub entry_json : List ℕ → Entry → List ℕ
-entry_json file (hearing_entry source hearing) = hearing_json file source hearing
-entry_json file (packet_entry packet untold) = packet_json file packet untold
-entry_json file (span_entry spanned) = span_json file spanned
-entry_json file (file_entry verdict) = verdict_json file verdict

@@ -1,11 +1,10 @@
 -- The verdict on a file: what it is, and the lines of words that say so.
 use Rattle.std.specs.Prelude.{◌≡◌, ℕ, ◌==◌, ◌&&◌, Bool, IsTrue, not, if◌then◌else◌, List, [], ◌∷◌, ◌++◌}
 use Rattle.std.specs.{Prelude.{Option, Some, None, IfSome, codes, decimal}, List.{flat_map}}
-use Rattle.mdns_capture.specs.declared.savefile.{BeginFault.{BeginFault}, BeginFault.TheVariants.{Memory as BeginMemory, Read as BeginRead}}
+use Rattle.mdns_capture.specs.declared.savefile.BeginFault.{BeginFault}
 use Rattle.mdns_capture.specs.{declared.savefile.Ending.{Ending}, declared.stream.Source.{Ghosts as SourceGhosts}, Capture.{IsOver}}
 use Rattle.mdns_capture.specs.{Savefile.{PacketAt, header_fault}, Text.{ending_text}}
 use Rattle.people_text.specs.MomentText.{exact_text}
-use Rattle.mdns_survey.specs.declared.listen.{ListenFault.{ListenFault}, ListenFault.TheVariants.{Begin, Read, Memory}}
 use Rattle.mdns_survey.specs.declared.{reading.Reading.{Reading}, reading.Span.{Span}, summary.Tally.{Tally}}
 use Rattle.mdns_survey.specs.{Outcomes.{Outcome}, ProgramLines.{is_whole}, Listen.{IsReadingOf}}
 use Rattle.mdns_trace.specs.declared.verdict.{Verdict.{Verdict}, Verdict.TheVariants.{Capture, Other, Unread, Unopened}}
@@ -33,14 +32,6 @@ IsVerdictOf left steady Unopened = ⊥
 abbrev pub IsVerdict : {R : Type 0} → SourceGhosts R → Option R → Verdict → Type 0
 IsVerdict source None verdict = verdict ≡ Unopened
 IsVerdict source (Some reader) verdict = IsVerdictOf (source.remaining reader) (source.steady reader) verdict
-
--- what a file with this head is, by the fault of its reading; an allocation that failed says nothing of it
-abbrev pub verdict_for : ListenFault → List ℕ → Option Verdict
-verdict_for (Begin BeginMemory) head = None
-verdict_for (Begin BeginRead) head = Some Unread
-verdict_for (Begin fault) head = Some (Other (flaw_of head))
-verdict_for Read head = Some Unread
-verdict_for Memory head = None
 
 -- THE LINES
 

@@ -5,11 +5,15 @@ ghost use Rattle.mdns_message.specs.TextData.{string_text};
 ghost use Rattle.mdns_trace.specs.{Entry.{entry_lent}, EntryText.{entry_text}};
 
 use crate::entry::Entry;
+use crate::hearing_line::push_hearing_line;
+use crate::packet_line::push_packet_line;
+use crate::span_line::push_span_line;
 use crate::trace::word_of;
-use crate::trace_columns::push_entry_columns;
-use crate::trace_csv::push_entry_csv;
-use crate::trace_json::push_entry_json;
-use crate::trace_lines::push_entry_lines;
+use crate::trace_columns::{push_hearing_row, push_packet_row, push_span_row};
+use crate::trace_csv::push_hearing_csv;
+use crate::trace_json::{push_hearing_json, push_packet_json, push_span_json};
+use crate::verdict::push_verdict;
+use crate::verdict_json::push_verdict_json;
 use mdns_browse::report::Form;
 use mdns_message::Want;
 use std::alloc::Global;
@@ -25,11 +29,35 @@ pub(crate) fn push_entry(
     ensures { OnOk result (string_bytes to.new
         ≡ string_bytes to.old ++ entry_text form file.now (entry_lent entry.now)) }
 {
-    match form {
-        Form::Lines => push_entry_lines(to, file, entry),
-        Form::Pretty => push_entry_columns(alloc, to, file, entry),
-        Form::Json => push_entry_json(alloc, to, file, entry),
-        Form::Csv => push_entry_csv(alloc, to, file, entry),
+    match (form, *entry) {
+        (Form::Lines, Entry::Hearing { source, hearing }) => push_hearing_line(
+            to, file, source, hearing,
+        ),
+        (Form::Pretty, Entry::Hearing { source, hearing }) => push_hearing_row(
+            alloc, to, file, source, hearing,
+        ),
+        (Form::Json, Entry::Hearing { source, hearing }) => push_hearing_json(
+            alloc, to, file, source, hearing,
+        ),
+        (Form::Csv, Entry::Hearing { source, hearing }) => push_hearing_csv(
+            alloc, to, file, source, hearing,
+        ),
+        (Form::Pretty, Entry::Packet { packet, untold }) => push_packet_row(
+            to, file, packet, untold,
+        ),
+        (Form::Json, Entry::Packet { packet, untold }) => push_packet_json(
+            alloc, to, file, packet, untold,
+        ),
+        (Form::Lines | Form::Csv, Entry::Packet { packet, untold }) => push_packet_line(
+            to, file, packet, untold,
+        ),
+        (Form::Pretty, Entry::Span(spanned)) => push_span_row(to, file, spanned),
+        (Form::Json, Entry::Span(spanned)) => push_span_json(alloc, to, file, spanned),
+        (Form::Lines | Form::Csv, Entry::Span(spanned)) => push_span_line(to, file, spanned),
+        (Form::Json, Entry::File(verdict)) => push_verdict_json(alloc, to, file, verdict),
+        (Form::Lines | Form::Pretty | Form::Csv, Entry::File(verdict)) => push_verdict(
+            to, file, verdict,
+        ),
     }
 }
 

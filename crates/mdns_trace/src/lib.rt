@@ -19,7 +19,6 @@ pub mod trace_answer;
 mod trace_columns;
 mod trace_csv;
 mod trace_json;
-mod trace_lines;
 pub mod usable;
 mod verdict;
 mod verdict_json;

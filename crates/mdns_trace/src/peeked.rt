@@ -1,40 +1,14 @@
-//! Readers of which the first bytes were read before.
+//! Readers of captures whose file headers were read before.
 
 ghost use Rattle.std.specs.Prelude.{◌≡◌, ◌<◌, is_ok, IfErr, IfOk, false, length, take};
-ghost use Rattle.std.specs.{Io.{ReadsAtMost}, Io.KnownBytes.{Consumes, IsAtEnd, prepend_known}};
+ghost use Rattle.std.specs.{Io.{ReadsAtMost}, Io.KnownBytes.{Consumes, IsAtEnd}};
 ghost use Rattle.mdns_capture.specs.Calls.{ReadsWell};
-ghost use Rattle.mdns_trace.specs.{Usable.{IsBegun}, Verdict.{IsVerdictOf}, Verdicts.{is_usable}};
+ghost use Rattle.mdns_trace.specs.{Usable.{IsUsable}, Verdict.{IsVerdict}, Verdicts.{is_usable}};
 
 use crate::flaw::flaw_by;
 use crate::verdict::Verdict;
 use mdns_capture::savefile::FILE_HEADER;
 use mdns_capture::{Broken, Source};
-
-/// A reader that gives the bytes of `head`, and then those of `inner`.
-#[derive(Drop)]
-pub(crate) struct Peeked<'a, R> {
-    pub head: &'a [u8],
-    pub inner: R,
-}
-
-impl<R: Source> Source for Peeked<'_, R> {
-    ghost remaining = { λ peeked. prepend_known peeked.head.now (R.remaining peeked.inner) };
-
-    ghost steady = { λ peeked. R.steady peeked.inner };
-
-    ghost failures = { λ peeked. R.failures peeked.inner };
-
-    #[tactic(auto, using(crate::proofs::VerdictLemmas::for_read))]
-    fn read(&mut self, to: &mut [u8]) -> Result<usize, Broken> {
-        if self.head.is_empty() {
-            return self.inner.read(to);
-        }
-        let count = self.head.len().min(to.len());
-        to[..count].copy_from_slice(&self.head[..count]);
-        self.head = &self.head[count..];
-        Ok(count)
-    }
-}
 
 /// A capture whose file header was read before: a reader that gives the bytes of `header` from the index `at` on, and then
 /// those of `inner`.
@@ -67,13 +41,16 @@ impl<R: Source> Source for Begun<R> {
     }
 }
 
-/// Reads the file header of a capture, and returns a reader of the whole capture. `Err` is what the file is where it is no
-/// capture, or where the read failed.
-pub(crate) fn begin<R: Source + Drop>(mut reader: R) -> Result<Begun<R>, Verdict>
-    ensures begun { IfOk result (IsBegun R.Source reader) }
-    ensures verdict { IfErr result (IsVerdictOf (R.remaining reader) (R.steady reader)) }
+/// Reads the file header of a capture, and returns a reader of the whole capture. `Err` is what the file is where there is no reader,
+/// since it can't be opened, where it is no capture, or where the read failed.
+pub(crate) fn begin<R: Source + Drop>(reader: Option<R>) -> Result<Begun<R>, Verdict>
+    ensures begun { IfOk result (IsUsable R.Source reader) }
+    ensures verdict { IfErr result (IsVerdict R.Source reader) }
     ensures kind { IfErr result (λ verdict. is_usable verdict ≡ false) }
 {
+    let Some(mut reader) = reader else {
+        return Err(Verdict::Unopened);
+    };
     let mut header = [0; FILE_HEADER];
     match read_head(&mut reader, &mut header) {
         Ok(count) => match flaw_by(&header[..count]) {

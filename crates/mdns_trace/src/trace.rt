@@ -7,7 +7,7 @@ ghost use Rattle.mdns_capture.specs.{Calls.{WritesWell}, Capture.{packet_lent}, 
 ghost use Rattle.mdns_message.specs.TextData.{string_text};
 ghost use Rattle.mdns_survey.specs.{Listen.{outcome_of}, Why.{SaysWhy}};
 ghost use Rattle.mdns_trace.specs.{TraceFaults.{Stops, WritesLines}, Inquiry.{StopsTrace, WritesTrace}, Trace.{AddsLines, AreHearingLines}};
-ghost use Rattle.mdns_trace.specs.Trace.{AreLinesIn, IsPacketLine, LeavesLines, TracesCapture, hearing_text, packet_text, trace_fault};
+ghost use Rattle.mdns_trace.specs.Trace.{AreLinesIn, AreWanted, IsPacketLine, LeavesLines, TracesCapture, hearing_text, trace_fault};
 
 use crate::entry::{Entry, Untold};
 use crate::entry_text::push_entry;
@@ -79,9 +79,10 @@ fn write_lines<R: Source + Drop, W: Sink>(
     out: &mut W,
 ) -> Result<Summary, TraceFault>
     ensures written { IfOk result (WritesLines R.Source W.Sink
-        (TracesCapture tracer.entry.trace tracer.entry.about.now tracer.entry.window (string_text name.now)) reader out.old out.new) }
-    ensures stops { IfErr result (Stops R.Source W.Sink
-        (LeavesLines W.Sink tracer.entry.trace tracer.entry.about.now tracer.entry.window (string_text name.now) (R.remaining reader))
+        (TracesCapture (AreLinesIn tracer.entry.trace tracer.entry.about.now tracer.entry.window (string_text name.now)))
+        reader out.old out.new) }
+    ensures stops { IfErr result (Stops R.Source W.Sink (LeavesLines W.Sink
+        (AreLinesIn tracer.entry.trace tracer.entry.about.now tracer.entry.window (string_text name.now)) (R.remaining reader))
         reader out.old out.new) }
 {
     let file = match word_of(alloc, name) {
@@ -118,11 +119,9 @@ fn print_lines<R: Source + Drop, W: Sink>(
     requires empty { string_bytes lines.old.text ≡ [] }
     ensures same { lines.new.out.ghost_name ≡ lines.old.out.ghost_name }
     ensures written { IfOk result (WritesLines R.Source W.Sink
-        (TracesCapture lines.old.wanted.trace lines.old.wanted.about.now lines.old.wanted.window lines.old.wanted.file.now) reader
-        lines.old.out.now lines.new.out.now) }
+        (TracesCapture (AreWanted lines.old.wanted)) reader lines.old.out.now lines.new.out.now) }
     ensures stops { IfErr result (Stops R.Source W.Sink
-        (LeavesLines W.Sink lines.old.wanted.trace lines.old.wanted.about.now lines.old.wanted.window lines.old.wanted.file.now
-        (R.remaining reader)) reader lines.old.out.now lines.new.out.now) }
+        (LeavesLines W.Sink (AreWanted lines.old.wanted) (R.remaining reader)) reader lines.old.out.now lines.new.out.now) }
 {
     let summary = match read_capture(alloc, reader, lines) {
         Ok(reading) => reading.summary,
@@ -196,8 +195,8 @@ fn push_packet(
     text: &mut String,
 ) -> Result<(), Want>
     requires { SaysWhy packet.now.frame.now found.now }
-    ensures { OnOk result (AddsLines (AreLinesIn wanted.entry.trace wanted.entry.about.now wanted.entry.window wanted.entry.file.now
-        (packet_lent packet.now) (outcome_of found.now)) (string_bytes text.old) (string_bytes text.new)) }
+    ensures { OnOk result (AddsLines (AreWanted wanted.entry (packet_lent packet.now) (outcome_of found.now))
+        (string_bytes text.old) (string_bytes text.new)) }
 {
     if !wanted.window.holds(packet.moment) {
         return Ok(());
@@ -268,42 +267,12 @@ fn push_why(
     ensures { OnOk result (AddsLines (IsPacketLine form wanted.entry.file.now (packet_lent packet.now) (outcome_of found.now))
         (string_bytes text.old) (string_bytes text.new)) }
 {
-    match found {
-        PacketOutcome::Skipped(why) => push_untold_packet(
-            wanted,
-            form,
-            packet,
-            Untold::Skipped(*why),
-            text,
-        ),
-        PacketOutcome::Refused(fault) => push_untold_packet(
-            wanted,
-            form,
-            packet,
-            Untold::Refused(*fault),
-            text,
-        ),
-        PacketOutcome::Heard { message, .. } => {
-            if message.is_empty() {
-                push_untold_packet(wanted, form, packet, Untold::Unlisted, text)
-            } else {
-                Ok(())
-            }
-        }
-    }
-}
-
-// Appends the line of a packet that told nothing.
-fn push_untold_packet(
-    wanted: Wanted<'_>,
-    form: Form,
-    packet: &Packet<'_>,
-    untold: Untold,
-    text: &mut String,
-) -> Result<(), Want>
-    ensures { OnOk result (string_bytes text.new
-        ≡ string_bytes text.old ++ packet_text form wanted.entry.file.now (packet_lent packet.now) untold) }
-{
+    let untold = match found {
+        PacketOutcome::Skipped(why) => Untold::Skipped(*why),
+        PacketOutcome::Refused(fault) => Untold::Refused(*fault),
+        PacketOutcome::Heard { message, .. } if message.is_empty() => Untold::Unlisted,
+        PacketOutcome::Heard { .. } => return Ok(()),
+    };
     let entry = Entry::Packet { packet, untold };
     push_entry(wanted.alloc, form, text, wanted.file, &entry)
 }

@@ -4,13 +4,11 @@ ghost use Rattle.std.specs.Prelude.{◌≡◌, ◌++◌, ◌==◌, ◌∷◌, []
 ghost use Rattle.mdns_browse.specs.{Columns.{padded}, RecordShown.{shown_record}};
 ghost use Rattle.mdns_capture.specs.Capture.{packet_lent};
 ghost use Rattle.mdns_message.specs.{Borrowed.{hearing_lent, resource_lent}, Resource.{type_name, type_of}};
-ghost use Rattle.mdns_trace.specs.Entry.{entry_lent};
-ghost use Rattle.mdns_trace.specs.TraceColumns.{bounds_shown, entry_columns, hearing_row, packet_row, said_text, source_shown, span_row};
+ghost use Rattle.mdns_trace.specs.TraceColumns.{bounds_shown, hearing_row, packet_row, said_text, source_shown, span_row};
 
-use crate::entry::{Entry, Untold};
+use crate::entry::Untold;
 use crate::packet_line::push_untold;
 use crate::span_line::Spanned;
-use crate::verdict::push_verdict;
 use mdns_browse::format::push_ipv4;
 use mdns_browse::{push_padded, push_shown_record};
 use mdns_capture::{Packet, SourceAddress};
@@ -20,25 +18,9 @@ use people_text::address::push_ipv6_short;
 use people_text::moment_text::push_millis;
 use std::alloc::Global;
 
-/// Appends the line of an entry of `file`, whose name is written as it is; what a file is stands in lines of words.
-pub(crate) fn push_entry_columns(
-    alloc: Global,
-    to: &mut String,
-    file: &str,
-    entry: &Entry<'_>,
-) -> Result<(), Want>
-    ensures { OnOk result (string_bytes to.new ≡ string_bytes to.old ++ entry_columns file.now (entry_lent entry.now)) }
-{
-    match *entry {
-        Entry::Hearing { source, hearing } => push_hearing_row(alloc, to, file, source, hearing),
-        Entry::Packet { packet, untold } => push_packet_row(to, file, packet, untold),
-        Entry::Span(spanned) => push_span_row(to, file, spanned),
-        Entry::File(verdict) => push_verdict(to, file, verdict),
-    }
-}
-
+/// Appends the line of a hearing in `file`, whose name is written as it is.
 #[tactic(auto, unfolding(crate::specs::TraceColumns::hearing_row))]
-fn push_hearing_row(
+pub(crate) fn push_hearing_row(
     alloc: Global,
     to: &mut String,
     file: &str,
@@ -121,8 +103,9 @@ fn push_file_and_record(
     Ok(())
 }
 
+/// Appends the line of a packet that told nothing in `file`, whose name is written as it is.
 #[tactic(auto, unfolding(crate::specs::TraceColumns::packet_row))]
-fn push_packet_row(
+pub(crate) fn push_packet_row(
     to: &mut String,
     file: &str,
     packet: &Packet<'_>,
@@ -138,8 +121,9 @@ fn push_packet_row(
     Ok(())
 }
 
+/// Appends the line of a time span of `file`, whose name is written as it is.
 #[tactic(auto, unfolding(crate::specs::TraceColumns::span_row))]
-fn push_span_row(to: &mut String, file: &str, spanned: &Spanned) -> Result<(), Want>
+pub(crate) fn push_span_row(to: &mut String, file: &str, spanned: &Spanned) -> Result<(), Want>
     ensures { OnOk result (string_bytes to.new ≡ string_bytes to.old ++ span_row file.now spanned.now) }
 {
     write!(to, "{file}  packets ")?;

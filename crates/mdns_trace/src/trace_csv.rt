@@ -4,12 +4,10 @@ ghost use Rattle.std.specs.Prelude.{◌≡◌, ◌++◌, OnOk, string_bytes};
 ghost use Rattle.mdns_browse.specs.{Csv.{joined}, RecordShown.{shown_words}};
 ghost use Rattle.mdns_message.specs.Borrowed.{hearing_lent};
 ghost use Rattle.people_text.specs.Shown.{name_shown};
-ghost use Rattle.mdns_trace.specs.{Entry.{entry_lent}, TraceColumns.{source_shown}, TraceCsv.{entry_csv, hearing_csv, trace_header}};
+ghost use Rattle.mdns_trace.specs.{TraceColumns.{source_shown}, TraceCsv.{hearing_csv, trace_header}};
 
-use crate::entry::Entry;
 use crate::inquiry::Trace;
 use crate::trace_columns::push_source;
-use crate::trace_lines::push_entry_lines;
 use mdns_browse::ResourceTexts;
 use mdns_browse::csv::{Field, push_csv_line};
 use mdns_browse::report::Form;
@@ -27,24 +25,8 @@ pub(crate) fn header_of(trace: Trace) -> &'static str
     }
 }
 
-/// Appends the line of a hearing in `file`, whose name is written as it is; what another entry says is in lines of words.
-pub(crate) fn push_entry_csv(
-    alloc: Global,
-    to: &mut String,
-    file: &str,
-    entry: &Entry<'_>,
-) -> Result<(), Want>
-    ensures { OnOk result (string_bytes to.new ≡ string_bytes to.old ++ entry_csv file.now (entry_lent entry.now)) }
-{
-    match *entry {
-        Entry::Hearing { source, hearing } => push_hearing_csv(alloc, to, file, source, hearing),
-        Entry::Packet { .. } | Entry::Span(_) | Entry::File(_) => {
-            push_entry_lines(to, file, entry)
-        }
-    }
-}
-
-fn push_hearing_csv(
+/// Appends the line of a hearing in `file`, whose name is written as it is.
+pub(crate) fn push_hearing_csv(
     alloc: Global,
     to: &mut String,
     file: &str,

@@ -4,15 +4,14 @@ ghost use Rattle.std.specs.Prelude.{◌≡◌, ◌++◌, OnOk, codes, false, str
 ghost use Rattle.mdns_browse.specs.Json.{comma_unless, json_bool, json_member, json_string, parted};
 ghost use Rattle.mdns_capture.specs.Capture.{packet_lent};
 ghost use Rattle.mdns_message.specs.Borrowed.{hearing_lent};
-ghost use Rattle.mdns_trace.specs.{HearingLine.{address_text}, Entry.{entry_lent}, TraceJson.{bounds_json, entry_json, hearing_json}};
+ghost use Rattle.mdns_trace.specs.{HearingLine.{address_text}, TraceJson.{bounds_json, hearing_json}};
 ghost use Rattle.mdns_trace.specs.TraceJson.{packet_json, span_json, span_members, status_members, untold_members};
 
-use crate::entry::{Entry, Untold};
+use crate::entry::Untold;
 use crate::hearing_line::push_address;
 use crate::moment_member::push_moment_member;
 use crate::packet_line::{fault_at, fault_words};
 use crate::span_line::Spanned;
-use crate::verdict_json::push_verdict_json;
 use mdns_browse::json::{push_json_name, push_number_member, push_text_member};
 use mdns_browse::push_resource_members;
 use mdns_capture::{Packet, SourceAddress};
@@ -20,24 +19,8 @@ use mdns_message::{BorrowedHearing, Want};
 use mdns_survey::reading::Span;
 use std::alloc::Global;
 
-/// Appends the object of an entry of `file`, whose name is written as it is, and ends the line.
-pub(crate) fn push_entry_json(
-    alloc: Global,
-    to: &mut String,
-    file: &str,
-    entry: &Entry<'_>,
-) -> Result<(), Want>
-    ensures { OnOk result (string_bytes to.new ≡ string_bytes to.old ++ entry_json file.now (entry_lent entry.now)) }
-{
-    match *entry {
-        Entry::Hearing { source, hearing } => push_hearing_json(alloc, to, file, source, hearing),
-        Entry::Packet { packet, untold } => push_packet_json(alloc, to, file, packet, untold),
-        Entry::Span(spanned) => push_span_json(alloc, to, file, spanned),
-        Entry::File(verdict) => push_verdict_json(alloc, to, file, verdict),
-    }
-}
-
-fn push_hearing_json(
+/// Appends the object of a hearing in `file`, whose name is written as it is, and ends the line.
+pub(crate) fn push_hearing_json(
     alloc: Global,
     to: &mut String,
     file: &str,
@@ -76,8 +59,9 @@ fn push_flush_member(to: &mut String, flush: bool) -> Result<(), Want>
     Ok(())
 }
 
+/// Appends the object of a packet that told nothing in `file`, and ends the line.
 #[tactic(auto, unfolding(crate::specs::TraceJson::packet_json, mdns_browse::specs::Json::parted))]
-fn push_packet_json(
+pub(crate) fn push_packet_json(
     alloc: Global,
     to: &mut String,
     file: &str,
@@ -119,8 +103,14 @@ fn push_status(to: &mut String, status: &str, cause: &str) -> Result<(), Want>
     push_text_member(to, false, "cause", cause)
 }
 
+/// Appends the object of a time span of `file`, and ends the line.
 #[tactic(auto, unfolding(crate::specs::TraceJson::span_json, mdns_browse::specs::Json::parted))]
-fn push_span_json(alloc: Global, to: &mut String, file: &str, spanned: &Spanned) -> Result<(), Want>
+pub(crate) fn push_span_json(
+    alloc: Global,
+    to: &mut String,
+    file: &str,
+    spanned: &Spanned,
+) -> Result<(), Want>
     ensures { OnOk result (string_bytes to.new ≡ string_bytes to.old ++ span_json file.now spanned.now) }
 {
     to.push('{')?;

@@ -3,8 +3,8 @@
 ghost use Rattle.std.specs.Prelude.{◌≡◌, ◌<◌, ◌++◌, IfErr, IfOk, IsTrue, OnOk, false, length, map, string_bytes};
 ghost use Rattle.mdns_capture.specs.Output.{writing};
 ghost use Rattle.mdns_survey.specs.ProgramLines.{IfFile};
-ghost use Rattle.mdns_trace.specs.Usable.{IsFatal, IsSorted, IsUnsorted, IsUsable, Keeps, SaysText, is_left_out, least_status};
-ghost use Rattle.mdns_trace.specs.{Usable.{left_out_line}, Verdict.{IsVerdict}, Verdicts.{is_usable}};
+ghost use Rattle.mdns_trace.specs.Usable.{IsFatal, IsSorted, IsUnsorted, Keeps, SaysText, is_left_out, least_status};
+ghost use Rattle.mdns_trace.specs.{Usable.{left_out_line}, Verdicts.{is_usable}};
 
 use crate::each_file::{Scribe, write_each};
 use crate::peeked::{Begun, begin};
@@ -80,26 +80,13 @@ impl<R: Source + Drop> Scribe<Option<R>, Usable<R>> for Sorter<'_> {
         reader: Option<R>,
         out: &mut Usable<R>,
     ) -> Result<bool, TraceFault> {
-        match begun_of(reader) {
+        match begin(reader) {
             Ok(begun) => match out.keep(alloc, name, begun) {
                 Ok(()) => Ok(true),
                 Err(Want) => Err(TraceFault::Listen(ListenFault::Memory)),
             },
             Err(verdict) => leave_out(alloc, self.program, name, &verdict, &mut out.lines),
         }
-    }
-}
-
-// Begins the capture of a reader. `Err` is what the file is where it is no capture, where there is no reader, since it can't be
-// opened, or where a read failed.
-fn begun_of<R: Source + Drop>(reader: Option<R>) -> Result<Begun<R>, Verdict>
-    ensures begun { IfOk result (IsUsable R.Source reader) }
-    ensures verdict { IfErr result (IsVerdict R.Source reader) }
-    ensures kind { IfErr result (λ verdict. is_usable verdict ≡ false) }
-{
-    match reader {
-        Some(reader) => begin(reader),
-        None => Err(Verdict::Unopened),
     }
 }
 

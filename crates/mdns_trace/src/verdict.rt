@@ -1,17 +1,16 @@
 //! The verdict on a file: finding what it is, and the lines of words that say so.
 
-ghost use Rattle.std.specs.{Prelude.{◌≡◌, ◌++◌, IfOk, IfSome, OnOk, Some, string_bytes}, Io.KnownBytes.{prepend_known}};
+ghost use Rattle.std.specs.Prelude.{◌≡◌, ◌++◌, IfOk, OnOk, string_bytes};
 ghost use Rattle.mdns_survey.specs.ProgramLines.{is_whole};
-ghost use Rattle.mdns_trace.specs.Flaw.{cure_text, head_of, what_text};
-ghost use Rattle.mdns_trace.specs.Verdict.{IsVerdict, IsVerdictOf, capture_front, capture_line, capture_text, early_cure};
-ghost use Rattle.mdns_trace.specs.Verdict.{early_text, is_silent, silent_text, unusable_line, verdict_for, verdict_text};
+ghost use Rattle.mdns_trace.specs.Flaw.{cure_text, what_text};
+ghost use Rattle.mdns_trace.specs.Verdict.{IsVerdict, capture_front, capture_line, capture_text, early_cure};
+ghost use Rattle.mdns_trace.specs.Verdict.{early_text, is_silent, silent_text, unusable_line, verdict_text};
 
-use crate::flaw::{Flaw, cure_words, flaw_of, push_what};
+use crate::flaw::{Flaw, cure_words, push_what};
 use crate::loss::{LOSSES, push_losses};
-use crate::peeked::{Peeked, read_head};
+use crate::peeked::begin;
 use crate::span_line::{push_bounds, read_spanned};
-use mdns_capture::savefile::FILE_HEADER;
-use mdns_capture::{BeginFault, Broken, Ending, Source};
+use mdns_capture::{BeginFault, Ending, Source};
 use mdns_message::Want;
 use mdns_survey::listen::ListenFault;
 use mdns_survey::reading::{Reading, Span};
@@ -45,45 +44,19 @@ pub enum Verdict {
 }
 
 /// Finds what a file is, from its reader; from none, that it can't be opened. `Err` is a failed allocation.
+#[tactic(auto, using(crate::proofs::VerdictLemmas::for_judge))]
 pub(crate) fn judge<R: Source + Drop>(alloc: Global, reader: Option<R>) -> Result<Verdict, Want>
     ensures { IfOk result (IsVerdict R.Source reader) }
 {
-    match reader {
-        Some(reader) => judge_opened(alloc, reader),
-        None => Ok(Verdict::Unopened),
-    }
-}
-
-// Reads a file, and finds what it is.
-fn judge_opened<R: Source + Drop>(alloc: Global, mut reader: R) -> Result<Verdict, Want>
-    ensures { IfOk result (IsVerdictOf (R.remaining reader) (R.steady reader)) }
-{
-    let mut head = [0; FILE_HEADER];
-    match read_head(&mut reader, &mut head) {
-        Ok(count) => judge_peeked(alloc, &head[..count], reader),
-        Err(Broken) => Ok(Verdict::Unread),
-    }
-}
-
-// Reads a file whose first bytes were read before, and finds what it is.
-fn judge_peeked<R: Source + Drop>(alloc: Global, head: &[u8], inner: R) -> Result<Verdict, Want>
-    requires { IfSome (R.remaining inner) (λ rest. head_of (head.now ++ rest) ≡ head.now) }
-    ensures { IfOk result (IsVerdictOf (prepend_known head.now (R.remaining inner)) (R.steady inner)) }
-{
-    match read_spanned(alloc, Peeked { head, inner }) {
+    let begun = match begin(reader) {
+        Ok(begun) => begun,
+        Err(verdict) => return Ok(verdict),
+    };
+    match read_spanned(alloc, begun) {
         Ok(spanned) => Ok(Verdict::Capture(spanned.reading)),
-        Err(fault) => verdict_for(fault, head),
-    }
-}
-
-// Returns what a file that begins with these bytes is, by the fault of its reading.
-fn verdict_for(fault: ListenFault, head: &[u8]) -> Result<Verdict, Want>
-    ensures { IfOk result (λ verdict. verdict_for fault head.now ≡ Some verdict) }
-{
-    match fault {
-        ListenFault::Begin(BeginFault::Memory) | ListenFault::Memory => Err(Want),
-        ListenFault::Begin(BeginFault::Read) | ListenFault::Read => Ok(Verdict::Unread),
-        ListenFault::Begin(_) => Ok(Verdict::Other(flaw_of(head))),
+        Err(ListenFault::Begin(BeginFault::Read) | ListenFault::Read) => Ok(Verdict::Unread),
+        // The file header has no fault, so an allocation failed.
+        Err(_) => Err(Want),
     }
 }
 

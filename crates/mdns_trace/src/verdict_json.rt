@@ -6,7 +6,7 @@ ghost use Rattle.mdns_browse.specs.Json.{comma_unless, json_member, json_string,
 ghost use Rattle.mdns_capture.specs.Text.{ending_text};
 ghost use Rattle.mdns_trace.specs.VerdictJson.{AddsObjects, bounds_members, capture_members, do_members, flaw_members};
 ghost use Rattle.mdns_trace.specs.VerdictJson.{is_word, kind_word, link_members, loss_members, loss_objects, lost_json, name_members};
-ghost use Rattle.mdns_trace.specs.VerdictJson.{silent_after, silent_members, tally_members, verdict_json, verdict_members};
+ghost use Rattle.mdns_trace.specs.VerdictJson.{silent_after, tally_members, verdict_json, verdict_members};
 
 use crate::flaw::{Flaw, cure_words, link_name};
 use crate::loss::{LOSSES, Loss};
@@ -136,13 +136,13 @@ fn push_capture_members(alloc: Global, to: &mut String, reading: &Reading) -> Re
 
 // Appends what to do about a capture that ended before its packets did, or that has packets, but no hearings; both cures
 // where it is both.
-#[tactic(auto, unfolding(crate::specs::VerdictJson::do_members, mdns_browse::specs::Json::parted))]
+#[tactic(auto, unfolding(crate::specs::VerdictJson::do_members, crate::specs::VerdictJson::silent_members, mdns_browse::specs::Json::parted))]
 fn push_do_members(alloc: Global, to: &mut String, reading: &Reading) -> Result<(), Want>
     ensures { OnOk result (string_bytes to.new ≡ string_bytes to.old ++ parted false (do_members reading.now)) }
 {
     let summary = reading.summary;
     if is_whole(summary.ending) {
-        return push_silent_members(to, &summary.tally);
+        return push_do(to, is_silent(&summary.tally), SILENT_CURE);
     }
     let mut cure = String::new(alloc);
     push_early_cure(&mut cure, reading.span)?;
@@ -158,13 +158,6 @@ fn push_silent_after(to: &mut String, tally: &Tally) -> Result<(), Want>
         write!(to, "; {SILENT_CURE}")?;
     }
     Ok(())
-}
-
-#[tactic(auto, unfolding(crate::specs::VerdictJson::silent_members))]
-fn push_silent_members(to: &mut String, tally: &Tally) -> Result<(), Want>
-    ensures { OnOk result (string_bytes to.new ≡ string_bytes to.old ++ parted false (silent_members tally.now)) }
-{
-    push_do(to, is_silent(tally), SILENT_CURE)
 }
 
 #[tactic(auto, unfolding(crate::specs::VerdictJson::bounds_members, mdns_browse::specs::Json::parted))]
@@ -198,18 +191,12 @@ fn push_ending_member(alloc: Global, to: &mut String, ending: Ending) -> Result<
     push_text_member(to, false, "ending", text.as_str())
 }
 
+#[tactic(auto, unfolding(crate::specs::VerdictJson::lost_json))]
 fn push_lost_member(to: &mut String, reading: &Reading) -> Result<(), Want>
     ensures { OnOk result (string_bytes to.new ≡ string_bytes to.old
         ++ (comma_unless false ++ json_member (codes "lost") (lost_json reading.now))) }
 {
     push_json_name(to, false, "lost")?;
-    push_lost_json(to, reading)
-}
-
-#[tactic(auto, unfolding(crate::specs::VerdictJson::lost_json))]
-fn push_lost_json(to: &mut String, reading: &Reading) -> Result<(), Want>
-    ensures { OnOk result (string_bytes to.new ≡ string_bytes to.old ++ lost_json reading.now) }
-{
     to.push('[')?;
     push_loss_objects(to, reading, LOSSES)?;
     to.push(']')?;
