@@ -1,6 +1,6 @@
 //! Lives in words.
 
-ghost use Rattle.std.specs.{Prelude.{◌≡◌, ◌==◌, ◌∷◌, [], ◌++◌, codes, if◌then◌else◌, OnOk}, List.{flat_map}};
+ghost use Rattle.std.specs.{Prelude.{◌≡◌, true, false, ◌==◌, ◌∷◌, [], ◌++◌, codes, if◌then◌else◌, OnOk}, List.{flat_map}};
 ghost use Rattle.std.specs.String.{string_bytes};
 ghost use Rattle.mdns_page.specs.{BarTitles.{end_words}, Counts.{commas}, LifeWords.{life_words, lives_words}, Axis.{is_same_date, short_text}, Picture.{goes_on}};
 ghost use Rattle.mdns_page.specs.declared.axis.Dates.TheVariants.{Omitted};
