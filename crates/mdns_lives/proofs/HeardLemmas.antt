@@ -1,18 +1,21 @@
 -- The seconds that a walk over hearings in order gives, and those that are held.
-use Rattle.std.proofs.Common.{rules, ◌≡◌, ℕ, ◌<◌, ◌≤◌, true, false, Bool, ◌==◌, List, [], ◌∷◌, map, Option, None, Some, Contains}
-use Rattle.std.proofs.{Common.{◌⊎◌, refl, sym, ◌∙◌, subst, inl, inr, arith, eqb-true, eq-eqb}, lemmas.Bool.Decides.{nat_tests}}
+use Rattle.std.proofs.Common.{rules, ◌≡◌, ℕ, ◌<◌, ◌≤◌, true, false, Bool, ◌==◌, List, [], ◌∷◌, map, Option, None, Some, Contains, unwrap_or}
+use Rattle.std.proofs.{Common.{◌⊎◌, ap, refl, sym, ◌∙◌, subst, inl, inr, arith, eqb-true, eq-eqb}, lemmas.{Bool.Decides.{nat_tests}, Cmp.{ranked}}}
+use Rattle.std.proofs.lemmas.Option.{same_Some}
 use Rattle.std.specs.{declared.cmp.Ordering.TheVariants.{Less}, Ordering.{nat_cmp}, Cmp.{nat_cmp_is}, List.{AllByRecursion}}
 use Rattle.std.specs.List.Sorted.{IsStrictlySortedBy}
-use Rattle.join_map.specs.Entries.{value_at}
+use Rattle.join_map.specs.{Entries.{value_at}, laws.Entries.{ValidAt, valid_at}}
 use Rattle.mdns_message.specs.{declared.hearing.Hearing.{Hearing}, declared.key.Key.{Key}, Resource.{key_cmp}}
+use Rattle.mdns_message.specs.laws.Resource.{key_cmp-exact, key_cmp-total}
 use Rattle.mdns_cache.proofs.StandsPartLemmas.{Contains-nil, Contains-head, Contains-later, Contains-cases}
 use Rattle.mdns_lives.specs.declared.{account.Account.{Account}, life.RecordHearing.{RecordHearing}}
 use Rattle.mdns_lives.specs.{declared.seconds_heard.SecondHeard.{SecondHeard}, Chronicle.{Accounts, Chronicles, history_in}}
-use Rattle.mdns_lives.specs.Heard.{number_of, AreSecondsOf, AreSecondsHeard, AreSecondsHeld, heard_once, heard_again, seconds_from}
+use Rattle.mdns_lives.specs.Heard.{number_of, AreSecondsOf, AreSecondsHeard, heard_once, heard_again, seconds_from, seconds_held}
 use Rattle.mdns_lives.specs.{Heard.{seconds_walked}, History.{IsUpTo, AreInOrder, IsHeardAs}}
-use Rattle.mdns_lives.specs.Seconds.{second_of, IsBetween, Ends, ends, ends_at, AreEnds, AreEndsIn, Seconds, seconds_of}
+use Rattle.mdns_lives.specs.Seconds.{second_of, IsBetween, Ends, ends, ends_at, AreEnds, AreEndsIn, IsSeconds, Seconds, listed_ends, seconds_of}
 use Rattle.mdns_lives.proofs.OrderLemmas.{IsUpTo-itself, IsUpTo-onward, no_later, first_least}
-use Rattle.mdns_lives.proofs.SecondsLemmas.{between-itself, same_ends_in, at-seconds_of}
+use Rattle.mdns_lives.specs.{Account.{IsAccount}, laws.Account.{account-laws}}
+use Rattle.mdns_lives.proofs.{ListedLemmas.{listed-among, listed-between, listed-in_order}, SecondsLemmas.{IsSeconds-of, between-itself, same_ends_in, at-seconds_of}}
 
 -- ---- seconds of hearings between others
 
@@ -223,38 +226,78 @@ AreSecondsOf-walked (h ∷ hs) o =
     ]) (λ x m. between-itself {P = Contains (h ∷ h ∷ hs)} x (Contains-later h (h ∷ hs) x m)) (seconds_from (heard_once h) hs)
     (AreSecondsOf-from hs (heard_once h) (record { in_order = (IsUpTo-itself h, o); same = refl }))
 
--- ---- what is held
+-- ---- one list of seconds
 
-held-from : (hs : List RecordHearing) (seconds : List SecondHeard) → AreSecondsOf (Contains hs) seconds → AreSecondsHeld (seconds_of hs) seconds
-held-from hs seconds w = record {
-  ascending = w.ascending;
-  each = λ s m. same_ends_in {P = Contains hs} {Q = Contains hs} (λ h c. c) (λ h c. between-itself {P = Contains hs} h c) (number_of s)
-      (value_at nat_cmp (number_of s) (seconds_of hs)) (Some (ends s.first s.last)) (at-seconds_of hs (number_of s)) (w.each s m);
-  all = λ n e is.
-      let at = subst (λ (o : Option Ends). AreEndsIn (Contains hs) n o) is (at-seconds_of hs n) in
-      let found = w.all e.least at.least_there in
-      (found.0, found.1, found.2 ∙ at.least_in);
-}
+-- each second is after one that is before them all
+pub after-second : (n : ℕ) (seconds : List SecondHeard) (s : SecondHeard)
+    → AllByRecursion (λ m. nat_cmp n m ≡ Less) (map number_of seconds) → Contains seconds s → n < number_of s
+after-second n [] s all among = absurd (omega (arith, among.1))
+after-second n (first ∷ seconds) s all among = grind (arith, Contains-cases, ranked, after-second n seconds s all.1)
 
--- the walk over hearings in order gives the seconds that they hold
-pub AreSecondsHeld-walked : (hs : List RecordHearing) (value : Seconds) (seconds : List SecondHeard) → AreInOrder hs → seconds_of hs ≡ value
-    → seconds ≡ seconds_walked hs → AreSecondsHeld value seconds
-AreSecondsHeld-walked hs value seconds o view are =
-    grind (arith, held-from hs (seconds_walked hs) (AreSecondsOf-walked hs o), AreSecondsOf-walked hs o)
+-- what follows the first is among what follows the first of the others
+rest-within : (x y : SecondHeard) (xs ys : List SecondHeard) → x ≡ y → AllByRecursion (λ m. nat_cmp (number_of x) m ≡ Less) (map number_of xs)
+    → ((s : SecondHeard) → Contains (x ∷ xs) s → Contains (y ∷ ys) s) → (s : SecondHeard) → Contains xs s → Contains ys s
+rest-within x y xs ys same after into s among =
+    let past = after-second (number_of x) xs s after among in
+    elim (Contains-cases y ys s (into s (Contains-later x xs s among))) [
+      | inl is ↦ absurd (omega (arith, past, ap number_of (same ∙ is)))
+      | inr found ↦ found
+    ]
 
--- the seconds that are held of hearings are theirs
-pub AreSecondsOf-held : (P : RecordHearing → Type 0) (held : Seconds) (seconds : List SecondHeard)
-    → ((s : ℕ) → AreEndsIn P s (value_at nat_cmp s held)) → AreSecondsHeld held seconds → AreSecondsOf P seconds
-AreSecondsOf-held P held seconds at w = record {
-  ascending = w.ascending;
-  each = λ s m. subst (λ (o : Option Ends). AreEndsIn P (number_of s) o) (w.each s m) (at (number_of s));
-  all = λ x p. by x p (value_at nat_cmp (second_of x) held) refl (at (second_of x));
-}
-  where
-    by : (x : RecordHearing) → P x → (o : Option Ends) → value_at nat_cmp (second_of x) held ≡ o → AreEndsIn P (second_of x) o
-        → (s : SecondHeard) × Contains seconds s × (number_of s ≡ second_of x)
-    by x p None e none = absurd (none x p refl)
-    by x p (Some y) e _ = w.all (second_of x) y e
+-- seconds in order with the same members are the same
+same-members : (xs ys : List SecondHeard) → IsStrictlySortedBy nat_cmp (map number_of xs)
+    → IsStrictlySortedBy nat_cmp (map number_of ys) → ((s : SecondHeard) → Contains xs s → Contains ys s)
+    → ((s : SecondHeard) → Contains ys s → Contains xs s) → xs ≡ ys
+unfolding IsStrictlySortedBy
+same-members [] [] p q into back = refl
+same-members [] (y ∷ ys) p q into back = absurd (omega (arith, (back y (Contains-head y ys)).1))
+same-members (x ∷ xs) [] p q into back = absurd (omega (arith, (into x (Contains-head x xs)).1))
+same-members (x ∷ xs) (y ∷ ys) p q into back =
+    let first : x ≡ y = elim (Contains-cases y ys x (into x (Contains-head x xs))) [
+      | inl is ↦ sym is
+      | inr after ↦ elim (Contains-cases x xs y (back y (Contains-head y ys))) [
+        | inl is ↦ is
+        | inr before ↦ absurd (omega (arith, after-second (number_of x) xs y p.0 before, after-second (number_of y) ys x q.0 after))
+      ]
+    ] in
+    let rest = same-members xs ys p.1 q.1 (rest-within x y xs ys first p.0 into) (rest-within y x ys xs (sym first) q.0 back) in
+    λ i. first i ∷ rest i
+
+abbrev second_by : Ends → SecondHeard
+second_by e = record { first = e.least; last = e.greatest }
+
+module _ (IsThere : RecordHearing → Type 0) where
+  seconds-within : (xs ys : List SecondHeard) → AreSecondsOf IsThere xs → AreSecondsOf IsThere ys
+      → (s : SecondHeard) → Contains xs s → Contains ys s
+  seconds-within xs ys are too s among =
+      let own = are.each s among in
+      let found = too.all s.first own.least_there in
+      let other : AreEnds IsThere (number_of s) (ends found.0.first found.0.last) =
+      subst (λ (n : ℕ). AreEnds IsThere n (ends found.0.first found.0.last)) found.2 (too.each found.0 found.1) in
+      let same = same_Some (ends s.first s.last) (ends found.0.first found.0.last)
+      (same_ends_in {P = IsThere} {Q = IsThere} (λ h there. there) (λ h there. between-itself h there) (number_of s)
+      (Some (ends s.first s.last)) (Some (ends found.0.first found.0.last)) own other) in
+      subst (λ (t : SecondHeard). Contains ys t) (sym (ap second_by same)) found.1
+
+  pub one-seconds : (xs ys : List SecondHeard) → AreSecondsOf IsThere xs → AreSecondsOf IsThere ys → xs ≡ ys
+  one-seconds xs ys are too = search (arith, same-members, seconds-within)
+
+-- ---- the seconds that are held
+
+module _ (P : RecordHearing → Type 0) (held : Seconds) (are : IsSeconds held) (at : (s : ℕ) → AreEndsIn P s (value_at nat_cmp s held)) where
+  listed-seconds : AreSecondsOf P (seconds_walked (listed_ends held))
+  listed-seconds =
+      let listed = listed_ends held in
+      seconds-between {P = Contains listed} {Q = P} (listed-among P held are at) (listed-between P held are at) (seconds_walked listed)
+      (AreSecondsOf-walked listed (listed-in_order P held are at))
+
+-- the seconds that a walk over all hearings gives are those that a walk over the listed ones gives
+pub seconds_listed : (hs : List RecordHearing) (held : Seconds) → AreInOrder hs → seconds_of hs ≡ held
+    → seconds_walked hs ≡ seconds_walked (listed_ends held)
+seconds_listed hs held o view =
+    subst (λ (v : Seconds). seconds_walked hs ≡ seconds_walked (listed_ends v)) view
+    (one-seconds (Contains hs) (seconds_walked hs) (seconds_walked (listed_ends (seconds_of hs))) (AreSecondsOf-walked hs o)
+    (listed-seconds (Contains hs) (seconds_of hs) (IsSeconds-of hs) (at-seconds_of hs)))
 
 -- where nothing is held, nothing was heard
 pub AreSecondsOf-none : (P : RecordHearing → Type 0) → ((s : ℕ) → AreEndsIn P s None) → AreSecondsOf P []
@@ -264,15 +307,16 @@ AreSecondsOf-none P at = grind (arith, Contains-nil)
 -- ---- a record of a chronicle
 
 module _ (c : Accounts) (heard : List Hearing) (stands : Chronicles c heard) (key : Key) where
-  pub heard-held : (account : Account) (seconds : List SecondHeard) → value_at key_cmp key c.records ≡ Some account
-      → AreSecondsHeld account.history seconds → AreSecondsHeard heard key seconds
-  heard-held account seconds is held =
-      AreSecondsOf-held (IsHeardAs heard key) account.history seconds
-      (λ s. subst (λ (o : Option Account). AreEndsIn (IsHeardAs heard key) s (ends_at s (history_in o))) is (stands.histories key s)) held
+  held-by : (o : Option Account) → value_at key_cmp key c.records ≡ o
+      → AreSecondsHeard heard key (seconds_walked (listed_ends (unwrap_or (history_in o) [])))
+  held-by None is =
+      AreSecondsOf-none (IsHeardAs heard key)
+      (λ s. subst (λ (o : Option Account). AreEndsIn (IsHeardAs heard key) s (ends_at s (history_in o))) is (stands.histories key s))
+  held-by (Some account) is =
+      listed-seconds (IsHeardAs heard key) account.history
+      (subst (ValidAt IsAccount) is (valid_at key_cmp-total key_cmp-exact account-laws key c.records stands.accounts.records.valid))
+      (λ s. subst (λ (o : Option Account). AreEndsIn (IsHeardAs heard key) s (ends_at s (history_in o))) is (stands.histories key s))
 
-  pub heard-nowhere : (seconds : List SecondHeard) → value_at key_cmp key c.records ≡ None → seconds ≡ []
-      → AreSecondsHeard heard key seconds
-  heard-nowhere seconds is empty =
-      subst (AreSecondsOf (IsHeardAs heard key)) (sym empty)
-      (AreSecondsOf-none (IsHeardAs heard key)
-      (λ s. subst (λ (o : Option Account). AreEndsIn (IsHeardAs heard key) s (ends_at s (history_in o))) is (stands.histories key s)))
+  -- the seconds that are held of a record are those in which it was heard
+  pub heard-held : AreSecondsHeard heard key (seconds_held c key)
+  heard-held = held-by (value_at key_cmp key c.records) refl

@@ -1,10 +1,10 @@
 -- The whole seconds in which a record was heard.
-use Rattle.std.specs.Prelude.{◌≡◌, ◌==◌, if◌then◌else◌, ℕ, List, [], ◌∷◌, map, Some, Contains}
+use Rattle.std.specs.Prelude.{◌≡◌, ◌==◌, if◌then◌else◌, ℕ, List, [], ◌∷◌, map, unwrap_or, Contains}
 use Rattle.std.specs.{List.Sorted.{IsStrictlySortedBy}, Ordering.{nat_cmp}}
 use Rattle.join_map.specs.Entries.{value_at}
-use Rattle.mdns_message.specs.declared.{hearing.Hearing.{Hearing}, key.Key.{Key}}
+use Rattle.mdns_message.specs.{declared.{hearing.Hearing.{Hearing}, key.Key.{Key}}, Resource.{key_cmp}}
 use Rattle.mdns_lives.specs.declared.{life.RecordHearing.{RecordHearing}, seconds_heard.SecondHeard.{SecondHeard}}
-use Rattle.mdns_lives.specs.{History.{IsHeardAs}, Seconds.{AreEnds, Ends, Seconds, ends, second_of}}
+use Rattle.mdns_lives.specs.{Chronicle.{Accounts, history_in}, History.{IsHeardAs}, Seconds.{AreEnds, ends, listed_ends, second_of}}
 
 -- the whole second, counted since 1970
 abbrev pub number_of : SecondHeard → ℕ
@@ -19,12 +19,6 @@ pub record AreSecondsOf (IsThere : RecordHearing → Type 0) (seconds : List Sec
 -- These are the seconds in which the record was heard, in order, each once, with its first and its last hearing there.
 abbrev pub AreSecondsHeard : List Hearing → Key → List SecondHeard → Type 0
 AreSecondsHeard heard key seconds = AreSecondsOf (IsHeardAs heard key) seconds
-
--- these are the seconds that are held, in order, each once, with the ends that are held of it
-pub record AreSecondsHeld (held : Seconds) (seconds : List SecondHeard) : Type 0 where
-  pub ascending : IsStrictlySortedBy nat_cmp (map number_of seconds)
-  pub each : (s : SecondHeard) → Contains seconds s → value_at nat_cmp (number_of s) held ≡ Some (ends s.first s.last)
-  pub all : (n : ℕ) (e : Ends) → value_at nat_cmp n held ≡ Some e → (s : SecondHeard) × Contains seconds s × (number_of s ≡ n)
 
 -- ---- by a walk over hearings in order
 
@@ -47,3 +41,7 @@ seconds_from current (h ∷ hs) =
 abbrev pub seconds_walked : List RecordHearing → List SecondHeard
 seconds_walked [] = []
 seconds_walked (h ∷ hs) = seconds_from (heard_once h) hs
+
+-- the seconds that are held for a record, by the hearings that these hold
+abbrev pub seconds_held : Accounts → Key → List SecondHeard
+seconds_held c key = seconds_walked (listed_ends (unwrap_or (history_in (value_at key_cmp key c.records)) []))

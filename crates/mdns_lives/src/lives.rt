@@ -227,7 +227,7 @@ impl<'a> RecordHeard<'a> {
     }
 
     /// Finds the lives.
-    pub(crate) fn with_lives(self, alloc: Global) -> Result<RecordLives<'a>, Want>
+    pub fn with_lives(self, alloc: Global) -> Result<RecordLives<'a>, Want>
         ensures row { IfOk result (λ row. row_lent row ≡ self.entry) }
         ensures apart { IfOk result (λ row. AreApart row.lives.items) }
     {

@@ -3,8 +3,8 @@
 ghost use Rattle.std.specs.Prelude.{◌≡◌, ◌++◌, ◌∷◌, List, IfOk, OnOk};
 ghost use Rattle.mdns_message.specs.{Resource.{key_of}, declared.hearing.Hearing.{Hearing}};
 ghost use Rattle.mdns_lives.specs.{declared.life.RecordHearing.{RecordHearing}, Chronicle.{Chronicles}};
-ghost use Rattle.mdns_lives.specs.{Heard.{AreSecondsHeard, AreSecondsHeld, heard_once, seconds_from, seconds_walked}, History.{AreInOrder}};
-ghost use Rattle.mdns_lives.specs.Seconds.{second_of};
+ghost use Rattle.mdns_lives.specs.{Heard.{AreSecondsHeard, heard_once, seconds_from, seconds_held, seconds_walked}, History.{AreInOrder}};
+ghost use Rattle.mdns_lives.specs.Seconds.{listed_ends, second_of};
 
 use crate::history::History;
 use crate::life::RecordHearing;
@@ -25,7 +25,8 @@ pub struct SecondHeard {
 impl Lives {
     /// Returns the whole seconds in which a record was heard, in order.
     pub fn seconds_heard(&self, resource: &Resource) -> Result<Vec<SecondHeard>, Want>
-        ensures { IfOk result (λ seconds. (heard : List Hearing) → Chronicles self.now heard
+        ensures value { IfOk result (λ seconds. seconds.items ≡ seconds_held self.now (key_of resource.now)) }
+        ensures stands { IfOk result (λ seconds. (heard : List Hearing) → Chronicles self.now heard
             → AreSecondsHeard heard (key_of resource.now) seconds.items) }
     {
         let key = resource.borrowed().key(self.alloc)?;
@@ -38,7 +39,7 @@ impl Lives {
 
 // Returns the seconds of a record. Its hearings are in order as `finish` leaves them, but not always after a join.
 fn seconds_by(alloc: Global, history: &History) -> Result<Vec<SecondHeard>, Want>
-    ensures { IfOk result (λ seconds. AreSecondsHeld history.now seconds.items) }
+    ensures { IfOk result (λ seconds. seconds.items ≡ seconds_walked (listed_ends history.now)) }
 {
     if let Some(heard) = history.in_order() {
         let seconds = seconds_of(alloc, heard)?;

@@ -1,14 +1,17 @@
 -- In which seconds captures heard a record.
-use Rattle.std.proofs.Common.{◌≡◌, refl, sym, ap, ◌∙◌, subst, ℕ, ◌+◌, ◌<◌, Bool, true, false, if◌then◌else◌, arith}
-use Rattle.std.proofs.{Common.{List, [], ◌∷◌, ◌++◌, get_or, length, map, take}, lemmas.List.{map-append, take_more}}
+use Rattle.std.proofs.Common.{◌≡◌, refl, sym, ap, ◌∙◌, subst, ℕ, ◌+◌, ◌<◌, Bool, true, false}
+use Rattle.std.proofs.{Common.{List, [], ◌∷◌, ◌++◌, Option, None, Some, get_or, length, map, option_map, take, unwrap_or}, lemmas.List.{map-append, take_more}}
 use Rattle.std.proofs.lemmas.List.Elements.{All-append, All-cons, All-nil, All-same, filter-append}
-use Rattle.std.specs.{Prelude.{nat_lt}, List.{All, filter}}
-use Rattle.mdns_message.specs.declared.{hearing.Hearing.{Hearing}, key.Key.{Key}}
+use Rattle.std.specs.{Prelude.{nat_lt}, BTreeMap.{get}, Global.{Vec}, List.{All}}
+use Rattle.mdns_message.specs.{declared.{hearing.Hearing.{Hearing}, key.Key.{Key}}, Resource.{key_cmp}}
 use Rattle.mdns_join.specs.declared.latest.Latest.{Latest}
 use Rattle.mdns_lives.specs.{declared.life.Life.{Life}, declared.seconds_heard.SecondHeard.{SecondHeard}}
-use Rattle.mdns_lives.specs.Heard.{AreSecondsHeard}
+use Rattle.mdns_lives.specs.{Chronicle.{Accounts, Chronicles}, Heard.{AreSecondsHeard, seconds_held}}
+use Rattle.mdns_lives.proofs.HeardLemmas.{heard-held}
 use Rattle.mdns_browse.specs.Services.{AreEach}
-use Rattle.mdns_page.specs.{TimelineRows.{AreShownBy}, Timeline.{Row, counted_lent}, declared.timeline_rows.CountedRow.{CountedRow}}
+use Rattle.mdns_page.specs.{TimelineRows.{AreShownBy, Tells}, Timeline.{Row, counted_lent, heard_lent, held_lent, seconds_lent, shown_seconds}}
+use Rattle.mdns_page.specs.declared.{hearers.Hearers.{Hearers}, timeline_rows.CountedRow.{CountedRow}}
+use Rattle.mdns_page.proofs.LiveLemmas.{each-count}
 use Rattle.std.proofs.lemmas.List.{append-nil}
 
 -- ---- one capture after another
@@ -40,10 +43,7 @@ module _ {X Y : Type 0} (Is : X → Y → Type 0) where
 
 -- ---- the seconds that are shown
 
-abbrev pub shown_seconds : (many : Bool) → List (List SecondHeard) → List (List SecondHeard)
-shown_seconds many captures = if many then filter (λ seconds. nat_lt 0 (length seconds)) captures else captures
-
-shown-more : (many : Bool) (captures : List (List SecondHeard)) (seconds : List SecondHeard)
+pub shown-more : (many : Bool) (captures : List (List SecondHeard)) (seconds : List SecondHeard)
     → shown_seconds many (captures ++ seconds ∷ []) ≡ shown_seconds many captures ++ shown_seconds many (seconds ∷ [])
 shown-more true captures seconds = filter-append (λ seconds. nat_lt 0 (length seconds)) captures (seconds ∷ [])
 shown-more false captures seconds = refl
@@ -58,6 +58,33 @@ shown-next many each heard key shown seconds more are pushed was = record {
   shown = pushed ∙ ap (λ (all : List (List SecondHeard)). all ++ shown_seconds many (seconds ∷ [])) was.shown
       ∙ sym (shown-more many was.all seconds);
 }
+
+-- ---- the seconds that are told, or else those that are held
+
+-- the seconds that captures hold are those in which each heard the record
+held-each : (key : Key) (chronicles : List Accounts) (each : List (List Hearing)) → AreEach Chronicles chronicles each
+    → AreEach (λ hearings seconds. AreSecondsHeard hearings key seconds) each (map (λ c. seconds_held c key) chronicles)
+held-each key [] [] are = tt
+held-each key [] (heard ∷ each) are = absurd are
+held-each key (c ∷ chronicles) [] are = absurd are
+held-each key (c ∷ chronicles) (heard ∷ each) are = (heard-held c heard are.0 key, held-each key chronicles each are.1)
+
+module _ (hearers : Hearers) (each : List (List Hearing)) (are : AreEach Chronicles hearers.chronicles.now each)
+    (tells : Tells (nat_lt 4 (length hearers.chronicles.now)) (λ key. each) hearers.told) (key : Key) where
+  heard-by : (told : Option (Vec (Vec SecondHeard))) → get key_cmp hearers.told key ≡ told
+      → AreShownBy (nat_lt 4 (length hearers.chronicles.now)) each key
+      (unwrap_or (option_map (λ (heard : Vec (Vec SecondHeard)). map seconds_lent heard.items) told) (held_lent hearers.chronicles.now key))
+  heard-by None is = record {
+    all = map (λ c. seconds_held c key) hearers.chronicles.now;
+    are = held-each key hearers.chronicles.now each are;
+    shown = refl;
+  }
+  heard-by (Some heard) is = tells key heard is
+
+  pub shown-lent : AreShownBy (nat_lt 4 (length each)) each key (heard_lent hearers key)
+  shown-lent =
+      subst (λ (n : ℕ). AreShownBy (nat_lt 4 n) each key (heard_lent hearers key))
+      (each-count Chronicles hearers.chronicles.now each are) (heard-by (get key_cmp hearers.told key) refl)
 
 -- ---- one row more
 

@@ -14,8 +14,8 @@ use Rattle.mdns_cache.specs.Live.{IsLast, IsUnheard, key_of_last}
 use Rattle.mdns_lives.specs.declared.{life.Life.{Life}, seconds_heard.SecondHeard.{SecondHeard}}
 use Rattle.mdns_lives.specs.{Chronicle.{Accounts, AreAllLives, Chronicles, last_held}, Heard.{AreSecondsHeard}}
 use Rattle.mdns_browse.specs.Services.{AreEach}
-use Rattle.mdns_page.specs.{TimelineRows.{AreShownBy, Tells, among}, Timeline.{seconds_lent}}
-use Rattle.mdns_page.proofs.CountedLemmas.{shown-next, shown_seconds}
+use Rattle.mdns_page.specs.{TimelineRows.{AreShownBy, Tells, among}, Timeline.{seconds_lent, shown_seconds}}
+use Rattle.mdns_page.proofs.CountedLemmas.{shown-next}
 
 -- ---- keys that are left of a capture
 

@@ -1,10 +1,10 @@
 -- The marks of lives, and those of seconds, go from left to right, since both are in order of time.
-use Rattle.std.proofs.Common.{◌≡◌, refl, sym, ℕ, ◌+◌, ◌-◌, ◌*◌, ◌/◌, ◌<◌, ◌≤◌, ◌==◌, Bool, true, false, if◌then◌else◌}
-use Rattle.std.proofs.{Common.{Option, None, Some, List, [], ◌∷◌, map, arith, div-mul-le_self}, lemmas.{Bool.{cond_both}, Cmp.{ranked}, Nat.{le-div}}}
-use Rattle.std.specs.{Prelude.{Contains}, List.{AllByRecursion, cons_option, filter_map}, List.Sorted.{IsStrictlySortedBy}, Ordering.{nat_cmp}}
-use Rattle.std.specs.declared.cmp.Ordering.TheVariants.{Less}
+use Rattle.std.proofs.Common.{◌≡◌, refl, ℕ, ◌+◌, ◌-◌, ◌*◌, ◌/◌, ◌<◌, ◌≤◌, ◌==◌, Bool, true, false, if◌then◌else◌}
+use Rattle.std.proofs.{Common.{Option, None, Some, List, [], ◌∷◌, map, arith, div-mul-le_self}, lemmas.{Bool.{cond_both}, Nat.{le-div}}}
+use Rattle.std.specs.{Prelude.{Contains}, List.{cons_option, filter_map}, List.Sorted.{IsStrictlySortedBy}, Ordering.{nat_cmp}}
 use Rattle.mdns_capture.specs.Limits.{second}
-use Rattle.mdns_cache.proofs.StandsPartLemmas.{Contains-cases, Contains-head, Contains-later}
+use Rattle.mdns_cache.proofs.StandsPartLemmas.{Contains-head, Contains-later}
+use Rattle.mdns_lives.proofs.HeardLemmas.{after-second}
 use Rattle.mdns_lives.specs.{Heard.{number_of}, Lives.{AreApart, AreApartAfter}, Seconds.{second_of}, Window.{in_window, meets}}
 use Rattle.mdns_lives.specs.declared.{life.{EndReason.{EndReason}, Life.{Life}, RecordHearing.{RecordHearing}}, seconds_heard.SecondHeard.{SecondHeard}}
 use Rattle.mdns_page.specs.{Axis.{place, place_end}, Lanes.{goodbye_of, is_goodbye, point, second_mark}, Picture.{AreInOrder, bar_mark, differing, drawn_mark}}
@@ -184,12 +184,6 @@ second-at axis Bar s same = tt
 second-at axis Server s same = tt
 second-at axis (Pin reason) s same = tt
 second-at axis (Head reason) s same = tt
-
--- each second is after one that is before them all
-pub after-second : (n : ℕ) (seconds : List SecondHeard) (s : SecondHeard)
-    → AllByRecursion (λ m. nat_cmp n m ≡ Less) (map number_of seconds) → Contains seconds s → n < number_of s
-after-second n [] s all among = absurd (omega (arith, among.1))
-after-second n (first ∷ seconds) s all among = grind (arith, Contains-cases, ranked, after-second n seconds s all.1)
 
 seconds-follow : (axis : Axis) (stroke : Stroke) (low : ℕ) (seconds : List SecondHeard) → IsStrictlySortedBy nat_cmp (map number_of seconds)
     → ((s : SecondHeard) → Contains seconds s → low ≤ begins_at s)

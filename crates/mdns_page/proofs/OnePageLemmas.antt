@@ -1,20 +1,19 @@
 -- Captures have one page.
-use Rattle.std.proofs.{Common.{◌≡◌, ◌∙◌, ℕ, ◌+◌, ◌<◌, Bool, false, List, [], ◌∷◌, Some, ap, arith, inl, inr}, lemmas.Option.{same_Some}}
-use Rattle.std.proofs.{Common.{length, map, refl, subst, sym}, lemmas.List.Elements.{All-head, All-tail}}
-use Rattle.std.specs.{Prelude.{Contains, max, nat_lt}, List.{All, AllByRecursion}, List.Sorted.{IsStrictlySortedBy}, Ordering.{nat_cmp}}
-use Rattle.std.specs.declared.cmp.Ordering.TheVariants.{Less}
+use Rattle.std.proofs.Common.{◌≡◌, ◌∙◌, ℕ, ◌+◌, Bool, false, List, [], ◌∷◌, Some, ap, length, map, refl, subst, sym}
+use Rattle.std.proofs.lemmas.List.Elements.{All-head, All-tail}
+use Rattle.std.specs.{Prelude.{max, nat_lt}, List.{All}}
 use Rattle.mdns_capture.specs.Savefile.{PacketAt}
 use Rattle.mdns_join.specs.{declared.latest.Latest.{Latest}, laws.Latest.{moment-same}}
 use Rattle.mdns_message.specs.declared.hearing.Hearing.{Hearing}
 use Rattle.mdns_cache.specs.Live.{key_of_last}
-use Rattle.mdns_lives.specs.declared.{life.RecordHearing.{RecordHearing}, life.Life.{Life}, seconds_heard.SecondHeard.{SecondHeard}}
-use Rattle.mdns_lives.specs.{declared.window.Window.{Window}, Heard.{AreSecondsHeard, AreSecondsOf, number_of}, Seconds.{AreEnds, Ends, ends}}
-use Rattle.mdns_lives.proofs.SecondsLemmas.{between-itself, same_ends_in}
+use Rattle.mdns_lives.specs.declared.{life.Life.{Life}, seconds_heard.SecondHeard.{SecondHeard}, window.Window.{Window}}
+use Rattle.mdns_lives.specs.Heard.{AreSecondsHeard}
+use Rattle.mdns_lives.proofs.HeardLemmas.{one-seconds}
 use Rattle.mdns_browse.specs.{declared.about.Subject.{Subject}, Services.{AreEach, body_of}}
 use Rattle.mdns_survey.specs.declared.{reading.Reading.{Reading}, request.AsOf.{AsOf}, summary.Summary.{Summary}}
 use Rattle.mdns_survey.specs.{Outcomes.{Outcome}, LivesAnswer.{captures_end, earliest_nanos, latest_nanos}}
 use Rattle.mdns_survey.specs.{Readings.{all_moments, summaries_of}, Filter.{counted, counted_each, filter_of}, Surveys.{AllLeft}}
-use Rattle.mdns_cache.proofs.StandsPartLemmas.{Contains-cases, Contains-head, Contains-later, same-itself}
+use Rattle.mdns_cache.proofs.StandsPartLemmas.{same-itself}
 use Rattle.mdns_survey.proofs.{ListenedLemmas.{known-read}, LivesLawLemmas.{OneLives}, LossLemmas.{NeverBoth, SkipsByCause}}
 use Rattle.mdns_survey.proofs.{OneSurveyLemmas.{one-read}, OutcomeLemmas.{OnePayload, OneReading, OneTelling}}
 use Rattle.mdns_listeners.specs.Groups.{Grouped}
@@ -22,59 +21,9 @@ use Rattle.mdns_page.specs.{Axis.{bound_or, dates_of}, ByListener.{hearings_by},
 use Rattle.mdns_page.specs.declared.{axis.Axis.{Axis}, kept_records.TimelinePart.{TimelinePart}}
 use Rattle.mdns_page.specs.{declared.kept_records.TimelinePart.TheVariants.{Addresses, Instances, Names}, TimelineRows.{IsCounted}}
 use Rattle.mdns_page.specs.{Html.{isolated}, Document.{page}, Servers.{servers_of}, KeptRecords.{AreRows, kept_of}}
-use Rattle.mdns_page.specs.{Lead.{known_of}, Page.{SurveysPage, WritesPage, live_at_end}, Timeline.{Row, is_large, is_open}}
-use Rattle.mdns_page.proofs.{ComparedLemmas.{OneListOfRows, one-comparison}, CountedLemmas.{record_in, shown_seconds}, MarkLemmas.{after-second}}
+use Rattle.mdns_page.specs.{Lead.{known_of}, Page.{SurveysPage, WritesPage, live_at_end}, Timeline.{Row, is_large, is_open, shown_seconds}}
+use Rattle.mdns_page.proofs.{ComparedLemmas.{OneListOfRows, one-comparison}, CountedLemmas.{record_in}}
 use Rattle.mdns_page.proofs.OneCaptureLemmas.{IsAlike, are-alike, endings-alike, facts-alike, lost-alike, section-alike, one-each}
-
--- ---- the seconds in which a record was heard
-
--- what follows the first is among what follows the first of the others
-rest-within : (x y : SecondHeard) (xs ys : List SecondHeard) → x ≡ y → AllByRecursion (λ m. nat_cmp (number_of x) m ≡ Less) (map number_of xs)
-    → ((s : SecondHeard) → Contains (x ∷ xs) s → Contains (y ∷ ys) s) → (s : SecondHeard) → Contains xs s → Contains ys s
-rest-within x y xs ys same after into s among =
-    let past = after-second (number_of x) xs s after among in
-    elim (Contains-cases y ys s (into s (Contains-later x xs s among))) [
-      | inl is ↦ absurd (omega (arith, past, ap number_of (same ∙ is)))
-      | inr found ↦ found
-    ]
-
--- seconds in order with the same members are the same
-same-members : (xs ys : List SecondHeard) → IsStrictlySortedBy nat_cmp (map number_of xs)
-    → IsStrictlySortedBy nat_cmp (map number_of ys) → ((s : SecondHeard) → Contains xs s → Contains ys s)
-    → ((s : SecondHeard) → Contains ys s → Contains xs s) → xs ≡ ys
-unfolding IsStrictlySortedBy
-same-members [] [] p q into back = refl
-same-members [] (y ∷ ys) p q into back = absurd (omega (arith, (back y (Contains-head y ys)).1))
-same-members (x ∷ xs) [] p q into back = absurd (omega (arith, (into x (Contains-head x xs)).1))
-same-members (x ∷ xs) (y ∷ ys) p q into back =
-    let first : x ≡ y = elim (Contains-cases y ys x (into x (Contains-head x xs))) [
-      | inl is ↦ sym is
-      | inr after ↦ elim (Contains-cases x xs y (back y (Contains-head y ys))) [
-        | inl is ↦ is
-        | inr before ↦ absurd (omega (arith, after-second (number_of x) xs y p.0 before, after-second (number_of y) ys x q.0 after))
-      ]
-    ] in
-    let rest = same-members xs ys p.1 q.1 (rest-within x y xs ys first p.0 into) (rest-within y x ys xs (sym first) q.0 back) in
-    λ i. first i ∷ rest i
-
-abbrev second_by : Ends → SecondHeard
-second_by e = record { first = e.least; last = e.greatest }
-
-module _ (IsThere : RecordHearing → Type 0) where
-  seconds-within : (xs ys : List SecondHeard) → AreSecondsOf IsThere xs → AreSecondsOf IsThere ys
-      → (s : SecondHeard) → Contains xs s → Contains ys s
-  seconds-within xs ys are too s among =
-      let own = are.each s among in
-      let found = too.all s.first own.least_there in
-      let other : AreEnds IsThere (number_of s) (ends found.0.first found.0.last) =
-      subst (λ (n : ℕ). AreEnds IsThere n (ends found.0.first found.0.last)) found.2 (too.each found.0 found.1) in
-      let same = same_Some (ends s.first s.last) (ends found.0.first found.0.last)
-      (same_ends_in {P = IsThere} {Q = IsThere} (λ h there. there) (λ h there. between-itself h there) (number_of s)
-      (Some (ends s.first s.last)) (Some (ends found.0.first found.0.last)) own other) in
-      subst (λ (t : SecondHeard). Contains ys t) (sym (ap second_by same)) found.1
-
-  one-seconds : (xs ys : List SecondHeard) → AreSecondsOf IsThere xs → AreSecondsOf IsThere ys → xs ≡ ys
-  one-seconds xs ys are too = search (arith, same-members, seconds-within)
 
 -- ---- the records of the timeline
 

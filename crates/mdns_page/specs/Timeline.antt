@@ -1,18 +1,19 @@
 -- The timeline.
-use Rattle.std.specs.Prelude.{ℕ, ◌+◌, ◌-◌, ◌==◌, nat_le, nat_lt, Bool, false, if◌then◌else◌, option_map, unwrap_or}
-use Rattle.std.specs.{Prelude.{List, [], ◌++◌, codes, length, map, slice_get}, Global.{Vec}, List.{count_by, flat_map}}
-use Rattle.mdns_message.specs.{Parts.{content_of}, declared.parts.Content.{Content}}
+use Rattle.std.specs.Prelude.{ℕ, ◌+◌, ◌-◌, ◌==◌, nat_le, nat_lt, Bool, false, if◌then◌else◌, Option, option_map, unwrap_or}
+use Rattle.std.specs.{Prelude.{List, [], ◌++◌, codes, length, map, slice_get}, BTreeMap.{BTreeMap, get}, Global.{Vec}, List.{count_by, filter, flat_map}}
+use Rattle.mdns_message.specs.{Parts.{content_of}, declared.{key.Key.{Key}, parts.Content.{Content}}, Resource.{key_cmp}}
 use Rattle.mdns_message.specs.declared.parts.Content.TheVariants as content
 use Rattle.mdns_join.specs.declared.latest.Latest.{Latest}
 use Rattle.mdns_lives.specs.declared.{life.Life.{Life}, lives.RecordLives.{RecordLives}, seconds_heard.SecondHeard.{SecondHeard}}
 use Rattle.people_text.specs.Shown.{name_shown}
 use Rattle.mdns_browse.specs.RecordShown.{shown_address, shown_instance}
-use Rattle.mdns_cache.specs.LentRecords.{last_lent}
+use Rattle.mdns_cache.specs.{LentRecords.{last_lent}, Live.{key_of_last}}
+use Rattle.mdns_lives.specs.{Chronicle.{Accounts}, Heard.{seconds_held}}
 use Rattle.mdns_page.specs.{Counts.{commas, count_text}, Group.{axis_picture, first_owner, group, grouped, item}, HeardWords.{heard_text}}
 use Rattle.mdns_page.specs.{Legend.{key}, Picture.{goes_on}, RowPicture.{picture}, LifeWords.{lives_words}}
 use Rattle.mdns_page.specs.declared.{axis.Axis.{Axis}, kept_records.TimelinePart.{TimelinePart}}
 use Rattle.mdns_page.specs.declared.kept_records.TimelinePart.TheVariants.{Addresses, Instances, Names}
-use Rattle.mdns_page.specs.declared.{timeline_rows.CountedRow.{CountedRow}, row_picture.Look.{Look}}
+use Rattle.mdns_page.specs.declared.{hearers.Hearers.{Hearers}, timeline_rows.CountedRow.{CountedRow}, row_picture.Look.{Look}}
 
 -- ---- rows of records
 
@@ -33,13 +34,29 @@ seconds_lent seconds = seconds.items
 abbrev pub lives_lent : RecordLives → List Life
 lives_lent row = row.lives.items
 
+-- the seconds of captures; where there are many, only those of the ones that heard the record
+abbrev pub shown_seconds : (many : Bool) → List (List SecondHeard) → List (List SecondHeard)
+shown_seconds many captures = if many then filter (λ seconds. nat_lt 0 (length seconds)) captures else captures
+
+-- the seconds that the captures hold of a record; of more than four captures only those of the ones that heard it
+abbrev pub held_lent : List Accounts → Key → List (List SecondHeard)
+held_lent chronicles key = shown_seconds (nat_lt 4 (length chronicles)) (map (λ c. seconds_held c key) chronicles)
+
+-- the seconds that are told of a record, if some are
+abbrev pub told_lent : BTreeMap Key (Vec (Vec SecondHeard)) → Key → Option (List (List SecondHeard))
+told_lent told key = option_map (λ (heard : Vec (Vec SecondHeard)). map seconds_lent heard.items) (get key_cmp told key)
+
+-- those that are told, or else those that are held
+abbrev pub heard_lent : Hearers → Key → List (List SecondHeard)
+heard_lent hearers key = unwrap_or (told_lent hearers.told key) (held_lent hearers.chronicles.now key)
+
 abbrev pub counted_lent : CountedRow → Row
 counted_lent row = record {
   last = last_lent row.record.now.last;
   lives = row.record.now.lives.items;
   servers = map lives_lent row.servers.now;
-  capture_count = row.capture_count;
-  heard = map seconds_lent row.heard.items;
+  capture_count = length row.hearers.now.chronicles.now;
+  heard = heard_lent row.hearers.now (key_of_last (last_lent row.record.now.last));
 }
 
 -- the lives in the picture of a row: those of its record, and those of its servers

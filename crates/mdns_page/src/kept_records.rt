@@ -1,7 +1,7 @@
 //! The records of a page.
 
 ghost use Rattle.std.specs.Prelude.{◌≡◌, ◌++◌, ◌||◌, ◌∷◌, [], if◌then◌else◌, is_some, IfOk, OnOk, map};
-ghost use Rattle.std.specs.{List.{filter, list_any}, List.Sorted.{IsStrictlySortedBy}};
+ghost use Rattle.std.specs.{List.{count_by, filter, list_any}, List.Sorted.{IsStrictlySortedBy}};
 ghost use Rattle.mdns_message.specs.{Parts.{address_of}, Resource.{key_cmp}};
 ghost use Rattle.mdns_cache.specs.{Live.{key_of_last}, LentRecords.{last_lent}};
 ghost use Rattle.mdns_lives.specs.{LentLives.{row_lent}, Window.{meets}};
@@ -13,6 +13,7 @@ use crate::servers::is_server;
 use mdns_browse::about::{Subject, keeps_heard_instance, keeps_record};
 use mdns_browse::services::{instance_of, other_of};
 use mdns_cache::Last;
+use mdns_lives::lives::RecordHeard;
 use mdns_lives::{Life, LivesWalk, RecordLives, Window};
 use mdns_message::Want;
 use std::alloc::Global;
@@ -41,8 +42,8 @@ pub(crate) fn heard_rows<'a>(
         return Ok(heard);
     }
     let mut walk = rows;
-    while let Some(row) = walk.next()? {
-        heard.push(row.last)?;
+    while let Some(record) = walk.next_record() {
+        heard.push(*record.last())?;
     }
     Ok(heard)
 }
@@ -61,25 +62,27 @@ pub(crate) fn kept_rows<'a>(
     let mut kept = Vec::new(alloc);
     let mut scratch = String::new(alloc);
     let mut walk = rows;
-    while let Some(row) = walk.next()? {
-        push_kept(&mut kept, row, heard, about, &mut scratch)?;
+    while let Some(record) = walk.next_record() {
+        push_kept(&mut kept, record, heard, about, &mut scratch)?;
     }
     Ok(kept)
 }
 
+// Appends a record with its lives, if the page keeps it.
 #[tactic(auto, using(crate::proofs::KeptLemmas::for_push_kept))]
 fn push_kept<'a>(
     to: &mut Vec<RecordLives<'a>>,
-    row: RecordLives<'a>,
+    record: RecordHeard<'a>,
     heard: &[Last<'_>],
     about: &[Subject],
     scratch: &mut String,
 ) -> Result<(), Want>
     ensures { OnOk result (IsStrictlySortedBy key_cmp (map key_of_last (map last_lent heard.now))
         → map row_lent to.new.items ≡ map row_lent to.old.items
-        ++ filter (λ row. is_kept about.now (map last_lent heard.now) row.0) (row_lent row.entry ∷ [])) }
+        ++ filter (λ row. is_kept about.now (map last_lent heard.now) row.0) (record.entry ∷ [])) }
 {
-    if is_kept(&row.last, heard, about, scratch)? {
+    if is_kept(record.last(), heard, about, scratch)? {
+        let row = record.with_lives(*to.allocator())?;
         to.push(row)?;
     }
     Ok(())
@@ -148,6 +151,16 @@ pub(crate) fn is_shown(part: TimelinePart, window: Window, record: &RecordLives<
     ensures { result ≡ is_shown part window (row_lent «record».now) }
 {
     is_of(part, &record.last) && meets_any(window, record.lives.as_slice())
+}
+
+/// Returns how many records have their row there, and were live at a moment of the window.
+pub(crate) fn shown_count(part: TimelinePart, window: Window, records: &[RecordLives<'_>]) -> usize
+    ensures { result ≡ count_by (is_shown part window) (map row_lent records.now) }
+{
+    records
+        .iter()
+        .filter(|record| is_shown(part, window, record))
+        .count()
 }
 
 fn meets_any(window: Window, lives: &[Life]) -> bool

@@ -13,7 +13,10 @@ use crate::axis::{Axis, axis_of};
 use crate::by_listener::facts_by;
 use crate::collector::{ComparisonRows, PageCollector, compared};
 use crate::document::{PageParts, push_page};
-use crate::kept_records::{TimelinePart, heard_rows, is_drawn, kept_rows, unless_large};
+use crate::hearers::hearers_of;
+use crate::kept_records::{
+    TimelinePart, heard_rows, is_drawn, kept_rows, shown_count, unless_large,
+};
 use crate::lead::FileEnding;
 use crate::listener_lives::ListenerLives;
 use crate::live_section::push_live;
@@ -129,28 +132,39 @@ fn page_of(
     let heard = heard_rows(alloc, all.walk(), about)?;
     let kept = kept_rows(alloc, all.walk(), heard.as_slice(), about)?;
     let records = kept.as_slice();
-    let chronicles = lives.captures.as_slice();
     let window = axis.window;
+    let count = shown_count(TimelinePart::Instances, window, records);
+    let few = unless_large(is_large(count), records);
+    let address_count = shown_count(TimelinePart::Addresses, window, few);
+    let opened = is_open(
+        count,
+        address_count,
+        shown_count(TimelinePart::Names, window, few),
+    );
+
+    // It takes much room beside its text, which rows then take.
+    let live = live_of(alloc, all, heard.as_slice(), axis, opened, about)?;
+    let chronicles = lives.captures.as_slice();
+    let of_rows = hearers_of(alloc, TimelinePart::Instances, window, records, chronicles)?;
     let rows = counted_rows(
         alloc,
         TimelinePart::Instances,
         window,
         records,
         records,
-        chronicles,
+        &of_rows,
     )?;
-    let few = unless_large(is_large(rows.len()), records);
+    let of_addresses = hearers_of(alloc, TimelinePart::Addresses, window, few, chronicles)?;
     let addresses = counted_rows(
         alloc,
         TimelinePart::Addresses,
         window,
         few,
         records,
-        chronicles,
+        &of_addresses,
     )?;
-    let others = counted_rows(alloc, TimelinePart::Names, window, few, records, chronicles)?;
-    let opened = is_open(rows.len(), addresses.len(), others.len());
-    let live = live_of(alloc, all, heard.as_slice(), axis, opened, about)?;
+    let of_others = hearers_of(alloc, TimelinePart::Names, window, few, chronicles)?;
+    let others = counted_rows(alloc, TimelinePart::Names, window, few, records, &of_others)?;
     let mut skipped = String::new(alloc);
     push_skipped(&mut skipped, readings)?;
     let mut text = String::new(alloc);
@@ -214,7 +228,7 @@ fn live_of(
         → string_bytes text ≡ live_at_end about.now axis opened (rows_of lives.now)) }
 {
     let live = lives.live_at(axis.now)?;
-    let mut rows = Vec::new(alloc);
+    let mut rows = Vec::with_capacity(alloc, live.len())?;
     let mut given = Vec::new(alloc);
     let mut scratch = String::new(alloc);
     for row in &live {

@@ -17,7 +17,7 @@ use crate::picture::goes_on;
 use crate::row_picture::{Look, push_picture};
 use crate::timeline_rows::CountedRow;
 use mdns_browse::push_shown_instance;
-use mdns_lives::Life;
+use mdns_lives::{Life, SecondHeard};
 use mdns_message::{BorrowedName, Content, Name, Want};
 
 impl HasOwner for CountedRow<'_> {
@@ -62,9 +62,7 @@ pub(crate) fn push_rows(
     Ok(())
 }
 
-// Appends a record, by way of `scratch`: what it names, how often each capture heard it, the picture of its lives and those
-// of its servers, and its own in words.
-#[tactic(auto, unfolding(crate::specs::Timeline::row_text))]
+// Appends a record, and looks up how often each capture heard it.
 fn push_row(
     to: &mut String,
     scratch: &mut String,
@@ -75,11 +73,36 @@ fn push_row(
     ensures { OnOk result (string_bytes to.new
         ≡ string_bytes to.old ++ row_text isolated part look (counted_lent row.now)) }
 {
+    let alloc = *to.allocator();
+    let record = row.record;
+    let hearers = row.hearers;
+    if let Some(heard) = hearers.told(alloc, record.last.resource)? {
+        return push_heard_row(to, scratch, part, look, row, heard);
+    }
+    let heard = hearers.look_up(alloc, record.last.resource)?;
+    push_heard_row(to, scratch, part, look, row, heard.as_slice())
+}
+
+// Appends a record, by way of `scratch`: what it names, how often each capture heard it, the picture of its lives and those
+// of its servers, and its own in words.
+#[tactic(auto, unfolding(crate::specs::Timeline::row_text))]
+fn push_heard_row(
+    to: &mut String,
+    scratch: &mut String,
+    part: TimelinePart,
+    look: Look,
+    row: &CountedRow<'_>,
+    heard: &[Vec<SecondHeard>],
+) -> Result<(), Want>
+    requires { map seconds_lent heard.now ≡ (counted_lent row.now).heard }
+    ensures { OnOk result (string_bytes to.new
+        ≡ string_bytes to.old ++ row_text isolated part look (counted_lent row.now)) }
+{
     let lives = row.record.lives.as_slice();
     to.push_str("<li><div>")?;
-    push_name(to, scratch, part, row)?;
+    push_name(to, scratch, part, row, heard)?;
     to.push_str("</div>")?;
-    push_picture(to, look, lives, row.servers, row.heard.as_slice())?;
+    push_picture(to, look, lives, row.servers, heard)?;
     to.push_str("<div>")?;
     push_lives_words(to, look.axis, lives)?;
     to.push_str("</div></li>\n")?;
@@ -91,16 +114,17 @@ fn push_name(
     scratch: &mut String,
     part: TimelinePart,
     row: &CountedRow<'_>,
+    heard: &[Vec<SecondHeard>],
 ) -> Result<(), Want>
     ensures { OnOk result (string_bytes to.new ≡ string_bytes to.old
         ++ (content_name isolated part (owner_of (counted_lent row.now)) (content_of (counted_lent row.now).last.resource.body)
-        ++ heard_text row.now.capture_count (map seconds_lent row.now.heard.items))) }
+        ++ heard_text (counted_lent row.now).capture_count (map seconds_lent heard.now))) }
 {
     let record = row.record;
     let resource = record.last.resource;
     let body = resource.body.borrowed();
     push_content_name(to, scratch, part, &resource.owner, body.content())?;
-    push_heard(to, row.capture_count, row.heard.as_slice())
+    push_heard(to, row.hearers.chronicles.len(), heard)
 }
 
 // Appends what a record names, by way of `scratch`: an instance or another whole name, or a host with its address; nothing

@@ -26,4 +26,4 @@ returns c = λ heard stands each left apart.
     (subst (λ (k : Key). get key_cmp c.args.told.now k ≡ Some c.in-Some.shown.now) own had)
     (subst (λ (k : Key). get key_cmp new k ≡ Some c.push_shown.new.to) own updates.1)
     (λ q e. updates.2 q (subst (λ (k : Key). is_eq (key_cmp k q) ≡ false) (sym own) e)) c.in_ok-push_shown.ensures
-    (c.in_ok-seconds_heard.ensures heard stands)
+    (c.in_ok-seconds_heard.ensures.stands heard stands)

@@ -5,10 +5,10 @@ use Rattle.mdns_lives.specs.declared.life.Life.{Life}
 use Rattle.mdns_page.proofs.kept_records.heard_rows.Given as goal
 
 -- the last hearings so far were collected, and the others are left
-abbrev pub invariant-loop-heard : goal.invariant-loop-heard
-invariant-loop-heard l =
+abbrev pub invariant-loop-record : goal.invariant-loop-record
+invariant-loop-record l =
     map (λ (row : Latest × List Life). row.0) l.fn.rows
     ≡ map last_lent l.heard.items ++ map (λ (row : Latest × List Life). row.0) l.walk
 
-abbrev pub decreases-loop-heard : goal.decreases-loop-heard
-decreases-loop-heard l = length l.walk
+abbrev pub decreases-loop-record : goal.decreases-loop-record
+decreases-loop-record l = length l.walk

@@ -7,11 +7,11 @@ use Rattle.mdns_page.specs.KeptRecords.{is_kept}
 use Rattle.mdns_page.proofs.kept_records.kept_rows.Given as goal
 
 -- those of the rows so far were kept
-abbrev pub invariant-loop-scratch : goal.invariant-loop-scratch
-invariant-loop-scratch l =
+abbrev pub invariant-loop-record : goal.invariant-loop-record
+invariant-loop-record l =
     IsStrictlySortedBy key_cmp (map key_of_last (map last_lent l.heard))
     → filter (λ row. is_kept l.about (map last_lent l.heard) row.0) l.fn.rows
     ≡ map row_lent l.kept.items ++ filter (λ row. is_kept l.about (map last_lent l.heard) row.0) l.walk
 
-abbrev pub decreases-loop-scratch : goal.decreases-loop-scratch
-decreases-loop-scratch l = length l.walk
+abbrev pub decreases-loop-record : goal.decreases-loop-record
+decreases-loop-record l = length l.walk

@@ -1,5 +1,5 @@
 use Rattle.std.proofs.Common.{◌≡◌, ◌∙◌, ◌+◌, ◌++◌, [], Bool, if◌then◌else◌, List, ℕ, ap, length, map, string_bytes, subst, sym}
-use Rattle.std.proofs.lemmas.{List.{length-map}, Simd.{map-map}}
+use Rattle.std.proofs.lemmas.{List.{length-map}, List.Sums.{length-filter}, Simd.{map-map}}
 use Rattle.std.specs.{List.{filter}, List.Sorted.{IsStrictlySortedBy}}
 use Rattle.mdns_message.specs.Resource.{key_cmp}
 use Rattle.mdns_cache.specs.{Live.{key_of_last}, LentRecords.{last_lent}}
@@ -10,7 +10,8 @@ use Rattle.mdns_page.specs.{Captures.{comparison_lent, facts_lent}, Collected.{r
 use Rattle.mdns_page.specs.{KeptRecords.{AreRows, is_kept, is_shown, kept_of, looked_up}, SkippedSection.{skipped_text}}
 use Rattle.mdns_page.specs.{Document.{Shown, page}, Page.{WritesPage, live_at_end}, Timeline.{Row, counted_lent, is_large, is_open}}
 use Rattle.mdns_page.specs.declared.kept_records.{TimelinePart.{TimelinePart}, TimelinePart.TheVariants.{Addresses, Instances, Names}}
-use Rattle.mdns_page.proofs.KeptLemmas.{few-sorted, looked_up-sorted, some-sorted}
+use Rattle.mdns_page.specs.declared.hearers.Hearers.{Hearers}
+use Rattle.mdns_page.proofs.{CountedLemmas.{record_in}, KeptLemmas.{few-sorted, looked_up-sorted, some-sorted}}
 use Rattle.mdns_page.proofs.page.page_of.Goals as goal
 
 pub returns : goal.returns
@@ -37,10 +38,13 @@ returns c = λ each heard chronicled held latest.
     let in_order = subst (λ (rs : List (Latest × List Life)). IsStrictlySortedBy key_cmp (map (λ (row : Latest × List Life). key_of_last row.0) rs))
     (sym kept)
     (some-sorted heard walk lives (λ (row : Latest × List Life). is_kept about (looked_up about walk) row.0)) in
-    let chronicles = subst (λ (chronicles : List Accounts). AreEach Chronicles chronicles each) (sym c.as_slice-chronicles.ensures.value)
-    chronicled in
-    let count : c.len.result ≡ length rows =
-    c.len.ensures ∙ c.in_ok-rows.rows.ok.0 ∙ sym (length-map c.in_ok-rows.rows.items counted_lent) in
+    let by = λ (hearers : Hearers) (same : hearers.chronicles.now ≡ c.as_slice-chronicles.result.now).
+    subst (λ (chronicles : List Accounts). AreEach Chronicles chronicles each) (sym (same ∙ c.as_slice-chronicles.ensures.value)) chronicled in
+    let by_rows = by c.in_ok-of_rows.of_rows c.in_ok-of_rows.ensures.chronicles in
+    let by_addresses = by c.in_ok-of_addresses.of_addresses c.in_ok-of_addresses.ensures.chronicles in
+    let by_others = by c.in_ok-of_others.of_others c.in_ok-of_others.ensures.chronicles in
+    let count : c.shown_count-count.result ≡ length rows =
+    c.shown_count-count.ensures ∙ sym (length-filter (is_shown Instances axis.window) records) ∙ ap length (sym c.in_ok-rows.ensures.records) ∙ length-map rows record_in in
     let few : map row_lent c.unless_large-few.result.now ≡ (if is_large (length rows) then [] else records) =
     c.unless_large-few.ensures
     ∙ ap (λ (large : Bool). if large then [] else records) (c.is_large.ensures ∙ ap is_large count) in
@@ -50,14 +54,13 @@ returns c = λ each heard chronicled held latest.
     let are = λ (part : TimelinePart) (large : Bool) (made : List Row) (own : AreRows part axis.window large each records made).
     subst (λ (rs : List (Latest × List Life)). AreRows part axis.window large each rs made) kept own in
     let filtered = λ (part : TimelinePart). ap (filter (is_shown part axis.window)) few in
-    let count_rows : c.len-2.result ≡ length rows =
-    c.len-2.ensures ∙ c.in_ok-rows.rows.ok.0 ∙ sym (length-map c.in_ok-rows.rows.items counted_lent) in
-    let count_addresses : c.len-3.result ≡ length addresses =
-    c.len-3.ensures ∙ c.in_ok-addresses.addresses.ok.0 ∙ sym (length-map c.in_ok-addresses.addresses.items counted_lent) in
-    let count_others : c.len-4.result ≡ length others =
-    c.len-4.ensures ∙ c.in_ok-others.others.ok.0 ∙ sym (length-map c.in_ok-others.others.items counted_lent) in
+    let few_shown = λ (part : TimelinePart). sym (length-filter (is_shown part axis.window) (map row_lent c.unless_large-few.result.now)) in
+    let count_addresses : c.shown_count-address_count.result ≡ length addresses =
+    c.shown_count-address_count.ensures ∙ few_shown Addresses ∙ ap length (sym c.in_ok-addresses.ensures.records) ∙ length-map addresses record_in in
+    let count_others : c.shown_count.result ≡ length others =
+    c.shown_count.ensures ∙ few_shown Names ∙ ap length (sym c.in_ok-others.ensures.records) ∙ length-map others record_in in
     let opened : c.is_open-opened.result ≡ is_open (length rows + length addresses + length others) =
-    c.is_open-opened.ensures ∙ (λ i. is_open (count_rows i + count_addresses i + count_others i)) in
+    c.is_open-opened.ensures ∙ (λ i. is_open (count i + count_addresses i + count_others i)) in
     let live : string_bytes c.in_ok-live.live
     ≡ live_at_end about axis (is_open (length rows + length addresses + length others)) walk =
     c.in_ok-live.ensures heard all (subst Sorted (sym looked_live) sorted) (looked_live ∙ ap (looked_up about) c.walk-2.ensures.left)
@@ -84,19 +87,19 @@ returns c = λ each heard chronicled held latest.
       instances = rows;
       are_instances = are Instances _ rows (record {
         are = c.in_ok-rows.ensures.records;
-        counted = c.in_ok-rows.ensures.heard each chronicles;
+        counted = c.in_ok-rows.ensures.heard each by_rows (c.in_ok-of_rows.ensures.told each by_rows);
         served = c.in_ok-rows.ensures.servers in_order;
       });
       addresses = addresses;
       are_addresses = are Addresses _ addresses (record {
         are = c.in_ok-addresses.ensures.records ∙ filtered Addresses;
-        counted = c.in_ok-addresses.ensures.heard each chronicles;
+        counted = c.in_ok-addresses.ensures.heard each by_addresses (c.in_ok-of_addresses.ensures.told each by_addresses);
         served = c.in_ok-addresses.ensures.servers in_order;
       });
       others = others;
       are_others = are Names _ others (record {
         are = c.in_ok-others.ensures.records ∙ filtered Names;
-        counted = c.in_ok-others.ensures.heard each chronicles;
+        counted = c.in_ok-others.ensures.heard each by_others (c.in_ok-of_others.ensures.told each by_others);
         served = c.in_ok-others.ensures.servers in_order;
       });
       written = c.in_ok-push_page.ensures ∙ ap (λ (text : List ℕ). text ++ page isolated shown) c.new-text.ensures.bytes

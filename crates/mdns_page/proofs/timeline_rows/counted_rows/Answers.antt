@@ -1,6 +1,5 @@
-use Rattle.std.proofs.Common.{◌≡◌, ◌∙◌, ◌++◌, ◌∷◌, [], ap, cond, length, map, sym}
+use Rattle.std.proofs.Common.{◌≡◌, ◌∙◌, ◌++◌, ◌∷◌, [], ap, cond, map, sym}
 use Rattle.std.proofs.lemmas.List.{map-append}
-use Rattle.std.specs.Prelude.{nat_lt}
 use Rattle.mdns_lives.specs.{LentLives.{row_lent}}
 use Rattle.mdns_browse.specs.Services.{body_of}
 use Rattle.mdns_page.specs.{TimelineRows.{IsCounted}, KeptRecords.{is_shown}, Servers.{servers_of}, Timeline.{Row, counted_lent}}
@@ -12,8 +11,8 @@ loop-record-preserved c =
     let keep = is_shown c.args.part c.args.window in
     let rows = c.loop-record.rows.items in
     let so_far = c.loop-record.invariant in
-    let row = c.in_ok-counted_row.field-0 in
-    let made = c.in_ok-counted_row.ensures in
+    let row = c.counted_row.result in
+    let made = c.counted_row.ensures in
     let pushed = c.in_ok-push.ensures.items in (
       ap (λ found. map record_in (map counted_lent found)) pushed ∙ ap (map record_in) (map-append counted_lent rows (row ∷ []))
           ∙ map-append record_in (map counted_lent rows) (counted_lent row ∷ [])
@@ -22,10 +21,6 @@ loop-record-preserved c =
           (sym c.if-not-is_shown.false ∙ c.is_shown.ensures)
           ∙ sym (kept_more keep row_lent c.args.records.now c.loop-record.record-index c.record-item.result _ c.loop-record-test.true
           c.record-item.is so_far.0),
-      λ each are.
-          let far = so_far.1 each are in (
-            row-more (IsCounted each) rows row _ pushed far.0 (made.heard each are far.1),
-            made.told (nat_lt 4 (length c.args.chronicles.now)) each far.1,
-          ),
+      λ each are tells. row-more (IsCounted each) rows row _ pushed (so_far.1 each are tells) (made.heard each are tells),
       λ sorted. row-more (λ (row : Row). row.servers ≡ servers_of (map row_lent c.args.servers.now) (body_of row.last)) rows row _ pushed (so_far.2 sorted) (made.servers sorted),
     )

@@ -13,7 +13,8 @@ abbrev pub invariant-loop-record : goal.invariant-loop-record
 invariant-loop-record l =
     (map (λ (row : Row). (row.last, row.lives)) (map counted_lent l.rows.items)
     ≡ filter (is_shown l.part l.window) (map row_lent (take l.record-index l.records)))
-    × ((each : List (List Hearing)) → AreEach Chronicles l.chronicles each → All (IsCounted each) (map counted_lent l.rows.items)
-    × Tells (nat_lt 4 (length l.chronicles)) (λ key. each) l.told)
+    × ((each : List (List Hearing)) → AreEach Chronicles l.hearers.chronicles.now each
+    → Tells (nat_lt 4 (length l.hearers.chronicles.now)) (λ key. each) l.hearers.told
+    → All (IsCounted each) (map counted_lent l.rows.items))
     × (IsStrictlySortedBy key_cmp (map (λ (row : Latest × List Life). key_of_last row.0) (map row_lent l.servers))
     → All (λ (row : Row). row.servers ≡ servers_of (map row_lent l.servers) (body_of row.last)) (map counted_lent l.rows.items))
