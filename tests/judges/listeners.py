@@ -10,7 +10,7 @@ from typing import NamedTuple, Optional
 from tests.captures.wire import A, AAAA
 from tests.judges.hearings import number_at, payload_of, source_of, told_by
 from tests.judges.json_forms import APART
-from tests.judges.pretty import warned_words
+from tests.judges.pretty import is_untold, warned_words
 from tests.judges.savefile import frames_in
 from tests.judges.words import file_text, moment_text, name_text
 
@@ -197,15 +197,23 @@ def compared_of(listeners):
 
 
 def warnings_of(pairs):
-    """The names of each two that don't have one clock, the later one first, and what is said of its clock."""
+    """The names of each two that have nothing in common or not one clock, the later one first, and what is said of its clock."""
     warned = ((pair, warned_words(row_of(pair))) for pair in pairs)
     return [(pair.other.name, pair.one.name, words) for pair, words in warned if words]
 
 
+def untold_of(pairs):
+    """What is said of all pairs of which too few messages tell whether they have one clock; nothing where there are none."""
+    untold = sum(is_untold(row_of(pair)) for pair in pairs)
+    return [f"{untold} of {len(pairs)} pair{'' if len(pairs) == 1 else 's'} of captures: too few messages heard once in both to tell "
+            "whether their clocks agree: mdnswhy listeners FILE... says more"] if untold else []
+
+
 def warnings_text(captures):
     """The lines before the columns of lives, of captures, each with its name."""
-    warned = warnings_of(compared_of(listeners_of(captures, ())))
-    return "".join(f"{file_text(other)} beside {file_text(one)}: {words}\n" for other, one, words in warned)
+    pairs = compared_of(listeners_of(captures, ()))
+    lines = [f"{file_text(other)} beside {file_text(one)}: {words}" for other, one, words in warnings_of(pairs)]
+    return "".join(f"{line}\n" for line in lines + untold_of(pairs))
 
 
 def row_of(pair):

@@ -13,7 +13,7 @@ from tests.judges.axis import day
 from tests.judges.causes import LOST
 from tests.judges.lanes import bases_of, counts_of, height_of, ticks_of
 from tests.judges.lines import addresses_of, sets_of, wire_of
-from tests.judges.listeners import warnings_of
+from tests.judges.listeners import untold_of, warnings_of
 from tests.judges.meanings import table_of
 from tests.judges.pretty import date_of, duration, is_apart, millis, shown_label, words_below, words_of
 from tests.judges.shown import shown, shown_name
@@ -168,6 +168,7 @@ def lead_text(judge):
         f'<p class="note">Only what is about {", ".join(map(name_bdi, judge.about))}.</p>\n' if judge.about else "",
         *(f'<p class="warn">{name_bdi(name)}: {ending}. What came later is missing, goodbyes too.</p>\n' for name, ending in judge.cut),
         *(f'<p class="warn">{name_bdi(one)} beside {name_bdi(other)}: {words}</p>\n' for one, other, words in warnings_of(judge.pairs)),
+        *(f'<p class="warn">{words}</p>\n' for words in untold_of(judge.pairs)),
         f'<p class="warn">{counted(lost, "packet")} could not be used: <a href="#nothing">why</a>.</p>\n' if lost else ""))
 
 

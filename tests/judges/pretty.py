@@ -14,6 +14,9 @@ EPOCH = datetime(1970, 1, 1, tzinfo=timezone.utc)
 # Clocks that are no further apart are one: a tenth of the second in which goodbyes and flushes act.
 NEAR = SECOND // 10
 
+# How many messages that came once in both tell that clocks are further apart: of fewer, each may be one that was sent again.
+FEWEST = 3
+
 UNITS = (("d", 86_400), ("h", 3_600), ("min", 60), ("s", 1))
 
 
@@ -215,21 +218,29 @@ def clock_words(row):
     if row["by"] == "0":
         return "can't tell: no message came once in both"
     by = f"by {row['by']} message{'' if row['by'] == '1' else 's'} heard once in both"
+    between = row["low"] if row["low"] == row["high"] else f"{row['low']} to {row['high']}"
     ahead, low, high = (signed_nanos(row[name]) for name in ("ahead", "low", "high"))
     if max(map(abs, (ahead, low, high))) <= NEAR:
         return f"one clock: {row['ahead']} s ahead, {by}"
+    if int(row["by"]) < FEWEST:
+        return f"too few to tell: {between} s ahead, {by}"
     if max(ahead - low, high - ahead) <= NEAR:
         back = row["ahead"][1:] if ahead < 0 else f"-{row['ahead']}"
         return f"{row['ahead']} s ahead, {by}: editcap -F nsecpcap -t {back} {row['other']} shifted.pcap"
-    return f"unsteady: {row['low']} to {row['high']} s ahead, {by}"
+    return f"unsteady: {between} s ahead, {by}"
+
+
+def is_untold(row):
+    """Whether two listeners have messages in common, of which too few came once in both to tell whether they have one clock."""
+    return row["common"] != "0" and int(row["by"]) < FEWEST and not clock_words(row).startswith("one clock: ")
 
 
 def warned_words(row):
-    """What a warning says of the clock of the other of two listeners; None where they have one clock."""
+    """What a warning says of the clock of the other of two listeners; None where they have one clock, or too few messages tell."""
     words = clock_words(row)
-    if words.startswith("one clock: "):
+    if is_untold(row) or words.startswith("one clock: "):
         return None
-    more = "" if row["by"] == "0" else ": mdnswhy listeners FILE... says more"
+    more = "" if row["common"] == "0" else ": mdnswhy listeners FILE... says more"
     return words.partition(": editcap")[0] + more
 
 

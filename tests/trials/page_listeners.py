@@ -59,7 +59,9 @@ def compared(east):
     yield Case("a listener with a clock 4 s ahead, before a moment", [*in_parts("west", AHEAD, 4), *east],
                by("east", "west", before=at(2)))
     yield Case("a file twice", [east[0], east[0], ("west", HEARD[:3])], by("east"),
-               ("<bdi>east</bdi><small>6 packets, 24 hearings</small>", "can't tell: no message came once in both"))
+               ("<bdi>east</bdi><small>6 packets, 24 hearings</small>", "can't tell: no message came once in both",
+                '<p class="warn">1 of 1 pair of captures: too few messages heard once in both to tell whether their clocks agree: '
+                "mdnswhy listeners FILE... says more</p>"))
     # Between the files of one listener the other heard a message alone, and one in each file.
     gap = [*HEARD[:3], *HEARD[6:]]
     yield Case("a gap between the files of a listener", [*in_parts("east", gap, 3), ("west", HEARD)], by("east"),

@@ -1,12 +1,12 @@
 -- Texts that were worked by hand.
-use Rattle.std.proofs.Common.{◌≡◌, refl, ℕ, List, [], ◌∷◌, Option, Some, None, codes}
+use Rattle.std.proofs.Common.{◌≡◌, refl, ℕ, List, [], ◌∷◌, ◌++◌, Option, Some, None, codes}
 use Rattle.std.specs.{Prelude.{ℤ, pos, negsuc}, Fmt.{digits}}
 use Rattle.mdns_browse.specs.Columns.{padded, spaces, widest}
 use Rattle.mdns_capture.specs.{Text.{moment_text}, declared.source_address.SourceAddress.TheVariants.{V4, V6}}
 use Rattle.mdns_listeners.specs.declared.pairs.{PairRow.{PairRow}, Quartiles.{Quartiles}}
-use Rattle.mdns_listeners.specs.Clock.{ahead_words, by_words, clock_words, one_clock_words, shift_words, steady_words, unsteady_words}
-use Rattle.mdns_listeners.specs.{Fields.{pair_fields}, Seconds.{signed_text}, Sheet.{line_text}, Table.{cells_from, table_text}}
-use Rattle.mdns_listeners.specs.Values.{groups_text, source_text}
+use Rattle.mdns_listeners.specs.Clock.{ahead_words, between_text, between_words, by_words, clock_words, one_clock_words, shift_words}
+use Rattle.mdns_listeners.specs.{Clock.{steady_words}, Fields.{pair_fields}, Seconds.{signed_text}, Sheet.{line_text}}
+use Rattle.mdns_listeners.specs.{Table.{cells_from, table_text}, Values.{groups_text, source_text}, Warnings.{counts_text, untold_text}}
 
 -- ---- signed durations
 
@@ -71,8 +71,8 @@ at_the_limit : words 1 1 (three (pos 100000000) (negsuc 99999999) (pos 100000000
 unfolding clock_words one_clock_words steady_words by_words signed_text moment_text digits
 at_the_limit = refl
 
-past_the_limit : words 1 1 (three (pos 100000001) (pos 100000001) (pos 100000001))
-    ≡ codes "0.100000001 s ahead, by 1 message heard once in both: editcap -F nsecpcap -t -0.100000001 b.pcap shifted.pcap"
+past_the_limit : words 3 3 (three (pos 100000001) (pos 100000001) (pos 100000001))
+    ≡ codes "0.100000001 s ahead, by 3 messages heard once in both: editcap -F nsecpcap -t -0.100000001 b.pcap shifted.pcap"
 unfolding clock_words ahead_words steady_words by_words shift_words signed_text moment_text digits
 past_the_limit = refl
 
@@ -83,8 +83,36 @@ behind = refl
 
 drifting : words 7 5 (three (pos 0) (negsuc 199999999) (pos 50000000))
     ≡ codes "unsteady: -0.200000000 to 0.050000000 s ahead, by 5 messages heard once in both"
-unfolding clock_words unsteady_words by_words signed_text moment_text digits
+unfolding clock_words between_words between_text by_words signed_text moment_text digits
 drifting = refl
+
+-- a message that was sent again after two minutes: one heard it first, and the other then
+one_message : words 7 1 (three (negsuc 119999999999) (negsuc 119999999999) (negsuc 119999999999))
+    ≡ codes "too few to tell: -120.000000000 s ahead, by 1 message heard once in both"
+unfolding clock_words between_words between_text by_words signed_text moment_text digits
+one_message = refl
+
+two_messages : words 2 2 (three (pos 0) (pos 0) (pos 100000001))
+    ≡ codes "too few to tell: 0.000000000 to 0.100000001 s ahead, by 2 messages heard once in both"
+unfolding clock_words between_words between_text by_words signed_text moment_text digits
+two_messages = refl
+
+-- ---- the warning of all pairs of which too few messages tell: the second and the third
+
+told_of : List PairRow
+told_of =
+    row 0 0 None ∷ row 3 0 None ∷ row 7 2 (three (pos 0) (pos 0) (pos 100000001)) ∷ row 1 1 (three (pos 0) (pos 0) (pos 0))
+    ∷ row 3 3 (three (pos 100000001) (pos 100000001) (pos 100000001)) ∷ []
+
+two_of_five : untold_text [] told_of [] ≡ codes "2 of 5 pairs of captures: too few messages heard once in both to tell "
+    ++ codes "whether their clocks agree: mdnswhy listeners FILE... says more"
+unfolding told_of untold_text counts_text digits
+two_of_five = refl
+
+one_of_one : untold_text (60 ∷ []) (row 1 0 None ∷ []) (62 ∷ []) ≡ codes "<1 of 1 pair of captures: too few messages heard once in both "
+    ++ codes "to tell whether their clocks agree: mdnswhy listeners FILE... says more>"
+unfolding untold_text counts_text digits
+one_of_one = refl
 
 -- ---- lines
 

@@ -1,6 +1,6 @@
 -- What the messages that two listeners heard say of the second listener's clock.
-use Rattle.std.specs.Prelude.{ℕ, ◌==◌, Bool, ◌&&◌, nat_le, if◌then◌else◌, ℤ, ◌-ℤ◌, neg_ℤ, unsigned_abs, List}
-use Rattle.std.specs.{Prelude.{◌∷◌, ◌++◌, Option, Some, None, codes}, Fmt.{decimal}}
+use Rattle.std.specs.Prelude.{ℕ, ◌==◌, Bool, ◌&&◌, nat_le, not, if◌then◌else◌, ℤ, ◌-ℤ◌, int_lt, neg_ℤ, unsigned_abs, List}
+use Rattle.std.specs.{Prelude.{[], ◌∷◌, ◌++◌, Option, Some, None, codes}, Fmt.{decimal}}
 use Rattle.mdns_listeners.specs.{declared.pairs.PairRow.{PairRow}, declared.pairs.Quartiles.{Quartiles}, Seconds.{signed_text}}
 
 -- A tenth of the second in which goodbyes and cache flushes act (RFC 6762, sections 10.1 and 10.2), in nanoseconds.
@@ -18,6 +18,11 @@ is_one_clock quartiles = is_near quartiles.middle && is_near quartiles.low && is
 -- the clocks stay equally far apart: the quartiles are near the median
 abbrev pub is_steady : Quartiles → Bool
 is_steady quartiles = is_near (quartiles.low -ℤ quartiles.middle) && is_near (quartiles.high -ℤ quartiles.middle)
+
+-- So many messages that were heard once in both tell how far the clocks are apart. One or two don't: they may be messages that were
+-- sent again with the same bytes, of which one listener heard the first sending alone, and the other the second.
+abbrev pub are_enough : ℕ → Bool
+are_enough by = nat_le 3 by
 
 abbrev pub messages_word : ℕ → List ℕ
 messages_word count = if count == 1 then codes "message" else codes "messages"
@@ -44,13 +49,24 @@ one_clock_words by ahead = codes "one clock: " ++ steady_words by ahead
 unfoldable pub ahead_words : List ℕ → ℕ → ℤ → List ℕ
 ahead_words file by ahead = steady_words by ahead ++ shift_words file ahead
 
-unfoldable pub unsteady_words : ℕ → ℤ → ℤ → List ℕ
-unsteady_words by low high = codes "unsteady: " ++ signed_text low ++ codes " to " ++ signed_text high ++ by_words by
+-- from how far to how far it is ahead; one number where both are the same
+unfoldable pub between_text : (low high : ℤ) → List ℕ
+between_text low high = signed_text low ++ (if int_lt low high then codes " to " ++ signed_text high else [])
+
+unfoldable pub between_words : (front : List ℕ) → ℕ → Quartiles → List ℕ
+between_words front by quartiles = front ++ between_text quartiles.low quartiles.high ++ by_words by
+
+abbrev pub unsteady_words : ℕ → Quartiles → List ℕ
+unsteady_words by quartiles = between_words (codes "unsteady: ") by quartiles
+
+abbrev pub too_few_words : ℕ → Quartiles → List ℕ
+too_few_words by quartiles = between_words (codes "too few to tell: ") by quartiles
 
 abbrev pub quartile_words : List ℕ → ℕ → Quartiles → List ℕ
 quartile_words file by quartiles =
     if is_one_clock quartiles then one_clock_words by quartiles.middle
-    else (if is_steady quartiles then ahead_words file by quartiles.middle else unsteady_words by quartiles.low quartiles.high)
+    else (if not (are_enough by) then too_few_words by quartiles
+    else (if is_steady quartiles then ahead_words file by quartiles.middle else unsteady_words by quartiles))
 
 -- ---- and where none were, or there are no messages in common
 

@@ -1,9 +1,9 @@
 //! Words on the clock of the second of two listeners. After `Want` the contents of `to` are not specified.
 
 ghost use Rattle.std.specs.Prelude.{◌≡◌, ◌++◌, ◌∷◌, OnOk, codes, string_bytes};
-ghost use Rattle.mdns_listeners.specs.Clock.{ahead_words, by_words, clock_words, is_near, is_one_clock, is_steady, messages_text};
-ghost use Rattle.mdns_listeners.specs.Clock.{messages_word, nothing_words, one_clock_words, quartile_words, shift_words, steady_words};
-ghost use Rattle.mdns_listeners.specs.Clock.{unknown_words, unsteady_words};
+ghost use Rattle.mdns_listeners.specs.Clock.{ahead_words, are_enough, between_text, between_words, by_words, clock_words, is_near};
+ghost use Rattle.mdns_listeners.specs.Clock.{is_one_clock, is_steady, messages_text, messages_word, nothing_words, one_clock_words};
+ghost use Rattle.mdns_listeners.specs.Clock.{quartile_words, shift_words, steady_words, unknown_words};
 
 use crate::pairs::{PairRow, Quartiles};
 use crate::seconds::{push_negated, push_signed};
@@ -12,6 +12,10 @@ use mdns_message::Want;
 /// Two clocks agree if they differ by at most so many nanoseconds: a tenth of the second in which goodbyes and cache flushes
 /// act (RFC 6762, sections 10.1 and 10.2).
 pub const CLOCK_LIMIT: u64 = 100_000_000;
+
+// The fewest messages heard once in both that tell how far two clocks are apart. Fewer may be messages that were sent again with
+// the same bytes, of which one listener heard the first sending alone, and the other the second.
+const FEWEST_MESSAGES: u64 = 3;
 
 /// Appends what the messages of two listeners say of the second one's clock. `file`, the second one's, is written as it is.
 #[tactic(auto, unfolding(crate::specs::Clock::clock_words))]
@@ -60,10 +64,13 @@ fn push_quartile_words(
     if is_one_clock(quartiles) {
         return push_one_clock(to, by, quartiles.middle);
     }
+    if !are_enough(by) {
+        return push_between_words(to, "too few to tell: ", by, quartiles);
+    }
     if is_steady(quartiles) {
         return push_ahead(to, file, by, quartiles.middle);
     }
-    push_unsteady(to, by, quartiles.low, quartiles.high)
+    push_between_words(to, "unsteady: ", by, quartiles)
 }
 
 #[tactic(auto, unfolding(crate::specs::Clock::one_clock_words))]
@@ -91,16 +98,32 @@ pub(crate) fn push_steady(to: &mut String, by: u64, ahead: i64) -> Result<(), Wa
     push_by(to, by)
 }
 
-/// Appends between which two durations a clock is ahead, and by how many messages that is known.
-#[tactic(auto, unfolding(crate::specs::Clock::unsteady_words))]
-pub(crate) fn push_unsteady(to: &mut String, by: u64, low: i64, high: i64) -> Result<(), Want>
-    ensures { OnOk result (string_bytes to.new ≡ string_bytes to.old ++ unsteady_words by low high) }
+/// Appends words, between which two durations a clock is ahead, and by how many messages that is known.
+#[tactic(auto, unfolding(crate::specs::Clock::between_words))]
+pub(crate) fn push_between_words(
+    to: &mut String,
+    front: &str,
+    by: u64,
+    quartiles: Quartiles,
+) -> Result<(), Want>
+    ensures { OnOk result (string_bytes to.new ≡ string_bytes to.old ++ between_words front.now by quartiles) }
 {
-    to.push_str("unsteady: ")?;
-    push_signed(to, low)?;
-    to.push_str(" to ")?;
-    push_signed(to, high)?;
+    to.push_str(front)?;
+    push_between(to, quartiles.low, quartiles.high)?;
     push_by(to, by)
+}
+
+// Appends two durations, or one if the second one isn't greater.
+#[tactic(auto, unfolding(crate::specs::Clock::between_text))]
+fn push_between(to: &mut String, low: i64, high: i64) -> Result<(), Want>
+    ensures { OnOk result (string_bytes to.new ≡ string_bytes to.old ++ between_text low high) }
+{
+    push_signed(to, low)?;
+    if low >= high {
+        return Ok(());
+    }
+    to.push_str(" to ")?;
+    push_signed(to, high)
 }
 
 fn push_by(to: &mut String, by: u64) -> Result<(), Want>
@@ -140,6 +163,13 @@ fn push_shifted_file(to: &mut String, file: &str) -> Result<(), Want>
 {
     write!(to, " {file} shifted.pcap")?;
     Ok(())
+}
+
+/// Checks that so many messages heard once in both tell how far two clocks are apart.
+pub(crate) fn are_enough(by: u64) -> bool
+    ensures { result ≡ are_enough by }
+{
+    by >= FEWEST_MESSAGES
 }
 
 /// Checks that the clocks of two listeners agree: that the median and the quartiles are within `CLOCK_LIMIT` of 0.

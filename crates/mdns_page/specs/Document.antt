@@ -4,7 +4,8 @@ use Rattle.people_text.specs.MomentText.{date_text}
 use Rattle.mdns_lives.specs.declared.life.Life.{Life}
 use Rattle.mdns_browse.specs.declared.about.Subject.{Subject}
 use Rattle.mdns_page.specs.{Axis.{is_same_date}, Captures.{Comparison, Facts, captures_text, comparison_lent, facts_lent}}
-use Rattle.mdns_page.specs.Lead.{Ended, about_line, ended_lent, ending_warning, known_lent, live_line, lost_warning, pair_warning, window_line}
+use Rattle.mdns_page.specs.Lead.{Ended, about_line, clock_warnings, ended_lent, ending_warning, known_lent, live_line, lost_warning}
+use Rattle.mdns_page.specs.Lead.{window_line}
 use Rattle.mdns_page.specs.{Lanes.{height}, Ticks.{symbols_text}, Timeline.{Row, counted_lent, is_large, timeline}}
 use Rattle.mdns_page.specs.declared.{axis.Axis.{Axis}, document.PageParts.{PageParts}, style.TheConstants.{STYLE}}
 
@@ -69,7 +70,7 @@ parts_lent parts = record {
 abbrev pub lead : (List ℕ → List ℕ) → Shown → List ℕ
 lead say shown =
     live_line shown.axis shown.known ++ window_line shown.axis.window ++ about_line say shown.about ++ flat_map (ending_warning say) shown.files
-    ++ flat_map (pair_warning say shown.captures) shown.comparison.pairs ++ lost_warning shown.lost
+    ++ clock_warnings say shown.captures shown.comparison.pairs ++ lost_warning shown.lost
 
 -- the page, with links to its sections; pictures have a lane for each capture, or one for all where there are many, and none on a
 -- large page; `say` is how text of the network is written

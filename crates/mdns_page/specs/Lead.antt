@@ -1,13 +1,13 @@
 -- What a page begins with.
 use Rattle.std.specs.Prelude.{ℕ, ◌+◌, ◌==◌, ◌&&◌, Bool, true, false, if◌then◌else◌, Option, None, Some, is_none, List, [], ◌++◌, ◌∷◌, codes}
-use Rattle.std.specs.{Prelude.{length, string_bytes}, List.{count_by, join_by}}
+use Rattle.std.specs.{Prelude.{length, string_bytes}, List.{count_by, flat_map, join_by}}
 use Rattle.mdns_capture.specs.{Text.{ending_text}, declared.moment.Moment.{Moment}, declared.savefile.Ending.{Ending}}
 use Rattle.mdns_join.specs.declared.latest.Latest.{Latest}
 use Rattle.mdns_lives.specs.declared.life.{Life.{Life}, EndReason.{EndReason}, EndReason.TheVariants.{Expired, Goodbye, Flushed}}
 use Rattle.mdns_lives.specs.{LentLives.{row_lent}, declared.lives.RecordLives.{RecordLives}, declared.window.Window.{Window}}
 use Rattle.mdns_browse.specs.declared.about.Subject.{Subject}
 use Rattle.mdns_survey.specs.ProgramLines.{is_whole}
-use Rattle.mdns_listeners.specs.{declared.pairs.PairRow.{PairRow}, Warnings.{warning_words, warns}}
+use Rattle.mdns_listeners.specs.{declared.pairs.PairRow.{PairRow}, Warnings.{untold_text, warning_words, warns}}
 use Rattle.people_text.specs.{MomentText.{millis_text}, Shown.{shown}}
 use Rattle.mdns_page.specs.{Captures.{Facts, name_at}, Counts.{commas, count_text}, KeptRecords.{is_of}, Picture.{goes_on, is_for}}
 use Rattle.mdns_page.specs.{Timeline.{is_last}, declared.kept_records.TimelinePart.TheVariants.{Instances}}
@@ -106,12 +106,17 @@ ending_warning say file =
     else codes "<p class=\"warn\">" ++ say (shown file.name) ++ codes ": " ++ ending_text file.ending
     ++ codes ". What came later is missing, goodbyes too.</p>\n"
 
--- that the clocks of two captures don't agree, or that the captures may come from two links; nothing where the clocks agree
+-- that the clocks of two captures don't agree, or that the captures may come from two links; nothing where neither is known
 unfoldable pub pair_warning : (List ℕ → List ℕ) → List Facts → PairRow → List ℕ
 pair_warning say captures pair =
     if warns pair then codes "<p class=\"warn\">" ++ say (shown (name_at captures pair.other)) ++ codes " beside "
     ++ say (shown (name_at captures pair.one)) ++ codes ": " ++ warning_words pair ++ codes "</p>\n"
     else []
+
+-- the warnings of all pairs, and of how many pairs too few messages tell whether their clocks agree
+abbrev pub clock_warnings : (List ℕ → List ℕ) → List Facts → List PairRow → List ℕ
+clock_warnings say captures pairs =
+    flat_map (pair_warning say captures) pairs ++ untold_text (codes "<p class=\"warn\">") pairs (codes "</p>\n")
 
 -- that packets lost what they said; nothing where there are none
 unfoldable pub lost_warning : ℕ → List ℕ

@@ -5,7 +5,7 @@ ghost use Rattle.std.specs.{Prelude.{◌≡◌, ◌&&◌, ◌∷◌, ◌++◌, c
 ghost use Rattle.mdns_lives.specs.declared.life.EndReason.TheVariants.{Goodbye};
 ghost use Rattle.people_text.specs.Shown.{shown};
 ghost use Rattle.mdns_page.specs.{Captures.{facts_lent}, Document.{lead, parts_lent}, Html.{isolated}, Picture.{goes_on, is_for}};
-ghost use Rattle.mdns_page.specs.Lead.{about_line, bound_text, bounds_line, count_known, counts_line, ended_lent, ended_text, ending_warning, is_ended, known_lent};
+ghost use Rattle.mdns_page.specs.Lead.{about_line, bound_text, bounds_line, clock_warnings, count_known, counts_line, ended_lent, ended_text, ending_warning, is_ended, known_lent};
 ghost use Rattle.mdns_page.specs.Lead.{live_line, lost_warning, others_text, pair_warning, said_text, window_line};
 ghost use Rattle.mdns_page.specs.Timeline.{is_last};
 
@@ -19,7 +19,7 @@ use crate::row_text::is_live;
 use mdns_browse::Subject;
 use mdns_capture::{Ending, Moment};
 use mdns_listeners::PairRow;
-use mdns_listeners::warnings::{push_warning_words, warns};
+use mdns_listeners::warnings::{push_untold, push_warning_words, warns};
 use mdns_lives::{EndReason, Life, RecordLives, Window};
 use mdns_message::Want;
 use mdns_survey::status::is_whole;
@@ -35,7 +35,8 @@ pub struct FileEnding<'a> {
 
 /// Appends what a page begins with: how many instances were live at the end of the captures, how many of them have
 /// said goodbye, and how many had ended before; the window and the subjects, if there are any; a warning for each file that isn't
-/// whole, one for each two captures whose clocks don't agree, and one of the lost packets, if any lost what they said.
+/// whole, one for each two captures whose clocks don't agree, one of all those of which too little is known, and one of the lost
+/// packets, if any lost what they said.
 pub(crate) fn push_lead(to: &mut String, parts: &PageParts<'_>) -> Result<(), Want>
     ensures { OnOk result (string_bytes to.new ≡ string_bytes to.old ++ lead isolated (parts_lent parts.now)) }
 {
@@ -43,7 +44,7 @@ pub(crate) fn push_lead(to: &mut String, parts: &PageParts<'_>) -> Result<(), Wa
     push_window_line(to, parts.axis.window)?;
     push_about_line(to, parts.about)?;
     push_ending_warnings(to, parts.files)?;
-    push_pair_warnings(to, parts.captures, parts.comparison.pairs)?;
+    push_clock_warnings(to, parts.captures, parts.comparison.pairs)?;
     push_lost_warning(to, parts.lost)
 }
 
@@ -290,6 +291,18 @@ fn push_ending_warning(to: &mut String, file: &FileEnding<'_>) -> Result<(), Wan
     Ok(())
 }
 
+fn push_clock_warnings(
+    to: &mut String,
+    captures: &[CaptureFacts<'_>],
+    pairs: &[PairRow],
+) -> Result<(), Want>
+    ensures { OnOk result (string_bytes to.new
+        ≡ string_bytes to.old ++ clock_warnings isolated (map facts_lent captures.now) pairs.now) }
+{
+    push_pair_warnings(to, captures, pairs)?;
+    push_untold(to, "<p class=\"warn\">", pairs, "</p>\n")
+}
+
 fn push_pair_warnings(
     to: &mut String,
     captures: &[CaptureFacts<'_>],
@@ -304,7 +317,7 @@ fn push_pair_warnings(
     Ok(())
 }
 
-// Appends that the clocks of two captures don't agree, or that nothing shows whether they do; nothing if they agree.
+// Appends that the clocks of two captures don't agree, or that these may come from two links; nothing if neither is known.
 #[tactic(auto, unfolding(crate::specs::Lead::pair_warning))]
 fn push_pair_warning(
     to: &mut String,

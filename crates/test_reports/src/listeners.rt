@@ -58,15 +58,14 @@ pub(crate) const OBJECTS: &str = "\
 {\"source\":\"192.0.2.2\",\"names\":[],\"file\":\"b.pcap\",\"heard\":0,\"missed\":1,\"from\":null,\"until\":null}
 ";
 
-/// The same as tables. 1 s is more than a tenth of a second, so the command that shifts `b.pcap` is written.
+/// The same as tables. 1 s is more than a tenth of a second, but one message isn't enough.
 pub(crate) const TABLES: &str = "\
 LISTENER  HEARD  ALONE  MISSED  FROM                      UNTIL
 a.pcap    2      1      0       1970-01-01T00:01:40.000Z  1970-01-01T00:01:41.000Z
 b.pcap    1      0      1       1970-01-01T00:01:41.000Z  1970-01-01T00:01:41.000Z
 
 LISTENER  OTHER   COMMON  THE OTHER'S CLOCK
-a.pcap    b.pcap  1       1.000000000 s ahead, by 1 message heard once in both: \
-editcap -F nsecpcap -t -1.000000000 b.pcap shifted.pcap
+a.pcap    b.pcap  1       too few to tell: 1.000000000 s ahead, by 1 message heard once in both
 
 SENDER     LISTENER  HEARD  MISSED  FROM                      UNTIL                     NAMES
 192.0.2.1  a.pcap    1      0       1970-01-01T00:01:40.000Z  1970-01-01T00:01:40.000Z  a.local
