@@ -115,7 +115,7 @@ def ipv4_data(packet):
     need(len(packet) >= total, CUT)
     need(not number_at(packet, 6) & FRAGMENT, "fragment")
     need(packet[9] == UDP, "not UDP")
-    need(packet[16:20] == IPV4_GROUP, "another group")
+    need(packet[16:20] == IPV4_GROUP, "not to 224.0.0.251 or ff02::fb")
     return packet[size:total]
 
 
@@ -127,7 +127,7 @@ def ipv6_data(packet):
     need(not leads_to_fragment(packet[6], packet[IPV6_HEADER:end]), "IPv6 fragment")
     need(packet[6] not in EXTENSIONS, "IPv6 extension header")
     need(packet[6] == UDP, "not UDP")
-    need(packet[24:40] == IPV6_GROUP, "another group")
+    need(packet[24:40] == IPV6_GROUP, "not to 224.0.0.251 or ff02::fb")
     return packet[IPV6_HEADER:end]
 
 

@@ -20,7 +20,7 @@ ATTENTION = {
     "OPCODE or RCODE": "a broken sender",
     DAMAGED: "damaged: refused whole",
 }
-NORMAL = ("query", "another port", "another group", "not UDP", "neither IPv4 nor IPv6", "IPv6 extension header")
+NORMAL = ("query", "another port", "not to 224.0.0.251 or ff02::fb", "not UDP", "neither IPv4 nor IPv6", "IPv6 extension header")
 
 
 def table_of(causes):

@@ -51,7 +51,7 @@ FILES = (
     Case(("files", "missing.pcap", "one.pcap", "folder", "text.pcap", "cut.pcap", "empty.pcap"), REFUSED,
          "missing.pcap unusable cannot be opened: missing, not readable, or too many open (ulimit -n)\n" + ONE_FILE +
          "folder unusable read failed: not a file, or a fault of its disk\n"
-         "text.pcap unusable unknown format: not a capture of tcpdump\n" + file_line("cut.pcap", "cut at 117") +
+         "text.pcap unusable unknown format: not a capture: tcpdump writes one with -w FILE\n" + file_line("cut.pcap", "cut at 117") +
          "empty.pcap unusable empty file: nothing was recorded\n"),
     Case(("files", "--json", "missing.pcap", "folder"), REFUSED,
          '{"file":"missing.pcap","is":"unopened","do":"missing, not readable, or too many open (ulimit -n)"}\n'

@@ -26,7 +26,7 @@ row_of (why.Frame cause.Fragment) = record { place = 7; words = codes "fragment"
 row_of (why.Frame cause.FragmentHeader) = record { place = 8; words = codes "IPv6 fragment"; loses = true }
 row_of (why.Frame cause.Protocol) = record { place = 9; words = codes "not UDP"; loses = false }
 row_of (why.Frame cause.ExtensionHeader) = record { place = 10; words = codes "IPv6 extension header"; loses = false }
-row_of (why.Frame cause.Group) = record { place = 11; words = codes "another group"; loses = false }
+row_of (why.Frame cause.Group) = record { place = 11; words = codes "not to 224.0.0.251 or ff02::fb"; loses = false }
 row_of (why.Frame cause.Port) = record { place = 12; words = codes "another port"; loses = false }
 row_of (why.Frame cause.UdpLength) = record { place = 13; words = codes "UDP length out of range"; loses = true }
 row_of why.Query = record { place = 14; words = codes "query"; loses = false }

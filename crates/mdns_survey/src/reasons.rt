@@ -36,7 +36,7 @@ pub(crate) fn row_of(why: SkipReason) -> ReasonRow
         SkipReason::Frame(Cause::FragmentHeader) => row(8, "IPv6 fragment", true),
         SkipReason::Frame(Cause::Protocol) => row(9, "not UDP", false),
         SkipReason::Frame(Cause::ExtensionHeader) => row(10, "IPv6 extension header", false),
-        SkipReason::Frame(Cause::Group) => row(11, "another group", false),
+        SkipReason::Frame(Cause::Group) => row(11, "not to 224.0.0.251 or ff02::fb", false),
         SkipReason::Frame(Cause::Port) => row(12, "another port", false),
         SkipReason::Frame(Cause::UdpLength) => row(13, "UDP length out of range", true),
         SkipReason::Query => row(14, "query", false),

@@ -105,4 +105,4 @@ cure_text flaw.Empty = codes "nothing was recorded"
 cure_text flaw.HeaderCut = codes "nothing was recorded"
 cure_text flaw.Version = codes "convert it with editcap -F nsecpcap FILE NEW"
 cure_text (flaw.Link number) = link_cure number
-cure_text flaw.Unknown = codes "not a capture of tcpdump"
+cure_text flaw.Unknown = codes "not a capture: tcpdump writes one with -w FILE"

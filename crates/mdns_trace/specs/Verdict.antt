@@ -1,11 +1,11 @@
 -- The verdict on a file: what it is, and the lines of words that say so.
-use Rattle.std.specs.Prelude.{◌≡◌, ℕ, ◌==◌, ◌&&◌, Bool, IsTrue, not, if◌then◌else◌, List, [], ◌∷◌, ◌++◌}
+use Rattle.std.specs.Prelude.{◌≡◌, ℕ, ◌==◌, ◌&&◌, ◌||◌, Bool, IsTrue, not, if◌then◌else◌, List, [], ◌∷◌, ◌++◌}
 use Rattle.std.specs.{Prelude.{Option, Some, None, IfSome, codes, decimal}, List.{flat_map}}
 use Rattle.mdns_capture.specs.declared.savefile.BeginFault.{BeginFault}
 use Rattle.mdns_capture.specs.{declared.savefile.Ending.{Ending}, declared.stream.Source.{Ghosts as SourceGhosts}, Capture.{IsOver}}
 use Rattle.mdns_capture.specs.{Savefile.{PacketAt, header_fault}, Text.{ending_text}}
 use Rattle.people_text.specs.MomentText.{exact_text}
-use Rattle.mdns_survey.specs.declared.{reading.Reading.{Reading}, reading.Span.{Span}, summary.Tally.{Tally}}
+use Rattle.mdns_survey.specs.declared.{reading.Reading.{Reading}, reading.Span.{Span}, summary.Summary.{Summary}, summary.Tally.{Tally}}
 use Rattle.mdns_survey.specs.{Outcomes.{Outcome}, ProgramLines.{is_whole}, Listen.{IsReadingOf}}
 use Rattle.mdns_trace.specs.declared.verdict.{Verdict.{Verdict}, Verdict.TheVariants.{Capture, Other, Unread, Unopened}}
 use Rattle.mdns_trace.specs.{Flaw.{cure_text, flaw_of, head_of, what_text}, Loss.{loss_text, losses}, SpanLine.{bounds_text}}
@@ -55,24 +55,27 @@ early_cure (Some span) = codes "later goodbyes are missing, so trust the answers
 unfoldable pub early_text : List ℕ → Ending → Option Span → List ℕ
 early_text file ending span = if is_whole ending then [] else file ++ codes " ends early: " ++ early_cure span ++ 10 ∷ []
 
--- there are packets, but no hearings
-abbrev pub is_silent : Tally → Bool
-is_silent tally = not (tally.packets == 0) && (tally.hearings == 0)
+-- there are no hearings: packets told none, or a whole capture has no packets
+abbrev pub is_silent : Summary → Bool
+is_silent summary = (summary.tally.hearings == 0) && (not (summary.tally.packets == 0) || is_whole summary.ending)
 
 -- what to do about it
-abbrev pub silent_cure : List ℕ
-silent_cure =
-    codes "no packet told a record; if none was lost, record on the services' link and browse meanwhile; "
+abbrev pub silent_cure : Tally → List ℕ
+silent_cure tally =
+    if tally.packets == 0
+    then codes "no packet came; are the interface and the filter right, and was anything sent to UDP port 5353 meanwhile?"
+    else codes "no packet told a record; if none was lost, record on the services' link and browse meanwhile; "
     ++ codes "mdnswhy packets tells what each packet is"
 
-unfoldable pub silent_text : List ℕ → Tally → List ℕ
-silent_text file tally = if is_silent tally then file ++ codes " heard nothing: " ++ silent_cure ++ 10 ∷ [] else []
+unfoldable pub silent_text : List ℕ → Summary → List ℕ
+silent_text file summary =
+    if is_silent summary then file ++ codes " heard nothing: " ++ silent_cure summary.tally ++ 10 ∷ [] else []
 
 -- the lines of a capture in a file of that name
 unfoldable pub capture_text : List ℕ → Reading → List ℕ
 capture_text file reading =
     capture_line file reading ++ early_text file reading.summary.ending reading.span
-    ++ flat_map (loss_text file reading) losses ++ silent_text file reading.summary.tally
+    ++ flat_map (loss_text file reading) losses ++ silent_text file reading.summary
 
 -- what to do about a file of which a read failed, and about one that can't be opened
 abbrev pub unread_cure : List ℕ

@@ -3,7 +3,7 @@ use Rattle.std.specs.Prelude.{◌≡◌, ℕ, ◌==◌, Bool, if◌then◌else�
 use Rattle.std.specs.List.{flat_map}
 use Rattle.mdns_browse.specs.Json.{first_after, json_array, json_member, json_object, json_string, parted}
 use Rattle.mdns_capture.specs.Text.{ending_text}
-use Rattle.mdns_survey.specs.declared.{reading.Reading.{Reading}, reading.Span.{Span}, summary.Tally.{Tally}}
+use Rattle.mdns_survey.specs.declared.{reading.Reading.{Reading}, reading.Span.{Span}, summary.Summary.{Summary}, summary.Tally.{Tally}}
 use Rattle.mdns_survey.specs.ProgramLines.{is_whole}
 use Rattle.mdns_trace.specs.declared.{flaw.Flaw.{Flaw}, verdict.Verdict.{Verdict}}
 use Rattle.mdns_trace.specs.{declared.verdict.Verdict.TheVariants.{Capture, Other, Unread, Unopened}, Flaw.{cure_text, link_name}}
@@ -67,19 +67,19 @@ pub record AddsObjects (first : Bool) (old : List ℕ) (objects : List (List ℕ
 
 -- WHAT A CAPTURE HAS
 
--- what to do about a capture that has packets, but no hearings
-unfoldable pub silent_members : Tally → List (List ℕ)
-silent_members tally = if is_silent tally then json_member (codes "do") (json_string silent_cure) ∷ [] else []
+-- what to do about a capture without hearings
+unfoldable pub silent_members : Summary → List (List ℕ)
+silent_members summary = if is_silent summary then json_member (codes "do") (json_string (silent_cure summary.tally)) ∷ [] else []
 
 -- the same cure after another one
-unfoldable pub silent_after : Tally → List ℕ
-silent_after tally = if is_silent tally then codes "; " ++ silent_cure else []
+unfoldable pub silent_after : Summary → List ℕ
+silent_after summary = if is_silent summary then codes "; " ++ silent_cure summary.tally else []
 
--- what to do about a capture that ended before its packets did, or that has packets, but no hearings; both cures where it is both
+-- what to do about a capture that ended before its packets did, or that has no hearings; both cures where it is both
 unfoldable pub do_members : Reading → List (List ℕ)
 do_members reading =
-    if is_whole reading.summary.ending then silent_members reading.summary.tally
-    else json_member (codes "do") (json_string (early_cure reading.span ++ silent_after reading.summary.tally)) ∷ []
+    if is_whole reading.summary.ending then silent_members reading.summary
+    else json_member (codes "do") (json_string (early_cure reading.span ++ silent_after reading.summary)) ∷ []
 
 -- the earliest and the latest moment of its packets, where it has packets
 unfoldable pub bounds_members : Option Span → List (List ℕ)

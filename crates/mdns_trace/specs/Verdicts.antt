@@ -45,9 +45,9 @@ abbrev pub is_usable : Verdict → Bool
 is_usable (Capture reading) = true
 is_usable verdict = false
 
--- the file is a capture that ends where a packet does, and that has hearings, or no packets
+-- the file is a capture that ends where a packet does, and that has hearings
 abbrev pub is_sound : Verdict → Bool
-is_sound (Capture reading) = is_whole reading.summary.ending && not (is_silent reading.summary.tally)
+is_sound (Capture reading) = is_whole reading.summary.ending && not (is_silent reading.summary)
 is_sound verdict = false
 
 abbrev pub are_usable : List Verdict → Bool

@@ -212,7 +212,7 @@ pub(crate) fn cure_words(flaw: Flaw) -> &'static str
         Flaw::Gzip => "unpack it with zcat FILE > NEW",
         Flaw::Empty | Flaw::HeaderCut => "nothing was recorded",
         Flaw::Link { number } => link_cure(number),
-        Flaw::Unknown => "not a capture of tcpdump",
+        Flaw::Unknown => "not a capture: tcpdump writes one with -w FILE",
     }
 }
 

@@ -4,7 +4,7 @@ ghost use Rattle.std.specs.Prelude.{◌≡◌, ◌++◌, IfOk, OnOk, string_byte
 ghost use Rattle.mdns_survey.specs.ProgramLines.{is_whole};
 ghost use Rattle.mdns_trace.specs.Flaw.{cure_text, what_text};
 ghost use Rattle.mdns_trace.specs.Verdict.{IsVerdict, capture_front, capture_line, capture_text, early_cure};
-ghost use Rattle.mdns_trace.specs.Verdict.{early_text, is_silent, silent_text, unusable_line, verdict_text};
+ghost use Rattle.mdns_trace.specs.Verdict.{early_text, is_silent, silent_cure, silent_text, unusable_line, verdict_text};
 
 use crate::flaw::{Flaw, cure_words, push_what};
 use crate::loss::{LOSSES, push_losses};
@@ -15,14 +15,9 @@ use mdns_message::Want;
 use mdns_survey::listen::ListenFault;
 use mdns_survey::reading::{Reading, Span};
 use mdns_survey::status::is_whole;
-use mdns_survey::summary::Tally;
+use mdns_survey::summary::{Summary, Tally};
 use people_text::moment_text::push_exact;
 use std::alloc::Global;
-
-/// What to do about a capture that has packets, but no hearings.
-pub(crate) const SILENT_CURE: &str =
-    "no packet told a record; if none was lost, record on the services' link and browse meanwhile; \
-     mdnswhy packets tells what each packet is";
 
 /// What to do about a file of which a read failed.
 pub(crate) const UNREAD_CURE: &str = "not a file, or a fault of its disk";
@@ -79,7 +74,7 @@ fn push_capture(to: &mut String, file: &str, reading: &Reading) -> Result<(), Wa
     push_capture_line(to, file, reading)?;
     push_early(to, file, reading.summary.ending, reading.span)?;
     push_losses(to, file, reading, LOSSES)?;
-    push_silent(to, file, &reading.summary.tally)
+    push_silent(to, file, &reading.summary)
 }
 
 #[tactic(auto, unfolding(crate::specs::Verdict::capture_line))]
@@ -129,20 +124,32 @@ fn push_front(to: &mut String, file: &str, ending: Ending) -> Result<(), Want>
 }
 
 #[tactic(auto, unfolding(crate::specs::Verdict::silent_text))]
-fn push_silent(to: &mut String, file: &str, tally: &Tally) -> Result<(), Want>
-    ensures { OnOk result (string_bytes to.new ≡ string_bytes to.old ++ silent_text file.now tally.now) }
+fn push_silent(to: &mut String, file: &str, summary: &Summary) -> Result<(), Want>
+    ensures { OnOk result (string_bytes to.new ≡ string_bytes to.old ++ silent_text file.now summary.now) }
 {
-    if is_silent(tally) {
-        write!(to, "{file} heard nothing: {SILENT_CURE}\n")?;
+    if is_silent(summary) {
+        let cure = silent_cure(&summary.tally);
+        write!(to, "{file} heard nothing: {cure}\n")?;
     }
     Ok(())
 }
 
-/// Checks that there are packets, but no hearings.
-pub(crate) fn is_silent(tally: &Tally) -> bool
-    ensures { result ≡ is_silent tally.now }
+/// Checks that there are no hearings: that packets told none, or that a whole capture has no packets.
+pub(crate) fn is_silent(summary: &Summary) -> bool
+    ensures { result ≡ is_silent summary.now }
 {
-    tally.packets != 0 && tally.hearings == 0
+    summary.tally.hearings == 0 && (summary.tally.packets != 0 || is_whole(summary.ending))
+}
+
+/// Returns in words what to do about it.
+pub(crate) fn silent_cure(tally: &Tally) -> &'static str
+    ensures { result.now ≡ silent_cure tally.now }
+{
+    if tally.packets == 0 {
+        return "no packet came; are the interface and the filter right, and was anything sent to UDP port 5353 meanwhile?";
+    }
+    "no packet told a record; if none was lost, record on the services' link and browse meanwhile; \
+     mdnswhy packets tells what each packet is"
 }
 
 #[tactic(auto, unfolding(crate::specs::Verdict::unusable_line))]

@@ -12,14 +12,14 @@ use crate::flaw::{Flaw, cure_words, link_name};
 use crate::loss::{LOSSES, Loss};
 use crate::moment_member::push_moment_member;
 use crate::verdict::{
-    SILENT_CURE, UNOPENED_CURE, UNREAD_CURE, Verdict, is_silent, push_early_cure,
+    UNOPENED_CURE, UNREAD_CURE, Verdict, is_silent, push_early_cure, silent_cure,
 };
 use mdns_browse::json::{push_json_name, push_number_member, push_text_member};
 use mdns_capture::Ending;
 use mdns_message::Want;
 use mdns_survey::reading::{Reading, Span};
 use mdns_survey::status::is_whole;
-use mdns_survey::summary::Tally;
+use mdns_survey::summary::{Summary, Tally};
 use std::alloc::Global;
 
 /// Appends the object of a file, and ends the line. The file's name is written as it is.
@@ -134,28 +134,27 @@ fn push_capture_members(alloc: Global, to: &mut String, reading: &Reading) -> Re
     push_lost_member(to, reading)
 }
 
-// Appends what to do about a capture that ended before its packets did, or that has packets, but no hearings; both cures
-// where it is both.
+// Appends what to do about a capture that ended before its packets did, or that has no hearings; both cures where it is both.
 #[tactic(auto, unfolding(crate::specs::VerdictJson::do_members, crate::specs::VerdictJson::silent_members, mdns_browse::specs::Json::parted))]
 fn push_do_members(alloc: Global, to: &mut String, reading: &Reading) -> Result<(), Want>
     ensures { OnOk result (string_bytes to.new ≡ string_bytes to.old ++ parted false (do_members reading.now)) }
 {
     let summary = reading.summary;
     if is_whole(summary.ending) {
-        return push_do(to, is_silent(&summary.tally), SILENT_CURE);
+        return push_do(to, is_silent(&summary), silent_cure(&summary.tally));
     }
     let mut cure = String::new(alloc);
     push_early_cure(&mut cure, reading.span)?;
-    push_silent_after(&mut cure, &summary.tally)?;
+    push_silent_after(&mut cure, &summary)?;
     push_text_member(to, false, "do", cure.as_str())
 }
 
 #[tactic(auto, unfolding(crate::specs::VerdictJson::silent_after))]
-fn push_silent_after(to: &mut String, tally: &Tally) -> Result<(), Want>
-    ensures { OnOk result (string_bytes to.new ≡ string_bytes to.old ++ silent_after tally.now) }
+fn push_silent_after(to: &mut String, summary: &Summary) -> Result<(), Want>
+    ensures { OnOk result (string_bytes to.new ≡ string_bytes to.old ++ silent_after summary.now) }
 {
-    if is_silent(tally) {
-        write!(to, "; {SILENT_CURE}")?;
+    if is_silent(summary) {
+        write!(to, "; {}", silent_cure(&summary.tally))?;
     }
     Ok(())
 }

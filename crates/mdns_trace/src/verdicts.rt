@@ -116,20 +116,20 @@ fn is_usable(verdict: &Verdict) -> bool
     matches!(verdict, Verdict::Capture(_))
 }
 
-// Checks that a file is a capture that ends where a packet does, and that has hearings, or no packets.
+// Checks that a file is a capture that ends where a packet does, and that has hearings.
 fn is_sound(verdict: &Verdict) -> bool
     ensures { result ≡ is_sound verdict.now }
 {
     match *verdict {
         Verdict::Capture(Reading { summary, .. }) => {
-            is_whole(summary.ending) && !is_silent(&summary.tally)
+            is_whole(summary.ending) && !is_silent(&summary)
         }
         _ => false,
     }
 }
 
 /// Writes to `out` what `write_verdicts` does, and returns the exit status: 2 where some file is no capture, 1 where some
-/// capture is cut short or damaged, or has packets, but no hearings, and else 0. On `err` an error line is written only
+/// capture is cut short or damaged, or has no hearings, and else 0. On `err` an error line is written only
 /// where the lines aren't all written; the status is then 2.
 pub fn answer_files<R: Source + Drop, O: Sink, E: Sink>(
     alloc: Global,
