@@ -23,19 +23,16 @@ from tests.judges.shown import shown_name
 from tests.judges.subjects import is_about, is_host_about, is_instance_about, is_name, is_record_about, subjects_of
 from tests.judges.traced import TEXTS, traced_text
 from tests.judges.words import moment_text
-from tests.running.commands import FORMS, TRACES
+from tests.running.commands import FLAGS, FORMS, TRACES
 from tests.running.program import Answer
 
 
 WORDS = argparse.ArgumentParser(add_help=False)
 WORDS.add_argument("ask")
-for flag in ("--at", "--before", "--since", "--until"):
-    WORDS.add_argument(flag, type=moment_of)
-for flag in ("--about", "--listener"):
-    WORDS.add_argument(flag, action="append", default=[])
-WORDS.add_argument("--services", action="store_true")
-for form in FORMS:
-    WORDS.add_argument(form, dest="form", action="store_const", const=form)
+for flag, (takes, text) in FLAGS.items():
+    WORDS.add_argument(flag, **({"dest": "form", "action": "store_const", "const": flag} if flag in FORMS
+                                else {"action": "append", "default": []} if text.endswith("; repeatable")
+                                else {"type": moment_of} if takes else {"action": "store_true"}))
 
 
 @lru_cache(maxsize=32)

@@ -19,14 +19,10 @@ GROUPS = {group: flags.split() for group, flags in re.findall(r"(?m)^([A-Z_]+) (
 # The flags that ask for a form.
 FORMS = tuple(GROUPS["FORMS"])
 
-# What all pages say at their end.
-END = "Exit: 0 printed; 1 printed, but a file is damaged; 2 refused (run mdnswhy files)\n"
-
 
 def page(name):
     """A page of help, as it is printed. Its line `FLAGS` names the flags that are there, or groups of them."""
-    text = (PAGES / f"{name}.txt").read_text().replace("\nEND\n", f"\n{END}")
-    return re.sub(r"(?m)^FLAGS(.*)\n", lambda line: listed_flags(line[1].split()), text)
+    return re.sub(r"(?m)^FLAGS(.*)\n", lambda line: listed_flags(line[1].split()), (PAGES / f"{name}.txt").read_text())
 
 
 def listed_flags(flags):

@@ -14,7 +14,7 @@ from tests.captures.built import frame_of, lay_out_small, pointer, write_capture
 from tests.captures.wire import SECOND
 from tests.captures.written import cells_of, expanded
 from tests.judges.answers import WORDS, answer_to
-from tests.running.commands import ANSWERS, ASKS, COMMANDS, END, FLAGS, WINDOWED, flags_of, page, two_forms
+from tests.running.commands import ANSWERS, ASKS, COMMANDS, FLAGS, WINDOWED, flags_of, page, two_forms
 from tests.running.runs import WHOLE, Case, agrees, fails, refused, said
 
 TRY_HELP = "For more information, try '--help'.\n"
@@ -181,10 +181,10 @@ def try_told(told, program, folder):
 
 
 def unfit(text):
-    """What is wrong with a page that is no screen, or lacks the end that all have."""
+    """What is wrong with a page that is no screen."""
     lines = text.splitlines()
-    is_fit = 0 < len(lines) <= LINES and max(map(len, lines)) <= COLUMNS and text.endswith(f"\n\n{END}")
-    return [] if is_fit else ["  the page is no screen, or lacks what all pages say"]
+    is_fit = 0 < len(lines) <= LINES and max(map(len, lines)) <= COLUMNS
+    return [] if is_fit else ["  the page is no screen"]
 
 
 def try_command_lines(program, folder):

@@ -1,14 +1,12 @@
+mod AskedLemmas
 mod DateTimeLemmas
 mod FinalDotLemmas
 mod FractionLemmas
 mod GrammarLemmas
 mod LineLemmas
-mod MergeLemmas
 mod OptionLemmas
 mod PrintLemmas
 mod ReadLemmas
 mod SecondsLemmas
 mod SoundLemmas
-mod TableLemmas
 mod WalkKeepsLemmas
-mod WhyLemmas

@@ -1,15 +1,14 @@
 -- Lemmas on the values of options, as clap reads them.
-use Rattle.std.proofs.Common.{◌≡◌, codes, ◌≤◌, ◌*◌, ◌+◌, ◌↔◌, refl, subst, arith, true, false, Bool, ℕ, Option, Some, None, ◌∷◌, map}
-use Rattle.std.proofs.{Common.{option_map, unwrap_or, List, [], Result, Ok, Err, IfSome, inl, inr}, lemmas.Slice.Eq.{bytes_eq-Decides}}
-use Rattle.std.specs.{Borrow.{Bor}, Str.{bytes_eq}, Str.Parse.{ParsesUnsigned}}
-use Rattle.clap.specs.Words.{Row, Text, TriesOne, one_of}
+use Rattle.std.proofs.Common.{◌≡◌, codes, ◌≤◌, ◌*◌, ◌+◌, ◌↔◌, refl, subst, arith, true, false, Bool, ℕ, Option, Some, None, map}
+use Rattle.std.proofs.Common.{option_map, unwrap_or, List, [], Result, Ok, Err, IfSome}
+use Rattle.std.specs.{Borrow.{Bor}, Str.Parse.{ParsesUnsigned}}
+use Rattle.clap.specs.Words.{Row, Text, TriesOne}
 use Rattle.mdns_capture.specs.declared.moment.Moment.{Moment}
-use Rattle.mdns_browse.specs.{declared.report.Form.{Form}, declared.report.Form.TheVariants.{Lines}}
-use Rattle.command_line.specs.{Line.{AsksForm, Flags, GivesForm, HasNoForm, HasOneForm, IsFlag, IsMomentOf}, declared.line.Takes.{Takes}}
+use Rattle.mdns_browse.specs.declared.report.Form.{Form}
+use Rattle.command_line.specs.{Line.{Flags, GivesForm, HasNoForm, HasOneForm, IsFlag, IsMomentOf}}
 use Rattle.command_line.specs.declared.options.ConflictingFlags.{ConflictingFlags}
 use Rattle.clap.proofs.WalkLemmas.{first_value-rows, one_text-rows, raw_values-rows}
 use Rattle.command_line.proofs.FinalDotLemmas.{printers-asked}
-use Rattle.command_line.specs.declared.line.Takes.TheVariants as takes
 
 -- what a flag is read as
 pub flag-told : (flag : Bool) (text rows : Option Text) → text ≡ rows → (text ≡ None → flag ≡ false)
@@ -44,60 +43,6 @@ unread-told G only (Some t) e none value None is = is
 unread-told G only (Some t) e none value (Some moment) is =
     let limit = moment.limit in
     only t (Err e) (value t refl) (is.0, omega (arith, is.1, limit))
-
--- ---- what the values give
-
--- a flag is given or it isn't
-pub flag-given : (flag : Option Text) → ((given : Bool) → IsFlag flag given → ⊥) → ⊥
-flag-given None nothing = nothing false (λ same. absurd cc)
-flag-given (Some text) nothing = go (bytes_eq text (codes "true")) refl
-  where
-    go : (b : Bool) → bytes_eq text (codes "true") ≡ b → ⊥
-    go true same =
-        let is = (bytes_eq-Decides text (codes "true")).0 same in
-        nothing true ((λ none. absurd cc), (λ other. let clash : codes "true" ≡ codes "false" = cc in absurd cc))
-    go false same = nothing false (λ is. let yes = (bytes_eq-Decides text (codes "true")).1 (cc) in absurd cc)
-
--- a flag asks for a form or for none, and so the flags for one
-form-asked : (takes : Takes) (value : Option Text) → ((form : Option Form) → AsksForm takes value form → ⊥) → ⊥
-form-asked (takes.Nothing own) value nothing = flag-given value go
-  where
-    go : (given : Bool) → IsFlag value given → ⊥
-    go true is = nothing (Some own) (is, refl)
-    go false is = nothing None is
-form-asked takes.Switch value nothing = nothing None tt
-form-asked takes.Seconds value nothing = nothing None tt
-form-asked takes.Moment value nothing = nothing None tt
-form-asked takes.Words value nothing = nothing None tt
-
-no-form-told : (flags : Flags) (rows : List Row) → (HasNoForm flags rows → ⊥) → ((name : Text) → GivesForm flags rows name → ⊥) → ⊥
-no-form-told [] rows none some = none tt
-no-form-told (flag ∷ flags) rows none some =
-    form-asked flag.1 (one_of flag.0 rows)
-    (go (λ asks. no-form-told flags rows (λ rest. none (asks, rest)) (λ name gives. some name (inr gives))))
-  where
-    go : (AsksForm flag.1 (one_of flag.0 rows) None → ⊥) → (form : Option Form) → AsksForm flag.1 (one_of flag.0 rows) form → ⊥
-    go rest (Some form) asks = some flag.0 (inl (refl, (form, asks)))
-    go rest None asks = rest asks
-
--- a text, as it is lent
-abbrev pub lent : Text → Bor Text
-lent text = record { ref_ptr = (0, 0); now = text }
-
-pub form-told : (flags : Flags) (rows : List Row) → ((form : Result Form ConflictingFlags) → HasOneForm flags rows form → ⊥) → ⊥
-form-told [] rows nothing = nothing (Ok Lines) refl
-form-told (flag ∷ flags) rows nothing = form-asked flag.1 (one_of flag.0 rows) (go (form-told flags rows))
-  where
-    more : AsksForm flag.1 (one_of flag.0 rows) None → (form : Result Form ConflictingFlags) → HasOneForm flags rows form
-        → HasOneForm (flag ∷ flags) rows form
-    more asks (Ok form) has = inr (asks, has)
-    more asks (Err both) has = inr has
-
-    go : (((form : Result Form ConflictingFlags) → HasOneForm flags rows form → ⊥) → ⊥) → (form : Option Form)
-        → AsksForm flag.1 (one_of flag.0 rows) form → ⊥
-    go rest (Some form) asks = no-form-told flags rows (λ none. nothing (Ok form) (inl (asks, none)))
-        (λ name gives. nothing (Err (record { one = lent flag.0; other = lent name })) (inl (refl, (form, asks), gives)))
-    go rest None asks = rest (λ form has. nothing form (more asks form has))
 
 -- ---- the form of the flags, flag by flag
 

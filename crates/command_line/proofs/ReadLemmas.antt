@@ -2,21 +2,20 @@
 use Rattle.std.proofs.Common.{rules, ◌≡◌, ◌≢◌, ◌++◌, ◌*◌, ◌&&◌, refl, subst, sym, inl, inr, not, cond, arith, true, false, codes, is_some}
 use Rattle.std.proofs.Common.{Bool, ℕ, List, [], ◌∷◌, Option, Some, None, Result, Err, IfSome, map, option_map}
 use Rattle.std.proofs.lemmas.Slice.Eq.{bytes_eq-Decides}
-use Rattle.std.specs.{Prelude.{find, slice_get, option_and_then, ⊤, IsSomeAnd}, Borrow.{Bor}, List.{list_all, list_any}}
+use Rattle.std.specs.{Prelude.{find, slice_get, option_and_then, ⊤, IsSomeAnd}, List.{list_all, list_any}}
 use Rattle.std.specs.{Option.{option_map_or}, Str.{bytes_eq}, Str.Parse.{ParsesUnsigned, digits_value, without_leading_plus}}
 use Rattle.clap.proofs.{CallerReads.{signed_reads}, ValueTestLemmas.{accepts-Accepts}, WalkLemmas.{both}}
 use Rattle.clap.specs.{Facts.{explicit_source}, Faults.{check_fault, defaults_fault, entered_fault, fault_of, level_fault, settle_fault}}
 use Rattle.clap.specs.{Faults.{walk_fault}, Lexer.{without_minus}, Simple.{App, Shape, argument_words, built, built_leaf, entered}}
 use Rattle.clap.specs.Simple.{filled_from, help_rule, inherited, marked_built, names_of, on_top, rows_at, subcommand_of, with_leaf_noted}
-use Rattle.clap.specs.{Takes.{is_given}, Values.{read_as}, ValueTests.{accepts}, Walk.{Row, Text, first_of, all_of, finished, nothing_held}}
+use Rattle.clap.specs.{Takes.{is_given}, Values.{read_as}, ValueTests.{accepts}, Walk.{Row, Text, finished, nothing_held}}
 use Rattle.clap.specs.Walk.{one_of, row_text, rows_after, settled, stop_after, walk, walk_from}
 use Rattle.clap.specs.declared.builder.value_parser.Reading.{Reading}
 use Rattle.mdns_capture.specs.declared.moment.Moment.{Moment}
-use Rattle.command_line.specs.Line.{AsksIn, Flags, HasOptions, HasSeconds, IsMomentOf, Matches, SecondsBy, app_of_line, are_sound}
-use Rattle.command_line.specs.Line.{file_rule, flags_of, is_counted, is_readable, line_of, rules_of, shape_of, table_of, takes_seconds}
-use Rattle.command_line.specs.{declared.line.CommandTable.{CommandTable}, declared.line.Subcommand.{Subcommand}}
-use Rattle.command_line.specs.{declared.line.Takes.{Takes}, declared.options.Options.{Options}}
-use Rattle.command_line.proofs.{OptionLemmas.{flag-given, form-told, lent}, WalkKeepsLemmas.{Each, each-find, in-level, split}}
+use Rattle.command_line.specs.Line.{AreFiles, AsksIn, Flags, HasSeconds, IsMomentOf, Matches, SecondsBy, Table, app_of_line, are_sound}
+use Rattle.command_line.specs.Line.{file_rule, is_counted, is_readable, line_of, rules_of, shape_of, shapes_of, table_of, takes_seconds}
+use Rattle.command_line.specs.declared.line.{CommandTable.{CommandTable}, Takes.{Takes}}
+use Rattle.command_line.proofs.WalkKeepsLemmas.{Each, each-find, in-level, split}
 use Rattle.command_line.proofs.SoundLemmas.{AreCounted, AreSound, all-counted, file-other, flags-keep, number}
 use Rattle.clap.specs.declared.builder.value_parser.Reading.TheVariants as reading
 use Rattle.clap.specs.declared.error.kind.ErrorKind.TheVariants as kind
@@ -60,11 +59,11 @@ rows-told counted id is_counted (r ∷ rows) sound nothing = go (bytes_eq r.id i
         values-told r.reading r.values numbers.0 numbers.1 none
     go false other rest none = rest none
 
-files-some : (counted : Text → Bool) (rows : List Row) (names : List Text) → AreSound counted rows → all_of (codes "FILE") rows ≡ Some names → names ≢ []
+files-some : (counted : Text → Bool) (rows : List Row) (names : List Text) → AreSound counted rows → AreFiles rows names → names ≢ []
 files-some counted [] names files is = absurd cc
 files-some counted (r ∷ rows) names files is = grind (arith, option_map, files-some counted rows names files.1)
 
-files-given : (rows : List Row) → is_given (codes "FILE") rows ≡ true → (names : List Text) × (all_of (codes "FILE") rows ≡ Some names)
+files-given : (rows : List Row) → is_given (codes "FILE") rows ≡ true → (names : List Text) × AreFiles rows names
 files-given rows is = go (find (λ r. bytes_eq r.id (codes "FILE")) rows) is
   where
     go : (o : Option Row) → option_map_or (λ r. explicit_source r.source) o false ≡ true
@@ -102,41 +101,6 @@ seconds-told counted (flag ∷ flags) rows are sound nothing =
     go takes.Moment is rest none = rest none
     go takes.Words is rest none = rest none
 
--- the text of an option, as it is lent
-abbrev lent_option : Option Text → Option (Bor Text)
-lent_option None = None
-lent_option (Some text) = Some (lent text)
-
-lent-text : (o : Option Text) → option_map (λ t. t.now) (lent_option o) ≡ o
-lent-text o = grind arith
-
--- sound rows give options
-options-told : (counted : Text → Bool) (flags : Flags) (rows : List Row) → AreCounted counted flags → AreSound counted rows
-    → ((options : Options) → HasOptions flags rows options → ⊥) → ⊥
-options-told counted flags rows are sound nothing =
-    seconds-told counted flags rows are sound (λ seconds seconds_are.
-    flag-given (one_of (codes "skip-unusable") rows) (λ skips skips_are.
-    flag-given (one_of (codes "services") rows) (λ services services_are.
-    form-told flags rows (λ form form_is. nothing (record {
-      seconds = seconds;
-      at = lent_option (first_of (codes "at") rows);
-      before = lent_option (first_of (codes "before") rows);
-      since = lent_option (first_of (codes "since") rows);
-      until = lent_option (first_of (codes "until") rows);
-      form = form;
-      skip_unusable = skips;
-      services = services;
-    }) (
-      seconds_are,
-      lent-text (first_of (codes "at") rows),
-      lent-text (first_of (codes "before") rows),
-      form_is,
-      skips_are,
-      lent-text (first_of (codes "since") rows),
-      lent-text (first_of (codes "until") rows),
-      services_are,
-    )))))
-
 -- ---- the subcommand that words without a fault reach
 
 module _ (P : Text × List Row → Type 0) where
@@ -169,32 +133,29 @@ module _ (P : Text × List Row → Type 0) where
 
 -- ---- the command line
 
-abbrev above : Text → Bool → List (Text × Flags) → Shape
-above name has_version table = (on_top with_leaf_noted (on_top marked_built (line_of name has_version table))).top
+abbrev above : Text → Bool → List Shape → Shape
+above name has_version shapes = (on_top with_leaf_noted (on_top marked_built (line_of name has_version shapes))).top
 
-abbrev shapes_of : List (Text × Flags) → List Shape
-shapes_of = map (λ subcommand. shape_of subcommand.0 subcommand.1)
-
-subs-built : (name : Text) (has_version : Bool) (table : List (Text × Flags)) → map built_leaf
-    (map (inherited (above name has_version table)) (shapes_of table)) ≡ (built (line_of name has_version table)).subs
-subs-built name has_version table = grind arith
+subs-built : (name : Text) (has_version : Bool) (shapes : List Shape) → map built_leaf (map (inherited (above name has_version shapes)) shapes)
+    ≡ (built (line_of name has_version shapes)).subs
+subs-built name has_version shapes = grind arith
 
 -- words without a subcommand have a fault
-wants : (name : Text) (has_version : Bool) (table : List (Text × Flags)) (has : Bool) (rows : List Row)
-    → check_fault (built (line_of name has_version table)).top rows has ≡ [] → has ≡ true
-wants name has_version table has rows none = grind arith
+wants : (name : Text) (has_version : Bool) (shapes : List Shape) (has : Bool) (rows : List Row)
+    → check_fault (built (line_of name has_version shapes)).top rows has ≡ [] → has ≡ true
+wants name has_version shapes has rows none = grind arith
 
 module _ {T : Type 0} where
   -- the matches are those of a subcommand of the table, with values that can be read and one file or more
-  pub record IsGood (table : List (Subcommand T)) (matched : Text × List Row) : Type 0 where
-    pub asks : ((asked : T × Options) → AsksIn table matched.0 matched.1 asked → ⊥) → ⊥
+  pub record IsGood (table : Table T) (matched : Text × List Row) : Type 0 where
+    pub asks : ((asked : T × Option Moment) → AsksIn table matched.0 matched.1 asked → ⊥) → ⊥
     pub counted : Text → Bool
     pub sound : AreSound counted matched.1
     pub files : List Text
-    pub files_are : all_of (codes "FILE") matched.1 ≡ Some files
+    pub files_are : AreFiles matched.1 files
 
-  leaf-good : (name : Text) (has_version : Bool) (all : List (Text × Flags)) (table : List (Subcommand T)) (own : Text) (flags : Flags)
-      (asks : T) → ((rows : List Row) (options : Options) → HasOptions flags rows options → AsksIn table own rows (asks, options))
+  leaf-good : (name : Text) (has_version : Bool) (all : List Shape) (table : Table T) (own : Text) (flags : Flags) (asks : T)
+      → ((rows : List Row) (at : Option Moment) → HasSeconds flags rows at → AsksIn table own rows (asks, at))
       → are_sound flags ≡ true → Reaches (IsGood table) (built_leaf (inherited (above name has_version all) (shape_of own flags)))
   leaf-good name has_version all table own flags asks into sound words none =
       let s = built_leaf (inherited (above name has_version all) (shape_of own flags)) in
@@ -203,42 +164,41 @@ module _ {T : Type 0} where
       let counted = is_counted flags in
       let rows_are = in-level s (AreSound counted) words (flags-keep counted (file-other flags flags sound) flags sound) none tt in
       record {
-        asks = λ nothing. options-told counted flags rows (all-counted flags) rows_are (λ options has. nothing (asks, options) (into rows options has));
+        asks = λ nothing. seconds-told counted flags rows (all-counted flags) rows_are (λ at is. nothing (asks, at) (into rows at is));
         counted = counted;
         sound = rows_are;
         files = files.0;
         files_are = files.1;
       }
 
-  leaves-good : (name : Text) (has_version : Bool) (all : List (Text × Flags)) (table rest : List (Subcommand T))
-      → ((own : Text) (rows : List Row) (asked : T × Options) → AsksIn rest own rows asked → AsksIn table own rows asked)
-      → list_all (λ entry. are_sound entry.1) (table_of rest) ≡ true
-      → Each (Reaches (IsGood table)) (map built_leaf (map (inherited (above name has_version all)) (shapes_of (table_of rest))))
+  leaves-good : (name : Text) (has_version : Bool) (all : List Shape) (table rest : Table T)
+      → ((own : Text) (rows : List Row) (asked : T × Option Moment) → AsksIn rest own rows asked → AsksIn table own rows asked)
+      → list_all (λ (row : Text × Flags × T). are_sound row.1) rest ≡ true
+      → Each (Reaches (IsGood table)) (map built_leaf (map (inherited (above name has_version all)) (shapes_of rest)))
   leaves-good name has_version all table [] into sound = tt
-  leaves-good name has_version all table (s ∷ rest) into sound =
+  leaves-good name has_version all table (row ∷ rest) into sound =
       let parts = both _ _ sound in (
-        leaf-good name has_version all table s.name.now (flags_of s.flags.now) s.asks
-            (λ rows options has. into s.name.now rows (s.asks, options) (inl (refl, refl, has))) parts.0,
+        leaf-good name has_version all table row.0 row.1 row.2 (λ rows at is. into row.0 rows (row.2, at) (inl (refl, refl, is))) parts.0,
         leaves-good name has_version all table rest (λ own rows asked is. into own rows asked (inr is)) parts.1,
       )
 
   pub faultless : (line : CommandTable T) → is_readable line ≡ true → (words : List Text) → fault_of (app_of_line line) words ≡ []
-      → IsSomeAnd (subcommand_of (app_of_line line) words) (IsGood line.subcommands.now)
+      → IsSomeAnd (subcommand_of (app_of_line line) words) (IsGood (table_of line.subcommands.now))
   faultless line readable words none =
       let table = table_of line.subcommands.now in
       let name = line.name.now in
-      reached (IsGood line.subcommands.now) (app_of_line line) (wants name line.has_version table)
-      (subst (Each (Reaches (IsGood line.subcommands.now))) (subs-built name line.has_version table)
-      (leaves-good name line.has_version table line.subcommands.now line.subcommands.now (λ own rows asked is. is) (both _ _ readable).1))
+      reached (IsGood table) (app_of_line line) (wants name line.has_version (shapes_of table))
+      (subst (Each (Reaches (IsGood table))) (subs-built name line.has_version (shapes_of table))
+      (leaves-good name line.has_version (shapes_of table) table table (λ own rows asked is. is) (both _ _ readable).1))
       words none
 
   -- such matches ask for something
-  pub good-asks : (table : List (Subcommand T)) (matched : Option (Text × List Row)) → IsSomeAnd matched (IsGood table)
-      → ((what : T × Options) (names : List Text) → Matches (AsksIn table) matched what names → ⊥) → ⊥
+  pub good-asks : (table : Table T) (matched : Option (Text × List Row)) → IsSomeAnd matched (IsGood table)
+      → ((what : T × Option Moment) (names : List Text) → Matches (AsksIn table) matched what names → ⊥) → ⊥
   good-asks table None good nothing = good
   good-asks table (Some m) good nothing = good.asks (λ asked asks. nothing asked good.files (asks, good.files_are))
 
   -- of one file or more
-  pub good-files : {A : Type 0} (Asks : Text → List Row → A → Type 0) (table : List (Subcommand T)) (matched : Option (Text × List Row))
+  pub good-files : {A : Type 0} (Asks : Text → List Row → A → Type 0) (table : Table T) (matched : Option (Text × List Row))
       → IsSomeAnd matched (IsGood table) → (what : A) (names : List Text) → Matches Asks matched what names → names ≢ []
   good-files Asks table matched good what names asks none = grind (arith, files-some)

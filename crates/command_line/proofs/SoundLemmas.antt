@@ -11,7 +11,6 @@ use Rattle.command_line.specs.declared.line.Takes.{Takes}
 use Rattle.command_line.proofs.WalkKeepsLemmas.{Each, Keeps, KeepsDefault, each-append, split, undefaulted}
 use Rattle.clap.specs.declared.builder.value_parser.Reading.TheVariants as reading
 use Rattle.clap.specs.declared.builder.value_parser.ValueParser.TheVariants as parser
-use Rattle.clap.specs.declared.error.kind.ErrorKind.TheVariants as kind
 use Rattle.command_line.specs.declared.line.Takes.TheVariants as takes
 
 -- ---- the rows of seconds and of files

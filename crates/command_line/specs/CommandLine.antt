@@ -1,7 +1,7 @@
 -- The command lines of `mdnsmerge` and `mdnswhy`, and what clap's matches of them ask for.
-use Rattle.std.specs.Prelude.{◌≡◌, ◌⊎◌, ⊤, ◌&&◌, ◌++◌, ◌∷◌, Bool, List, Option, Some, None, IsSomeAnd, codes}
-use Rattle.std.specs.{Prelude.{map, ℕ, if◌then◌else◌, nat_le, slice_index_or, string_bytes, true, false, []}, List.{list_all}}
-use Rattle.clap.specs.Words.{App, Row, Text, fault_of, first_of, one_of, subcommand_of}
+use Rattle.std.specs.Prelude.{◌≡◌, ⊤, ◌++◌, ◌∷◌, Bool, List, Option, Some, None, Ok, codes}
+use Rattle.std.specs.Prelude.{map, if◌then◌else◌, string_bytes, true, false, []}
+use Rattle.clap.specs.Words.{App, Row, Text}
 use Rattle.mdns_capture.specs.declared.moment.Moment.{Moment}
 use Rattle.mdns_lives.specs.{Window.{is_reversed}, declared.window.Window.{Window}}
 use Rattle.mdns_lives.specs.declared.life.Which.TheVariants as which
@@ -15,38 +15,25 @@ use Rattle.mdns_listeners.specs.Groups.{unfit_prefix}
 use Rattle.mdns_trace.specs.declared.inquiry.Inquiry.{Inquiry}
 use Rattle.mdns_trace.specs.declared.inquiry.Inquiry.TheVariants as inquiry
 use Rattle.mdns_trace.specs.declared.inquiry.Trace.TheVariants as trace
-use Rattle.command_line.specs.declared.{line.Takes.{Takes}, mdnsmerge.Asks.{Asks}, mdnsmerge.Scope.{Scope}, words.WhyAsks.{WhyAsks}}
-use Rattle.command_line.specs.declared.words.{WordsFault.TheVariants.{Refused}, AskFault.{AskFault}, AskFault.TheVariants.{Words}}
-use Rattle.command_line.specs.declared.words.{Job.{Job}, Task.{Task}, Task.TheVariants.{Survey, Services, Page}}
-use Rattle.command_line.specs.Line.{AsksOneOf, Flags, HasForm, HasLists, HasSeconds, IsFlag, IsGiven, Table, line_with, words_of}
+use Rattle.command_line.specs.declared.{line.Takes.{Takes}, mdnsmerge.Asks.{Asks}, options.Options.{Options}, scope.Scope.{Scope}}
+use Rattle.command_line.specs.declared.words.{Job.{Job}, Task.{Task}, Task.TheVariants.{Survey, Services, Page}, WhyAsks.{WhyAsks}}
+use Rattle.command_line.specs.Line.{AsksIn, AsksWith, Flags, HasOptions, Table, common_forms, form_flags, line_with, people_forms, text_of}
 use Rattle.command_line.specs.Moments.{IsMomentText}
 use Rattle.command_line.specs.declared.line.Takes.TheVariants as takes
 use Rattle.command_line.specs.declared.mdnsmerge.Asks.TheVariants as asks
 
 -- ---- the flags
 
-abbrev pub at_flag : Text × Takes
-at_flag = (codes "at", takes.Moment)
-
-abbrev pub before_flag : Text × Takes
-before_flag = (codes "before", takes.Moment)
+-- the flags of the moment as of which an answer is made
+abbrev pub as_of_flags : Flags
+as_of_flags = (codes "at", takes.Moment) ∷ (codes "before", takes.Moment) ∷ []
 
 -- the flags of the window of the moments that are listed
 abbrev pub window_flags : Flags
 window_flags = (codes "since", takes.Moment) ∷ (codes "until", takes.Moment) ∷ []
 
-abbrev pub about_flag : Text × Takes
-about_flag = (codes "about", takes.Words)
-
-abbrev pub printers_flag : Text × Takes
-printers_flag = (codes "printers", takes.Switch)
-
 abbrev pub listener_flag : Text × Takes
 listener_flag = (codes "listener", takes.Words)
-
--- the flag that leaves out files that can't be used
-abbrev pub skip_flag : Text × Takes
-skip_flag = (codes "skip-unusable", takes.Switch)
 
 -- the flag that asks for the lives of service instances
 abbrev pub services_flag : Text × Takes
@@ -54,19 +41,11 @@ services_flag = (codes "services", takes.Switch)
 
 -- the flags of the words that an answer is about
 abbrev pub word_flags : Flags
-word_flags = about_flag ∷ printers_flag ∷ []
+word_flags = (codes "about", takes.Words) ∷ (codes "printers", takes.Switch) ∷ []
 
--- the flags that ask for the forms that every output has
-abbrev pub common_forms : Flags
-common_forms = (codes "json", takes.Nothing form.Json) ∷ []
-
--- those, and the flag of the form for people
-abbrev pub people_forms : Flags
-people_forms = common_forms ++ (codes "pretty", takes.Nothing form.Pretty) ∷ []
-
--- all flags that ask for a form: those, and the flag of the form for spreadsheets
-abbrev pub form_flags : Flags
-form_flags = people_forms ++ (codes "csv", takes.Nothing form.Csv) ∷ []
+-- the flags that all outputs of captures take
+abbrev pub capture_flags : Flags
+capture_flags = (codes "skip-unusable", takes.Switch) ∷ []
 
 -- the flags of a report that `told` reads
 abbrev pub told_flags : Flags
@@ -74,27 +53,27 @@ told_flags = (codes "at", takes.Seconds) ∷ []
 
 -- the flags of a report
 abbrev pub report_flags : Flags
-report_flags = at_flag ∷ before_flag ∷ (word_flags ++ skip_flag ∷ form_flags)
+report_flags = as_of_flags ++ (word_flags ++ (capture_flags ++ form_flags))
 
 -- the flags of lives
 abbrev pub lives_flags : Flags
-lives_flags = at_flag ∷ before_flag ∷ (window_flags ++ (word_flags ++ services_flag ∷ skip_flag ∷ form_flags))
+lives_flags = as_of_flags ++ (window_flags ++ (word_flags ++ services_flag ∷ (capture_flags ++ form_flags)))
 
 -- the flags of changes
 abbrev pub changes_flags : Flags
-changes_flags = at_flag ∷ before_flag ∷ (window_flags ++ (word_flags ++ skip_flag ∷ form_flags))
+changes_flags = as_of_flags ++ (window_flags ++ (word_flags ++ (capture_flags ++ form_flags)))
 
 -- the flags of the page, which has one form
 abbrev pub page_flags : Flags
-page_flags = at_flag ∷ before_flag ∷ (window_flags ++ (word_flags ++ listener_flag ∷ skip_flag ∷ []))
+page_flags = as_of_flags ++ (window_flags ++ (word_flags ++ listener_flag ∷ capture_flags))
 
 -- the flags of the spans; those of the files are `common_forms`
 abbrev pub spans_flags : Flags
-spans_flags = skip_flag ∷ people_forms
+spans_flags = capture_flags ++ people_forms
 
 -- the flags of the hearings and of the packets
 abbrev pub hearings_flags : Flags
-hearings_flags = window_flags ++ (word_flags ++ skip_flag ∷ form_flags)
+hearings_flags = window_flags ++ (word_flags ++ (capture_flags ++ form_flags))
 
 abbrev pub packets_flags : Flags
 packets_flags = window_flags ++ spans_flags
@@ -126,6 +105,16 @@ abbrev pub GivesWindow : Option Text → Option Text → Bool → Window → Typ
 GivesWindow since until reversed window = IsBound since window.since × IsBound until window.until
     × (is_reversed window.since window.until ≡ reversed)
 
+-- ---- what options give
+
+-- these options give the form and the window
+abbrev pub MakesFormWindow : Options → Form × Window → Type 0
+MakesFormWindow options made = (options.form ≡ Ok made.0) × GivesWindow (text_of options.since) (text_of options.until) false made.1
+
+-- the matches give these options, with the form and the window that they give
+abbrev pub GivesScope : List Row → Scope → Type 0
+GivesScope rows scope = HasOptions rows scope.options × MakesFormWindow scope.options (scope.form, scope.window)
+
 -- ---- `mdnsmerge`
 
 -- the subcommand of each report that `told` reads
@@ -147,7 +136,7 @@ tasks = map (λ row. (row.0, report_flags, asks.Report row.1)) reports
     ∷ (codes "lives", lives_flags, asks.Lives which.All)
     ∷ (codes "changes", changes_flags, asks.Lives which.Changes)
     ∷ (codes "page", page_flags, asks.Page)
-    ∷ (codes "check", skip_flag ∷ [], asks.Check) ∷ []
+    ∷ (codes "check", capture_flags, asks.Check) ∷ []
 
 -- the whole command line of `mdnsmerge`
 abbrev pub command_line_with_past : App
@@ -157,38 +146,25 @@ abbrev pub what_of : Option Ask → Option Moment → What
 what_of (Some ask) at = what.Report ask at
 what_of None at = what.Check
 
--- what a subcommand asks for and the moment that its flags give make this
-abbrev pub MakesWhat : Flags → List Row → Option Ask → What → Type 0
-MakesWhat flags rows own asked = (at : Option Moment) × HasSeconds flags rows at × (asked ≡ what_of own at)
-
 -- a subcommand with these matches asks for this
 abbrev pub AsksWhat : Text → List Row → What → Type 0
-AsksWhat = AsksOneOf MakesWhat whats
+AsksWhat name rows what = (asked : Option Ask × Option Moment) × AsksIn whats name rows asked × (what ≡ what_of asked.0 asked.1)
 
--- the form, the moments and the words that these flags give, and whether files that can't be used are left out
-abbrev pub GivesScope : Flags → List Row → Scope → Type 0
-GivesScope flags rows scope = HasForm flags rows scope.form
-    × GivesAsOf (first_of (codes "at") rows) (first_of (codes "before") rows) scope.as_of
-    × GivesWindow (first_of (codes "since") rows) (first_of (codes "until") rows) false scope.window
-    × HasLists rows scope.lists
-    × IsFlag (one_of (codes "skip-unusable") rows) scope.skip_unusable
-    × IsFlag (one_of (codes "services") rows) scope.services
-
--- what a subcommand asks for, as the options say
-abbrev pub task_of : Asks → Scope → Task
-task_of (asks.Report ask) scope =
-    Survey (request.Report (record { ask = ask; form = scope.form; as_of = scope.as_of; about = scope.lists.about }))
-task_of (asks.Lives which) scope =
-    if scope.services then Services scope.form scope.as_of scope.window scope.lists.about
+-- what a subcommand asks for, as of when, and as the options say
+abbrev pub task_of : Asks → AsOf → Scope → Task
+task_of (asks.Report ask) as_of scope =
+    Survey (request.Report (record { ask = ask; form = scope.form; as_of = as_of; about = scope.options.lists.about }))
+task_of (asks.Lives which) as_of scope =
+    if scope.options.services then Services scope.form as_of scope.window scope.options.lists.about
     else Survey (request.Lives (record {
       which = which;
       form = scope.form;
-      as_of = scope.as_of;
+      as_of = as_of;
       window = scope.window;
-      about = scope.lists.about;
+      about = scope.options.lists.about;
     }))
-task_of asks.Page scope = Page scope.as_of scope.window scope.lists.about scope.lists.listeners
-task_of asks.Check scope = Survey request.Check
+task_of asks.Page as_of scope = Page as_of scope.window scope.options.lists.about scope.options.lists.listeners
+task_of asks.Check as_of scope = Survey request.Check
 
 -- each prefix of a listener fits one of the files
 abbrev pub HasFitting : Task → List Text → Type 0
@@ -196,16 +172,14 @@ HasFitting (Survey request) names = ⊤
 HasFitting (Services form as_of window about) names = ⊤
 HasFitting (Page as_of window about listeners) names = unfit_prefix (map string_bytes listeners.items) names ≡ None
 
-abbrev pub job_of : Asks → Scope → Job
-job_of own scope = record { task = task_of own scope; skip_unusable = scope.skip_unusable }
-
--- what a subcommand asks for and what its flags give make the job
-abbrev pub MakesJob : Flags → List Row → Asks → Job → Type 0
-MakesJob flags rows own job = (scope : Scope) × GivesScope flags rows scope × (job ≡ job_of own scope)
+abbrev pub job_of : Asks → AsOf → Scope → Job
+job_of own as_of scope = record { task = task_of own as_of scope; skip_unusable = scope.options.skip_unusable }
 
 -- a subcommand with these matches asks for this
 abbrev pub AsksJob : Text → List Row → Job → Type 0
-AsksJob = AsksOneOf MakesJob tasks
+AsksJob name rows job = (asked : (Asks × Option Moment) × Scope) × AsksWith (AsksIn tasks) GivesScope name rows asked
+    × ((as_of : AsOf) × GivesAsOf (text_of asked.1.options.at) (text_of asked.1.options.before) as_of
+    × (job ≡ job_of asked.0.0 as_of asked.1))
 
 -- ---- `mdnswhy`
 
@@ -229,104 +203,15 @@ in_form (inquiry.Trace (trace.Spans own)) form = inquiry.Trace (trace.Spans form
 in_form (inquiry.Files own) form = inquiry.Files form
 in_form (inquiry.Listeners own) form = inquiry.Listeners form
 
--- what a subcommand asks for, in the form that its flags ask for
-abbrev pub MakesInquiry : Flags → List Row → Inquiry → Inquiry → Type 0
-MakesInquiry flags rows own asked = (form : Form) × HasForm flags rows form × (asked ≡ in_form own form)
+abbrev pub why_of : Inquiry → Scope → WhyAsks
+why_of own scope = record {
+  inquiry = in_form own scope.form;
+  lists = scope.options.lists;
+  window = scope.window;
+  skip_unusable = scope.options.skip_unusable;
+}
 
 -- a subcommand with these matches asks for this
 abbrev pub AsksWhy : Text → List Row → WhyAsks → Type 0
-AsksWhy name rows asks = AsksOneOf MakesInquiry inquiries name rows asks.inquiry × HasLists rows asks.lists
-    × GivesWindow (first_of (codes "since") rows) (first_of (codes "until") rows) false asks.window
-    × IsFlag (one_of (codes "skip-unusable") rows) asks.skip_unusable
-
--- ---- refusals
-
--- clap finds no fault in the words, but they are refused with this line, since the matches are such
-abbrev pub IsRefusedFor : (List Row → Text → Type 0) → App → List Text → AskFault → Type 0
-IsRefusedFor Why line words (Words (Refused text)) =
-    (fault_of line words ≡ []) × IsSomeAnd (subcommand_of line words) (λ matched. Why matched.1 (string_bytes text))
-IsRefusedFor Why line words fault = ⊥
-
-abbrev pub both_given : Text → Text → Text → Text
-both_given program one other =
-    program ++ (codes ": --" ++ (one ++ (codes " and --" ++ (other ++ codes " can't be given together"))))
-
--- the flags are both given, and so says the line of that program
-abbrev pub GivesBoth : Text → Text × Takes → Text × Takes → List Row → Text → Type 0
-GivesBoth program one other rows line =
-    IsGiven one.1 one.0 rows × IsGiven other.1 other.0 rows × (line ≡ both_given program one.0 other.0)
-
--- a flag of these and one after it are both given, and so says the line
-abbrev pub GivesAfter : Text → Text × Takes → Flags → List Row → Text → Type 0
-GivesAfter program one [] rows line = ⊥
-GivesAfter program one (other ∷ flags) rows line = GivesBoth program one other rows line ⊎ GivesAfter program one flags rows line
-
-abbrev pub GivesTwo : Text → Flags → List Row → Text → Type 0
-GivesTwo program [] rows line = ⊥
-GivesTwo program (one ∷ flags) rows line = GivesAfter program one flags rows line ⊎ GivesTwo program flags rows line
-
--- a text of printable ASCII is repeated
-abbrev pub is_plain : Text → Bool
-is_plain = list_all (λ byte. nat_le 32 byte && nat_le byte 126)
-
-abbrev pub quoted : Text → Text
-quoted text = if is_plain text then 39 ∷ (text ++ codes "' ") else []
-
--- the line of an invalid value of an option
-abbrev pub invalid : Text → Text → Text → Text → Text → Text
-invalid program what value name cure = program ++ (codes ": invalid " ++ (what ++ (codes " " ++ (quoted value ++ (codes "for --"
-    ++ (name ++ (codes ": " ++ cure)))))))
-
-abbrev pub no_moment : Text → Text → Text → Text
-no_moment program name text = invalid program (codes "moment") text name
-    (codes "give seconds since 1970 (1795332403.397617) or a date and time with its zone (2026-11-22T07:27:00Z)")
-
--- one of them is given, and its text names no moment
-abbrev pub NamesNone : Text → Text → Text → List Row → Text → Type 0
-NamesNone program name other rows line = (text : Text) × ((first_of name rows ≡ Some text) × (first_of other rows ≡ None)
-    × ((moment : Moment) → IsMomentText text moment → ⊥) × (line ≡ no_moment program name text))
-
--- one of `--at` and `--before` is given, and its text names no moment
-abbrev pub GivesNoMoment : Text → List Row → Text → Type 0
-GivesNoMoment program rows line =
-    NamesNone program (codes "at") (codes "before") rows line ⊎ NamesNone program (codes "before") (codes "at") rows line
-
--- the option of that name is given, its text names no moment, and so says the line
-abbrev pub IsNoBound : Text → Text → Option Text → Text → Type 0
-IsNoBound program name given line = (text : Text) × (given ≡ Some text)
-    × ((moment : Moment) → IsMomentText text moment → ⊥) × (line ≡ no_moment program name text)
-
-abbrev pub empty_window : Text → Text
-empty_window program = program ++ codes ": --since must be earlier than --until: nothing lies between them"
-
--- the bounds are reversed, and so says the line
-abbrev pub IsEmptyWindow : Text → Option Text → Option Text → Text → Type 0
-IsEmptyWindow program since until line = (window : Window) × GivesWindow since until true window × (line ≡ empty_window program)
-
--- one of these texts names no moment, or the bounds are reversed
-abbrev pub GivesNoWindow : Text → Option Text → Option Text → Text → Type 0
-GivesNoWindow program since until line = IsNoBound program (codes "since") since line
-    ⊎ IsNoBound program (codes "until") until line ⊎ IsEmptyWindow program since until line
-
-abbrev pub no_file : Text → Text → Text → Text
-no_file program name prefix = invalid program (codes "prefix") prefix name (codes "no FILE's name, without folders, begins with it")
-
--- the first prefix that fits no file is at this place, if there is one, and so says the line
-abbrev pub HasUnfit : Text → List Text → Option ℕ → Text → Type 0
-HasUnfit program prefixes at line = IsSomeAnd at (λ i. line ≡ no_file program (codes "listener") (slice_index_or prefixes i []))
-
--- a prefix is given that fits none of the files, and so says the line
-abbrev pub GivesNoFile : Text → List Row → Text → Type 0
-GivesNoFile program rows line =
-    HasUnfit program (words_of (codes "listener") rows)
-    (unfit_prefix (words_of (codes "listener") rows) (words_of (codes "FILE") rows)) line
-
--- two flags ask for forms, a prefix fits no file, or no window is given, and so says the line
-abbrev pub GivesNoInquiry : Text → List Row → Text → Type 0
-GivesNoInquiry program rows line = GivesTwo program form_flags rows line ⊎ GivesNoFile program rows line
-    ⊎ GivesNoWindow program (first_of (codes "since") rows) (first_of (codes "until") rows) line
-
--- the same, or they don't say as of when
-abbrev pub GivesNoTask : Text → List Row → Text → Type 0
-GivesNoTask program rows line = GivesNoInquiry program rows line ⊎ GivesBoth program at_flag before_flag rows line
-    ⊎ GivesNoMoment program rows line
+AsksWhy name rows asks = (asked : (Inquiry × Option Moment) × Scope) × AsksWith (AsksIn inquiries) GivesScope name rows asked
+    × (asks ≡ why_of asked.0.0 asked.1)

@@ -11,6 +11,7 @@ use Rattle.mdns_browse.specs.declared.{report.Form.{Form}, report.Form.TheVarian
 use Rattle.command_line.specs.declared.line.{Takes.{Takes}, Flag.{Flag}, CommandTable.{CommandTable}, Subcommand.{Subcommand}}
 use Rattle.command_line.specs.declared.{options.ConflictingFlags.{ConflictingFlags}, options.Options.{Options}, lists.Lists.{Lists}}
 use Rattle.command_line.specs.{declared.words.Asked.{Asked}, FinalDot.{asked_words}}
+use Rattle.mdns_browse.specs.declared.report.Form.TheVariants as form
 use Rattle.command_line.specs.declared.line.Takes.TheVariants as takes
 
 -- `--NAME`; or `--NAME SECONDS`, a number of 32 bits; or `--NAME MOMENT`, any text; or `--NAME WORD`, any but the empty one, repeatedly
@@ -55,12 +56,12 @@ app_of_shape shape = record { top = shape; subs = [] }
 abbrev pub Table : Type 0 → Type 0
 Table T = List (Text × Flags × T)
 
-abbrev pub has_none : List (Text × Flags) → Bool
+abbrev pub has_none : List Shape → Bool
 has_none [] = true
 has_none (x ∷ xs) = false
 
 -- the program requires one of its subcommands, and has none that is named `help`
-abbrev pub line_of : Text → Bool → List (Text × Flags) → App
+abbrev pub line_of : Text → Bool → List Shape → App
 line_of name has_version subcommands = record {
   top = record (new_shape name) {
     is_leaf = has_none subcommands;
@@ -68,25 +69,25 @@ line_of name has_version subcommands = record {
     disable_help_subcommand = true;
     has_version = has_version;
   };
-  subs = map (λ subcommand. shape_of subcommand.0 subcommand.1) subcommands;
+  subs = subcommands;
 }
 
 -- the command line of a table
+abbrev pub shapes_of : {T : Type 0} → Table T → List Shape
+shapes_of = map (λ row. shape_of row.0 row.1)
+
 abbrev pub line_with : {T : Type 0} → Text → Bool → Table T → App
-line_with name has_version table = line_of name has_version (map (λ row. (row.0, row.1)) table)
+line_with name has_version table = line_of name has_version (shapes_of table)
 
 -- the tables of the code
 abbrev pub flags_of : List Flag → Flags
 flags_of = map (λ flag. (flag.name.now, flag.takes))
 
-abbrev pub subcommand_shape : {T : Type 0} → Subcommand T → Shape
-subcommand_shape subcommand = shape_of subcommand.name.now (flags_of subcommand.flags.now)
-
-abbrev pub table_of : {T : Type 0} → List (Subcommand T) → List (Text × Flags)
-table_of = map (λ subcommand. (subcommand.name.now, flags_of subcommand.flags.now))
+abbrev pub table_of : {T : Type 0} → List (Subcommand T) → Table T
+table_of = map (λ subcommand. (subcommand.name.now, flags_of subcommand.flags.now, subcommand.asks))
 
 abbrev pub app_of_line : {T : Type 0} → CommandTable T → App
-app_of_line line = line_of line.name.now line.has_version (table_of line.subcommands.now)
+app_of_line line = line_with line.name.now line.has_version (table_of line.subcommands.now)
 
 -- a flag of this name takes seconds
 abbrev pub takes_seconds : Takes → Bool
@@ -108,7 +109,7 @@ are_sound flags = list_all (λ flag. is_sound (is_counted flags) flag.0 flag.1) 
 -- the command line is one of which clap's definitions tell the faults and the matches
 abbrev pub is_readable : {T : Type 0} → CommandTable T → Bool
 is_readable line = is_simple_and_free (app_of_line line)
-    && list_all (λ subcommand. are_sound subcommand.1) (table_of line.subcommands.now)
+    && list_all (λ row. are_sound row.1) (table_of line.subcommands.now)
 
 -- ---- what the matches ask for
 
@@ -131,18 +132,16 @@ HasSeconds [] rows at = at ≡ None
 HasSeconds (flag ∷ flags) rows at = SecondsBy flag.1 (IsMomentOf (one_of flag.0 rows) at) (HasSeconds flags rows at)
 
 -- the text that is given for an option
+abbrev pub text_of : Option (Bor Text) → Option Text
+text_of = option_map (λ t. t.now)
+
 abbrev pub HasText : Text → List Row → Option (Bor Text) → Type 0
-HasText name rows text = option_map (λ t. t.now) text ≡ first_of name rows
+HasText name rows text = text_of text ≡ first_of name rows
 
 -- a flag is given, or not: clap reads `true` for one that is, and `false` for one that isn't
 abbrev pub IsFlag : Option Text → Bool → Type 0
 IsFlag flag true = (flag ≢ None) × (flag ≢ Some (codes "false"))
 IsFlag flag false = flag ≢ Some (codes "true")
-
-abbrev pub IsGiven : Takes → Text → List Row → Type 0
-IsGiven (takes.Nothing form) name rows = IsFlag (one_of name rows) true
-IsGiven takes.Switch name rows = IsFlag (one_of name rows) true
-IsGiven other name rows = first_of name rows ≢ None
 
 -- the form that a flag with this value asks for; none where it isn't given, or takes a value
 abbrev pub AsksForm : Takes → Option Text → Option Form → Type 0
@@ -180,29 +179,17 @@ abbrev pub HasOneForm : Flags → List Row → Result Form ConflictingFlags → 
 HasOneForm flags rows (Ok form) = HasForm flags rows form
 HasOneForm flags rows (Err both) = GivesForms flags rows both
 
--- the matches of a subcommand that takes these flags give these options
-abbrev pub HasOptions : Flags → List Row → Options → Type 0
-HasOptions flags rows options = HasSeconds flags rows options.seconds
-    × HasText (codes "at") rows options.at
-    × HasText (codes "before") rows options.before
-    × HasOneForm flags rows options.form
-    × IsFlag (one_of (codes "skip-unusable") rows) options.skip_unusable
-    × HasText (codes "since") rows options.since
-    × HasText (codes "until") rows options.until
-    × IsFlag (one_of (codes "services") rows) options.services
+-- the flags that ask for the forms that every output has
+abbrev pub common_forms : Flags
+common_forms = (codes "json", takes.Nothing form.Json) ∷ []
 
--- a subcommand of the table has this name and asks for this, with these options
-abbrev pub AsksIn : {T : Type 0} → List (Subcommand T) → Text → List Row → T × Options → Type 0
-AsksIn [] name rows asked = ⊥
-AsksIn (subcommand ∷ rest) name rows asked =
-    ((name ≡ subcommand.name.now) × (asked.0 ≡ subcommand.asks) × HasOptions (flags_of subcommand.flags.now) rows asked.1)
-    ⊎ AsksIn rest name rows asked
+-- those, and the flag of the form for people
+abbrev pub people_forms : Flags
+people_forms = common_forms ++ (codes "pretty", takes.Nothing form.Pretty) ∷ []
 
--- a subcommand of a table has this name; what its flags give and what it asks for make this
-abbrev pub AsksOneOf : {T A : Type 0} → (Flags → List Row → T → A → Type 0) → Table T → Text → List Row → A → Type 0
-AsksOneOf Makes [] name rows asked = ⊥
-AsksOneOf Makes (row ∷ table) name rows asked =
-    ((name ≡ row.0) × Makes row.1 rows row.2 asked) ⊎ AsksOneOf Makes table name rows asked
+-- all flags that ask for a form: those, and the flag of the form for spreadsheets
+abbrev pub form_flags : Flags
+form_flags = people_forms ++ (codes "csv", takes.Nothing form.Csv) ∷ []
 
 -- the words of all uses of an option, in their order
 abbrev pub words_of : Text → List Row → List Text
@@ -227,17 +214,38 @@ pub record HasLists (rows : List Row) (lists : Lists) : Type 0 where
   pub about : texts_of lists.about ≡ asked_words (words_of (codes "about") rows) ++ printers
   pub listeners : map string_bytes lists.listeners.items ≡ words_of (codes "listener") rows
 
--- a subcommand with these matches asks for the first of two; the second is the matches, or the words of such options
-abbrev pub AsksWithRows : {A : Type 0} → (Text → List Row → A → Type 0) → Text → List Row → A × List Row → Type 0
-AsksWithRows Asks name rows asked = Asks name rows asked.0 × (asked.1 ≡ rows)
+-- the matches of a subcommand give these options
+abbrev pub HasOptions : List Row → Options → Type 0
+HasOptions rows options = HasText (codes "at") rows options.at
+    × HasText (codes "before") rows options.before
+    × HasText (codes "since") rows options.since
+    × HasText (codes "until") rows options.until
+    × HasOneForm form_flags rows options.form
+    × HasLists rows options.lists
+    × IsFlag (one_of (codes "skip-unusable") rows) options.skip_unusable
+    × IsFlag (one_of (codes "services") rows) options.services
 
-abbrev pub AsksWithLists : {A : Type 0} → (Text → List Row → A → Type 0) → Text → List Row → A × Lists → Type 0
-AsksWithLists Asks name rows asked = Asks name rows asked.0 × HasLists rows asked.1
+-- a subcommand of the table has this name and asks for this, with the moment that is given in seconds
+abbrev pub AsksIn : {T : Type 0} → Table T → Text → List Row → T × Option Moment → Type 0
+AsksIn [] name rows asked = ⊥
+AsksIn (row ∷ table) name rows asked =
+    ((name ≡ row.0) × (asked.0 ≡ row.2) × HasSeconds row.1 rows asked.1) ⊎ AsksIn table name rows asked
+
+-- a subcommand with these matches asks for the first of two, and its matches give the second
+abbrev pub AsksWith : {A B : Type 0} → (Text → List Row → A → Type 0) → (List Row → B → Type 0) → Text → List Row → A × B → Type 0
+AsksWith Asks Gives name rows asked = Asks name rows asked.0 × Gives rows asked.1
+
+-- the files of a subcommand
+abbrev pub AreFiles : List Row → List Text → Type 0
+AreFiles rows names = all_of (codes "FILE") rows ≡ Some names
+
+abbrev pub files_in : List Row → List Text
+files_in rows = words_of (codes "FILE") rows
 
 -- the subcommand that was matched asks for this, of these files
 abbrev pub Matches : {A : Type 0} → (Text → List Row → A → Type 0) → Option (Text × List Row) → A → List Text → Type 0
 Matches Asks None what names = ⊥
-Matches Asks (Some matched) what names = Asks matched.0 matched.1 what × (all_of (codes "FILE") matched.1 ≡ Some names)
+Matches Asks (Some matched) what names = Asks matched.0 matched.1 what × AreFiles matched.1 names
 
 -- clap finds no fault in the words, and the matches ask for this, of these files
 abbrev pub IsAsked : {A : Type 0} → (Text → List Row → A → Type 0) → App → List Text → Asked A → Type 0

@@ -83,21 +83,12 @@ pub(crate) const SERVICES: Flag = Flag {
     ..PRINTERS
 };
 
-/// A list of flags: the first ones, `--json`, and the last ones.
-macro_rules! with_forms {
-    ([$($first:expr),*], [$($last:expr),*]) => {
-        &[
-            $($first,)*
-            Flag {
-                name: "json",
-                takes: Takes::Nothing(Form::Json),
-                value: "",
-                help: "One JSON object a line",
-            },
-            $($last,)*
-        ]
-    };
-}
+const JSON: Flag = Flag {
+    name: "json",
+    takes: Takes::Nothing(Form::Json),
+    value: "",
+    help: "One JSON object a line",
+};
 
 const PRETTY: Flag = Flag {
     name: "pretty",
@@ -113,62 +104,61 @@ const CSV: Flag = Flag {
     help: "Comma-separated values, for a spreadsheet",
 };
 
+/// The flags that ask for a form, of any output.
+pub(crate) const FORM_FLAGS: &[Flag] = &[JSON, PRETTY, CSV];
+
+/// The flags of an output of captures: its own, those that all these outputs take, and those of its forms.
+macro_rules! of_captures {
+    ([$($own:expr),*], [$($form:expr),*]) => {
+        &[$($own,)* SKIP_UNUSABLE, $($form),*]
+    };
+}
+
+/// The same of an output that has forms: `--json`, and more.
+macro_rules! with_forms {
+    ([$($own:expr),*], [$($more:expr),*]) => {
+        of_captures!([$($own),*], [JSON, $($more),*])
+    };
+}
+
 /// The flags of a report.
-pub(crate) const REPORT_FLAGS: &[Flag] = with_forms!(
-    [AT, BEFORE, ABOUT, PRINTERS, SKIP_UNUSABLE],
-    [PRETTY, CSV]
-);
+pub(crate) const REPORT_FLAGS: &[Flag] = with_forms!([AT, BEFORE, ABOUT, PRINTERS], [PRETTY, CSV]);
 
 /// The flags of lives.
 pub(crate) const LIVES_FLAGS: &[Flag] = with_forms!(
-    [
-        AT,
-        BEFORE,
-        SINCE,
-        UNTIL,
-        ABOUT,
-        PRINTERS,
-        SERVICES,
-        SKIP_UNUSABLE
-    ],
+    [AT, BEFORE, SINCE, UNTIL, ABOUT, PRINTERS, SERVICES],
     [PRETTY, CSV]
 );
 
 /// The flags of changes.
 pub(crate) const CHANGES_FLAGS: &[Flag] = with_forms!(
-    [AT, BEFORE, SINCE, UNTIL, ABOUT, PRINTERS, SKIP_UNUSABLE],
+    [AT, BEFORE, SINCE, UNTIL, ABOUT, PRINTERS],
     [PRETTY, CSV]
 );
 
 /// The flags of the page, which has one form.
-pub(crate) const PAGE_FLAGS: &[Flag] = &[
-    AT,
-    BEFORE,
-    SINCE,
-    UNTIL,
-    ABOUT,
-    PRINTERS,
-    LISTENER,
-    SKIP_UNUSABLE,
-];
+pub(crate) const PAGE_FLAGS: &[Flag] = of_captures!(
+    [AT, BEFORE, SINCE, UNTIL, ABOUT, PRINTERS, LISTENER],
+    []
+);
 
 /// The flags of `check`.
-pub(crate) const CHECK_FLAGS: &[Flag] = &[SKIP_UNUSABLE];
+pub(crate) const CHECK_FLAGS: &[Flag] = of_captures!([], []);
 
 /// The flags of `hearings`.
 pub(crate) const HEARINGS_FLAGS: &[Flag] = with_forms!(
-    [SINCE, UNTIL, ABOUT, PRINTERS, SKIP_UNUSABLE],
+    [SINCE, UNTIL, ABOUT, PRINTERS],
     [PRETTY, CSV]
 );
 
 /// The flags of `packets`.
-pub(crate) const PACKETS_FLAGS: &[Flag] = with_forms!([SINCE, UNTIL, SKIP_UNUSABLE], [PRETTY]);
+pub(crate) const PACKETS_FLAGS: &[Flag] = with_forms!([SINCE, UNTIL], [PRETTY]);
 
 /// The flags of `spans`.
-pub(crate) const SPANS_FLAGS: &[Flag] = with_forms!([SKIP_UNUSABLE], [PRETTY]);
+pub(crate) const SPANS_FLAGS: &[Flag] = with_forms!([], [PRETTY]);
 
 /// The flags of what is written of listeners.
-pub(crate) const LISTENERS_FLAGS: &[Flag] = with_forms!([LISTENER, SKIP_UNUSABLE], [PRETTY]);
+pub(crate) const LISTENERS_FLAGS: &[Flag] = with_forms!([LISTENER], [PRETTY]);
 
 /// The flags of `files`, which says what each file is that can't be used.
-pub(crate) const FILES_FLAGS: &[Flag] = with_forms!([], []);
+pub(crate) const FILES_FLAGS: &[Flag] = &[JSON];

@@ -15,7 +15,7 @@ mod option_fault;
 mod options;
 pub mod program;
 mod read;
-mod window;
+mod scope;
 pub mod words;
 
 pub use mdnsmerge::{asked, told};

@@ -2,7 +2,7 @@
 
 ghost use Rattle.std.specs.Prelude.{◌≡◌, [], IfOk, false};
 ghost use Rattle.clap.specs.Words.{app_of, rule_of};
-ghost use Rattle.command_line.specs.Line.{app_of_shape, flag_rule, line_of, subcommand_shape, table_of};
+ghost use Rattle.command_line.specs.Line.{app_of_line, app_of_shape, flag_rule, flags_of, line_of, shape_of};
 
 use crate::files::files;
 use crate::help::HelpText;
@@ -74,8 +74,7 @@ pub(crate) fn command_of<'a, T>(
     alloc: Global,
     line: &CommandTable<T>,
 ) -> Result<Command<'a>, AllocError>
-    ensures { IfOk result (λ command.
-        app_of command ≡ line_of line.now.name.now line.now.has_version (table_of line.now.subcommands.now)) }
+    ensures { IfOk result (λ command. app_of command ≡ app_of_line line.now) }
 {
     let mut command = program_of(alloc, line);
     for subcommand in line.subcommands {
@@ -105,7 +104,8 @@ fn subcommand_of<'a, T>(
     alloc: Global,
     subcommand: &Subcommand<T>,
 ) -> Result<Command<'a>, AllocError>
-    ensures { IfOk result (λ command. app_of command ≡ app_of_shape (subcommand_shape subcommand.now)) }
+    ensures { IfOk result (λ command. app_of command
+        ≡ app_of_shape (shape_of subcommand.now.name.now (flags_of subcommand.now.flags.now))) }
 {
     let mut command = Command::new(alloc, subcommand.name)
         .about(subcommand.page.about)

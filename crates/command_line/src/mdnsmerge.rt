@@ -1,27 +1,25 @@
 //! The command line of `mdnsmerge`.
 
-ghost use Rattle.std.specs.Prelude.{◌≡◌, ◌≢◌, ◌⊎◌, [], IfErr, IfOk, None, codes, map, string_bytes};
+ghost use Rattle.std.specs.Prelude.{◌≡◌, ◌≢◌, [], IfErr, IfOk, codes, map, string_bytes};
 ghost use Rattle.clap.specs.Words.{fault_of};
-ghost use Rattle.command_line.specs.{Line.{IsAsked}, Faults.{IsUnasked, IsUntold}, CommandLine.{AsksJob, AsksWhat, GivesAsOf, GivesNoTask}};
-ghost use Rattle.command_line.specs.CommandLine.{HasFitting, IsRefusedFor, command_line, command_line_with_past, job_of, task_of, what_of};
-ghost use Rattle.command_line.specs.OptionFault.{MakesBounds, MakesNoAsOf, MakesNoTask, text_of};
-ghost use Rattle.mdns_listeners.specs.Groups.{unfit_prefix};
+ghost use Rattle.command_line.specs.{Line.{IsAsked, text_of}, Faults.{IsUntold}, CommandLine.{AsksJob, AsksWhat, GivesAsOf, HasFitting}};
+ghost use Rattle.command_line.specs.CommandLine.{command_line, command_line_with_past, job_of, task_of, what_of};
+ghost use Rattle.command_line.specs.OptionFault.{IsUnmade, MakesNoAsOf, MakesNoTask};
 
 use crate::flags::{
     AT, AT_SECONDS, BEFORE, CHANGES_FLAGS, CHECK_FLAGS, LIVES_FLAGS, PAGE_FLAGS, REPORT_FLAGS,
 };
 use crate::help;
 use crate::line::{CommandTable, Subcommand, subcommands};
-use crate::lists::Lists;
 use crate::moments::moment_of_text;
 use crate::option_fault::{OptionFault, refusal_of};
 use crate::options::{ConflictingFlags, Options};
 use crate::read::read;
-use crate::window::form_and_window;
+use crate::scope::{Scope, read_scope};
 use crate::words::{AskFault, Asked, Job, Task, Told, WordsFault};
-use mdns_browse::report::{Ask, Form};
+use mdns_browse::report::Ask;
 use mdns_capture::Moment;
-use mdns_survey::request::{AsOf, LivesRequest, ReportRequest, Request, What, Which, Window};
+use mdns_survey::request::{AsOf, LivesRequest, ReportRequest, Request, What, Which};
 use std::alloc::Global;
 
 /// What a subcommand of `asked` asks for.
@@ -31,17 +29,6 @@ enum Asks {
     Lives(Which),
     Page,
     Check,
-}
-
-/// What the options of a subcommand give. Those that it doesn't take count as not given.
-#[derive(Drop)]
-struct Scope {
-    form: Form,
-    as_of: AsOf,
-    window: Window,
-    lists: Lists,
-    skip_unusable: bool,
-    services: bool,
 }
 
 /// The command line of `told`.
@@ -99,9 +86,9 @@ fn read_told(alloc: Global, words: &[String]) -> Result<Told, WordsFault>
 {
     match read(alloc, &TOLD, words) {
         Ok(asked) => {
-            let (ask, options) = asked.what.0;
+            let (ask, at) = asked.what.0;
             Ok(Asked {
-                what: what_of(ask, options.seconds),
+                what: what_of(ask, at),
                 names: asked.names,
             })
         }
@@ -122,10 +109,7 @@ fn what_of(ask: Option<Ask>, at: Option<Moment>) -> What
 
 /// Reads the words of a command line of `mdnsmerge`, of which the first is the program's name.
 ///
-/// It is a subcommand and its flags, and then one or more files. Each subcommand takes `--skip-unusable`. One whose answer
-/// depends on a moment takes `--at` or `--before`, `--about WORD`, any number of times, and `--printers`; one that has several
-/// forms also the flag of a form, `lives`, `changes` and `page` also `--since` and `--until`, `lives` also `--services`, and
-/// `page` also `--listener PREFIX`, any number of times. `--version` asks for the version.
+/// It is a subcommand with the flags that its help lists, and then one or more files. `--version` asks for the version.
 ///
 /// A `MOMENT` is seconds since 1970, with up to nine digits of a fraction, or a date and time of RFC 3339 with its zone; a space
 /// may be in place of the `T`, and the second may be left out. A leap second, `23:59:60`, names no moment. A `WORD` that ends in a
@@ -133,124 +117,82 @@ fn what_of(ask: Option<Ask>, at: Option<Moment>) -> What
 ///
 /// # Errors
 ///
-/// `Help` where help was asked for, `Version` where the version was, `Refused` where the words are no such command
-/// line, give both `--at` and `--before` or two forms, give a text that names no moment, moments of which `--since` isn't earlier
-/// than `--until`, or a prefix with which no file's name begins, without its folders, and `Memory` where an allocation failed.
+/// `Help` where help was asked for, `Version` where the version was, `Refused` where the words are no such command line, or their
+/// options make no task (`MakesNoTask`), and `Memory` where an allocation failed.
 pub fn asked(alloc: Global, words: Vec<String>) -> Result<Asked<Job>, AskFault>
     ensures asked { IfOk result (IsAsked AsksJob command_line_with_past (map string_bytes words.items)) }
     ensures files { IfOk result (λ asked. asked.names.items ≢ []) }
     ensures fit { IfOk result (λ asked. HasFitting asked.what.task (map string_bytes asked.names.items)) }
-    ensures unasked { IfErr result (λ fault.
-        IsUnasked (fault_of command_line_with_past (map string_bytes words.items)) fault
-        ⊎ IsRefusedFor (GivesNoTask (codes "mdnsmerge")) command_line_with_past (map string_bytes words.items) fault) }
+    ensures unasked { IfErr result
+        (IsUnmade MakesNoTask (codes "mdnsmerge") command_line_with_past (map string_bytes words.items)) }
 {
-    read_asked(alloc, words.as_slice())
-}
-
-fn read_asked(alloc: Global, words: &[String]) -> Result<Asked<Job>, AskFault>
-    ensures asked { IfOk result (IsAsked AsksJob command_line_with_past (map string_bytes words.now)) }
-    ensures files { IfOk result (λ asked. asked.names.items ≢ []) }
-    ensures fit { IfOk result (λ asked. HasFitting asked.what.task (map string_bytes asked.names.items)) }
-    ensures unasked { IfErr result (λ fault.
-        IsUnasked (fault_of command_line_with_past (map string_bytes words.now)) fault
-        ⊎ IsRefusedFor (GivesNoTask (codes "mdnsmerge")) command_line_with_past (map string_bytes words.now) fault) }
-{
-    let asked = read(alloc, &ASKED, words)?;
-    let ((asks, options), lists) = asked.what;
+    let asked = read_scope(alloc, &ASKED, words.as_slice())?;
+    let (what, scope) = asked.what;
     let names = asked.names;
-    match bounds_of(options, &lists, names.as_slice()) {
-        Ok((form, window, as_of)) => Ok(Asked {
-            what: job_of(
-                asks,
-                Scope {
-                    form,
-                    as_of,
-                    window,
-                    lists,
-                    skip_unusable: options.skip_unusable,
-                    services: options.services,
-                },
-            ),
+    match as_of(&scope.options) {
+        Ok(as_of) => Ok(Asked {
+            what: job_of(what.0, as_of, scope),
             names,
         }),
         Err(option_fault) => Err(AskFault::Words(refusal_of(alloc, "mdnsmerge", option_fault))),
     }
 }
 
-// Returns the form, the window and as of when the answer is made, where each prefix fits one of the files.
-fn bounds_of<'a>(
-    options: Options<'a>,
-    lists: &'a Lists,
-    names: &[String],
-) -> Result<(Form, Window, AsOf), OptionFault<'a>>
-    ensures ok { IfOk result (MakesBounds options.entry) }
-    ensures fit { IfOk result (λ made.
-        unfit_prefix (map string_bytes lists.now.listeners.items) (map string_bytes names.now) ≡ None) }
-    ensures err { IfErr result (MakesNoTask options.entry lists.now (map string_bytes names.now)) }
-{
-    let (form, window) = form_and_window(options, lists, names)?;
-    let as_of = as_of(options)?;
-    Ok((form, window, as_of))
-}
-
 // Returns what is to be done.
-fn job_of(asks: Asks, scope: Scope) -> Job
-    ensures { result ≡ job_of asks scope }
+fn job_of(asks: Asks, as_of: AsOf, scope: Scope<'_>) -> Job
+    ensures { result ≡ job_of asks as_of scope.entry }
 {
-    let skip_unusable = scope.skip_unusable;
+    let skip_unusable = scope.options.skip_unusable;
     Job {
-        task: task_of(asks, scope),
+        task: task_of(asks, as_of, scope),
         skip_unusable,
     }
 }
 
 // Returns the task.
-fn task_of(asks: Asks, scope: Scope) -> Task
-    ensures { result ≡ task_of asks scope }
+fn task_of(asks: Asks, as_of: AsOf, scope: Scope<'_>) -> Task
+    ensures { result ≡ task_of asks as_of scope.entry }
 {
     let Scope {
         form,
-        as_of,
         window,
-        lists,
-        services,
-        ..
+        options,
     } = scope;
-    let Lists { about, listeners } = lists;
+    let lists = options.lists;
     match asks {
         Asks::Report(ask) => Task::Survey(Request::Report(ReportRequest {
             ask,
             form,
             as_of,
-            about,
+            about: lists.about,
         })),
-        Asks::Lives(_) if services => Task::Services {
+        Asks::Lives(_) if options.services => Task::Services {
             form,
             as_of,
             window,
-            about,
+            about: lists.about,
         },
         Asks::Lives(which) => Task::Survey(Request::Lives(LivesRequest {
             which,
             form,
             as_of,
             window,
-            about,
+            about: lists.about,
         })),
         Asks::Page => Task::Page {
             as_of,
             window,
-            about,
-            listeners,
+            about: lists.about,
+            listeners: lists.listeners,
         },
         Asks::Check => Task::Survey(Request::Check),
     }
 }
 
 // Returns as of when the answer is made.
-fn as_of(options: Options<'_>) -> Result<AsOf, OptionFault<'_>>
-    ensures ok { IfOk result (GivesAsOf (text_of options.entry.at) (text_of options.entry.before)) }
-    ensures err { IfErr result (MakesNoAsOf options.entry) }
+fn as_of<'a>(options: &Options<'a>) -> Result<AsOf, OptionFault<'a>>
+    ensures ok { IfOk result (GivesAsOf (text_of options.now.at) (text_of options.now.before)) }
+    ensures err { IfErr result (MakesNoAsOf options.now) }
 {
     match (options.at, options.before) {
         (None, None) => Ok(AsOf::Newest),

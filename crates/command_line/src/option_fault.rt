@@ -1,12 +1,11 @@
 //! Options that make nothing, and their refusals.
 
 ghost use Rattle.std.specs.Prelude.{◌≡◌, IfErr, IfOk, None, Ok, map, string_bytes};
-ghost use Rattle.command_line.specs.{CommandLine.{invalid, is_plain, quoted}, Faults.{IsRefusal}, OptionFault.{MakesNoForm}};
-ghost use Rattle.command_line.specs.{OptionFault.{option_fault_text}, declared.option_fault.OptionFault.TheVariants.{ConflictingFlags}};
+ghost use Rattle.command_line.specs.{Faults.{IsRefusal}, OptionFault.{MakesNoForm, invalid, is_plain, option_fault_text, quoted}};
+ghost use Rattle.command_line.specs.declared.option_fault.OptionFault.TheVariants.{ConflictingFlags};
 ghost use Rattle.mdns_listeners.specs.Groups.{unfit_prefix};
 
 use crate::flags::LISTENER;
-use crate::lists::Lists;
 use crate::options::{ConflictingFlags, Options};
 use crate::words::WordsFault;
 use mdns_browse::report::Form;
@@ -44,20 +43,20 @@ const NO_FILE: &str = "no FILE's name, without folders, begins with it";
 
 /// Returns the form that the options ask for, where each prefix fits one of the files.
 pub(crate) fn form_of<'a>(
-    options: Options<'a>,
-    lists: &'a Lists,
+    options: &'a Options<'a>,
     names: &[String],
 ) -> Result<Form, OptionFault<'a>>
-    ensures ok { IfOk result (λ form. (options.entry.form ≡ Ok form)
-        × (unfit_prefix (map string_bytes lists.now.listeners.items) (map string_bytes names.now) ≡ None)) }
-    ensures err { IfErr result (MakesNoForm options.entry lists.now (map string_bytes names.now)) }
+    ensures ok { IfOk result (λ form. (options.now.form ≡ Ok form)
+        × (unfit_prefix (map string_bytes options.now.lists.listeners.items) (map string_bytes names.now) ≡ None)) }
+    ensures err { IfErr result (MakesNoForm options.now (map string_bytes names.now)) }
 {
     let form = options.form?;
-    match unfit_prefix(lists.listeners.as_slice(), names) {
+    let listeners = &options.lists.listeners;
+    match unfit_prefix(listeners.as_slice(), names) {
         None => Ok(form),
         Some(at) => Err(OptionFault::NoFile {
             name: LISTENER.name,
-            prefix: lists.listeners[at].as_str(),
+            prefix: listeners[at].as_str(),
         }),
     }
 }

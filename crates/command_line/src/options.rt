@@ -1,15 +1,18 @@
 //! The options of a subcommand, as they are given.
 
-ghost use Rattle.std.specs.Prelude.{◌≡◌, None, Option, IfSome};
+ghost use Rattle.std.specs.Prelude.{◌≡◌, None, Option, IfOk, IfSome};
 ghost use Rattle.clap.specs.Words.{found_of, one_of, rows_of};
 ghost use Rattle.command_line.specs.Line.{AsksForm, HasOneForm, HasOptions, HasSeconds, IsFlag, IsMomentOf, flags_of};
 ghost use Rattle.mdns_capture.specs.declared.moment.Moment.{Moment};
 
-use crate::flags::{SERVICES, SKIP_UNUSABLE};
+use crate::flags::{FORM_FLAGS, SERVICES, SKIP_UNUSABLE};
 use crate::line::{Flag, Takes};
+use crate::lists::{Lists, lists_of};
 use clap::ArgMatches;
 use mdns_browse::report::Form;
 use mdns_capture::Moment;
+use mdns_message::Want;
+use std::alloc::Global;
 
 /// Two flags that can't be given together.
 #[derive(Clone, Copy)]
@@ -19,10 +22,8 @@ pub struct ConflictingFlags {
 }
 
 /// The options of a subcommand; one that it doesn't have is one that isn't given.
-#[derive(Clone, Copy)]
+#[derive(Drop)]
 pub struct Options<'a> {
-    /// The moment of the flag that takes seconds.
-    pub seconds: Option<Moment>,
     /// The text of `--at`.
     pub at: Option<&'a str>,
     /// The text of `--before`.
@@ -33,35 +34,34 @@ pub struct Options<'a> {
     pub until: Option<&'a str>,
     /// The form of the report, or two given flags that ask for one each.
     pub form: Result<Form, ConflictingFlags>,
+    pub lists: Lists,
     /// Whether `--skip-unusable` is given.
     pub skip_unusable: bool,
     /// Whether `--services` is given.
     pub services: bool,
 }
 
-/// Returns the options that are given. `None` where seconds can't be read.
+/// Returns the options that are given.
 #[tactic(auto, using(crate::proofs::OptionLemmas::for_options_of))]
-pub(crate) fn options_of<'a>(flags: &[Flag], given: &ArgMatches<'a>) -> Option<Options<'a>>
-    ensures some { IfSome result (HasOptions (flags_of flags.now) (rows_of (found_of given.now))) }
-    ensures none { result ≡ None
-        → (options : Options) → HasOptions (flags_of flags.now) (rows_of (found_of given.now)) options → ⊥ }
+pub(crate) fn options_of<'a>(alloc: Global, given: &ArgMatches<'a>) -> Result<Options<'a>, Want>
+    ensures { IfOk result (HasOptions (rows_of (found_of given.now))) }
 {
-    let seconds = seconds_of(flags, given)?;
-    let form = form_of(flags, given);
-    Some(Options {
-        seconds,
+    let lists = lists_of(alloc, given)?;
+    let form = form_of(FORM_FLAGS, given);
+    Ok(Options {
         at: given.get_str("at"),
         before: given.get_str("before"),
         since: given.get_str("since"),
         until: given.get_str("until"),
         form,
+        lists,
         skip_unusable: is_given(SKIP_UNUSABLE.name, given),
         services: is_given(SERVICES.name, given),
     })
 }
 
-// Returns the moment of the first flag that takes seconds. `None` where it can't be read.
-fn seconds_of(flags: &[Flag], given: &ArgMatches<'_>) -> Option<Option<Moment>>
+/// Returns the moment of the first flag that takes seconds. `None` where it can't be read.
+pub(crate) fn seconds_of(flags: &[Flag], given: &ArgMatches<'_>) -> Option<Option<Moment>>
     ensures some { IfSome result (HasSeconds (flags_of flags.now) (rows_of (found_of given.now))) }
     ensures none { result ≡ None
         → (at : Option Moment) → HasSeconds (flags_of flags.now) (rows_of (found_of given.now)) at → ⊥ }

@@ -1,15 +1,18 @@
-use Rattle.std.proofs.Common.{map, string_bytes, subst}
+use Rattle.std.proofs.Common.{map, refl, string_bytes, subst}
 use Rattle.clap.specs.{Words.{fault_of}, declared.error.kind.ErrorKind.TheVariants.{DisplayVersion}}
-use Rattle.command_line.specs.{Line.{IsAsked}, Faults.{IsUnasked}, CommandLine.{AsksWhat, command_line, what_of}}
+use Rattle.command_line.specs.{Line.{AsksIn, AsksWith, HasOptions, IsAsked}, Faults.{IsUnasked}}
+use Rattle.command_line.specs.CommandLine.{AsksWhat, command_line, what_of, whats}
 use Rattle.command_line.specs.declared.words.AskFault.TheVariants.{Version}
-use Rattle.command_line.proofs.{MergeLemmas.{AsksTold, what-asked}, TableLemmas.{asks-also}}
+use Rattle.command_line.proofs.AskedLemmas.{asks-also}
 use Rattle.command_line.proofs.mdnsmerge.read_told.Goals as goal
 
 pub returns-in-Ok-clause-told : goal.returns-in-Ok-clause-told
 returns-in-Ok-clause-told c =
     let what = c.in-Ok.asked.what in
-    let asked : IsAsked AsksTold command_line (map string_bytes c.args.words.now) c.in-Ok.asked = c.in-Ok.ensures.asked in
-    (asked.0, rw c.what_of.ensures (asks-also AsksTold AsksWhat what (what_of what.0.0 what.0.1.seconds) (what-asked what) _ _ asked.1))
+    let Asks = AsksWith (AsksIn whats) HasOptions in
+    let asked : IsAsked Asks command_line (map string_bytes c.args.words.now) c.in-Ok.asked = c.in-Ok.ensures.asked in
+    let asks = asks-also Asks AsksWhat what (what_of what.0.0 what.0.1) (λ name rows is. (what.0, is.0, refl)) _ _ asked.1 in
+    (asked.0, rw c.what_of.ensures asks)
 
 pub returns-in-Err-Version-clause-untold : goal.returns-in-Err-Version-clause-untold
 returns-in-Err-Version-clause-untold c =

@@ -1,5 +1,5 @@
 use Rattle.std.proofs.Common.{◌≡◌, length}
-use Rattle.command_line.specs.CommandLine.{is_plain}
+use Rattle.command_line.specs.OptionFault.{is_plain}
 use Rattle.command_line.proofs.option_fault.is_plain.Given as goal
 
 -- all bytes so far are printable ASCII

@@ -1,5 +1,5 @@
 use Rattle.std.proofs.{Common.{◌∙◌, Err, ap, inr}, lemmas.Result.{err_from_is_err_and}}
-use Rattle.command_line.proofs.window.form_and_window.Goals as goal
+use Rattle.command_line.proofs.scope.form_and_window.Goals as goal
 
 pub returns-in_err-window-clause-err : goal.returns-in_err-window-clause-err
 returns-in_err-window-clause-err c =
