@@ -30,7 +30,7 @@ class Verdict(NamedTuple):
 def name_of(item, names):
     """The name of these by which the prover speaks of a function; none where that isn't one.
 
-    It calls an impl by its type and its trait: `WantFromAllocError`, `RefInOrderIntoIterator`, `AnyJoinInto`."""
+    It calls an impl by its type and its trait: `WantFromAllocError`, `RefInOrderIntoIterator`, `AnyToValue`."""
     trait = re.sub(r"<.*", "", item.trait).rpartition("::")[2]
     owner = re.sub(r"\[(\w+)\]", lambda slice: f"Slice{slice.group(1).capitalize()}", item.owner.replace("&", "Ref"))
     owner = re.sub(r"'\w+|\W", "", owner)

@@ -20,7 +20,7 @@ NOBODY = 65534
 # How long a run may take, in seconds: each reads a few hundred bytes.
 PATIENCE = 20
 
-WHOLE, DAMAGED, REFUSED = 0, 1, 2
+WHOLE, INCOMPLETE, REFUSED = 0, 1, 2
 
 
 def place_of_row():

@@ -33,7 +33,7 @@ from tests.captures.wire import SECOND, TXT
 from tests.judges.lives import CHOICES
 from tests.running.commands import ASKS, COMMANDS, FORMS, WHYS, flags_of, forms_of
 from tests.running.program import Answer
-from tests.running.runs import DAMAGED, REFUSED, WHOLE, answer_of, differences, fails, placed
+from tests.running.runs import INCOMPLETE, REFUSED, WHOLE, answer_of, differences, fails, placed
 from tests.trials.memory import again
 
 SOURCE = TOP / "trials/refuse_allocation.c"
@@ -83,7 +83,7 @@ class Run(NamedTuple):
 RUNS = (
     *(Run((command, *BOTH), 2, WHOLE) for command in COMMANDS),
     *(Run((ask, form, *BOTH), 2, WHOLE) for ask in ASKS for form in FORMS),
-    Run(("records", "--about", "a", "--about", "192.0.2.1", *BOTH), 2, DAMAGED),  # nothing heard is about these
+    Run(("records", "--about", "a", "--about", "192.0.2.1", *BOTH), 2, INCOMPLETE),  # nothing heard is about these
     Run(("types", "--about", "_ipp", *BOTH), 2, WHOLE),
     Run(("instances", "--pretty", "--about", "_ipp._tcp", *BOTH), 2, WHOLE),
     *(Run((ask, "--pretty", "--about", "alder", *BOTH), 2, WHOLE) for ask in CHOICES),
@@ -95,7 +95,7 @@ RUNS = (
     Run(("lives", "long.pcap"), 1, WHOLE),
     Run(("lives", "--json", "long.pcap"), 1, WHOLE),
     Run(("page", "--before", "1795332450", "--since", "1795332440", "--about", "alder.", "--listener", "w", *BOTH), 2, WHOLE),
-    *(Run((command, "one.pcap", "cut.pcap"), 2, DAMAGED) for command in COMMANDS),
+    *(Run((command, "one.pcap", "cut.pcap"), 2, INCOMPLETE) for command in COMMANDS),
     Run(("records", "--at", "99", "one.pcap"), 1, REFUSED),
     Run(("lives", "--at", "99", "one.pcap"), 1, REFUSED),
     Run(("page", "--at", "99", "one.pcap"), 1, REFUSED),
@@ -110,7 +110,7 @@ RUNS = (
 WHY_RUNS = tuple(run._replace(program="mdnswhy") for run in (
     *(Run((command, *BOTH), 2, WHOLE) for command in WHYS),
     *(Run(("files", form, *BOTH), 2, WHOLE) for form in flags_of("files")),
-    *(Run((command, "one.pcap", "cut.pcap"), 2, DAMAGED) for command in WHYS),
+    *(Run((command, "one.pcap", "cut.pcap"), 2, INCOMPLETE) for command in WHYS),
     Run(("hearings", "one.pcap", "text.pcap"), 2, REFUSED),
     Run(("spans", "one.pcap", "text.pcap"), 2, REFUSED),
     *(Run(("listeners", form, "--listener", "w", *BOTH), 2, WHOLE) for form in forms_of("listeners")),
@@ -240,7 +240,7 @@ def ends_with_a_record(out, whole):
 def short_of_a_line(plain, out_of_memory):
     """The answers that are whole but for lines on standard error, for which there was no memory."""
     lines = plain.err.splitlines(keepends=True)
-    if plain.status == DAMAGED and lines:
+    if plain.status == INCOMPLETE and lines:
         yield plain._replace(err=out_of_memory * len(lines))
         for at in range(len(lines)):
             yield plain._replace(err="".join([*lines[:at], out_of_memory, *lines[at + 1:]]))

@@ -7,7 +7,7 @@ from tests.judges.answers import answer_to
 from tests.judges.listeners import COMMAND
 from tests.running import runs
 from tests.running.commands import STRICT, WHYS, forms_of, page, two_forms
-from tests.running.runs import DAMAGED, REFUSED, WHOLE, Case, agrees, fails
+from tests.running.runs import INCOMPLETE, REFUSED, WHOLE, Case, agrees, fails
 from tests.trials import command_lines
 from tests.trials.command_lines import NO_FILE, unfit, unfit_prefixes, unknown_flags, version_of
 
@@ -56,10 +56,10 @@ FILES = (
     Case(("files", "--json", "missing.pcap", "folder"), REFUSED,
          '{"file":"missing.pcap","is":"unopened","do":"missing, not readable, or too many open (ulimit -n)"}\n'
          '{"file":"folder","is":"unread","do":"not a file, or a fault of its disk"}\n'),
-    Case(("files", "cut.pcap", "one.pcap"), DAMAGED, file_line("cut.pcap", "cut at 117") + ONE_FILE),
+    Case(("files", "cut.pcap", "one.pcap"), INCOMPLETE, file_line("cut.pcap", "cut at 117") + ONE_FILE),
     Case(("files", "/dev/stdin"), WHOLE, file_line("/dev/stdin"), standard_input="one.pcap"),
     Case(("files", TWO_LINES), WHOLE, file_line("a\\032file\\010of\\032two\\032lines.pcap")),
-    Case(("files", QUOTED), DAMAGED, file_line('back\\\\slash\\032"\\195\\169".pcap', "cut at 117")),
+    Case(("files", QUOTED), INCOMPLETE, file_line('back\\\\slash\\032"\\195\\169".pcap', "cut at 117")),
 )
 
 # All files are opened before any is read.

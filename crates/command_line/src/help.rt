@@ -1,5 +1,5 @@
-//! What `--help` says besides the usage and the options: what is answered and an example, and of a program the exit statuses. A page
-//! is one screen, of at most 24 lines of 80 columns.
+//! What `--help` says besides the usage and the options: what is answered and an example, and of a program the exit statuses. A
+//! page is one screen, of at most 24 lines of 80 columns.
 
 /// The texts of one page.
 #[derive(Clone, Copy)]

@@ -6,12 +6,12 @@ ghost use Rattle.mdns_capture.specs.{Calls.{WritesWell}, Output.{AppendsPrefix}}
 ghost use Rattle.command_line.specs.Program.{AnswersFault, IsIndexOf, IsOpenLine, IsUnopened, Prints, PrintsRefusal, Shows, trimmed};
 
 use crate::words::{AskFault, WordsFault};
-use mdns_capture::{ReadAhead, Sink, Through, write_whole};
+use mdns_capture::{ReadAhead, Sink, Through, write_all};
 use mdns_message::Want;
 use mdns_survey::error_lines;
 use mdns_survey::program_lines::open_line_of;
 use mdns_survey::status::{REFUSED, WHOLE};
-use mdns_trace::usable::{Usable, sort_files};
+use mdns_trace::usable::{Usable, separate_usable};
 use std::env::{self, Env};
 use std::fs::File;
 use std::io::ErrorKind;
@@ -171,9 +171,9 @@ pub fn open_usable<R: Files + AllocGlobal, E: Sink>(
     let Ok(readers) = open_each(rt, names) else {
         return Err(refuse(lines.out_of_memory, err));
     };
-    match sort_files(rt.alloc(), lines.program, names, readers) {
+    match separate_usable(rt.alloc(), lines.program, names, readers) {
         Ok(usable) => Ok(usable),
-        Err(fault) => Err(error_lines::refuse(rt.alloc(), lines.program, names, &fault, err)),
+        Err(fault) => Err(error_lines::say_fault(rt.alloc(), lines.program, names, &fault, err)),
     }
 }
 
@@ -234,8 +234,8 @@ fn print_line<S: Sink>(text: &str, to: &mut S) -> bool
     ensures prefix { OnFalse result (AppendsPrefix (S.written to.old) (S.written to.new) (trimmed text.now ++ 10 ∷ [])) }
     ensures well { WritesWell S.Sink to.old to.new result }
 {
-    match write_whole(to, trimmed(text.as_bytes())) {
-        Ok(()) => match write_whole(to, b"\n") {
+    match write_all(to, trimmed(text.as_bytes())) {
+        Ok(()) => match write_all(to, b"\n") {
             Ok(()) => true,
             Err(_) => false,
         },

@@ -8,7 +8,7 @@ ghost use Rattle.join_map.specs.Blocks.{block_at, entries_of, picked, IsOrder, I
 use crate::block::Block;
 use crate::copied::Copied;
 use crate::insert::insert_at;
-use crate::join::{JoinHeld, Semilattice};
+use crate::join::{JoinInto, Semilattice};
 use crate::order::blocks_of;
 use crate::walk::Walk;
 use memory::Want;
@@ -105,7 +105,7 @@ impl<K: Copied, V: Semilattice + Drop> Blocks<K, V> {
 
     /// Joins what `other` stands for into the value at `spot`.
     #[tactic(auto, using(std::proofs::lemmas::List::get_or_default, std::proofs::lemmas::List::get_or_read, crate::proofs::PlaceLemmas::for_join_at))]
-    pub(crate) fn join_at<O: JoinHeld<V>>(
+    pub(crate) fn join_at<O: JoinInto<V>>(
         &mut self,
         alloc: Global,
         spot: Spot,
@@ -140,7 +140,7 @@ impl<K: Copied, V: Semilattice + Drop> Blocks<K, V> {
 }
 
 // Joins what `other` stands for into a value.
-fn join_held<V: Semilattice, O: JoinHeld<V>>(
+fn join_held<V: Semilattice, O: JoinInto<V>>(
     alloc: Global,
     held: &mut V,
     other: &O,

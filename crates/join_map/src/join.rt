@@ -36,7 +36,7 @@ pub trait Join: Semilattice + Drop {
 }
 
 /// A source of a `V`, which it builds where a new one is needed.
-pub trait JoinInto<V: Semilattice> {
+pub trait ToValue<V: Semilattice> {
     /// The source's value.
     ghost value: { Self → V };
 
@@ -48,7 +48,7 @@ pub trait JoinInto<V: Semilattice> {
 
 /// A source of a `V` that is joined into another without being built first, so that a join that changes nothing can do
 /// without a copy.
-pub trait JoinHeld<V: Semilattice>: JoinInto<V> {
+pub trait JoinInto<V: Semilattice>: ToValue<V> {
     /// Joins the value into `held`. After `Want`, `held` lies between its old value and the join.
     fn join_into(&self, alloc: Global, held: &mut V) -> Result<(), Want>
         ensures ok { OnOk result (held.new ≡ V.join held.old (Self.value self.now)) }
@@ -57,7 +57,7 @@ pub trait JoinHeld<V: Semilattice>: JoinInto<V> {
 }
 
 /// A source of a `V` for one key, which recognizes the entry of that key without making the key.
-pub trait JoinOwn<K, V: Semilattice>: JoinInto<V> {
+pub trait JoinOwn<K, V: Semilattice>: ToValue<V> {
     /// The key.
     ghost own: { Self → K };
 
@@ -81,7 +81,7 @@ pub trait JoinOwn<K, V: Semilattice>: JoinInto<V> {
 }
 
 /// A value stands for itself.
-impl<V: Join> JoinInto<V> for V {
+impl<V: Join> ToValue<V> for V {
     ghost value = { λ v. v };
 
     fn to_value(&self, alloc: Global) -> Result<V, Want> {
@@ -90,7 +90,7 @@ impl<V: Join> JoinInto<V> for V {
     }
 }
 
-impl<V: Join> JoinHeld<V> for V {
+impl<V: Join> JoinInto<V> for V {
     fn join_into(&self, alloc: Global, held: &mut V) -> Result<(), Want> {
         self.valid();
         held.join_with(alloc, self)

@@ -8,7 +8,7 @@ ghost use Rattle.join_map.specs.{Entries.{AllValid, IsJoinMap, value_at, joined,
 
 use crate::blocks::{Blocks, Spot};
 use crate::copied::Copied;
-use crate::join::{Join, JoinHeld, JoinInto, Semilattice};
+use crate::join::{Join, JoinInto, Semilattice, ToValue};
 use crate::order::{ascend, sorted_places};
 use crate::walk::Walk;
 use memory::Want;
@@ -57,7 +57,7 @@ impl<K: Copied, V: Semilattice + Drop> JoinMap<K, V> {
     /// Joins the value of `other` into the value at `key`, or inserts it under a copy of the key: the join with the map of
     /// that one entry. The key is looked up once, and `to_value` builds the value only where the key is new. After `Want`
     /// the map lies between the old one and the join.
-    pub fn join_at<O: JoinHeld<V>>(&mut self, alloc: Global, key: &K, other: &O) -> Result<(), Want>
+    pub fn join_at<O: JoinInto<V>>(&mut self, alloc: Global, key: &K, other: &O) -> Result<(), Want>
         ensures ok { OnOk result (self.new ≡ joined K.cmp V.join self.old (one_entry key.now (O.value other.now))) }
         ensures err { OnErr result (IsPartOfJoin (joined K.cmp V.join) self.old (one_entry key.now (O.value other.now)) self.new) }
         ensures valid { IsJoinMap K.cmp V.Valid self.new }
@@ -143,7 +143,7 @@ fn join_all<K: Copied, V: Join>(alloc: Global, entries: Vec<(K, V)>) -> Result<J
 
 // Joins what `other` stands for into the value at `key`, where that was found, or inserts it where it belongs.
 #[tactic(auto, using(crate::proofs::SpotLemmas::for_join_found))]
-fn join_found<K: Copied, V: Semilattice + Drop, O: JoinHeld<V>>(
+fn join_found<K: Copied, V: Semilattice + Drop, O: JoinInto<V>>(
     blocks: &mut Blocks<K, V>,
     alloc: Global,
     found: Result<Spot, Spot>,
@@ -166,7 +166,7 @@ fn join_found<K: Copied, V: Semilattice + Drop, O: JoinHeld<V>>(
 }
 
 // Puts what `other` stands for at `spot` under a copy of the key, which is new.
-fn insert_new<K: Copied, V: Semilattice + Drop, O: JoinInto<V>>(
+fn insert_new<K: Copied, V: Semilattice + Drop, O: ToValue<V>>(
     blocks: &mut Blocks<K, V>,
     alloc: Global,
     spot: Spot,

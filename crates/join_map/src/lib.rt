@@ -17,7 +17,7 @@ pub mod walk;
 
 pub use copied::Copied;
 pub use index::Index;
-pub use join::{Join, JoinHeld, JoinInto, JoinOwn, Semilattice};
+pub use join::{Join, JoinInto, JoinOwn, Semilattice, ToValue};
 pub use join_map::JoinMap;
 pub use unsorted::Unsorted;
 pub use walk::Walk;

@@ -10,7 +10,7 @@ use Rattle.mdns_join.specs.declared.latest.Latest.{Latest}
 use Rattle.mdns_browse.specs.Hosts.{AreByTarget, HostRow, ServedRow, host_in, is_on, keeps_host, once, owners_of_addresses, served_lent}
 use Rattle.mdns_browse.specs.Hosts.{service_at, services_at, services_in, target_cmp}
 use Rattle.mdns_browse.specs.Services.{AreAscending, GivenRow, instance_in, same_text, servers_of}
-use Rattle.mdns_browse.specs.declared.{about.Subject.{Subject}, host.HostService.{HostService}}
+use Rattle.mdns_browse.specs.declared.{about.Subject.{Subject}, host.HostedInstance.{HostedInstance}}
 use Rattle.mdns_browse.proofs.{InstanceLemmas.{only, shown_in}, SearchLemmas.{filter-map}}
 
 -- ---- servers by target
@@ -21,7 +21,7 @@ tied Equal = refl
 tied Greater = refl
 
 -- a stable sort leaves those of one target in their order
-pub stable_on : (xs ys : List HostService) → IsStable target_cmp xs ys → (name : Bor (List ℕ))
+pub stable_on : (xs ys : List HostedInstance) → IsStable target_cmp xs ys → (name : Bor (List ℕ))
     → filter (is_on name.now) (map served_lent ys) ≡ filter (is_on name.now) (map served_lent xs)
 unfolding same_text
 stable_on xs ys stable name =
@@ -29,16 +29,16 @@ stable_on xs ys stable name =
     ∙ ap (map served_lent)
     (filter_agree on ties_it like ys ∙ stable it ∙ sym (filter_agree on ties_it like xs)) ∙ sym (filter-map served_lent (is_on name.now) xs)
   where
-    it : HostService
+    it : HostedInstance
     it = record { instance = name; target = name; port = 0 }
 
-    on : HostService → Bool
+    on : HostedInstance → Bool
     on service = is_on name.now (served_lent service)
 
-    ties_it : HostService → Bool
+    ties_it : HostedInstance → Bool
     ties_it = ties (λ one other. is_lt (target_cmp one other)) it
 
-    like : (service : HostService) → on service ≡ ties_it service
+    like : (service : HostedInstance) → on service ≡ ties_it service
     like service =
         tied (slice_cmp nat_cmp (folded service.target.now) (folded name.now))
         ∙ ap (λ o. not (is_lt o) && not (is_lt (slice_cmp nat_cmp (folded service.target.now) (folded name.now))))
@@ -62,7 +62,7 @@ module _ (about : List Subject) (all : List Latest) (before : List ℕ) where
   hosts_left rows = filter (keeps_host about all) (map (host_in all) (once before (owners_of_addresses rows)))
 
 -- the hosts that were found among rows and servers that are equal to these
-pub found_hosts : (about : List Subject) {hosts : List HostRow} {seen rows : List Latest} {held services : List HostService}
+pub found_hosts : (about : List Subject) {hosts : List HostRow} {seen rows : List Latest} {held services : List HostedInstance}
     → (AreAscending seen → AreByTarget (services_in seen) held → hosts ≡ hosts_left about seen [] seen) → seen ≡ rows → held ≡ services
     → AreAscending rows → AreByTarget (services_in rows) services → hosts ≡ hosts_left about rows [] rows
 found_hosts about {hosts} {held = held} found same_rows same_services ascending by_target =
@@ -72,11 +72,11 @@ found_hosts about {hosts} {held = held} found same_rows same_services ascending 
 -- ---- text
 
 -- the names of the instances of the services that are left
-abbrev pub names_left : List ℕ → List HostService → List (List ℕ)
+abbrev pub names_left : List ℕ → List HostedInstance → List (List ℕ)
 names_left before services = map name_text (once before (map (λ (service : ServedRow). service.instance) (map served_lent services)))
 
 -- the name of the first of them, where it isn't the name before
-pub names-more : (before : List ℕ) (services : List HostService) (i : ℕ) (service : HostService) → i < length services
+pub names-more : (before : List ℕ) (services : List HostedInstance) (i : ℕ) (service : HostedInstance) → i < length services
     → service ≡ get_or services i service → same_text before service.instance.now ≡ false
     → names_left before (drop i services) ≡ name_text service.instance.now ∷ names_left service.instance.now (drop (i + 1) services)
 names-more before services i service within at other =

@@ -4,7 +4,7 @@ use Rattle.std.proofs.Common.{List, [], ◌∷◌, ◌++◌, length, map, arith}
 use Rattle.std.proofs.lemmas.{Bool.{false≢true}, List.{append-nil, append_assoc, drop_all, drop_more, map-append}}
 use Rattle.std.proofs.lemmas.{List.Elements.{filter-append, filter_map-append}, Option.{cond_some, none-some}}
 use Rattle.std.specs.List.{cons_option, filter, filter_map}
-use Rattle.mdns_message.specs.{Parts.{pointer_of, service_of}, Resource.{Body, number_of}, laws.Resource.{set_key_cmp-exact}}
+use Rattle.mdns_message.specs.{Parts.{pointer_of, srv_of}, Resource.{Body, number_of}, laws.Resource.{set_key_cmp-exact}}
 use Rattle.mdns_message.specs.declared.body.RecordData.TheVariants as body
 use Rattle.mdns_join.specs.declared.latest.Latest.{Latest}
 use Rattle.mdns_browse.specs.{About.{keeps_instance}, Given.{kept_given}, declared.about.Subject.{Subject}}
@@ -122,7 +122,7 @@ module _ (rows : List Latest) where
 
 -- the server of SRV data
 abbrev server_in : List Latest → Body → Option Server
-server_in rows b = option_map (server_at rows) (service_of b)
+server_in rows b = option_map (server_at rows) (srv_of b)
 
 -- SRV data has a server
 has_server : (all : List Latest) (held : Body) → number_of held ≡ 33 → (server : Server) × (server_in all held ≡ Some server)

@@ -6,7 +6,8 @@ use Rattle.std.specs.{Net.Addr.{ipv4_octets, ipv6_octets}, Ordering.{is_eq, nat_
 use Rattle.std.specs.declared.net.ip_addr.IpAddr.TheVariants.{V4, V6}
 use Rattle.dns_name.specs.Name.{bytes_text, labels_of, name_text, wire_of}
 use Rattle.mdns_message.specs.{Resource.{Body}, Parts.{content_of}, TextData.{strings_of}}
-use Rattle.mdns_message.specs.declared.{parts.Address.{Address}, parts.Content.{Content}, parts.Service.{Service}, resource.Resource.{Resource}}
+use Rattle.mdns_message.specs.declared.{parts.Address.{Address}, parts.Content.{Content}, parts.SrvData.{SrvData}}
+use Rattle.mdns_message.specs.declared.resource.Resource.{Resource}
 use Rattle.mdns_message.specs.declared.parts.Address.TheVariants as address
 use Rattle.mdns_message.specs.declared.parts.Content.TheVariants as content
 use Rattle.mdns_join.specs.declared.latest.Latest.{Latest}
@@ -89,7 +90,7 @@ address_term (address.V4 octets) = Octets octets
 address_term (address.V6 octets) = Octets octets
 
 -- a service: its target, its priority, weight and port, and `TARGET:PORT`
-abbrev pub service_terms : Service (List ℕ) → List Term
+abbrev pub service_terms : SrvData (List ℕ) → List Term
 service_terms service =
     name_terms service.target
     ++ Text (decimal service.priority) ∷ Text (decimal service.weight) ∷ Text (decimal service.port)
@@ -100,7 +101,7 @@ unfoldable pub content_terms : Content (List ℕ) (List ℕ) → List Term
 content_terms (content.Address address) = address_term address ∷ []
 content_terms (content.Name name) = name_terms name
 content_terms (content.Strings bytes) = flat_map string_terms (strings_of bytes)
-content_terms (content.Service service) = service_terms service
+content_terms (content.Srv service) = service_terms service
 
 abbrev pub data_terms : Body → List Term
 data_terms b = content_terms (content_of b)

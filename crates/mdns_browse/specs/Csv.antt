@@ -4,22 +4,22 @@ use Rattle.std.specs.{Fmt.{decimal}, List.{flat_map}}
 use Rattle.mdns_message.specs.{Resource.{type_name, type_of}, declared.resource.Resource.{Resource}}
 use Rattle.mdns_join.specs.declared.latest.Latest.{Latest}
 use Rattle.people_text.specs.{MomentText.{exact_text}, Shown.{name_shown}}
-use Rattle.mdns_browse.specs.{declared.csv.Field.{Field as LentField}, declared.instance.Server.{Server}, Json.{json_bool, marked}}
+use Rattle.mdns_browse.specs.{declared.csv.CsvField.{CsvField as LentField}, declared.instance.Server.{Server}, Json.{json_bool, marked}}
 use Rattle.mdns_browse.specs.{RecordShown.{shown_instance, shown_strings, shown_words}, RecordText.{spaced}, Services.{InstanceRow}}
-use Rattle.mdns_browse.specs.declared.csv.Field.TheVariants as lent
+use Rattle.mdns_browse.specs.declared.csv.CsvField.TheVariants as lent
 
 -- ---- lines
 
 -- a field: a text, a number, a moment in nanoseconds since 1970, a flag, or nothing
-pub data Field : Type 0 where
-  Text : List ℕ → Field
-  Number : ℕ → Field
-  Moment : ℕ → Field
-  Flag : Bool → Field
-  Nothing : Field
+pub data CsvField : Type 0 where
+  Text : List ℕ → CsvField
+  Number : ℕ → CsvField
+  Moment : ℕ → CsvField
+  Flag : Bool → CsvField
+  Nothing : CsvField
 
 -- the field that is lent
-abbrev pub field_lent : LentField → Field
+abbrev pub field_lent : LentField → CsvField
 field_lent (lent.Text text) = Text text.now
 field_lent (lent.Number number) = Number number
 field_lent (lent.Moment nanos) = Moment nanos
@@ -35,7 +35,7 @@ is_formula (b ∷ text) = (b == 61) || (b == 43) || (b == 45) || (b == 64)
 unfoldable pub csv_text : List ℕ → List ℕ
 csv_text text = 34 ∷ (if is_formula text then 39 ∷ [] else []) ++ marked 34 text ++ 34 ∷ []
 
-abbrev pub csv_field : Field → List ℕ
+abbrev pub csv_field : CsvField → List ℕ
 csv_field (Text text) = csv_text text
 csv_field (Number number) = decimal number
 csv_field (Moment nanos) = exact_text nanos
@@ -43,7 +43,7 @@ csv_field (Flag flag) = json_bool flag
 csv_field Nothing = []
 
 -- a line: fields with commas between them, and CR LF (section 2)
-unfoldable pub csv_line : List Field → List ℕ
+unfoldable pub csv_line : List CsvField → List ℕ
 csv_line [] = codes "\r\n"
 csv_line (field ∷ fields) = csv_field field ++ flat_map (λ next. 44 ∷ csv_field next) fields ++ codes "\r\n"
 
@@ -54,7 +54,7 @@ joined words = drop 1 (spaced words)
 -- ---- rows
 
 -- what a line says of a record: its owner, its type, and the words of its data
-abbrev pub resource_fields : Resource → List Field
+abbrev pub resource_fields : Resource → List CsvField
 resource_fields resource =
     Text (name_shown resource.owner) ∷ Text (type_name (type_of resource.body)) ∷ Text (joined (shown_words resource.body)) ∷ []
 

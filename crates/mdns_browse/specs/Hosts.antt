@@ -13,7 +13,7 @@ use Rattle.mdns_browse.specs.{About.{Term, data_terms, instance_terms, keeps, na
 use Rattle.mdns_browse.specs.{Csv.{Nothing, Number, Text, csv_line, joined}, Json.{json_member, json_object, json_words, text_member}}
 use Rattle.mdns_browse.specs.{RecordText.{data_words, spaced}, Services.{body_of, instance_in, instances_in, lasts_in, rows_of_set, same_text}}
 use Rattle.mdns_browse.specs.declared.{about.Subject.{Subject}, instance.Instance.{Instance}, instance.Server.{Server}, host.Host.{Host}}
-use Rattle.mdns_browse.specs.declared.host.HostService.{HostService}
+use Rattle.mdns_browse.specs.declared.host.HostedInstance.{HostedInstance}
 
 -- a server of an instance: the instance's name, the host and the port
 pub record ServedRow : Type 0 where
@@ -129,7 +129,7 @@ hosts_header = codes "host,addresses,instance,port\r\n"
 
 -- ---- as they are lent
 
-abbrev pub served_lent : HostService → ServedRow
+abbrev pub served_lent : HostedInstance → ServedRow
 served_lent service = record { instance = service.instance.now; target = service.target.now; port = service.port }
 
 abbrev pub host_lent : Host → HostRow
@@ -139,10 +139,10 @@ host_lent host = record {
   services = map served_lent host.services.now;
 }
 
-abbrev pub target_cmp : HostService → HostService → Ordering
+abbrev pub target_cmp : HostedInstance → HostedInstance → Ordering
 target_cmp one other = slice_cmp nat_cmp (folded one.target.now) (folded other.target.now)
 
 -- the servers in the order of their targets, those of one target in the order in which they are listed
-pub record AreByTarget (listed : List ServedRow) (services : List HostService) : Type 0 where
+pub record AreByTarget (listed : List ServedRow) (services : List HostedInstance) : Type 0 where
   pub sorted : IsSorted target_cmp services
   pub same : (name : Bor (List ℕ)) → filter (is_on name.now) (map served_lent services) ≡ filter (is_on name.now) listed

@@ -4,7 +4,8 @@ use Rattle.std.specs.Fmt.{decimal}
 use Rattle.dns_name.specs.Name.{name_text}
 use Rattle.people_text.specs.Shown.{name_shown}
 use Rattle.mdns_browse.specs.Sheet.{Piece, instance_begin, server_begin, server_address, server_end, servers_end, instance_text, instance_end}
-use Rattle.mdns_browse.specs.{RecordShown.{shown_instance}, RecordText.{data_words, text_words}, declared.report_json.Objects.{Objects}}
+use Rattle.mdns_browse.specs.{RecordShown.{shown_instance}, RecordText.{data_words, text_words}}
+use Rattle.mdns_browse.specs.declared.report_json.ReportText.{ReportText}
 use Rattle.mdns_browse.specs.Json.{array_begin, comma_unless, first_after, json_bool, json_member, json_string, json_words, parted, text_member}
 use Rattle.mdns_browse.specs.Services.{GivenRow}
 
@@ -56,7 +57,7 @@ strings_json first words = parted first (map json_string words)
 
 -- the sheet has the text of some pieces more, after which `next` tells whether another value is the first
 pub record Grows {P : Type 0} (text_of : Bool → List P → List ℕ) (next : Bool → List P
-    → Bool) (old : Objects) (pieces : List P) (new : Objects)
+    → Bool) (old : ReportText) (pieces : List P) (new : ReportText)
     : Type 0 where
   pub written : string_bytes new.text ≡ string_bytes old.text ++ text_of old.first pieces
   pub flag : new.first ≡ next old.first pieces

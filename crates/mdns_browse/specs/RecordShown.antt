@@ -18,8 +18,8 @@ unfoldable pub shown_strings : List ℕ → List (List ℕ)
 shown_strings bytes = flat_map shown_string (strings_of bytes)
 
 -- the priority and weight of a server as one word, none where both are 0 (RFC 2782)
-abbrev pub shown_order : ℕ → ℕ → List (List ℕ)
-shown_order priority weight =
+abbrev pub shown_priority : ℕ → ℕ → List (List ℕ)
+shown_priority priority weight =
     if (priority == 0) && (weight == 0) then []
     else (codes "priority " ++ decimal priority ++ codes " weight " ++ decimal weight) ∷ []
 
@@ -33,8 +33,8 @@ abbrev pub shown_content : Content (List ℕ) (List ℕ) → List (List ℕ)
 shown_content (content.Address address) = shown_address address ∷ []
 shown_content (content.Name name) = name_shown name ∷ []
 shown_content (content.Strings bytes) = shown_strings bytes
-shown_content (content.Service service) =
-    (name_shown service.target ++ 58 ∷ decimal service.port) ∷ shown_order service.priority service.weight
+shown_content (content.Srv service) =
+    (name_shown service.target ++ 58 ∷ decimal service.port) ∷ shown_priority service.priority service.weight
 
 -- the words of a record's data
 abbrev pub shown_words : Body → List (List ℕ)

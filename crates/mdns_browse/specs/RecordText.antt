@@ -63,7 +63,7 @@ abbrev pub content_words : Content (List ℕ) (List ℕ) → List (List ℕ)
 content_words (content.Address address) = address_text address ∷ []
 content_words (content.Name name) = name_text name ∷ []
 content_words (content.Strings bytes) = text_words bytes
-content_words (content.Service service) =
+content_words (content.Srv service) =
     decimal service.priority ∷ decimal service.weight ∷ decimal service.port ∷ name_text service.target ∷ []
 
 -- the words of a record's data

@@ -2,7 +2,7 @@
 use Rattle.std.specs.Prelude.{ℕ, ◌==◌, if◌then◌else◌, max, List, [], ◌∷◌, ◌++◌, length, map, codes, Option}
 use Rattle.std.specs.{Fmt.{decimal}, List.{flat_map}}
 use Rattle.dns_name.specs.Name.{name_text}
-use Rattle.mdns_message.specs.{declared.parts.Service.{Service}, Parts.{service_lent}}
+use Rattle.mdns_message.specs.{declared.parts.SrvData.{SrvData}, Parts.{srv_lent}}
 use Rattle.mdns_lives.specs.declared.{life.Life.{Life}, window.Window.{Window}}
 use Rattle.people_text.specs.{MomentText.{millis_text}, Shown.{name_shown}}
 use Rattle.mdns_browse.specs.declared.{report.Form.{Form}, report.Form.TheVariants.{Csv, Lines, Json, Pretty}}
@@ -10,7 +10,7 @@ use Rattle.mdns_browse.specs.declared.service_life_text.ServiceLife.{ServiceLife
 use Rattle.mdns_browse.specs.Csv.{Moment as MomentField, Number, Text, csv_line, joined}
 use Rattle.mdns_browse.specs.{Columns.{padded, widest}, Json.{json_array, json_member, json_object, text_member}, JsonPieces.{server_members}}
 use Rattle.mdns_browse.specs.LifeText.{end_shown, end_text, life_members, life_words, lives_heading, until_shown}
-use Rattle.mdns_browse.specs.RecordShown.{shown_instance, shown_order, spaced_wide}
+use Rattle.mdns_browse.specs.RecordShown.{shown_instance, shown_priority, spaced_wide}
 
 -- A life of a service instance: the type that owns the record that gives the instance (RFC 6763, section 4.1), the instance's name,
 -- the life of that record, and what the SRV records of the instance say that were live in it (section 5).
@@ -18,11 +18,11 @@ pub record ServiceLife : Type 0 where
   pub kind : List ℕ
   pub name : List ℕ
   pub life : Life
-  pub servers : List (Service (List ℕ))
+  pub servers : List (SrvData (List ℕ))
 
 abbrev pub service_life_lent : LentLife → ServiceLife
 service_life_lent service =
-    record { kind = service.kind.now; name = service.name.now; life = service.life; servers = map service_lent service.servers.items }
+    record { kind = service.kind.now; name = service.name.now; life = service.life; servers = map srv_lent service.servers.items }
 
 -- ---- words
 
@@ -30,13 +30,13 @@ service_life_lent service =
 unfoldable pub service_line : ℕ → ServiceLife → List ℕ
 service_line end service =
     name_text service.name ++ life_words end service.life
-    ++ flat_map (λ (server : Service (List ℕ)). codes " server " ++ name_text server.target ++ 32 ∷ decimal server.port) service.servers
+    ++ flat_map (λ (server : SrvData (List ℕ)). codes " server " ++ name_text server.target ++ 32 ∷ decimal server.port) service.servers
     ++ 10 ∷ []
 
 -- ---- JSON
 
 -- a server as an object: target, as people read it too, port, priority and weight
-abbrev pub server_object : Service (List ℕ) → List ℕ
+abbrev pub server_object : SrvData (List ℕ) → List ℕ
 server_object server = json_object (server_members server.priority server.weight server.port server.target)
 
 -- a life as an object: the instance as in `instances --json`, its servers, and the life as in `lives --json`
@@ -50,7 +50,7 @@ service_json end service =
 -- ---- comma-separated values
 
 -- target and port of a server, for people
-abbrev pub server_words : Service (List ℕ) → List ℕ
+abbrev pub server_words : SrvData (List ℕ) → List ℕ
 server_words server = name_shown server.target ++ 58 ∷ decimal server.port
 
 -- a life as a line, by these texts of the instance, its type and its servers
@@ -67,10 +67,10 @@ service_csv end service =
 -- ---- columns
 
 -- each server as `instances --pretty` shows it, after two spaces, or that there is none
-abbrev pub servers_shown : List (Service (List ℕ)) → List ℕ
+abbrev pub servers_shown : List (SrvData (List ℕ)) → List ℕ
 servers_shown [] = codes "  unresolved"
 servers_shown (server ∷ servers) =
-    flat_map (λ (one : Service (List ℕ)). spaced_wide (server_words one ∷ shown_order one.priority one.weight)) (server ∷ servers)
+    flat_map (λ (one : SrvData (List ℕ)). spaced_wide (server_words one ∷ shown_priority one.priority one.weight)) (server ∷ servers)
 
 -- a life in columns: from when until when, how it ended, the whole name of the instance, and its servers
 unfoldable pub service_row : (width end : ℕ) → ServiceLife → List ℕ

@@ -3,8 +3,8 @@
 use Rattle.std.specs.Prelude.{◌≡◌, ◌⊎◌, ℕ, Bool, false, not, ◌&&◌, ◌||◌, nat_le, min, if◌then◌else◌, List, [], ◌∷◌, ◌++◌}
 use Rattle.std.specs.Prelude.{length, map, drop, codes, Option, None, Some, is_some, option_map}
 use Rattle.std.specs.{Cmp.Lexicographic.{slice_cmp}, List.{filter, filter_map}, List.Sorted.{IsStrictlySortedBy}, Ordering.{is_eq, nat_cmp}}
-use Rattle.mdns_message.specs.{declared.hearing.Hearing.{Hearing}, Parts.{pointer_of, service_of, text_of}, RecordSet.{RecordSet}}
-use Rattle.mdns_message.specs.{Resource.{Body, type_number, key_cmp, set_key_cmp}, declared.parts.Service.{Service}}
+use Rattle.mdns_message.specs.{declared.hearing.Hearing.{Hearing}, Parts.{pointer_of, srv_of, text_of}, RecordSet.{RecordSet}}
+use Rattle.mdns_message.specs.{Resource.{Body, type_number, key_cmp, set_key_cmp}, declared.parts.SrvData.{SrvData}}
 use Rattle.mdns_message.specs.declared.record_type.RecordType.TheVariants as kind
 use Rattle.dns_name.specs.Name.{IsLabel, folded, longest_label, wire_of}
 use Rattle.mdns_join.specs.declared.latest.Latest.{Latest}
@@ -111,7 +111,7 @@ abbrev pub data_of_set : List Latest → List ℕ → ℕ → List Body
 data_of_set rows name number = map body_of (rows_of_set rows name number)
 
 -- the server of a service, with the addresses of its target: those of its A records, then those of its AAAA records (RFC 2782)
-abbrev pub server_at : List Latest → Service (List ℕ) → Server
+abbrev pub server_at : List Latest → SrvData (List ℕ) → Server
 server_at rows service =
     record {
       priority = service.priority;
@@ -123,7 +123,7 @@ server_at rows service =
 
 -- the servers of SRV records that were found, and those of a name: where an instance is served (section 5)
 abbrev pub servers_of : List Latest → List Latest → List Server
-servers_of rows found = filter_map (λ b. option_map (server_at rows) (service_of b)) (map body_of found)
+servers_of rows found = filter_map (λ b. option_map (server_at rows) (srv_of b)) (map body_of found)
 
 abbrev pub servers_in : List Latest → List ℕ → List Server
 servers_in rows name = servers_of rows (rows_of_set rows name (type_number kind.Srv))

@@ -1,7 +1,7 @@
 //! Which data of records has a subject.
 
 ghost use Rattle.std.specs.{Prelude.{◌≡◌, ◌++◌, ◌∷◌, IfOk}, Fmt.{decimal}};
-ghost use Rattle.mdns_message.specs.{Borrowed.{body_lent}, Parts.{content_lent, service_lent}};
+ghost use Rattle.mdns_message.specs.{Borrowed.{body_lent}, Parts.{content_lent, srv_lent}};
 ghost use Rattle.people_text.specs.Shown.{name_shown};
 ghost use Rattle.mdns_browse.specs.About.{Octets, Text, address_term, asks_for_any, content_terms, data_terms, asks_for, service_terms};
 ghost use Rattle.mdns_browse.specs.About.{string_terms};
@@ -10,7 +10,7 @@ ghost use Rattle.mdns_message.specs.declared.parts.Content.TheVariants.{Strings}
 use crate::about::Subject;
 use crate::about_names::{matches_bytes, matches_name, matches_number, matches_text};
 use mdns_message::text_data::{first_string, is_word};
-use mdns_message::{Address, BorrowedBody, BorrowedName, Content, Service, Want};
+use mdns_message::{Address, BorrowedBody, BorrowedName, Content, SrvData, Want};
 use people_text::shown_names::push_shown_name;
 
 /// Checks that one of the subjects is a word of the data.
@@ -37,7 +37,7 @@ fn is_in_content(
         Content::Address(address) => Ok(matches_host_address(about, address)),
         Content::Name(name) => matches_name(about, name, scratch),
         Content::Strings(bytes) => is_in_text(about, bytes, scratch),
-        Content::Service(service) => is_in_service(about, service, scratch),
+        Content::Srv(service) => is_in_service(about, service, scratch),
     }
 }
 
@@ -45,10 +45,10 @@ fn is_in_content(
 #[tactic(auto, using(crate::proofs::AboutLemmas::for_terms))]
 fn is_in_service(
     about: &[Subject],
-    service: Service<&BorrowedName<'_>>,
+    service: SrvData<&BorrowedName<'_>>,
     scratch: &mut String,
 ) -> Result<bool, Want>
-    ensures { IfOk result (λ is. is ≡ asks_for_any about.now (service_terms (service_lent service.entry))) }
+    ensures { IfOk result (λ is. is ≡ asks_for_any about.now (service_terms (srv_lent service.entry))) }
 {
     if matches_name(about, service.target, scratch)? {
         return Ok(true);

@@ -64,7 +64,7 @@ fn is_in_server(
     ensures { IfOk result (λ is. AreAscending (map last_lent rows.now)
         → is ≡ asks_for_any about.now (flat_map server_terms (servers_of (map last_lent rows.now) (last_lent row.now ∷ [])))) }
 {
-    let Some(service) = row.resource.body.service() else {
+    let Some(service) = row.resource.body.srv() else {
         return Ok(false);
     };
     let fours = of_set(rows, service.target, RecordType::A);

@@ -6,7 +6,7 @@ ghost use Rattle.mdns_cache.specs.LentRecords.{live_record_lent};
 ghost use Rattle.mdns_browse.specs.{Columns.{heading, padded, spaces, time_left_text, when_text, widest}, Forms.{head}};
 
 use crate::report::Form;
-use crate::report_json::Objects;
+use crate::report_json::ReportText;
 use mdns_cache::LiveRecord;
 use mdns_cache::lifetime::lifetime_nanos;
 use mdns_capture::Moment;
@@ -126,11 +126,11 @@ pub(crate) fn begin(
     count: usize,
     listing: Listing<'_>,
     now: Moment,
-) -> Result<Objects, Want>
+) -> Result<ReportText, Want>
     ensures { IfOk result (λ to. string_bytes to.text
         ≡ head form count listing.entry.one.now listing.entry.many.now listing.entry.header.now now.nanos) }
 {
-    let mut to = Objects::new(alloc);
+    let mut to = ReportText::new(alloc);
     match form {
         Form::Lines | Form::Json => {}
         Form::Pretty => push_heading(&mut to.text, count, listing.one, listing.many, now)?,

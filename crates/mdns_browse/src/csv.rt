@@ -11,7 +11,7 @@ const LINE_END: &str = "\r\n";
 
 /// A field of a line.
 #[derive(Clone, Copy)]
-pub enum Field<'a> {
+pub enum CsvField<'a> {
     /// A text, which is always quoted.
     Text(&'a str),
     /// A number in decimal.
@@ -26,7 +26,7 @@ pub enum Field<'a> {
 
 /// Appends the fields with commas between them, and CR LF.
 #[tactic(auto, unfolding(crate::specs::Csv::csv_line))]
-pub fn push_csv_line(to: &mut String, fields: &[Field<'_>]) -> Result<(), Want>
+pub fn push_csv_line(to: &mut String, fields: &[CsvField<'_>]) -> Result<(), Want>
     ensures { OnOk result (string_bytes to.new ≡ string_bytes to.old ++ csv_line (map field_lent fields.now)) }
 {
     let Some((first, others)) = fields.split_first() else {
@@ -41,28 +41,28 @@ pub fn push_csv_line(to: &mut String, fields: &[Field<'_>]) -> Result<(), Want>
     Ok(())
 }
 
-fn push_next(to: &mut String, field: &Field<'_>) -> Result<(), Want>
+fn push_next(to: &mut String, field: &CsvField<'_>) -> Result<(), Want>
     ensures { OnOk result (string_bytes to.new ≡ string_bytes to.old ++ 44 ∷ csv_field (field_lent field.now)) }
 {
     to.push(',')?;
     push_field(to, field)
 }
 
-fn push_field(to: &mut String, field: &Field<'_>) -> Result<(), Want>
+fn push_field(to: &mut String, field: &CsvField<'_>) -> Result<(), Want>
     ensures { OnOk result (string_bytes to.new ≡ string_bytes to.old ++ csv_field (field_lent field.now)) }
 {
     match *field {
-        Field::Text(text) => push_csv_text(to, text),
-        Field::Number(number) => {
+        CsvField::Text(text) => push_csv_text(to, text),
+        CsvField::Number(number) => {
             write!(to, "{number}")?;
             Ok(())
         }
-        Field::Moment(nanos) => push_exact(to, nanos),
-        Field::Flag(flag) => {
+        CsvField::Moment(nanos) => push_exact(to, nanos),
+        CsvField::Flag(flag) => {
             to.push_str(json_bool(flag))?;
             Ok(())
         }
-        Field::Nothing => Ok(()),
+        CsvField::Nothing => Ok(()),
     }
 }
 

@@ -75,7 +75,7 @@ fn push_content<W: WordSink>(
         Content::Address(address) => push_address(to, address),
         Content::Name(name) => to.word(Word::Name(name)),
         Content::Strings(bytes) => push_text_words(to, bytes),
-        Content::Service(service) => {
+        Content::Srv(service) => {
             to.word(Word::Number(service.priority))?;
             to.word(Word::Number(service.weight))?;
             to.word(Word::Number(service.port))?;

@@ -11,7 +11,7 @@ ghost use Rattle.mdns_browse.specs.Services.{AreAscending, instance_in, instance
 use crate::about::Subject;
 use crate::about_names::matches_name;
 use crate::about_services::{is_in_instance, is_in_rows};
-use crate::given_rows::gather;
+use crate::instance_pointers::collect_pointers;
 use crate::lookup::{of_set, same_text};
 use crate::sheet::InstancePointer;
 use dns_name::fold::folded_cmp;
@@ -21,7 +21,7 @@ use std::alloc::Global;
 
 /// A server of an instance, by a live SRV record.
 #[derive(Clone, Copy)]
-pub struct HostService<'a> {
+pub struct HostedInstance<'a> {
     /// The instance's name.
     pub instance: &'a Name,
     /// The host's name.
@@ -40,14 +40,14 @@ pub struct Host<'a> {
     /// The last hearings of its AAAA records, in key order.
     pub ipv6: &'a [Last<'a>],
     /// The services on it, in the order of the instances.
-    pub services: &'a [HostService<'a>],
+    pub services: &'a [HostedInstance<'a>],
 }
 
 /// Live records, and the servers of their instances by target.
 #[derive(Drop)]
 pub(crate) struct HostSource<'a> {
     pub(crate) rows: Vec<Last<'a>>,
-    pub(crate) services: Vec<HostService<'a>>,
+    pub(crate) services: Vec<HostedInstance<'a>>,
 }
 
 /// Collects live records and the servers of their instances. The servers are sorted once, so that each host's are found by
@@ -57,7 +57,7 @@ pub(crate) fn host_source<'a>(alloc: Global, walk: LiveWalk<'a>) -> Result<HostS
     ensures services { IfOk result (λ source. AreAscending (lasts_in walk.entry)
         → AreByTarget (services_in (lasts_in walk.entry)) source.services.items) }
 {
-    let gathered = gather(alloc, walk)?;
+    let gathered = collect_pointers(alloc, walk)?;
     let rows = gathered.rows;
     let mut services = services_of(alloc, rows.as_slice(), gathered.given.as_slice())?;
     sort_by_target(&mut services)?;
@@ -69,7 +69,7 @@ fn services_of<'a>(
     alloc: Global,
     rows: &[Last<'a>],
     given: &[InstancePointer<'a>],
-) -> Result<Vec<HostService<'a>>, Want>
+) -> Result<Vec<HostedInstance<'a>>, Want>
     ensures { IfOk result (λ services. AreAscending (map last_lent rows.now) → map served_lent services.items
         ≡ flat_map services_at (map (λ row. row.instance)
         (filter_map (instance_row_in (map last_lent rows.now)) (map given_lent given.now)))) }
@@ -77,7 +77,7 @@ fn services_of<'a>(
     let mut services = Vec::new(alloc);
     for row in given {
         // Each has the name of an instance: only PTR records give one.
-        let Some(name) = row.row.last.resource.body.pointer() else {
+        let Some(name) = row.row.last.resource.body.ptr_target() else {
             continue;
         };
         push_services(&mut services, rows, name)?;
@@ -87,7 +87,7 @@ fn services_of<'a>(
 
 // Appends the servers of an instance.
 fn push_services<'a>(
-    to: &mut Vec<HostService<'a>>,
+    to: &mut Vec<HostedInstance<'a>>,
     rows: &[Last<'a>],
     name: &'a Name,
 ) -> Result<(), Want>
@@ -96,10 +96,10 @@ fn push_services<'a>(
 {
     for row in of_set(rows, name, RecordType::Srv) {
         // Every row is an SRV record: no other data has this type number.
-        let Some(service) = row.resource.body.service() else {
+        let Some(service) = row.resource.body.srv() else {
             continue;
         };
-        to.push(HostService {
+        to.push(HostedInstance {
             instance: name,
             target: service.target,
             port: service.port,
@@ -108,7 +108,7 @@ fn push_services<'a>(
     Ok(())
 }
 
-fn sort_by_target(services: &mut Vec<HostService<'_>>) -> Result<(), Want>
+fn sort_by_target(services: &mut Vec<HostedInstance<'_>>) -> Result<(), Want>
     ensures sorted { OnOk result (IsSorted target_cmp services.new.items) }
     ensures stable { IsStable target_cmp services.old.items services.new.items }
 {
@@ -121,7 +121,7 @@ pub(crate) fn kept_hosts<'a>(
     alloc: Global,
     about: &[Subject],
     rows: &'a [Last<'a>],
-    services: &'a [HostService<'a>],
+    services: &'a [HostedInstance<'a>],
 ) -> Result<Vec<Host<'a>>, Want>
     ensures { IfOk result (λ hosts. AreAscending (map last_lent rows.now)
         → AreByTarget (services_in (map last_lent rows.now)) services.now → map host_lent hosts.items
@@ -150,7 +150,7 @@ fn begins_host(before: &[u8], row: &Last<'_>) -> bool
 }
 
 // Finds the addresses and the services of a host.
-fn host_at<'a>(rows: &'a [Last<'a>], services: &'a [HostService<'a>], name: &'a Name) -> Host<'a>
+fn host_at<'a>(rows: &'a [Last<'a>], services: &'a [HostedInstance<'a>], name: &'a Name) -> Host<'a>
     ensures { AreAscending (map last_lent rows.now) → AreByTarget (services_in (map last_lent rows.now)) services.now
         → host_lent result ≡ host_in (map last_lent rows.now) name.now }
 {
@@ -163,7 +163,7 @@ fn host_at<'a>(rows: &'a [Last<'a>], services: &'a [HostService<'a>], name: &'a 
 }
 
 // Finds the servers with a target among servers by target, by binary search.
-fn services_on<'a>(services: &'a [HostService<'a>], name: &Name) -> &'a [HostService<'a>]
+fn services_on<'a>(services: &'a [HostedInstance<'a>], name: &Name) -> &'a [HostedInstance<'a>]
     ensures { IsSorted target_cmp services.now
         → map served_lent result.now ≡ filter (is_on name.now) (map served_lent services.now) }
 {
@@ -220,7 +220,7 @@ fn keeps_host(
 fn is_in_services(
     about: &[Subject],
     rows: &[Last<'_>],
-    services: &[HostService<'_>],
+    services: &[HostedInstance<'_>],
     scratch: &mut String,
 ) -> Result<bool, Want>
     ensures { IfOk result (λ is. AreAscending (map last_lent rows.now)

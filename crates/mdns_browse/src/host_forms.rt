@@ -12,14 +12,14 @@ ghost use Rattle.mdns_browse.specs.declared.report.Ask.TheVariants.{Hosts};
 
 use crate::about::Subject;
 use crate::columns::{Listing, begin};
-use crate::csv::{Field, push_csv_line};
+use crate::csv::{CsvField, push_csv_line};
 use crate::data_words::{Word, WordSink, push_words};
-use crate::host::{Host, HostService, host_source, kept_hosts};
+use crate::host::{Host, HostedInstance, host_source, kept_hosts};
 use crate::lookup::same_text;
 use crate::record_shown::{GAP, push_shown_words};
 use crate::report::Form;
 use crate::report_csv::drop_first_space;
-use crate::report_json::Objects;
+use crate::report_json::ReportText;
 use mdns_cache::{Cache, Last};
 use mdns_capture::Moment;
 use mdns_message::{Name, Want};
@@ -56,7 +56,7 @@ pub(crate) fn hosts_text(
     Ok(to.text)
 }
 
-fn push_hosts(to: &mut Objects, form: Form, hosts: &[Host<'_>]) -> Result<(), Want>
+fn push_hosts(to: &mut ReportText, form: Form, hosts: &[Host<'_>]) -> Result<(), Want>
     ensures { OnOk result (string_bytes to.new.text
         ≡ string_bytes to.old.text ++ flat_map (host_text form) (map host_lent hosts.now)) }
 {
@@ -66,7 +66,7 @@ fn push_hosts(to: &mut Objects, form: Form, hosts: &[Host<'_>]) -> Result<(), Wa
     Ok(())
 }
 
-fn push_host(to: &mut Objects, form: Form, host: &Host<'_>) -> Result<(), Want>
+fn push_host(to: &mut ReportText, form: Form, host: &Host<'_>) -> Result<(), Want>
     ensures { OnOk result (string_bytes to.new.text ≡ string_bytes to.old.text ++ host_text form (host_lent host.now)) }
 {
     match form {
@@ -100,7 +100,7 @@ fn push_address_words<W: WordSink>(to: &mut W, rows: &[Last<'_>]) -> Result<(), 
 
 // Appends the object of a host.
 #[tactic(auto, using(std::proofs::lemmas::List::append_assoc, crate::proofs::ObjectLemmas::for_push_host_json), unfolding(crate::specs::Hosts::host_json, crate::specs::Json::parted))]
-fn push_host_json(to: &mut Objects, host: &Host<'_>) -> Result<(), Want>
+fn push_host_json(to: &mut ReportText, host: &Host<'_>) -> Result<(), Want>
     ensures { OnOk result (string_bytes to.new.text ≡ string_bytes to.old.text ++ host_json (host_lent host.now)) }
 {
     push_host_names(to, host.name)?;
@@ -110,7 +110,7 @@ fn push_host_json(to: &mut Objects, host: &Host<'_>) -> Result<(), Want>
 
 // Begins the object of a host with its name.
 #[tactic(auto, unfolding(crate::specs::Json::parted))]
-fn push_host_names(to: &mut Objects, name: &Name) -> Result<(), Want>
+fn push_host_names(to: &mut ReportText, name: &Name) -> Result<(), Want>
     ensures { OnOk result (string_bytes to.new.text ≡ string_bytes to.old.text
         ++ 123 ∷ parted true (text_member (codes "host") (name_text name.now) ∷ text_member (codes "shown") (name_shown name.now) ∷ [])) }
 {
@@ -120,7 +120,7 @@ fn push_host_names(to: &mut Objects, name: &Name) -> Result<(), Want>
 }
 
 // Appends the addresses of a host and the instances on it as members.
-fn push_host_lists(to: &mut Objects, host: &Host<'_>) -> Result<(), Want>
+fn push_host_lists(to: &mut ReportText, host: &Host<'_>) -> Result<(), Want>
     ensures { OnOk result (string_bytes to.new.text ≡ string_bytes to.old.text
         ++ (44 ∷ json_member (codes "addresses") (json_words (address_words (host_lent host.now).addresses))
         ++ 44 ∷ json_member (codes "instances") (json_words (map name_text (instances_on (host_lent host.now)))))) }
@@ -130,7 +130,7 @@ fn push_host_lists(to: &mut Objects, host: &Host<'_>) -> Result<(), Want>
 }
 
 // Appends the names of the instances of services as a member.
-fn push_names(to: &mut Objects, services: &[HostService<'_>]) -> Result<(), Want>
+fn push_names(to: &mut ReportText, services: &[HostedInstance<'_>]) -> Result<(), Want>
     ensures { OnOk result (string_bytes to.new.text ≡ string_bytes to.old.text
         ++ 44 ∷ json_member (codes "instances") (json_words
         (map name_text (once [] (map (λ (service : ServedRow). service.instance) (map served_lent services.now)))))) }
@@ -141,7 +141,7 @@ fn push_names(to: &mut Objects, services: &[HostService<'_>]) -> Result<(), Want
 }
 
 // Appends the addresses of a host as a member.
-fn push_addresses(to: &mut Objects, host: &Host<'_>) -> Result<(), Want>
+fn push_addresses(to: &mut ReportText, host: &Host<'_>) -> Result<(), Want>
     ensures { OnOk result (string_bytes to.new.text ≡ string_bytes to.old.text
         ++ 44 ∷ json_member (codes "addresses") (json_words (address_words (host_lent host.now).addresses))) }
 {
@@ -152,7 +152,7 @@ fn push_addresses(to: &mut Objects, host: &Host<'_>) -> Result<(), Want>
 }
 
 // Hands over the name of each instance once: its services follow one another.
-fn push_instances<W: WordSink>(to: &mut W, services: &[HostService<'_>]) -> Result<(), Want>
+fn push_instances<W: WordSink>(to: &mut W, services: &[HostedInstance<'_>]) -> Result<(), Want>
     ensures { OnOk result (W.takes_words to.old
         (map name_text (once [] (map (λ (service : ServedRow). service.instance) (map served_lent services.now)))) to.new) }
 {
@@ -180,7 +180,7 @@ fn push_host_rows(to: &mut String, host: &Host<'_>) -> Result<(), Want>
     push_services(to, host.services)
 }
 
-fn push_services(to: &mut String, services: &[HostService<'_>]) -> Result<(), Want>
+fn push_services(to: &mut String, services: &[HostedInstance<'_>]) -> Result<(), Want>
     ensures { OnOk result (string_bytes to.new ≡ string_bytes to.old ++ flat_map service_row (map served_lent services.now)) }
 {
     for service in services {
@@ -201,7 +201,7 @@ fn push_shown_addresses(to: &mut String, gap: &str, rows: &[Last<'_>]) -> Result
 }
 
 #[tactic(auto, unfolding(crate::specs::Hosts::service_row))]
-fn push_service_row(to: &mut String, service: &HostService<'_>) -> Result<(), Want>
+fn push_service_row(to: &mut String, service: &HostedInstance<'_>) -> Result<(), Want>
     ensures { OnOk result (string_bytes to.new ≡ string_bytes to.old ++ service_row (served_lent service.now)) }
 {
     to.push_str("  ")?;
@@ -229,7 +229,7 @@ fn push_csv_services<'a>(
     to: &mut String,
     host: &'a str,
     addresses: &'a str,
-    services: &[HostService<'_>],
+    services: &[HostedInstance<'_>],
 ) -> Result<(), Want>
     ensures { OnOk result (string_bytes to.new
         ≡ string_bytes to.old ++ services_csv host.now addresses.now (map served_lent services.now)) }
@@ -238,10 +238,10 @@ fn push_csv_services<'a>(
         return push_csv_line(
             to,
             &[
-                Field::Text(host),
-                Field::Text(addresses),
-                Field::Nothing,
-                Field::Nothing,
+                CsvField::Text(host),
+                CsvField::Text(addresses),
+                CsvField::Nothing,
+                CsvField::Nothing,
             ],
         );
     }
@@ -267,10 +267,10 @@ fn push_csv_service<'a>(
     push_csv_line(
         to,
         &[
-            Field::Text(host),
-            Field::Text(addresses),
-            Field::Text(instance),
-            Field::Number(port as u64),
+            CsvField::Text(host),
+            CsvField::Text(addresses),
+            CsvField::Text(instance),
+            CsvField::Number(port as u64),
         ],
     )
 }

@@ -10,7 +10,7 @@ ghost use Rattle.mdns_browse.specs.declared.report.{Ask.TheVariants.{Instances},
 
 use crate::about::Subject;
 use crate::columns::{push_heading, time_left_len, time_left_width, wider};
-use crate::given_rows::given_in;
+use crate::instance_pointers::pointers_about;
 use crate::instance_sheet::InstanceSheet;
 use crate::other_names::{kept_others, push_others};
 use crate::report_walk::walk_instance;
@@ -34,7 +34,7 @@ pub(crate) fn instances_columns(
     ensures { IfOk result (λ text. (heard : List Hearing) → StandsFor cache.now heard
         → IsReportIn about.now Pretty Instances heard now.nanos (string_bytes text)) }
 {
-    let gathered = given_in(alloc, cache.walk_live(now), about)?;
+    let gathered = pointers_about(alloc, cache.walk_live(now), about)?;
     let listed = gathered.given.as_slice();
     let others = kept_others(alloc, about, cache.walk_live(now))?;
     let width = names_width(alloc, now, listed, others.as_slice())?;
@@ -86,7 +86,7 @@ fn push_instances(
     let mut before: &[u8] = b"";
     for row in given {
         // Each has the name of an instance: only PTR records give one.
-        let Some(name) = row.row.last.resource.body.pointer() else {
+        let Some(name) = row.row.last.resource.body.ptr_target() else {
             continue;
         };
         push_instance(sheet, rows, row, name, before)?;

@@ -10,14 +10,14 @@ ghost use Rattle.mdns_browse.specs.{RecordShown.{shown_strings, shown_words}, Re
 ghost use Rattle.mdns_browse.specs.{Services.{AreAscending, IsOfLive, instance_row_in}, declared.report.Ask.TheVariants.{Instances}};
 
 use crate::about::Subject;
-use crate::csv::{Field, push_csv_line};
-use crate::given_rows::given_in;
+use crate::csv::{CsvField, push_csv_line};
 use crate::instance::{Instance, Server};
 use crate::instance_columns::instances_columns;
+use crate::instance_pointers::pointers_about;
 use crate::record_shown::{push_shown_instance, push_shown_strings, push_shown_words};
 use crate::report::Form;
 use crate::report_csv::drop_first_space;
-use crate::report_json::Objects;
+use crate::report_json::ReportText;
 use crate::report_walk::walk_given;
 use crate::services::instance;
 use crate::sheet::InstancePointer;
@@ -59,8 +59,8 @@ fn listed(
     ensures { IfOk result (λ text. (heard : List Hearing) → StandsFor cache.now heard
         → IsOfLive (λ rows. listed_text form (instances_about about.now rows)) heard now.nanos (string_bytes text)) }
 {
-    let gathered = given_in(alloc, cache.walk_live(now), about)?;
-    let mut to = Objects::new(alloc);
+    let gathered = pointers_about(alloc, cache.walk_live(now), about)?;
+    let mut to = ReportText::new(alloc);
     push_instances(
         &mut to,
         form,
@@ -73,7 +73,7 @@ fn listed(
 // Appends the instance of each of the records that give one. The servers and texts are looked up in the rows.
 #[tactic(auto, using(std::proofs::lemmas::List::append_assoc, std::proofs::lemmas::Result::on_ok_weaker, crate::proofs::InstanceLemmas::shown_in, crate::proofs::LineLemmas::instances_text, crate::proofs::ObjectLemmas::instances_json))]
 fn push_instances(
-    to: &mut Objects,
+    to: &mut ReportText,
     form: Form,
     rows: &[Last<'_>],
     given: &[InstancePointer<'_>],
@@ -106,7 +106,7 @@ fn push_csv_instances(
     let alloc = *to.allocator();
     for row in given {
         // Each has the name of an instance: only PTR records give one.
-        let Some(name) = row.row.last.resource.body.pointer() else {
+        let Some(name) = row.row.last.resource.body.ptr_target() else {
             continue;
         };
         push_instance(to, row, &instance(alloc, rows, name)?)?;
@@ -164,12 +164,12 @@ fn push_servers<'a>(
         return push_csv_line(
             to,
             &[
-                Field::Text(name),
-                Field::Text(kind),
-                Field::Nothing,
-                Field::Nothing,
-                Field::Nothing,
-                Field::Text(texts),
+                CsvField::Text(name),
+                CsvField::Text(kind),
+                CsvField::Nothing,
+                CsvField::Nothing,
+                CsvField::Nothing,
+                CsvField::Text(texts),
             ],
         );
     }
@@ -219,12 +219,12 @@ fn push_server_line<'a>(
     push_csv_line(
         to,
         &[
-            Field::Text(name),
-            Field::Text(kind),
-            Field::Text(host),
-            Field::Number(port as u64),
-            Field::Text(addresses),
-            Field::Text(texts),
+            CsvField::Text(name),
+            CsvField::Text(kind),
+            CsvField::Text(host),
+            CsvField::Number(port as u64),
+            CsvField::Text(addresses),
+            CsvField::Text(texts),
         ],
     )
 }

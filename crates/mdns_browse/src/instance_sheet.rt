@@ -5,7 +5,7 @@ ghost use Rattle.mdns_browse.specs.Columns.{spaces};
 
 use crate::columns::{push_padded_time_left, push_spaces};
 use crate::record_shown::{
-    GAP, push_shown_instance, push_shown_order, push_shown_strings, push_shown_target,
+    GAP, push_shown_instance, push_shown_priority, push_shown_strings, push_shown_target,
     push_shown_words,
 };
 use crate::sheet::{InstancePointer, Sheet};
@@ -81,7 +81,7 @@ impl Sheet for InstanceSheet {
     ) -> Result<(), Want> {
         push_indent(&mut self.text, self.width)?;
         push_shown_target(&mut self.text, GAP, &target.borrowed(), port)?;
-        push_shown_order(&mut self.text, priority, weight)
+        push_shown_priority(&mut self.text, priority, weight)
     }
 
     fn server_address(&mut self, address: &BorrowedBody<'_>) -> Result<(), Want> {

@@ -10,12 +10,12 @@ pub mod csv;
 mod data_words;
 mod digits;
 pub mod format;
-pub mod given_rows;
 pub mod host;
 mod host_forms;
 pub mod instance;
 mod instance_columns;
 mod instance_forms;
+pub mod instance_pointers;
 mod instance_sheet;
 pub mod json;
 mod keeps;
@@ -42,10 +42,10 @@ mod type_forms;
 
 pub use about::Subject;
 pub use columns::push_padded;
-pub use host::{Host, HostService};
+pub use host::{Host, HostedInstance};
 pub use instance::{Addresses, InOrder, Instance, Server, Servers, Texts};
 pub use record_shown::{
-    push_shown_address, push_shown_instance, push_shown_order, push_shown_record,
+    push_shown_address, push_shown_instance, push_shown_priority, push_shown_record,
 };
 pub use report::{Ask, Form, ReportFault};
 pub use report_csv::ResourceTexts;

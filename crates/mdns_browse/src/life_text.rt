@@ -11,7 +11,7 @@ use crate::format::push_resource;
 use crate::life_columns::{called, end_width, push_heading, push_rows};
 use crate::report::Form;
 use crate::report_csv::push_csv_lives;
-use crate::report_json::Objects;
+use crate::report_json::ReportText;
 use crate::report_lines::push_life;
 use mdns_capture::Moment;
 use mdns_lives::{EndReason, Life, Which, Window};
@@ -145,9 +145,9 @@ fn push_objects(
     ensures { OnOk result (string_bytes text.new
         ≡ string_bytes text.old ++ flat_map (life_json end_of_captures.nanos resource.now) lives.now) }
 {
-    let mut head = Objects::new(*text.allocator());
+    let mut head = ReportText::new(*text.allocator());
     head.resource(resource)?;
-    let mut rest = Objects::new(*text.allocator());
+    let mut rest = ReportText::new(*text.allocator());
     for life in lives {
         push_object(text, head.text.as_str(), &mut rest, end_of_captures, life)?;
     }
@@ -157,7 +157,7 @@ fn push_objects(
 fn push_object(
     text: &mut String,
     head: &str,
-    rest: &mut Objects,
+    rest: &mut ReportText,
     end_of_captures: Moment,
     life: &Life,
 ) -> Result<(), Want>

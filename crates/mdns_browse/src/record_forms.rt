@@ -10,11 +10,11 @@ ghost use Rattle.mdns_browse.specs.{Report.{IsReportIn, records_about}, Services
 
 use crate::about::{Subject, keeps_record};
 use crate::columns::{Listing, begin};
-use crate::csv::{Field, push_csv_line};
+use crate::csv::{CsvField, push_csv_line};
 use crate::record_columns::push_records_below;
 use crate::report::Form;
 use crate::report_csv::ResourceTexts;
-use crate::report_json::Objects;
+use crate::report_json::ReportText;
 use crate::report_lines::push_record_line;
 use mdns_cache::{Cache, LiveRecord, LiveWalk};
 use mdns_capture::Moment;
@@ -53,13 +53,13 @@ fn written(
     ensures { IfOk result (λ text. (heard : List Hearing) → StandsFor cache.now heard
         → IsOfLive (λ rows. flat_map (record_text form) (records_about about.now rows)) heard now.nanos (string_bytes text)) }
 {
-    let mut to = Objects::new(alloc);
+    let mut to = ReportText::new(alloc);
     push_walk(&mut to, form, about, cache.walk_live(now))?;
     Ok(to.text)
 }
 
 fn push_walk(
-    to: &mut Objects,
+    to: &mut ReportText,
     form: Form,
     about: &[Subject],
     walk: LiveWalk<'_>,
@@ -75,7 +75,7 @@ fn push_walk(
 }
 
 fn push_kept_row(
-    to: &mut Objects,
+    to: &mut ReportText,
     form: Form,
     about: &[Subject],
     row: &LiveRecord<'_>,
@@ -102,7 +102,7 @@ fn listed(
     ensures { IfOk result (λ text. (heard : List Hearing) → StandsFor cache.now heard
         → IsReportIn about.now form Records heard now.nanos (string_bytes text)) }
 {
-    let rows = kept_records(alloc, about, cache.walk_live(now))?;
+    let rows = records_about(alloc, about, cache.walk_live(now))?;
     let listed = rows.as_slice();
     let listing = Listing {
         one: "record",
@@ -115,7 +115,7 @@ fn listed(
 }
 
 /// Collects the live records that are about the subjects.
-pub(crate) fn kept_records<'a>(
+pub(crate) fn records_about<'a>(
     alloc: Global,
     about: &[Subject],
     walk: LiveWalk<'a>,
@@ -147,7 +147,7 @@ pub(crate) fn push_kept_record<'a>(
 }
 
 fn push_records(
-    to: &mut Objects,
+    to: &mut ReportText,
     form: Form,
     now: Moment,
     rows: &[LiveRecord<'_>],
@@ -163,7 +163,7 @@ fn push_records(
     }
 }
 
-fn push_rows(to: &mut Objects, form: Form, rows: &[LiveRecord<'_>]) -> Result<(), Want>
+fn push_rows(to: &mut ReportText, form: Form, rows: &[LiveRecord<'_>]) -> Result<(), Want>
     ensures { OnOk result (string_bytes to.new.text
         ≡ string_bytes to.old.text ++ flat_map (record_text form) (map live_record_lent rows.now)) }
 {
@@ -173,7 +173,7 @@ fn push_rows(to: &mut Objects, form: Form, rows: &[LiveRecord<'_>]) -> Result<()
     Ok(())
 }
 
-fn push_row(to: &mut Objects, form: Form, row: &LiveRecord<'_>) -> Result<(), Want>
+fn push_row(to: &mut ReportText, form: Form, row: &LiveRecord<'_>) -> Result<(), Want>
     ensures { OnOk result (string_bytes to.new.text ≡ string_bytes to.old.text ++ record_text form (live_record_lent row.now)) }
 {
     match form {
@@ -202,12 +202,12 @@ fn push_csv_texts(to: &mut String, texts: &ResourceTexts, row: &LiveRecord<'_>) 
     push_csv_line(
         to,
         &[
-            Field::Text(texts.owner.as_str()),
-            Field::Text(row.last.resource.body.record_type().name()),
-            Field::Text(texts.words.as_str()),
-            Field::Number(row.last.ttl as u64),
-            Field::Moment(row.last.moment.nanos()),
-            Field::Moment(row.end),
+            CsvField::Text(texts.owner.as_str()),
+            CsvField::Text(row.last.resource.body.record_type().name()),
+            CsvField::Text(texts.words.as_str()),
+            CsvField::Number(row.last.ttl as u64),
+            CsvField::Moment(row.last.moment.nanos()),
+            CsvField::Moment(row.end),
         ],
     )
 }

@@ -3,7 +3,7 @@
 ghost use Rattle.std.specs.{Prelude.{◌≡◌, ◌++◌, ◌∷◌, OnOk}, Fmt.{decimal}, String.{string_bytes}};
 ghost use Rattle.mdns_message.specs.{Borrowed.{body_lent, resource_lent}, Parts.{content_lent}};
 ghost use Rattle.people_text.specs.Shown.{name_shown};
-ghost use Rattle.mdns_browse.specs.RecordShown.{shown_address, shown_content, shown_instance, shown_order, shown_record};
+ghost use Rattle.mdns_browse.specs.RecordShown.{shown_address, shown_content, shown_instance, shown_priority, shown_record};
 ghost use Rattle.mdns_browse.specs.RecordShown.{shown_string, shown_strings, shown_words, spaced_by, spaced_wide};
 
 use crate::format::push_ipv4;
@@ -66,9 +66,9 @@ fn push_shown_content(
             push_shown_name(to, name)
         }
         Content::Strings(bytes) => push_shown_strings(to, gap, bytes),
-        Content::Service(service) => {
+        Content::Srv(service) => {
             push_shown_target(to, gap, service.target, service.port)?;
-            push_order(to, gap, service.priority, service.weight)
+            push_priority(to, gap, service.priority, service.weight)
         }
     }
 }
@@ -100,14 +100,14 @@ pub(crate) fn push_shown_target(
 }
 
 /// Appends the priority and weight of a server after two spaces; nothing where both are 0 (RFC 2782).
-pub fn push_shown_order(to: &mut String, priority: u16, weight: u16) -> Result<(), Want>
-    ensures { OnOk result (string_bytes to.new ≡ string_bytes to.old ++ spaced_wide (shown_order priority weight)) }
+pub fn push_shown_priority(to: &mut String, priority: u16, weight: u16) -> Result<(), Want>
+    ensures { OnOk result (string_bytes to.new ≡ string_bytes to.old ++ spaced_wide (shown_priority priority weight)) }
 {
-    push_order(to, GAP, priority, weight)
+    push_priority(to, GAP, priority, weight)
 }
 
-fn push_order(to: &mut String, gap: &str, priority: u16, weight: u16) -> Result<(), Want>
-    ensures { OnOk result (string_bytes to.new ≡ string_bytes to.old ++ spaced_by gap.now (shown_order priority weight)) }
+fn push_priority(to: &mut String, gap: &str, priority: u16, weight: u16) -> Result<(), Want>
+    ensures { OnOk result (string_bytes to.new ≡ string_bytes to.old ++ spaced_by gap.now (shown_priority priority weight)) }
 {
     if priority == 0 && weight == 0 {
         return Ok(());

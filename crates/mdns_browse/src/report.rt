@@ -38,9 +38,9 @@ pub enum Form {
     /// One JSON object a line (RFC 8259), for programs. A record has `owner`, `type`, `data` (the words of its data), `shown`,
     /// `ttl`, `heard` and `until`, a type has `type` and `shown`, an instance `instance`, `shown`, `type`, `goodbye`,
     /// `servers` (each with `target`, `port`, `priority`, `weight` and `addresses`) and `texts` (the words of each), and a host
-    /// `host`, `shown`, `addresses` and `instances` (the names of those on it). `shown` is the name for people, of a record with its data: UTF-8 with no control character. `goodbye` is `true` where the last
-    /// hearing of the record that gives the instance was a goodbye (RFC 6762, section 10.1). `ttl`, `port`, `priority` and
-    /// `weight` are numbers, moments strings of seconds.
+    /// `host`, `shown`, `addresses` and `instances` (the names of those on it). `shown` is the name for people, of a record with
+    /// its data: UTF-8 with no control character. `goodbye` is `true` where the last hearing of the record that gives the instance
+    /// was a goodbye (RFC 6762, section 10.1). `ttl`, `port`, `priority` and `weight` are numbers, moments strings of seconds.
     Json,
     /// Readable columns, for people: how many there are, and a table of records or of lives, a list of types, the
     /// instances below their types, and after these the names under a type that aren't one label and the type, or the hosts,

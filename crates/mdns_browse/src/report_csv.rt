@@ -6,7 +6,7 @@ ghost use Rattle.mdns_message.specs.Borrowed.{resource_lent};
 ghost use Rattle.people_text.specs.Shown.{name_shown};
 ghost use Rattle.mdns_browse.specs.{Csv.{joined}, LifeText.{life_csv}, RecordShown.{shown_words}, RecordText.{spaced}};
 
-use crate::csv::{Field, push_csv_line};
+use crate::csv::{CsvField, push_csv_line};
 use crate::life_text::end_word;
 use crate::record_shown::push_shown_words;
 use mdns_capture::Moment;
@@ -90,14 +90,14 @@ fn push_life(
     push_csv_line(
         text,
         &[
-            Field::Text(texts.owner.as_str()),
-            Field::Text(resource.body.record_type().name()),
-            Field::Text(texts.words.as_str()),
-            Field::Moment(life.from.nanos()),
-            Field::Number(life.last.ttl as u64),
-            Field::Moment(life.last.moment.nanos()),
-            Field::Moment(life.until),
-            Field::Text(end_word(end_of_captures, life)),
+            CsvField::Text(texts.owner.as_str()),
+            CsvField::Text(resource.body.record_type().name()),
+            CsvField::Text(texts.words.as_str()),
+            CsvField::Moment(life.from.nanos()),
+            CsvField::Number(life.last.ttl as u64),
+            CsvField::Moment(life.last.moment.nanos()),
+            CsvField::Moment(life.until),
+            CsvField::Text(end_word(end_of_captures, life)),
         ],
     )
 }

@@ -25,7 +25,7 @@ use std::alloc::Global;
 
 /// Objects, one a line, the last of which may not be ended.
 #[derive(Drop)]
-pub(crate) struct Objects {
+pub(crate) struct ReportText {
     pub(crate) text: String,
     // Room for a word or a text for people before its quotes and backslashes are escaped.
     scratch: String,
@@ -33,12 +33,12 @@ pub(crate) struct Objects {
     pub(crate) first: bool,
 }
 
-impl Objects {
+impl ReportText {
     /// Makes a sheet without objects.
-    pub(crate) fn new(alloc: Global) -> Objects
+    pub(crate) fn new(alloc: Global) -> ReportText
         ensures { string_bytes result.text ≡ [] }
     {
-        Objects {
+        ReportText {
             text: String::new(alloc),
             scratch: String::new(alloc),
             first: true,
@@ -251,7 +251,7 @@ impl Objects {
 }
 
 #[tactic(auto, unfolding(crate::specs::Json::parted))]
-impl WordSink for Objects {
+impl WordSink for ReportText {
     ghost use Rattle.mdns_browse.specs.Json.{first_after};
     ghost use Rattle.mdns_browse.specs.JsonPieces.{Grows, strings_json};
     ghost use Rattle.mdns_browse.specs.laws.JsonPieces.{strings-laws};
@@ -266,7 +266,7 @@ impl WordSink for Objects {
     ghost word_laws = { strings-laws };
 }
 
-impl Sheet for Objects {
+impl Sheet for ReportText {
     ghost use Rattle.mdns_browse.specs.JsonPieces.{Grows, pieces_json, pieces_next};
     ghost use Rattle.mdns_browse.specs.laws.JsonPieces.{pieces-laws};
 
@@ -331,7 +331,7 @@ pub fn push_resource_members(
     ensures { OnOk result (string_bytes to.new
         ≡ string_bytes to.old ++ parted false (resource_members (resource_lent resource.now))) }
 {
-    let mut members = Objects::new(alloc);
+    let mut members = ReportText::new(alloc);
     members.members(false, resource)?;
     Ok(to.push_str(members.text.as_str())?)
 }

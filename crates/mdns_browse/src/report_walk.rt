@@ -1,7 +1,7 @@
 //! The walk over service instances, which hands what it finds to a sheet.
 
 ghost use Rattle.std.specs.{Prelude.{map, OnOk}, List.{filter_map, flat_map}};
-ghost use Rattle.mdns_message.specs.Parts.{service_lent};
+ghost use Rattle.mdns_message.specs.Parts.{srv_lent};
 ghost use Rattle.mdns_cache.specs.LentRecords.{last_lent};
 ghost use Rattle.mdns_browse.specs.{Given.{given_lent}, Services.{AreAscending, body_of, instance_in, instance_row_in, server_at, servers_in}};
 ghost use Rattle.mdns_browse.specs.{Services.{texts_in}, Sheet.{instance_pieces, instance_text, server_address, server_pieces, servers_pieces}};
@@ -9,7 +9,7 @@ ghost use Rattle.mdns_browse.specs.{Services.{texts_in}, Sheet.{instance_pieces,
 use crate::lookup::of_set;
 use crate::sheet::{InstancePointer, Sheet};
 use mdns_cache::Last;
-use mdns_message::{Name, RecordType, Service, Want};
+use mdns_message::{Name, RecordType, SrvData, Want};
 
 /// Hands over to a sheet the instance of each of the records that give one, in order. The servers and texts are looked up in
 /// `rows`, last hearings of records, each record once, in key order.
@@ -24,7 +24,7 @@ pub fn walk_given<S: Sheet>(
 {
     for row in given {
         // Each has the name of an instance: only PTR records give one.
-        let Some(name) = row.row.last.resource.body.pointer() else {
+        let Some(name) = row.row.last.resource.body.ptr_target() else {
             continue;
         };
         walk_instance(sheet, rows, row, name)?;
@@ -59,7 +59,7 @@ fn walk_servers<S: Sheet>(sheet: &mut S, rows: &[Last<'_>], name: &Name) -> Resu
     let servers = of_set(rows, name, RecordType::Srv);
     for row in servers {
         // Every row is an SRV record: no other data has this type number.
-        let Some(service) = row.resource.body.service() else {
+        let Some(service) = row.resource.body.srv() else {
             continue;
         };
         walk_server(sheet, rows, service)?;
@@ -71,10 +71,10 @@ fn walk_servers<S: Sheet>(sheet: &mut S, rows: &[Last<'_>], name: &Name) -> Resu
 fn walk_server<S: Sheet>(
     sheet: &mut S,
     rows: &[Last<'_>],
-    service: Service<&Name>,
+    service: SrvData<&Name>,
 ) -> Result<(), Want>
     ensures { OnOk result (AreAscending (map last_lent rows.now)
-        → S.takes sheet.old (server_pieces (server_at (map last_lent rows.now) (service_lent service.entry))) sheet.new) }
+        → S.takes sheet.old (server_pieces (server_at (map last_lent rows.now) (srv_lent service.entry))) sheet.new) }
 {
     sheet.server_begin(
         service.priority,

@@ -3,26 +3,26 @@
 ghost use Rattle.std.specs.Prelude.{◌≡◌, ◌++◌, ◌∷◌, [], if◌then◌else◌, nat_lt, codes, length, map, true, false, IfOk, OnOk};
 ghost use Rattle.std.specs.{Prelude.{decimal}, List.{flat_map}, String.{string_bytes}};
 ghost use Rattle.dns_name.specs.Name.{name_text};
-ghost use Rattle.mdns_message.specs.Parts.{service_lent};
+ghost use Rattle.mdns_message.specs.Parts.{srv_lent};
 ghost use Rattle.mdns_browse.specs.{Columns.{widest}, Json.{json_array, json_member, parted, text_member}, LifeText.{end_shown, nanos_if_some}};
-ghost use Rattle.mdns_browse.specs.RecordShown.{shown_instance, shown_order, spaced_by, spaced_wide};
+ghost use Rattle.mdns_browse.specs.RecordShown.{shown_instance, shown_priority, spaced_by, spaced_wide};
 ghost use Rattle.mdns_browse.specs.ServiceLifeText.{ServiceLife as Shown, csv_life, server_object, server_words, service_csv, service_json};
 ghost use Rattle.mdns_browse.specs.ServiceLifeText.{service_life_lent, service_line, service_lives_text, service_row, service_text};
 ghost use Rattle.mdns_browse.specs.ServiceLifeText.{servers_shown, services_called, services_head};
 
 use crate::columns::{wider, word_for};
-use crate::csv::{Field, push_csv_line};
+use crate::csv::{CsvField, push_csv_line};
 use crate::life_columns::{push_heading, push_until};
 use crate::life_end::{end_len, push_padded_end};
 use crate::life_text::{Layout, end_word};
-use crate::record_shown::{GAP, push_shown_instance, push_shown_order, push_shown_target};
+use crate::record_shown::{GAP, push_shown_instance, push_shown_priority, push_shown_target};
 use crate::report::Form;
 use crate::report_csv::drop_first_space;
-use crate::report_json::Objects;
+use crate::report_json::ReportText;
 use crate::report_lines::push_life;
 use mdns_capture::Moment;
 use mdns_lives::{Life, Window};
-use mdns_message::{Name, Service, Want};
+use mdns_message::{Name, SrvData, Want};
 use people_text::moment_text::push_millis;
 use people_text::shown_names::push_shown_name;
 use std::alloc::Global;
@@ -37,7 +37,7 @@ pub struct ServiceLife<'a> {
     /// The life of the record that gives it.
     pub life: Life,
     /// Its servers in that life.
-    pub servers: Vec<Service<&'a Name>>,
+    pub servers: Vec<SrvData<&'a Name>>,
 }
 
 /// Returns the lives in a form. In `Form::Pretty` a heading comes first, with the bounds of the window, or else the earliest moment
@@ -57,7 +57,7 @@ pub fn service_lives_text(
         count: services.len(),
         width: wider(3, ends_width(end_of_captures, services)),
     };
-    let mut to = Objects::new(alloc);
+    let mut to = ReportText::new(alloc);
     push_head(&mut to.text, form, window, layout, begin, end_of_captures)?;
     push_services(&mut to, form, layout.width, end_of_captures, services)?;
     Ok(to.text)
@@ -108,7 +108,7 @@ fn services_called(count: usize) -> &'static str
 }
 
 fn push_services(
-    to: &mut Objects,
+    to: &mut ReportText,
     form: Form,
     width: usize,
     end_of_captures: Moment,
@@ -124,7 +124,7 @@ fn push_services(
 }
 
 fn push_service(
-    to: &mut Objects,
+    to: &mut ReportText,
     form: Form,
     width: usize,
     end_of_captures: Moment,
@@ -156,9 +156,9 @@ fn push_line(
     Ok(to.push('\n')?)
 }
 
-fn push_servers(to: &mut String, servers: &[Service<&Name>]) -> Result<(), Want>
+fn push_servers(to: &mut String, servers: &[SrvData<&Name>]) -> Result<(), Want>
     ensures { OnOk result (string_bytes to.new ≡ string_bytes to.old
-        ++ flat_map (λ server. codes " server " ++ name_text server.target ++ 32 ∷ decimal server.port) (map service_lent servers.now)) }
+        ++ flat_map (λ server. codes " server " ++ name_text server.target ++ 32 ∷ decimal server.port) (map srv_lent servers.now)) }
 {
     for server in servers {
         push_server(to, server)?;
@@ -166,9 +166,9 @@ fn push_servers(to: &mut String, servers: &[Service<&Name>]) -> Result<(), Want>
     Ok(())
 }
 
-fn push_server(to: &mut String, server: &Service<&Name>) -> Result<(), Want>
+fn push_server(to: &mut String, server: &SrvData<&Name>) -> Result<(), Want>
     ensures { OnOk result (string_bytes to.new ≡ string_bytes to.old
-        ++ (codes " server " ++ name_text (service_lent server.now).target ++ 32 ∷ decimal (service_lent server.now).port)) }
+        ++ (codes " server " ++ name_text (srv_lent server.now).target ++ 32 ∷ decimal (srv_lent server.now).port)) }
 {
     to.push_str(" server ")?;
     server.target.push_text(to)?;
@@ -178,7 +178,7 @@ fn push_server(to: &mut String, server: &Service<&Name>) -> Result<(), Want>
 
 #[tactic(auto, using(crate::proofs::ServiceLifeLemmas::object_by_parts), unfolding(crate::specs::ServiceLifeText::service_json))]
 fn push_object(
-    to: &mut Objects,
+    to: &mut ReportText,
     end_of_captures: Moment,
     service: &ServiceLife<'_>,
 ) -> Result<(), Want>
@@ -193,7 +193,7 @@ fn push_object(
 
 // Begins an object with the members before the servers.
 #[tactic(auto, unfolding(crate::specs::Json::parted))]
-fn push_names(to: &mut Objects, kind: &Name, name: &Name) -> Result<(), Want>
+fn push_names(to: &mut ReportText, kind: &Name, name: &Name) -> Result<(), Want>
     ensures { OnOk result (string_bytes to.new.text ≡ string_bytes to.old.text
         ++ 123 ∷ parted true (text_member (codes "instance") (name_text name.now)
         ∷ text_member (codes "shown") (shown_instance name.now) ∷ text_member (codes "type") (name_text kind.now) ∷ [])) }
@@ -206,9 +206,9 @@ fn push_names(to: &mut Objects, kind: &Name, name: &Name) -> Result<(), Want>
 
 // Appends the member with the servers.
 #[tactic(auto, unfolding(crate::specs::Json::parted))]
-fn push_server_objects(to: &mut Objects, servers: &[Service<&Name>]) -> Result<(), Want>
+fn push_server_objects(to: &mut ReportText, servers: &[SrvData<&Name>]) -> Result<(), Want>
     ensures { OnOk result (string_bytes to.new.text ≡ string_bytes to.old.text
-        ++ 44 ∷ json_member (codes "servers") (json_array (map server_object (map service_lent servers.now)))) }
+        ++ 44 ∷ json_member (codes "servers") (json_array (map server_object (map srv_lent servers.now)))) }
 {
     to.array_begin("servers")?;
     push_objects(to, servers)?;
@@ -216,9 +216,9 @@ fn push_server_objects(to: &mut Objects, servers: &[Service<&Name>]) -> Result<(
 }
 
 #[tactic(auto, unfolding(crate::specs::Json::parted))]
-fn push_objects(to: &mut Objects, servers: &[Service<&Name>]) -> Result<(), Want>
+fn push_objects(to: &mut ReportText, servers: &[SrvData<&Name>]) -> Result<(), Want>
     ensures { OnOk result (string_bytes to.new.text
-        ≡ string_bytes to.old.text ++ parted to.old.first (map server_object (map service_lent servers.now))) }
+        ≡ string_bytes to.old.text ++ parted to.old.first (map server_object (map srv_lent servers.now))) }
 {
     for server in servers {
         to.comma()?;
@@ -264,22 +264,22 @@ fn push_csv_life<'a>(
     push_csv_line(
         to,
         &[
-            Field::Text(name),
-            Field::Text(kind),
-            Field::Text(servers),
-            Field::Moment(life.from.nanos()),
-            Field::Number(life.last.ttl as u64),
-            Field::Moment(life.last.moment.nanos()),
-            Field::Moment(life.until),
-            Field::Text(end_word(end_of_captures, life)),
+            CsvField::Text(name),
+            CsvField::Text(kind),
+            CsvField::Text(servers),
+            CsvField::Moment(life.from.nanos()),
+            CsvField::Number(life.last.ttl as u64),
+            CsvField::Moment(life.last.moment.nanos()),
+            CsvField::Moment(life.until),
+            CsvField::Text(end_word(end_of_captures, life)),
         ],
     )
 }
 
 // Appends target and port of each server, after a space.
-fn push_targets(to: &mut String, servers: &[Service<&Name>]) -> Result<(), Want>
+fn push_targets(to: &mut String, servers: &[SrvData<&Name>]) -> Result<(), Want>
     ensures { OnOk result (string_bytes to.new
-        ≡ string_bytes to.old ++ spaced_by (32 ∷ []) (map server_words (map service_lent servers.now))) }
+        ≡ string_bytes to.old ++ spaced_by (32 ∷ []) (map server_words (map srv_lent servers.now))) }
 {
     for server in servers {
         push_shown_target(to, " ", &server.target.borrowed(), server.port)?;
@@ -308,8 +308,8 @@ fn push_row(
     Ok(to.push('\n')?)
 }
 
-fn push_shown_servers(to: &mut String, servers: &[Service<&Name>]) -> Result<(), Want>
-    ensures { OnOk result (string_bytes to.new ≡ string_bytes to.old ++ servers_shown (map service_lent servers.now)) }
+fn push_shown_servers(to: &mut String, servers: &[SrvData<&Name>]) -> Result<(), Want>
+    ensures { OnOk result (string_bytes to.new ≡ string_bytes to.old ++ servers_shown (map srv_lent servers.now)) }
 {
     if servers.is_empty() {
         return Ok(to.push_str("  unresolved")?);
@@ -320,10 +320,10 @@ fn push_shown_servers(to: &mut String, servers: &[Service<&Name>]) -> Result<(),
     Ok(())
 }
 
-fn push_shown_server(to: &mut String, server: &Service<&Name>) -> Result<(), Want>
+fn push_shown_server(to: &mut String, server: &SrvData<&Name>) -> Result<(), Want>
     ensures { OnOk result (string_bytes to.new ≡ string_bytes to.old ++ spaced_wide
-        (server_words (service_lent server.now) ∷ shown_order server.now.priority server.now.weight)) }
+        (server_words (srv_lent server.now) ∷ shown_priority server.now.priority server.now.weight)) }
 {
     push_shown_target(to, GAP, &server.target.borrowed(), server.port)?;
-    push_shown_order(to, server.priority, server.weight)
+    push_shown_priority(to, server.priority, server.weight)
 }

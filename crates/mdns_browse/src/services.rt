@@ -7,8 +7,8 @@ ghost use Rattle.mdns_browse.specs.{Given.{given_lent}, Services.{AreAscending, 
 ghost use Rattle.mdns_browse.specs.Services.{data_of_set, instance_given, instance_in, instance_row_in, is_instance_of, lasts_in};
 ghost use Rattle.mdns_browse.specs.Services.{is_service_name, other_given, same_text, servers_in, texts_in, type_given, types_in};
 
-use crate::given_rows::gather;
 use crate::instance::{Addresses, InOrder, Instance, Server, Servers, Texts};
+use crate::instance_pointers::collect_pointers;
 use crate::lookup::{of_set, same_text};
 use crate::sheet::InstancePointer;
 use dns_name::name::split_label;
@@ -57,7 +57,7 @@ fn is_instance_of(service: &[u8], name: &Name) -> bool
 pub(crate) fn type_of<'a>(row: &Last<'a>) -> Option<&'a Name>
     ensures { option_map (λ name. name.now) result ≡ type_given (last_lent row.now) }
 {
-    let Some(name) = row.resource.body.pointer() else {
+    let Some(name) = row.resource.body.ptr_target() else {
         return None;
     };
     if is_types_owner(&row.resource.owner) && is_service_name(name) {
@@ -71,7 +71,7 @@ pub(crate) fn type_of<'a>(row: &Last<'a>) -> Option<&'a Name>
 pub fn instance_of<'a>(row: &Last<'a>) -> Option<&'a Name>
     ensures given { option_map (λ name. name.now) result ≡ instance_given (last_lent row.now) }
 {
-    let Some(name) = row.resource.body.pointer() else {
+    let Some(name) = row.resource.body.ptr_target() else {
         return None;
     };
     let owner = &row.resource.owner;
@@ -86,7 +86,7 @@ pub fn instance_of<'a>(row: &Last<'a>) -> Option<&'a Name>
 pub fn other_of<'a>(row: &Last<'a>) -> Option<&'a Name>
     ensures given { option_map (λ name. name.now) result ≡ other_given (last_lent row.now) }
 {
-    let Some(name) = row.resource.body.pointer() else {
+    let Some(name) = row.resource.body.ptr_target() else {
         return None;
     };
     let owner = &row.resource.owner;
@@ -125,7 +125,7 @@ fn servers(alloc: Global, rows: &[Last<'_>], name: &Name) -> Result<Servers, Wan
     let mut servers = Vec::new(alloc);
     for row in of_set(rows, name, RecordType::Srv) {
         // Every row is an SRV record: no other data has this type number.
-        let Some(service) = row.resource.body.service() else {
+        let Some(service) = row.resource.body.srv() else {
             continue;
         };
         servers.push(Server {
@@ -199,7 +199,7 @@ pub fn instances(alloc: Global, cache: &Cache, now: Moment) -> Result<Vec<Instan
     ensures { IfOk result (λ instances. (heard : List Hearing) → StandsFor cache.now heard
         → AreInstances heard now.nanos instances.items) }
 {
-    let gathered = gather(alloc, cache.walk_live(now))?;
+    let gathered = collect_pointers(alloc, cache.walk_live(now))?;
     instances_of(alloc, gathered.rows.as_slice(), gathered.given.as_slice())
 }
 
@@ -215,7 +215,7 @@ fn instances_of(
     let mut instances = Vec::new(alloc);
     for row in given {
         // Each has the name of an instance: only PTR records give one.
-        let Some(name) = row.row.last.resource.body.pointer() else {
+        let Some(name) = row.row.last.resource.body.ptr_target() else {
             continue;
         };
         instances.push(instance(alloc, rows, name)?)?;

@@ -10,9 +10,9 @@ ghost use Rattle.mdns_browse.specs.{Report.{IsReportIn, types_about}, declared.r
 
 use crate::about::{Subject, keeps_type};
 use crate::columns::{Listing, begin};
-use crate::csv::{Field, push_csv_line};
+use crate::csv::{CsvField, push_csv_line};
 use crate::report::Form;
-use crate::report_json::Objects;
+use crate::report_json::ReportText;
 use crate::services::type_of;
 use mdns_cache::{Cache, LiveWalk};
 use mdns_capture::Moment;
@@ -101,7 +101,7 @@ fn push_line_unless_none(to: &mut String, count: usize) -> Result<(), Want>
     Ok(to.push('\n')?)
 }
 
-fn push_types(to: &mut Objects, form: Form, names: &[&Name]) -> Result<(), Want>
+fn push_types(to: &mut ReportText, form: Form, names: &[&Name]) -> Result<(), Want>
     ensures { OnOk result (string_bytes to.new.text
         ≡ string_bytes to.old.text ++ flat_map (type_text form) (map (λ name. name.now) names.now)) }
 {
@@ -111,7 +111,7 @@ fn push_types(to: &mut Objects, form: Form, names: &[&Name]) -> Result<(), Want>
     Ok(())
 }
 
-fn push_type(to: &mut Objects, form: Form, name: &Name) -> Result<(), Want>
+fn push_type(to: &mut ReportText, form: Form, name: &Name) -> Result<(), Want>
     ensures { OnOk result (string_bytes to.new.text ≡ string_bytes to.old.text ++ type_text form name.now) }
 {
     match form {
@@ -145,5 +145,5 @@ fn push_csv_type(to: &mut String, name: &Name) -> Result<(), Want>
 {
     let mut shown = String::new(*to.allocator());
     push_shown_name(&mut shown, &name.borrowed())?;
-    push_csv_line(to, &[Field::Text(shown.as_str())])
+    push_csv_line(to, &[CsvField::Text(shown.as_str())])
 }

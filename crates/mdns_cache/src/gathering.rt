@@ -11,7 +11,7 @@ ghost use Rattle.mdns_cache.specs.Repeats.{at_each, contents_at_each};
 use crate::cache::{Cache, map_laws, newer};
 use crate::guesses::Guesses;
 use mdns_capture::Moment;
-use mdns_join::{JoinMap, LateMoments, Latest, Moments, Repeated, Semilattice, Unsorted};
+use mdns_join::{JoinMap, LateMoments, Latest, Moments, RepeatedHearing, Semilattice, Unsorted};
 use mdns_message::{BorrowedHearing, Key, SetKey, Want};
 use std::alloc::Global;
 use std::marker::Model;
@@ -196,7 +196,7 @@ impl Gathering {
             return Ok(0);
         }
         let near = self.guesses.set();
-        let repeated = Repeated { hearing, moments };
+        let repeated = RepeatedHearing { hearing, moments };
         let found = self.flushes.join_near(alloc, near, hash, &repeated);
         self.guesses.found_set(&found);
         found

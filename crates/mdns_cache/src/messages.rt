@@ -8,7 +8,7 @@ ghost use Rattle.mdns_join.specs.Kept.{kept_union};
 ghost use Rattle.mdns_cache.specs.Repeats.{remembered, ComesAgain, ReadsAs};
 
 use crate::message_hash::message_hash;
-use crate::once::Once;
+use crate::once::OnceHeard;
 use join_map::index::{Index, REACH, Slot};
 use mdns_capture::Moment;
 use mdns_join::{Join, LateMoments, Moments};
@@ -101,7 +101,7 @@ pub struct RememberedMessages {
     places: Index,
 
     // The messages that came once.
-    once: Once,
+    once: OnceHeard,
 
     // The hash of the message that was looked for last.
     hash: Option<u64>,
@@ -132,7 +132,7 @@ impl RememberedMessages {
         RememberedMessages {
             messages: Vec::new(alloc),
             places: Index::new(alloc),
-            once: Once::new(alloc),
+            once: OnceHeard::new(alloc),
             hash: None,
             missed: 0,
             size: 0,

@@ -7,7 +7,7 @@ const SLOTS: usize = 65_536;
 
 /// The hashes of messages that came once. A hash may be replaced by another one, so only speed depends on what it says.
 #[derive(Drop)]
-pub(crate) struct Once {
+pub(crate) struct OnceHeard {
     // Sixteen bits of a hash, in the slot that other bits of it give; 0 is free. No slots before the first hash.
     slots: Vec<u16>,
 
@@ -15,10 +15,10 @@ pub(crate) struct Once {
     takes: bool,
 }
 
-impl Once {
+impl OnceHeard {
     /// Makes a table of no hashes. It allocates nothing yet.
-    pub(crate) fn new(alloc: Global) -> Once {
-        Once {
+    pub(crate) fn new(alloc: Global) -> OnceHeard {
+        OnceHeard {
             slots: Vec::new(alloc),
             takes: false,
         }

@@ -8,7 +8,7 @@ use Rattle.std.specs.Option.{option_map}
 use Rattle.std.proofs.lemmas.Bool.{eqb-true, le-leb, eq-eqb}
 use Rattle.std.proofs.lemmas.List.{length-drop, length-take-le, length-append, take_at, drop_at, take-append-drop, drop-drop}
 use Rattle.mdns_capture.specs.{declared.cause.Cause.{Cause}, declared.frame.Skip.{Skip}, Savefile.{number_at}}
-use Rattle.mdns_capture.specs.declared.savefile.Order.TheVariants.{Big}
+use Rattle.mdns_capture.specs.declared.savefile.Endianness.TheVariants.{Big}
 use Rattle.mdns_capture.specs.Frame.{word_at, ipv4_size, ipv4_data, ipv4_checks, ipv6_data, ipv6_checks, ip_data, ip_checks, udp_checks}
 use Rattle.mdns_capture.specs.Frame.{udp_payload, first_failing, cause_of, skip_of, skip_of_cause, other_type_cause, IsIpv4Header}
 use Rattle.mdns_capture.specs.Frame.{IsIpv6Header, IsUdpDatagram, CarriesAfter, FrameCarries, in_ipv4, in_ipv6}

@@ -2,7 +2,8 @@
 use Rattle.std.proofs.Common.{◌≡◌, ◌≤◌, ◌<◌, ℕ, ◌+◌, List, ◌++◌, length, drop, slice_index, ap, arith}
 use Rattle.std.proofs.{Math.Seq.{drop-append-add}, lemmas.List.{drop-append-le, get_or-append-add, get_or_append_left, length-drop}}
 use Rattle.byteorder.specs.{Endian.{big_number}, Numbers.{big_from-append, little_from-append}}
-use Rattle.mdns_capture.specs.{declared.savefile.Order.{Order}, declared.savefile.Order.TheVariants.{Little, Big}, Savefile.{number_at}}
+use Rattle.mdns_capture.specs.{declared.savefile.Endianness.{Endianness}, declared.savefile.Endianness.TheVariants.{Little, Big}}
+use Rattle.mdns_capture.specs.Savefile.{number_at}
 
 pub drop_past : (front rest : List ℕ) (p q : ℕ) → q ≡ length front + p → drop q (front ++ rest) ≡ drop p rest
 drop_past front rest p q e = rw e (drop-append-add front rest p)
@@ -13,7 +14,7 @@ pub number-past : (size : ℕ) (front rest : List ℕ) (p q : ℕ) → q ≡ len
 unfolding number_at
 number-past size front rest p q e = ap (λ bytes. big_number size bytes) (drop_past front rest p q e)
 
-pub number-within : (order : Order) (size offset : ℕ) (front rest : List ℕ) → offset + size ≤ length front
+pub number-within : (order : Endianness) (size offset : ℕ) (front rest : List ℕ) → offset + size ≤ length front
     → number_at order size offset (front ++ rest) ≡ number_at order size offset front
 unfolding number_at
 number-within Little size offset front rest fits =

@@ -2,7 +2,7 @@
 use Rattle.std.proofs.Common.{arith, ◌≡◌, ◌≤◌, ℕ, ◌+◌, ◌/◌, List, length, slice_index, None}
 use Rattle.std.specs.Prelude.{bit_and}
 use Rattle.std.proofs.lemmas.Bool.{leb-true, eqb-true, le-leb, eq-eqb}
-use Rattle.mdns_capture.specs.{Savefile.{number_at}, declared.savefile.Order.TheVariants.{Big}}
+use Rattle.mdns_capture.specs.{Savefile.{number_at}, declared.savefile.Endianness.TheVariants.{Big}}
 use Rattle.mdns_capture.specs.Frame.{word_at, ipv4_group, ipv6_group, ipv4_size, ipv4_checks, ipv6_checks, ipv4_size_checks}
 use Rattle.mdns_capture.specs.Frame.{ipv4_kind_checks, ipv6_size_checks, ipv6_kind_checks, udp_checks, first_failing}
 use Rattle.mdns_capture.proofs.FrameCheckLemmas.{passed, pass}

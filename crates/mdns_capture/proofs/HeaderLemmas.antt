@@ -4,7 +4,7 @@ use Rattle.std.proofs.Common.{Option, Some, None, IfSome, Result, Ok, Err, IfErr
 use Rattle.std.proofs.{Common.{length-append, le-ltb, lt-ltb}, KnownBytes.{Consumes-trans}, lemmas.Bool.{cases_lt, ltb-true, ltb-false}}
 use Rattle.std.proofs.lemmas.{List.{append-nil, length-take, length-take-le, take-append-le, take_all}, Bool.Decides.{nat_tests}}
 use Rattle.std.specs.{Option.{option_or}, Io.KnownBytes.{Consumes, IsAtEnd}}
-use Rattle.mdns_capture.specs.declared.savefile.{Order.TheVariants.{Big}, Format.{Format}, FileHeader.{FileHeader}, Ending.{Ending}}
+use Rattle.mdns_capture.specs.declared.savefile.{Endianness.TheVariants.{Big}, Format.{Format}, FileHeader.{FileHeader}, Ending.{Ending}}
 use Rattle.mdns_capture.specs.declared.savefile.{Ending.TheVariants.{Cut}, BeginFault.{BeginFault}, BeginFault.TheVariants.{Memory, Read}}
 use Rattle.mdns_capture.specs.declared.savefile.{BeginFault.TheVariants.{ShortHeader, Magic, Version, Link}, PacketHeader.{PacketHeader}}
 use Rattle.mdns_capture.specs.declared.savefile.{PacketOrEnd.{PacketOrEnd}, PacketOrEnd.TheVariants.{Packet, End}}

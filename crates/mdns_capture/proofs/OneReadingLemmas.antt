@@ -6,7 +6,8 @@ use Rattle.std.specs.Option.{option_or}
 use Rattle.std.proofs.lemmas.{List.{drop_at, take_at, get_or-drop, length-take-le, length-drop, take-append-drop}, Bool.{ltb-false}}
 use Rattle.std.proofs.{lemmas.Bool.Decides.{nat_tests}, Math.Bridge.{le_prop}}
 use Rattle.byteorder.specs.Numbers.{big_from-lt, little_from-lt}
-use Rattle.mdns_capture.specs.declared.{moment.Moment.{Moment}, savefile.Order.{Order}, savefile.Order.TheVariants.{Little, Big}}
+use Rattle.mdns_capture.specs.declared.{moment.Moment.{Moment}, savefile.Endianness.{Endianness}}
+use Rattle.mdns_capture.specs.declared.savefile.Endianness.TheVariants.{Little, Big}
 use Rattle.mdns_capture.specs.declared.savefile.{Format.{Format}, Ending.{Ending}}
 use Rattle.mdns_capture.specs.Savefile.{PacketAt, number_at, seconds_of, fraction_of, captured_of, scale_of, format_of, format_fault}
 use Rattle.mdns_capture.specs.Savefile.{header_fault, stop_of, ending_of, IsFileHeader, BeginsWith, PacketsRead, CaptureReads}
@@ -107,7 +108,7 @@ option_or_none (Some x) y e = cc
 byte_in : (offset : ℕ) (bytes : List ℕ) → IsBytes bytes → IsBytes (drop offset bytes)
 byte_in offset bytes fits = λ k. rw (get_or-drop offset bytes k 0) (fits (offset + k))
 
-word-lt : (order : Order) (offset : ℕ) (bytes : List ℕ) → IsBytes bytes → number_at order 4 offset bytes < 4294967296
+word-lt : (order : Endianness) (offset : ℕ) (bytes : List ℕ) → IsBytes bytes → number_at order 4 offset bytes < 4294967296
 unfolding number_at
 word-lt Little offset bytes fits = little_from-lt 0 4 (drop offset bytes) (byte_in offset bytes fits)
 word-lt Big offset bytes fits = big_from-lt 0 4 (drop offset bytes) (byte_in offset bytes fits)

@@ -31,7 +31,7 @@ use Rattle.std.specs.Prelude.{
   bit_and,
 }
 use Rattle.std.specs.Option.{option_map}
-use Rattle.mdns_capture.specs.{Savefile.{number_at}, declared.savefile.Order.TheVariants.{Big}, declared.cause.Cause.{Cause}}
+use Rattle.mdns_capture.specs.{Savefile.{number_at}, declared.savefile.Endianness.TheVariants.{Big}, declared.cause.Cause.{Cause}}
 use Rattle.mdns_capture.specs.declared.cause.Cause.TheVariants.{
   EthernetCut,
   VlanTag,

@@ -3,7 +3,8 @@ use Rattle.std.specs.Prelude.{◌≡◌, ℕ, ◌+◌, ◌*◌, ◌%◌, ◌<◌
 use Rattle.std.specs.{Prelude.{if◌then◌else◌, List, [], ◌∷◌, ◌++◌, length, drop, Option, Some, None}, Option.{option_or}}
 use Rattle.byteorder.specs.Endian.{big_number, little_number}
 use Rattle.mdns_capture.specs.Limits.{file_header_size, packet_header_size, longest_packet, most_packets, second}
-use Rattle.mdns_capture.specs.declared.{moment.Moment.{Moment}, savefile.Order.{Order}, savefile.Order.TheVariants.{Little, Big}}
+use Rattle.mdns_capture.specs.declared.{moment.Moment.{Moment}, savefile.Endianness.{Endianness}}
+use Rattle.mdns_capture.specs.declared.savefile.Endianness.TheVariants.{Little, Big}
 use Rattle.mdns_capture.specs.declared.savefile.{Precision.{Precision}, Precision.TheVariants.{Microseconds, Nanoseconds}, Format.{Format}}
 use Rattle.mdns_capture.specs.declared.savefile.{Ending.{Ending}, Ending.TheVariants.{Whole, Cut, Fraction, Long, Many}}
 use Rattle.mdns_capture.specs.declared.savefile.{BeginFault.{BeginFault}, BeginFault.TheVariants.{ShortHeader, Magic, Version, Link}}
@@ -15,7 +16,7 @@ pub record PacketAt : Type 0 where
   pub frame : List ℕ
 
 -- the number in so many bytes at an offset, in this order of the bytes
-unfoldable pub number_at : Order → ℕ → ℕ → List ℕ → ℕ
+unfoldable pub number_at : Endianness → ℕ → ℕ → List ℕ → ℕ
 number_at Little size offset bytes = little_number size (drop offset bytes)
 number_at Big size offset bytes = big_number size (drop offset bytes)
 

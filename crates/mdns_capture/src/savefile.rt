@@ -8,9 +8,9 @@ ghost use Rattle.mdns_capture.specs.Savefile.{number_at, scale_of, format_of, fo
 ghost use Rattle.mdns_capture.specs.{Savefile.{snap_length_of, IsFileHeader, IsPacketHeader}, Text.{ending_text}};
 ghost use Rattle.mdns_capture.specs.Capture.{IsPacketOrEnd, HasFault, IsDamagedStep, IsHeaderFault, IsOver, packet_by};
 
+use crate::all_bytes::read_full;
 use crate::moment::Moment;
 use crate::stream::{Broken, Source};
-use crate::whole::fill;
 use byteorder::{BigEndian, ByteOrder, LittleEndian};
 use std::fmt;
 use thiserror::Error;
@@ -88,7 +88,7 @@ impl fmt::Display for Ending {
 
 /// The byte order of numbers.
 #[derive(Clone, Copy, Debug, PartialEq, Eq)]
-pub enum Order {
+pub enum Endianness {
     Little,
     Big,
 }
@@ -103,7 +103,7 @@ pub enum Precision {
 /// How a capture writes numbers, which its magic says.
 #[derive(Clone, Copy, Debug, PartialEq, Eq)]
 pub struct Format {
-    pub order: Order,
+    pub order: Endianness,
     pub precision: Precision,
 }
 
@@ -121,17 +121,17 @@ impl Format {
         ensures { result ≡ format_of magic }
     {
         let (order, precision) = match magic {
-            0xd4c3_b2a1 => (Order::Little, Precision::Microseconds),
-            0xa1b2_c3d4 => (Order::Big, Precision::Microseconds),
-            0x4d3c_b2a1 => (Order::Little, Precision::Nanoseconds),
-            0xa1b2_3c4d => (Order::Big, Precision::Nanoseconds),
+            0xd4c3_b2a1 => (Endianness::Little, Precision::Microseconds),
+            0xa1b2_c3d4 => (Endianness::Big, Precision::Microseconds),
+            0x4d3c_b2a1 => (Endianness::Little, Precision::Nanoseconds),
+            0xa1b2_3c4d => (Endianness::Big, Precision::Nanoseconds),
             _ => return None,
         };
         Some(Format { order, precision })
     }
 }
 
-impl Order {
+impl Endianness {
     // Reads two bytes at an offset as a number.
     #[tactic(auto, unfolding(crate::specs::Savefile::number_at))]
     fn half(self, bytes: &[u8], offset: usize) -> u16
@@ -140,8 +140,8 @@ impl Order {
     {
         let from = &bytes[offset..];
         match self {
-            Order::Little => LittleEndian::read_u16(from),
-            Order::Big => BigEndian::read_u16(from),
+            Endianness::Little => LittleEndian::read_u16(from),
+            Endianness::Big => BigEndian::read_u16(from),
         }
     }
 
@@ -153,8 +153,8 @@ impl Order {
     {
         let from = &bytes[offset..];
         match self {
-            Order::Little => LittleEndian::read_u32(from),
-            Order::Big => BigEndian::read_u32(from),
+            Endianness::Little => LittleEndian::read_u32(from),
+            Endianness::Big => BigEndian::read_u32(from),
         }
     }
 }
@@ -165,10 +165,10 @@ fn header_in(header: &[u8]) -> Result<FileHeader, BeginFault>
     ensures ok { IfOk result (λ head. IsFileHeader head.format header.now
         × (head.snap_length ≡ snap_length_of head.format header.now)) }
     ensures fault { IfErr result (λ fault.
-        format_fault header.now (format_of (number_at Order.Big 4 0 header.now)) ≡ Some fault) }
+        format_fault header.now (format_of (number_at Endianness.Big 4 0 header.now)) ≡ Some fault) }
     ensures kind { IfErr result IsHeaderFault }
 {
-    let Some(format) = Format::from_magic(Order::Big.word(header, 0)) else {
+    let Some(format) = Format::from_magic(Endianness::Big.word(header, 0)) else {
         return Err(BeginFault::Magic);
     };
     let order = format.order;
@@ -215,7 +215,7 @@ pub(crate) fn read_file_header<R: Source>(reader: &mut R) -> Result<FileHeader, 
         → OneMoreFailed (R.failures reader.old) (R.failures reader.new) }
 {
     let mut header = [0; FILE_HEADER];
-    match fill(reader, &mut header) {
+    match read_full(reader, &mut header) {
         Ok(count) => header_by(&header[..count]),
         Err(Broken) => Err(BeginFault::Read),
     }
@@ -314,11 +314,11 @@ pub(crate) fn read_packet<R: Source>(
     ensures well { ReadsWell R.Source reader.old reader.new (is_ok result) }
 {
     let mut header = [0; PACKET_HEADER];
-    let count = fill(reader, &mut header)?;
+    let count = read_full(reader, &mut header)?;
     let head = match head_by(format, offset, &header[..count]) {
         Ok(head) => head,
         Err(ending) => return Ok(PacketOrEnd::End(ending)),
     };
-    let count = fill(reader, &mut buffer[..head.captured as usize])?;
+    let count = read_full(reader, &mut buffer[..head.captured as usize])?;
     Ok(packet_by(head, offset, count))
 }

@@ -6,7 +6,7 @@ ghost use Rattle.mdns_join.specs.{Kept.{has, kept_union, IsGreatest, IsKeptList}
 
 use crate::moment_list::MomentList;
 use crate::prune::{add, add_all, last_of};
-use join_map::{Join, JoinHeld, JoinInto, Semilattice};
+use join_map::{Join, JoinInto, Semilattice, ToValue};
 use mdns_capture::Moment;
 use mdns_message::BorrowedHearing;
 use memory::Want;
@@ -115,7 +115,7 @@ impl Join for Moments {
 }
 
 /// A hearing with the cache-flush bit is joined as the `Moments` of its moment alone.
-impl<'a> JoinInto<Moments> for BorrowedHearing<'a> {
+impl<'a> ToValue<Moments> for BorrowedHearing<'a> {
     ghost value = { λ hearing. hearing.moment.nanos ∷ [] };
 
     #[tactic(auto, using(crate::proofs::LateLemmas::one_kept))]
@@ -124,7 +124,7 @@ impl<'a> JoinInto<Moments> for BorrowedHearing<'a> {
     }
 }
 
-impl<'a> JoinHeld<Moments> for BorrowedHearing<'a> {
+impl<'a> JoinInto<Moments> for BorrowedHearing<'a> {
     #[tactic(auto, using(crate::proofs::RefusedLemmas::for_join_into))]
     fn join_into(&self, alloc: Global, held: &mut Moments) -> Result<(), Want> {
         held.valid();

@@ -4,15 +4,15 @@ ghost use Rattle.std.specs.{Prelude.{◌≡◌, ◌+◌, ◌≤◌, [], ◌∷�
 ghost use Rattle.mdns_join.specs.{Kept.{kept_union, IsKeptList}, Nanos.{nanos_of}, laws.Kept.{kept_union_laws}};
 
 use crate::kept_moments::Moments;
-use join_map::{Join, JoinInto, JoinOwn, Semilattice};
+use join_map::{Join, JoinOwn, Semilattice, ToValue};
 use mdns_capture::Moment;
 use mdns_message::{BorrowedHearing, SetKey};
 use memory::Want;
 use std::alloc::Global;
 use std::marker::Model;
 
-/// Among so many moments one more is put at once, and doesn't wait. They fill eight cache lines of 64 bytes, and moving them takes no
-/// longer than looking up their record set.
+/// Among so many moments one more is put at once, and doesn't wait. They fill eight cache lines of 64 bytes, and moving them takes
+/// no longer than looking up their record set.
 const AT_ONCE: usize = 64;
 
 /// Flush moments of one record set. The value is the moments that `Moments` keeps of them. Adding n moments costs about
@@ -138,7 +138,7 @@ impl Join for LateMoments {
 }
 
 /// A hearing with the cache-flush bit is joined as the `LateMoments` of its moment alone.
-impl<'a> JoinInto<LateMoments> for BorrowedHearing<'a> {
+impl<'a> ToValue<LateMoments> for BorrowedHearing<'a> {
     ghost value = { λ hearing. hearing.moment.nanos ∷ [] };
 
     #[tactic(auto, using(crate::proofs::LateLemmas::one_kept))]
@@ -176,13 +176,13 @@ impl<'a> JoinOwn<SetKey, LateMoments> for BorrowedHearing<'a> {
 
 /// A hearing that was repeated, at each of some moments.
 #[derive(Drop)]
-pub struct Repeated<'a> {
+pub struct RepeatedHearing<'a> {
     pub hearing: &'a BorrowedHearing<'a>,
     pub moments: &'a Moments,
 }
 
 /// A hearing with the cache-flush bit that was repeated is joined as the `LateMoments` of its moments.
-impl<'a> JoinInto<LateMoments> for Repeated<'a> {
+impl<'a> ToValue<LateMoments> for RepeatedHearing<'a> {
     ghost value = { λ repeated. repeated.moments.now };
 
     #[tactic(auto, using(crate::proofs::LateLemmas::none_waits))]
@@ -196,7 +196,7 @@ impl<'a> JoinInto<LateMoments> for Repeated<'a> {
 }
 
 /// It recognizes the flush moments of its record set by the set's key.
-impl<'a> JoinOwn<SetKey, LateMoments> for Repeated<'a> {
+impl<'a> JoinOwn<SetKey, LateMoments> for RepeatedHearing<'a> {
     ghost use Rattle.mdns_message.specs.Borrowed.{hearing_lent};
     ghost use Rattle.mdns_message.specs.Resource.{set_key_of};
 

@@ -4,7 +4,7 @@ ghost use Rattle.std.specs.{Prelude.{◌≡◌, IfOk, OnOk, OnErr}, Ordering.{is
 ghost use Rattle.mdns_message.specs.Borrowed.{resource_lent};
 ghost use Rattle.mdns_join.specs.Latest.{latest, latest_cmp, later};
 
-use join_map::{Join, JoinHeld, JoinInto, JoinOwn, Semilattice};
+use join_map::{Join, JoinInto, JoinOwn, Semilattice, ToValue};
 use mdns_capture::Moment;
 use mdns_message::{BorrowedHearing, BorrowedResource, Key, Resource};
 use memory::Want;
@@ -51,7 +51,7 @@ impl Join for Latest {
 }
 
 /// A hearing is joined as the last hearing that it is if its record has no other.
-impl<'a> JoinInto<Latest> for BorrowedHearing<'a> {
+impl<'a> ToValue<Latest> for BorrowedHearing<'a> {
     ghost use Rattle.mdns_message.specs.Borrowed.{hearing_lent};
     ghost use Rattle.mdns_join.specs.Latest.{latest_of};
 
@@ -62,7 +62,7 @@ impl<'a> JoinInto<Latest> for BorrowedHearing<'a> {
     }
 }
 
-impl<'a> JoinHeld<Latest> for BorrowedHearing<'a> {
+impl<'a> JoinInto<Latest> for BorrowedHearing<'a> {
     #[tactic(auto, using(crate::proofs::RefusedLemmas::for_latest))]
     fn join_into(&self, alloc: Global, held: &mut Latest) -> Result<(), Want> {
         join_parts(held, alloc, self.moment, self.ttl, &self.heard)

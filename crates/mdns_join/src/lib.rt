@@ -12,8 +12,8 @@ mod prune;
 
 pub use flush_walk::FlushWalk;
 pub use join_map::{
-    Copied, Join, JoinHeld, JoinInto, JoinMap, JoinOwn, Semilattice, Unsorted, Walk,
+    Copied, Join, JoinInto, JoinMap, JoinOwn, Semilattice, ToValue, Unsorted, Walk,
 };
 pub use kept_moments::Moments;
-pub use late_moments::{LateMoments, Repeated};
+pub use late_moments::{LateMoments, RepeatedHearing};
 pub use latest::Latest;

@@ -11,7 +11,8 @@ use Rattle.mdns_message.specs.{declared.hearing.Hearing.{Hearing}, Message.{Mess
 use Rattle.mdns_message.proofs.MessageLawLemmas.{one_hearing_list}
 use Rattle.mdns_cache.specs.Repeats.{ReadsAs}
 use Rattle.mdns_cache.proofs.{MemoryLemmas.{reads_as}, RepeatLemmas.{reads-at}}
-use Rattle.mdns_listeners.specs.{declared.kept_message.Noted.{Noted}, declared.sender_names.SenderAddressName.{SenderAddressName}, HeardMessage.{HasWholeAddress}}
+use Rattle.mdns_listeners.specs.declared.kept_message.MessageTime.{MessageTime}
+use Rattle.mdns_listeners.specs.{declared.sender_names.SenderAddressName.{SenderAddressName}, HeardMessage.{HasWholeAddress}}
 use Rattle.mdns_listeners.specs.KeptMessage.{AreKept, ArePlaced, IsRead, KeptMessage, kept_messages, next_kept, payload_in, told_by}
 use Rattle.mdns_listeners.specs.SenderNames.{SufficeFor, named_in, told_in}
 use Rattle.mdns_listeners.proofs.{HeldNameLemmas.{suffice-onward}, RowLemmas.{map-agree}}
@@ -74,15 +75,17 @@ module _ (names : List SenderAddressName) (one : KeptMessage) (payload : List �
 -- ---- what is kept and told after a message more
 
 -- one time less
-pub kept_less : (kept : List KeptMessage) (times less : List Noted) (names : List SenderAddressName) (n : ℕ) → AreKept kept times names
+pub kept_less : (kept : List KeptMessage) (times less : List MessageTime) (names : List SenderAddressName) (n : ℕ)
+    → AreKept kept times names
     → less ≡ take n times → AreKept kept less names
-kept_less kept times less names n are is = grind (arith, All-take (λ (noted : Noted). noted.place < length kept) n times are.within)
+kept_less kept times less names n are is = grind (arith, All-take (λ (noted : MessageTime). noted.place < length kept) n times are.within)
 
-pub told_less : (messages : List (List ℕ)) (times less : List Noted) → less ≡ take (length times - 1) times
+pub told_less : (messages : List (List ℕ)) (times less : List MessageTime) → less ≡ take (length times - 1) times
     → told_by messages less ≡ take (length (told_by messages times) - 1) (told_by messages times)
 told_less messages times less is = grind (arith, take-map, length-map)
 
-pub kept-names : (kept : List KeptMessage) (times : List Noted) (old new : List SenderAddressName) → AreKept kept times old → SufficeFor new old
+pub kept-names : (kept : List KeptMessage) (times : List MessageTime) (old new : List SenderAddressName) → AreKept kept times old
+    → SufficeFor new old
     → AreKept kept times new
 kept-names kept times old new are keeps = record {
   placed = are.placed;
@@ -100,12 +103,14 @@ placed-push : (kept : List KeptMessage) (one : KeptMessage) → one.place ≡ le
     → (k : ℕ) (d : KeptMessage) → k < length (kept ++ one ∷ []) → (get_or (kept ++ one ∷ []) k d).place ≡ k
 placed-push kept one is placed k d l = grind (arith, nat_tests, cases_lt, get_or_append_left, get_or_push, length_push)
 
-kept-push : (kept : List KeptMessage) (times : List Noted) (names : List SenderAddressName) (one : KeptMessage) → AreKept kept times names
+kept-push : (kept : List KeptMessage) (times : List MessageTime) (names : List SenderAddressName) (one : KeptMessage)
+    → AreKept kept times names
     → one.place ≡ length kept → HasWholeAddress one.message → IsRead names one → AreKept (kept ++ one ∷ []) times names
 kept-push kept times names one are last whole read = search (arith, placed-push, All-push, length_push)
 
 -- a message that was read is kept, and names suffice for its hearings
-pub kept_more : (kept new : List KeptMessage) (times : List Noted) (old names : List SenderAddressName) (payload message bytes : List ℕ) (t : Moment)
+pub kept_more : (kept new : List KeptMessage) (times : List MessageTime) (old names : List SenderAddressName)
+    (payload message bytes : List ℕ) (t : Moment)
     (hs : List Hearing) (count : ℕ) → AreKept kept times old → SufficeFor names old → SufficeFor names (told_in hs)
     → ((i : ℕ) → get_or payload i 0 < 256) → message ≡ bytes → HasWholeAddress bytes → payload_in bytes ≡ payload
     → MessageReads t payload hs → (hs ≡ [] → ⊥) → count ≡ length hs → new ≡ kept ++ next_kept kept message count ∷ []
@@ -116,12 +121,14 @@ kept_more kept new times old names payload message bytes t hs count are keeps su
     (kept-push kept times names one (kept-names kept times old names are keeps) refl (subst HasWholeAddress (sym is) whole)
     (is-read names one payload t hs fits (ap payload_in is ∙ carried) reads some (sym counted) suffice))
 
-pub kept-noted : (kept : List KeptMessage) (times : List Noted) (names : List SenderAddressName) (noted : Noted) → AreKept kept times names
+pub kept-noted : (kept : List KeptMessage) (times : List MessageTime) (names : List SenderAddressName) (noted : MessageTime)
+    → AreKept kept times names
     → noted.place < length kept → AreKept kept (times ++ noted ∷ []) names
 kept-noted kept times names noted are within = grind (arith, All-push (λ n. n.place < length kept) times noted are.within within)
 
 -- what was told before stays so
-pub told-push : (kept : List KeptMessage) (times : List Noted) (names : List SenderAddressName) (one : KeptMessage) → AreKept kept times names
+pub told-push : (kept : List KeptMessage) (times : List MessageTime) (names : List SenderAddressName) (one : KeptMessage)
+    → AreKept kept times names
     → told_by (kept_messages (kept ++ one ∷ [])) times ≡ told_by (kept_messages kept) times
 told-push kept times names one are =
     map-agree _ _ times (λ i d l. λ j. record {
@@ -133,7 +140,7 @@ told-push kept times names one are =
     before p l = ap (λ ms. get_or ms p []) (map_push (λ (o : KeptMessage). o.message) kept one)
         ∙ get_or_append_left (kept_messages kept) (one.message ∷ []) [] p (omega (arith, l, length-map kept (λ o. o.message)))
 
-pub told-noted : (messages : List (List ℕ)) (times : List Noted) (noted : Noted) (message : List ℕ)
+pub told-noted : (messages : List (List ℕ)) (times : List MessageTime) (noted : MessageTime) (message : List ℕ)
     → get_or messages noted.place [] ≡ message
     → told_by messages (times ++ noted ∷ []) ≡ told_by messages times ++ record { message = message; at = noted.at } ∷ []
 told-noted messages times noted message is = grind (arith, map_push)
@@ -143,7 +150,7 @@ pub message-push : (kept : List KeptMessage) (one : KeptMessage)
 message-push kept one = grind (arith, nat_tests, get_or_push, length-map, map_push)
 
 -- what was told has whole addresses
-pub told-whole : (kept : List KeptMessage) (times : List Noted) (names : List SenderAddressName) → AreKept kept times names
+pub told-whole : (kept : List KeptMessage) (times : List MessageTime) (names : List SenderAddressName) → AreKept kept times names
     → All (λ told. HasWholeAddress told.message) (told_by (kept_messages kept) times)
 told-whole kept times names is =
     All-map (λ told. HasWholeAddress told.message) _ times (λ i d l.
@@ -154,7 +161,8 @@ told-whole kept times names is =
 
 -- ---- messages in another order
 
-pub placed-permuted : (kept others : List KeptMessage) (times : List Noted) (names : List SenderAddressName) → AreKept kept times names
+pub placed-permuted : (kept others : List KeptMessage) (times : List MessageTime) (names : List SenderAddressName)
+    → AreKept kept times names
     → IsPermutation kept others → ArePlaced (kept_messages kept) others
 placed-permuted kept others times names is moved =
     let long : length (kept_messages kept) ≡ length kept = length-map kept (λ o. o.message) in

@@ -1,4 +1,4 @@
-pub mod BesideLemmas
+pub mod HearerAndMessagesLemmas
 pub mod BlankLemmas
 mod GroupLemmas
 pub mod HeardLemmas

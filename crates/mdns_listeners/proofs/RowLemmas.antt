@@ -6,7 +6,7 @@ use Rattle.std.proofs.Common.{Bool, true, false, cond, ◌||◌, List, [], ◌�
 use Rattle.std.proofs.Common.{Some, refl, sym, ap, ◌∙◌, subst, arith, true≢false, length-append, Less, Equal}
 use Rattle.std.specs.{Cmp.{tied_itself}, Cmp.Lexicographic.{slice_cmp, nat_list_cmp_total}, List.{All, AllByRecursion, filter, list_any}}
 use Rattle.std.specs.{List.Sorted.{IsStrictlySortedBy}, Ordering.{nat_cmp}}
-use Rattle.mdns_listeners.specs.declared.{heard_message.HeardAt.{HeardAt}, kept_message.Noted.{Noted}}
+use Rattle.mdns_listeners.specs.declared.{heard_message.HeardAt.{HeardAt}, kept_message.MessageTime.{MessageTime}}
 use Rattle.mdns_listeners.specs.HeardMessage.{AreHeardIn, HeardRow, Told, has_times, is_same, messages_of, row_at, some_times, times_of}
 use Rattle.mdns_listeners.specs.KeptMessage.{ArePlaced, IsNumbered, KeptMessage, filled, told_by, told_of_rows}
 use Rattle.mdns_listeners.proofs.HeardLemmas.{same-is, same-itself, times_of-append}
@@ -80,14 +80,15 @@ fill-step (row ∷ rows) told t (suc r) x l s own is =
     let rest = fill-step rows told t r x (omega arith) (sorted_tail (slice_cmp nat_cmp) row.message (messages_of rows) s) own is in
     grind (arith, filled-other, not-same-below)
 
-pub fill_more : (first rows : List HeardRow) (numbers : List ℕ) (times : List Noted) (i : ℕ) (noted : Noted) (r : ℕ) (x y : HeardRow)
+pub fill_more : (first rows : List HeardRow) (numbers : List ℕ) (times : List MessageTime) (i : ℕ) (noted : MessageTime) (r : ℕ)
+    (x y : HeardRow)
     → i < length times → noted ≡ get_or times i noted → r ≡ get_or numbers noted.place 0 → r < length first → Ascend first
     → rows ≡ map (filled (told_of_rows first numbers (take i times))) first → x ≡ get_or rows r x
     → y ≡ row_with x.message (x.times ++ noted.at ∷ [])
     → set rows r y ≡ map (filled (told_of_rows first numbers (take (i + 1) times))) first
 fill_more first rows numbers times i noted r x y l is number within s so_far read added =
     let told = told_of_rows first numbers (take i times) in
-    let teller : Noted → Told = λ n. record { message = get_or (messages_of first) (get_or numbers n.place 0) []; at = n.at } in
+    let teller : MessageTime → Told = λ n. record { message = get_or (messages_of first) (get_or numbers n.place 0) []; at = n.at } in
     let more : told_of_rows first numbers (take (i + 1) times) ≡ told ++ teller noted ∷ [] =
     map_more teller times i noted l ∙ ap (λ n. told ++ teller n ∷ []) (sym is) in
     let here : x ≡ get_or (map (filled told) first) r x = read ∙ ap (λ rs. get_or rs r x) so_far in
@@ -175,7 +176,8 @@ pub placed-row : (messages : List (List ℕ)) (kept : List KeptMessage) (rows : 
 placed-row messages kept rows numbers place placed numbered l =
     grind (arith, All-contains (IsNumbered rows numbers) kept (placed.each place l).0 numbered (placed.each place l).1, All-contains)
 
-pub numbered-times : (messages : List (List ℕ)) (kept : List KeptMessage) (rows : List HeardRow) (numbers : List ℕ) (times : List Noted)
+pub numbered-times : (messages : List (List ℕ)) (kept : List KeptMessage) (rows : List HeardRow) (numbers : List ℕ)
+    (times : List MessageTime)
     → ArePlaced messages kept → All (IsNumbered rows numbers) kept → All (λ noted. noted.place < length kept) times
     → All (λ noted. get_or numbers noted.place 0 < length rows) times
 numbered-times messages kept rows numbers times placed numbered within k d l =
@@ -183,11 +185,11 @@ numbered-times messages kept rows numbers times placed numbered within k d l =
     (subst (λ n. (get_or times k d).place < n) placed.long (within k d l)) in
     row.0
 
-pub rows-heard : (messages : List (List ℕ)) (kept : List KeptMessage) (rows : List HeardRow) (numbers : List ℕ) (times : List Noted)
+pub rows-heard : (messages : List (List ℕ)) (kept : List KeptMessage) (rows : List HeardRow) (numbers : List ℕ) (times : List MessageTime)
     → Ascend rows → ArePlaced messages kept → All (IsNumbered rows numbers) kept → All (λ noted. noted.place < length kept) times
     → AreHeardIn (told_by messages times) (filter has_times (map (filled (told_of_rows rows numbers times)) rows))
 rows-heard messages kept rows numbers times s placed numbered within =
-    let row = λ (k : ℕ) (d : Noted) (l : k < length times).
+    let row = λ (k : ℕ) (d : MessageTime) (l : k < length times).
     placed-row messages kept rows numbers (get_or times k d).place placed numbered
     (subst (λ n. (get_or times k d).place < n) placed.long (within k d l)) in
     let same : told_of_rows rows numbers times ≡ told_by messages times =

@@ -4,7 +4,7 @@ use Rattle.std.proofs.{Common.{◌++◌, length, map, drop, get_or, append_assoc
 use Rattle.std.proofs.lemmas.{Grind.{flat_map-append}, List.{at_drop_more, get_or_default}}
 use Rattle.std.specs.List.{flat_map, fold}
 use Rattle.mdns_browse.specs.declared.report.{Form.{Form}, Form.TheVariants.{Pretty}}
-use Rattle.mdns_listeners.specs.{Fields.{Field}, Sheet.{SheetNow, cells_of, row_text, taken, widened}, Table.{table_text}}
+use Rattle.mdns_listeners.specs.{Fields.{Field}, RowSheet.{SheetNow, cells_of, row_text, taken, widened}, Table.{table_text}}
 use Rattle.mdns_listeners.proofs.TableLemmas.{table_written}
 
 -- a row taken of rows that are left

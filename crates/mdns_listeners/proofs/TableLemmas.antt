@@ -4,7 +4,7 @@ use Rattle.std.proofs.Common.{length, map, max, drop, get_or, append_assoc, appe
 use Rattle.std.proofs.lemmas.{Bool.{leb-false, leb-true}, List.{at_drop_more, drop_all, length-drop}, Bool.Decides.{nat_tests}}
 use Rattle.std.specs.List.{flat_map, fold}
 use Rattle.mdns_browse.specs.Columns.{padded, widest}
-use Rattle.mdns_listeners.specs.{Fields.{Field, field_lent}, Sheet.{cells_of, columns_text, widened, widened_at}}
+use Rattle.mdns_listeners.specs.{Fields.{Field, field_lent}, RowSheet.{cells_of, columns_text, widened, widened_at}}
 use Rattle.mdns_listeners.specs.{Table.{cells_from, column_width, table_text}, Values.{cell_text, value_lent}}
 use Rattle.mdns_listeners.specs.declared.fields.Field.{Field as LentField}
 

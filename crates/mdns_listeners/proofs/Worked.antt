@@ -5,7 +5,7 @@ use Rattle.mdns_browse.specs.Columns.{padded, spaces, widest}
 use Rattle.mdns_capture.specs.{Text.{moment_text}, declared.source_address.SourceAddress.TheVariants.{V4, V6}}
 use Rattle.mdns_listeners.specs.declared.pairs.{PairRow.{PairRow}, Quartiles.{Quartiles}}
 use Rattle.mdns_listeners.specs.Clock.{ahead_words, between_text, between_words, by_words, clock_words, one_clock_words, shift_words}
-use Rattle.mdns_listeners.specs.{Clock.{steady_words}, Fields.{pair_fields}, Seconds.{signed_text}, Sheet.{line_text}}
+use Rattle.mdns_listeners.specs.{Clock.{steady_words}, Fields.{pair_fields}, Seconds.{signed_text}, RowSheet.{line_text}}
 use Rattle.mdns_listeners.specs.{Table.{cells_from, table_text}, Values.{groups_text, source_text}, Warnings.{counts_text, untold_text}}
 
 -- ---- signed durations

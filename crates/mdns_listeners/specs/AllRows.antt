@@ -5,7 +5,8 @@ use Rattle.mdns_message.specs.TextData.{string_text}
 use Rattle.mdns_listeners.specs.declared.{all_rows.AllRows.{AllRows as LentRows}, fields.Kind.{Kind}, fields.Kind.TheVariants.{Listeners, Pairs}}
 use Rattle.mdns_listeners.specs.declared.{fields.Kind.TheVariants.{Senders}, numbers.ListenerRow.{ListenerRow}, pairs.PairRow.{PairRow}}
 use Rattle.mdns_listeners.specs.{Fields.{Field, heads_of, listener_fields, pair_row_in, sender_row_in}, NamedSender.{NamedSender}}
-use Rattle.mdns_listeners.specs.{NamedSender.{listener_name_at, sender_lent}, Sheet.{cells_of, line_text, object_text}, Table.{table_text}}
+use Rattle.mdns_listeners.specs.{NamedSender.{listener_name_at, sender_lent}, RowSheet.{cells_of, line_text, object_text}}
+use Rattle.mdns_listeners.specs.Table.{table_text}
 
 -- the names of the listeners in their order, a row for each of them, and the rows of pairs and of senders
 pub record AllRows : Type 0 where

@@ -6,7 +6,8 @@ use Rattle.std.specs.{List.{All, Contains}, List.Sorted.{IsSortedBy}, Cmp.Lexico
 use Rattle.mdns_capture.specs.declared.{moment.Moment.{Moment}, source_address.SourceAddress.{SourceAddress}}
 use Rattle.mdns_message.specs.{declared.hearing.Hearing.{Hearing}, Message.{MessageReads}}
 use Rattle.mdns_cache.specs.Repeats.{ReadsAs}
-use Rattle.mdns_listeners.specs.declared.{heard_message.HeardAt.{HeardAt}, kept_message.Noted.{Noted}, sender_names.SenderAddressName.{SenderAddressName}}
+use Rattle.mdns_listeners.specs.declared.{heard_message.HeardAt.{HeardAt}, kept_message.MessageTime.{MessageTime}}
+use Rattle.mdns_listeners.specs.declared.sender_names.SenderAddressName.{SenderAddressName}
 use Rattle.mdns_listeners.specs.HeardMessage.{Told, HasWholeAddress, HeardRow, message_bytes, messages_of, times_of}
 use Rattle.mdns_listeners.specs.SenderNames.{HoldsNames, SufficeFor, told_in}
 
@@ -44,7 +45,7 @@ abbrev pub kept_messages : List KeptMessage → List (List ℕ)
 kept_messages kept = map (λ one. one.message) kept
 
 -- what was told: each time with the message at its place
-abbrev pub told_by : List (List ℕ) → List Noted → List Told
+abbrev pub told_by : List (List ℕ) → List MessageTime → List Told
 told_by messages times = map (λ noted. record { message = slice_index_or messages noted.place []; at = noted.at }) times
 
 -- At any moment a message's payload reads to so many hearings, at least one, and the names that are held suffice for theirs.
@@ -55,7 +56,7 @@ pub record IsRead (names : List SenderAddressName) (one : KeptMessage) : Type 0 
       → SufficeFor names (told_in hearings)
 
 -- Each message knows its place, has its sender's address and was read, and each time has the place of a message.
-pub record AreKept (kept : List KeptMessage) (times : List Noted) (names : List SenderAddressName) : Type 0 where
+pub record AreKept (kept : List KeptMessage) (times : List MessageTime) (names : List SenderAddressName) : Type 0 where
   pub placed : (k : ℕ) (d : KeptMessage) → k < length kept → (slice_index_or kept k d).place ≡ k
   pub addressed : All (λ one. HasWholeAddress one.message) kept
   pub read : All (IsRead names) kept
@@ -90,7 +91,7 @@ abbrev pub filled : List Told → HeardRow → HeardRow
 filled told row = record { message = row.message; times = times_of row.message told }
 
 -- what was told, by the numbers of rows
-abbrev pub told_of_rows : List HeardRow → List ℕ → List Noted → List Told
+abbrev pub told_of_rows : List HeardRow → List ℕ → List MessageTime → List Told
 told_of_rows rows numbers times =
     map (λ noted. record { message = slice_index_or (messages_of rows) (slice_index numbers noted.place) []; at = noted.at }) times
 

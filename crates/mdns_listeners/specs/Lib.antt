@@ -13,7 +13,7 @@ pub mod Pairs
 pub mod Parts
 pub mod Seconds
 pub mod Senders
-pub mod Sheet
+pub mod RowSheet
 pub mod Table
 pub mod Together
 pub mod Values

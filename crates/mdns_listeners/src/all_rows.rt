@@ -5,7 +5,8 @@ ghost use Rattle.std.specs.List.{enumerate_from, flat_map, fold};
 ghost use Rattle.mdns_message.specs.TextData.{string_text};
 ghost use Rattle.mdns_browse.specs.{Columns.{unless_none}, declared.report.Form.TheVariants.{Pretty}};
 ghost use Rattle.mdns_listeners.specs.AllRows.{all_rows, all_rows_lent, listener_at, listeners_text, pair_at, rows_of, sender_at, table_of};
-ghost use Rattle.mdns_listeners.specs.{AllRows.{tables_text, text_in}, Fields.{heads_of}, NamedSender.{sender_lent}, Sheet.{row_text, taken}};
+ghost use Rattle.mdns_listeners.specs.{AllRows.{tables_text, text_in}, Fields.{heads_of}, NamedSender.{sender_lent}};
+ghost use Rattle.mdns_listeners.specs.RowSheet.{row_text, taken};
 
 use crate::fields::{
     Kind, listener_fields, listener_heads, pair_cells, pair_fields, pair_heads, sender_count,
@@ -14,7 +15,7 @@ use crate::fields::{
 use crate::named_sender::{NamedSender, listener_name_at};
 use crate::numbers::ListenerRow;
 use crate::pairs::PairRow;
-use crate::sheet::Sheet;
+use crate::row_sheet::RowSheet;
 use mdns_browse::report::Form;
 use mdns_message::Want;
 use mdns_message::text_data::push_string;
@@ -38,7 +39,7 @@ pub fn listeners_text(alloc: Global, form: Form, all: &AllRows<'_>) -> Result<St
 {
     let listener_names = name_texts(alloc, all.listener_names)?;
     let names = listener_names.as_slice();
-    let mut sheet = Sheet::new(alloc, form);
+    let mut sheet = RowSheet::new(alloc, form);
     push_all(&mut sheet, names, all)?;
     Ok(sheet.into_text())
 }
@@ -61,7 +62,7 @@ fn name_text(alloc: Global, file: &str) -> Result<String, Want>
     Ok(text)
 }
 
-fn push_all(sheet: &mut Sheet, names: &[String], all: &AllRows<'_>) -> Result<(), Want>
+fn push_all(sheet: &mut RowSheet, names: &[String], all: &AllRows<'_>) -> Result<(), Want>
     requires { sheet.old.measures ≡ false }
     ensures { OnOk result (sheet.new.text
         ≡ sheet.old.text ++ text_in sheet.old.form (map string_bytes names.now) (all_rows_lent all.now)) }
@@ -73,7 +74,7 @@ fn push_all(sheet: &mut Sheet, names: &[String], all: &AllRows<'_>) -> Result<()
 }
 
 // Appends all rows.
-fn take_all(sheet: &mut Sheet, names: &[String], all: &AllRows<'_>) -> Result<(), Want>
+fn take_all(sheet: &mut RowSheet, names: &[String], all: &AllRows<'_>) -> Result<(), Want>
     requires { sheet.old.measures ≡ false }
     ensures { OnOk result (sheet.new.text ≡ sheet.old.text ++ flat_map (row_text sheet.old.form sheet.old.widths)
         (all_rows sheet.old.form (map string_bytes names.now) (all_rows_lent all.now))) }
@@ -86,7 +87,7 @@ fn take_all(sheet: &mut Sheet, names: &[String], all: &AllRows<'_>) -> Result<()
 
 // Appends all tables, with an empty line before each but the first.
 #[tactic(auto, unfolding(crate::specs::AllRows::tables_text))]
-fn push_tables(sheet: &mut Sheet, names: &[String], all: &AllRows<'_>) -> Result<(), Want>
+fn push_tables(sheet: &mut RowSheet, names: &[String], all: &AllRows<'_>) -> Result<(), Want>
     requires { sheet.old.form ≡ Pretty }
     ensures { OnOk result (sheet.new.text ≡ sheet.old.text ++ tables_text (map string_bytes names.now) (all_rows_lent all.now)) }
 {
@@ -97,7 +98,7 @@ fn push_tables(sheet: &mut Sheet, names: &[String], all: &AllRows<'_>) -> Result
 
 // Appends an empty line and a table, unless it is told that there are no rows.
 fn push_further(
-    sheet: &mut Sheet,
+    sheet: &mut RowSheet,
     kind: Kind,
     none: bool,
     names: &[String],
@@ -116,7 +117,7 @@ fn push_further(
 }
 
 fn push_table(
-    sheet: &mut Sheet,
+    sheet: &mut RowSheet,
     kind: Kind,
     names: &[String],
     all: &AllRows<'_>,
@@ -135,7 +136,7 @@ fn push_table(
 
 // Takes the heads of a table's columns, and its rows.
 fn take_table(
-    sheet: &mut Sheet,
+    sheet: &mut RowSheet,
     kind: Kind,
     names: &[String],
     all: &AllRows<'_>,
@@ -147,7 +148,7 @@ fn take_table(
     take_rows(sheet, kind, names, all)
 }
 
-fn take_heads(sheet: &mut Sheet, kind: Kind) -> Result<(), Want>
+fn take_heads(sheet: &mut RowSheet, kind: Kind) -> Result<(), Want>
     ensures { OnOk result (sheet.new ≡ taken sheet.old (heads_of kind)) }
 {
     match kind {
@@ -158,7 +159,12 @@ fn take_heads(sheet: &mut Sheet, kind: Kind) -> Result<(), Want>
 }
 
 // Takes all rows of a kind.
-fn take_rows(sheet: &mut Sheet, kind: Kind, names: &[String], all: &AllRows<'_>) -> Result<(), Want>
+fn take_rows(
+    sheet: &mut RowSheet,
+    kind: Kind,
+    names: &[String],
+    all: &AllRows<'_>,
+) -> Result<(), Want>
     ensures { OnOk result (sheet.new
         ≡ fold taken sheet.old (rows_of sheet.old.form kind (map string_bytes names.now) (all_rows_lent all.now))) }
 {
@@ -169,7 +175,7 @@ fn take_rows(sheet: &mut Sheet, kind: Kind, names: &[String], all: &AllRows<'_>)
     }
 }
 
-fn take_listeners(sheet: &mut Sheet, names: &[String], rows: &[ListenerRow]) -> Result<(), Want>
+fn take_listeners(sheet: &mut RowSheet, names: &[String], rows: &[ListenerRow]) -> Result<(), Want>
     ensures { OnOk result (sheet.new
         ≡ fold taken sheet.old (map (listener_at (map string_bytes names.now)) (enumerate_from 0 rows.now))) }
 {
@@ -180,7 +186,7 @@ fn take_listeners(sheet: &mut Sheet, names: &[String], rows: &[ListenerRow]) -> 
 }
 
 #[tactic(auto, using(crate::proofs::SheetLemmas::taken_at))]
-fn take_pairs(sheet: &mut Sheet, names: &[String], rows: &[PairRow]) -> Result<(), Want>
+fn take_pairs(sheet: &mut RowSheet, names: &[String], rows: &[PairRow]) -> Result<(), Want>
     ensures { OnOk result (sheet.new
         ≡ fold taken sheet.old (map (pair_at sheet.old.form (map string_bytes names.now)) rows.now)) }
 {
@@ -190,7 +196,7 @@ fn take_pairs(sheet: &mut Sheet, names: &[String], rows: &[PairRow]) -> Result<(
     Ok(())
 }
 
-fn take_pair(sheet: &mut Sheet, names: &[String], row: &PairRow) -> Result<(), Want>
+fn take_pair(sheet: &mut RowSheet, names: &[String], row: &PairRow) -> Result<(), Want>
     ensures { OnOk result (sheet.new ≡ taken sheet.old (pair_at sheet.old.form (map string_bytes names.now) row.now)) }
 {
     let file = listener_name_at(names, row.one);
@@ -203,7 +209,7 @@ fn take_pair(sheet: &mut Sheet, names: &[String], row: &PairRow) -> Result<(), W
 
 #[tactic(auto, using(crate::proofs::SheetLemmas::taken_more))]
 fn take_senders(
-    sheet: &mut Sheet,
+    sheet: &mut RowSheet,
     names: &[String],
     senders: &[NamedSender<'_>],
 ) -> Result<(), Want>
@@ -216,7 +222,7 @@ fn take_senders(
     Ok(())
 }
 
-fn take_sender(sheet: &mut Sheet, names: &[String], sender: &NamedSender<'_>) -> Result<(), Want>
+fn take_sender(sheet: &mut RowSheet, names: &[String], sender: &NamedSender<'_>) -> Result<(), Want>
     ensures { OnOk result (sheet.new
         ≡ taken sheet.old (sender_at sheet.old.form (map string_bytes names.now) (sender_lent sender.now))) }
 {

@@ -9,10 +9,10 @@ ghost use Rattle.mdns_listeners.specs.{HeardMessage.{message_bytes, AreHeardIn, 
 ghost use Rattle.mdns_listeners.specs.{KeptMessage.{payload_in, told_again}, SenderNames.{HoldsNames, ListsNames}};
 
 use crate::heard_message::{HeardAt, HeardMessage};
-use crate::kept_message::{Kept, Noted};
+use crate::kept_message::{MessageTime, StoredMessage};
 use crate::order::sort;
 use crate::rows::rows_of;
-use crate::sender_names::{Names, SenderNames};
+use crate::sender_names::{SenderNameCollector, SenderNames};
 use join_map::index::{Index, REACH, Slot};
 use mdns_capture::SourceAddress;
 use mdns_message::MessageReader;
@@ -28,15 +28,15 @@ pub struct HeardMessages {
     alloc: Global,
 
     // The different messages. One that the index doesn't find again is here twice.
-    kept: Vec<Kept>,
+    kept: Vec<StoredMessage>,
 
     // The places of the messages.
     places: Index,
 
     // Each time that a message was heard.
-    times: Vec<Noted>,
+    times: Vec<MessageTime>,
 
-    names: SenderNames,
+    names: SenderNameCollector,
 
     // The bytes of the message that was looked for last.
     message: Vec<u8>,
@@ -63,7 +63,7 @@ impl HeardMessages {
             kept: Vec::new(alloc),
             places: Index::new(alloc),
             times: Vec::new(alloc),
-            names: SenderNames::new(alloc),
+            names: SenderNameCollector::new(alloc),
             message: Vec::new(alloc),
         }
     }
@@ -85,7 +85,7 @@ impl HeardMessages {
         write_message(&mut self.message, source, payload).ok()?;
         let place = find(self.kept.as_slice(), &self.places, self.message.as_slice())?;
         let hearings = self.kept[place].hearings();
-        self.times.push(Noted { place, at }).ok()?;
+        self.times.push(MessageTime { place, at }).ok()?;
         Some(hearings)
     }
 
@@ -125,12 +125,12 @@ impl HeardMessages {
             message,
             read.len(),
         )?;
-        self.times.push(Noted { place, at })?;
+        self.times.push(MessageTime { place, at })?;
         Ok(())
     }
 
     /// Returns the different messages, ascending by their bytes, and the names of the senders. After `Want` they are lost.
-    pub fn finish(self) -> Result<(Vec<HeardMessage>, Names), Want>
+    pub fn finish(self) -> Result<(Vec<HeardMessage>, SenderNames), Want>
         ensures heard { IfOk result (λ found. AreHeardIn self.told found.0.items) }
         ensures addresses { IfOk result (λ found. All (λ row. HasWholeAddress row.message) found.0.items) }
         ensures names { IfOk result (λ found. (heard : List Hearing) → HoldsNames self.names heard → ListsNames found.1 heard) }
@@ -149,7 +149,7 @@ impl HeardMessages {
 }
 
 // Drops the last time, if there is one.
-fn drop_last(times: &mut Vec<Noted>)
+fn drop_last(times: &mut Vec<MessageTime>)
     ensures { times.new.items ≡ take (length times.old.items - 1) times.old.items }
 {
     let len = times.len();
@@ -194,7 +194,7 @@ fn message_hash(message: &[u8]) -> u64 {
 }
 
 // Finds the place of a message.
-fn find(kept: &[Kept], places: &Index, message: &[u8]) -> Option<usize>
+fn find(kept: &[StoredMessage], places: &Index, message: &[u8]) -> Option<usize>
     ensures within { IfSome result (λ place. place < length kept.now) }
     ensures found { IfSome result (λ place. slice_index_or (kept_messages kept.now) place [] ≡ message.now) }
 {
@@ -217,7 +217,7 @@ fn find(kept: &[Kept], places: &Index, message: &[u8]) -> Option<usize>
 
 // Keeps a message with so many hearings. After `Want` the messages are as before.
 fn keep(
-    kept: &mut Vec<Kept>,
+    kept: &mut Vec<StoredMessage>,
     places: &mut Index,
     alloc: Global,
     message: &[u8],
@@ -227,7 +227,7 @@ fn keep(
     ensures err { OnErr result (kept.new.items ≡ kept.old.items) }
 {
     let place = kept.len();
-    let one = Kept::new(alloc, message, place, hearings)?;
+    let one = StoredMessage::new(alloc, message, place, hearings)?;
     places.note(alloc, message_hash(message), place)?;
     kept.push(one)?;
     Ok(())

@@ -9,14 +9,14 @@ use std::marker::Model;
 
 /// A time at which a listener heard a message, with the place of the message.
 #[derive(Clone, Copy)]
-pub(crate) struct Noted {
+pub(crate) struct MessageTime {
     pub(crate) place: usize,
     pub(crate) at: HeardAt,
 }
 
 /// A message, its place among those kept, and how many hearings it has.
 #[derive(Drop)]
-pub(crate) struct Kept {
+pub(crate) struct StoredMessage {
     message: Vec<u8>,
     place: usize,
     hearings: usize,
@@ -25,7 +25,7 @@ pub(crate) struct Kept {
     word: u64,
 }
 
-impl Model for Kept {
+impl Model for StoredMessage {
     ghost use Rattle.mdns_listeners.specs.KeptMessage.{KeptMessage};
 
     ghost Value = { KeptMessage };
@@ -33,17 +33,17 @@ impl Model for Kept {
     ghost view = { λ a. record { message = a.message.items; place = a.place; hearings = a.hearings } };
 }
 
-impl Kept {
+impl StoredMessage {
     /// Copies a message.
     pub(crate) fn new(
         alloc: Global,
         message: &[u8],
         place: usize,
         hearings: usize,
-    ) -> Result<Kept, Want>
+    ) -> Result<StoredMessage, Want>
         ensures { IfOk result (λ kept. kept ≡ record { message = message.now; place = place; hearings = hearings }) }
     {
-        Ok(Kept {
+        Ok(StoredMessage {
             message: Vec::from_slice(alloc, message)?,
             place,
             hearings,
@@ -82,7 +82,7 @@ impl Kept {
         ensures message { result.0.items ≡ self.message }
         ensures place { result.1 ≡ self.place }
     {
-        let Kept { message, place, .. } = self;
+        let StoredMessage { message, place, .. } = self;
         (message, place)
     }
 }

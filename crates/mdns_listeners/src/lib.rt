@@ -2,12 +2,12 @@
 #![tactic(auto)]
 
 pub mod all_rows;
-pub mod beside;
 pub mod clock;
 mod fields;
 pub mod groups;
 pub mod heard_message;
 pub mod heard_messages;
+pub mod hearer_and_messages;
 mod kept_message;
 pub mod laws;
 pub mod listeners;
@@ -16,23 +16,23 @@ pub mod named_sender;
 pub mod numbers;
 mod order;
 pub mod pairs;
+mod row_sheet;
 mod rows;
 pub mod seconds;
 pub mod sender_names;
 pub mod senders;
-mod sheet;
 pub mod together;
 mod values;
 pub mod warned;
 pub mod warnings;
 
 pub use all_rows::{AllRows, listeners_text};
-pub use beside::Beside;
 pub use groups::Groups;
 pub use heard_message::{HeardAt, HeardMessage};
 pub use heard_messages::HeardMessages;
+pub use hearer_and_messages::HearerAndMessages;
 pub use named_sender::NamedSender;
 pub use numbers::{ListenerRow, ListenerSpans, listener_rows, spans_of};
 pub use pairs::{PairRow, Quartiles, pair_rows};
-pub use sender_names::{Names, SenderNames};
+pub use sender_names::{SenderNameCollector, SenderNames};
 pub use senders::{SenderRow, sender_rows};

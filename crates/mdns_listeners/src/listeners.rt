@@ -17,7 +17,7 @@ use crate::heard_messages::HeardMessages;
 use crate::named_sender::NamedSender;
 use crate::numbers::{ListenerSpans, listener_rows, spans_of};
 use crate::pairs::pair_rows;
-use crate::sender_names::Names;
+use crate::sender_names::SenderNames;
 use crate::senders::{SenderRow, sender_rows};
 use mdns_browse::report::{Form, ReportFault};
 use mdns_capture::{Moment, Packet, Source, payload_and_source};
@@ -183,7 +183,10 @@ impl<'a> TextAnswer for ListenersRequest<'a> {
         readings: &[Reading],
     ) -> Result<AnswerText, ReportFault> {
         match text_of(alloc, self.groups, self.form, collector, readings) {
-            Ok(text) => Ok(AnswerText { text, missed: None }),
+            Ok(text) => Ok(AnswerText {
+                text,
+                unmatched: None,
+            }),
             Err(Want) => Err(ReportFault::Memory),
         }
     }
@@ -221,7 +224,7 @@ pub struct HeardByListeners {
     /// The time spans of each listener's files.
     pub spans: Vec<ListenerSpans>,
     /// The names of the senders.
-    pub names: Names,
+    pub names: SenderNames,
 }
 
 /// Returns what listeners heard, of which a collector gathered the messages while captures were read, with these readings.
@@ -257,7 +260,7 @@ fn facts_text(
     form: Form,
     rows: &[HeardMessage],
     spans: &[ListenerSpans],
-    names: &Names,
+    names: &SenderNames,
 ) -> Result<String, Want>
     requires ascending { IsStrictlySortedBy (slice_cmp nat_cmp) (messages_of rows.now) }
     requires addressed { All (λ row. HasWholeAddress row.message) rows.now }
@@ -288,7 +291,7 @@ fn spans_in(alloc: Global, readings: &[Reading]) -> Result<Vec<Option<Span>>, Wa
 fn with_names<'a>(
     alloc: Global,
     rows: &[SenderRow],
-    names: &'a Names,
+    names: &'a SenderNames,
 ) -> Result<Vec<NamedSender<'a>>, Want>
     ensures { IfOk result (λ senders. (hearings : List Hearing) → ListsNames names.now hearings
         → AreNamed hearings rows.now (map sender_lent senders.items)) }

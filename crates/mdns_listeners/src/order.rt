@@ -3,7 +3,7 @@
 ghost use Rattle.std.specs.{Prelude.{◌≡◌, ◌<◌, ◌≤◌, length}, List.Sorted.{IsPermutation}};
 ghost use Rattle.mdns_listeners.specs.KeptMessage.{AreSorted};
 
-use crate::kept_message::Kept;
+use crate::kept_message::StoredMessage;
 use byteorder::{BigEndian, ByteOrder};
 
 // The bytes of a word.
@@ -17,7 +17,7 @@ const FEW: usize = 4;
 
 /// Sorts messages by their bytes. First they are sorted by words, which are compared much faster; what is sorted by the
 /// bytes then is mostly sorted already.
-pub(crate) fn sort(kept: &mut [Kept])
+pub(crate) fn sort(kept: &mut [StoredMessage])
     ensures permutation { IsPermutation kept.old kept.new }
     ensures sorted { AreSorted kept.new }
 {
@@ -26,7 +26,7 @@ pub(crate) fn sort(kept: &mut [Kept])
 }
 
 // Sorts messages by all of their bytes.
-fn sort_by_bytes(kept: &mut [Kept])
+fn sort_by_bytes(kept: &mut [StoredMessage])
     ensures permutation { IsPermutation kept.old kept.new }
     ensures sorted { AreSorted kept.new }
 {
@@ -35,7 +35,7 @@ fn sort_by_bytes(kept: &mut [Kept])
 
 // Sorts messages that begin alike with the first `from` bytes: by the word after all bytes that are alike, and then those
 // further whose words are the same.
-fn sort_by_words(kept: &mut [Kept], from: usize)
+fn sort_by_words(kept: &mut [StoredMessage], from: usize)
     ensures { IsPermutation kept.old kept.new }
 {
     if kept.len() <= FEW || from >= FARTHEST {
@@ -56,7 +56,7 @@ fn sort_by_words(kept: &mut [Kept], from: usize)
 
 // Notes for each message the word after those bytes with which all messages begin, and returns how many these are. The
 // first `from` bytes are known to be among them.
-fn note_words(kept: &mut [Kept], from: usize) -> usize
+fn note_words(kept: &mut [StoredMessage], from: usize) -> usize
     requires { from ≤ FARTHEST }
     ensures same { kept.new ≡ kept.old }
     ensures bound { result ≤ FARTHEST }
@@ -70,7 +70,7 @@ fn note_words(kept: &mut [Kept], from: usize) -> usize
 }
 
 // Returns with how many bytes all messages begin alike. They do so with the first `from`.
-fn count_alike(kept: &[Kept], from: usize) -> usize
+fn count_alike(kept: &[StoredMessage], from: usize) -> usize
     requires { from ≤ FARTHEST }
     ensures { result ≤ FARTHEST }
 {
@@ -114,7 +114,7 @@ fn word_at(message: &[u8], at: usize) -> u64 {
 }
 
 // Returns where the messages end that have the same word as the one at `begin`.
-fn end_of_tied(kept: &[Kept], begin: usize) -> usize
+fn end_of_tied(kept: &[StoredMessage], begin: usize) -> usize
     requires { begin < length kept.now }
     ensures some { begin < result }
     ensures within { result ≤ length kept.now }

@@ -6,15 +6,15 @@ ghost use Rattle.mdns_listeners.specs.HeardMessage.{AreHeardIn, messages_of};
 ghost use Rattle.mdns_listeners.specs.KeptMessage.{told_by, told_of_rows, filled, last_message, ArePlaced, AddsRow, AreSorted, IsNumbered};
 
 use crate::heard_message::HeardMessage;
-use crate::kept_message::{Kept, Noted};
+use crate::kept_message::{MessageTime, StoredMessage};
 use memory::{Want, same_bytes};
 use std::alloc::Global;
 
 /// Makes the rows of sorted messages, each with its times.
 pub(crate) fn rows_of(
     alloc: Global,
-    kept: Vec<Kept>,
-    times: &[Noted],
+    kept: Vec<StoredMessage>,
+    times: &[MessageTime],
 ) -> Result<Vec<HeardMessage>, Want>
     requires sorted { AreSorted kept.items }
     requires placed { (messages : List (List ℕ)) × ArePlaced messages kept.items }
@@ -34,7 +34,7 @@ pub(crate) fn rows_of(
 // Makes a row of each different one of sorted messages, and notes for each message's place the number of its row.
 fn blank_rows(
     alloc: Global,
-    kept: Vec<Kept>,
+    kept: Vec<StoredMessage>,
     numbers: &mut [usize],
 ) -> Result<Vec<HeardMessage>, Want>
     requires sorted { AreSorted kept.items }
@@ -77,7 +77,7 @@ fn is_last(rows: &[HeardMessage], message: &[u8]) -> bool
 
 // Adds each time to its message's row.
 #[tactic(auto, using(crate::proofs::RowLemmas::fill_more))]
-fn fill(rows: &mut [HeardMessage], numbers: &[usize], times: &[Noted]) -> Result<(), Want>
+fn fill(rows: &mut [HeardMessage], numbers: &[usize], times: &[MessageTime]) -> Result<(), Want>
     requires ascending { IsStrictlySortedBy (slice_cmp nat_cmp) (messages_of rows.old) }
     requires blank { map (filled []) rows.old ≡ rows.old }
     requires placed { All (λ noted. noted.place < length numbers.now) times.now }

@@ -30,7 +30,7 @@ pub(crate) struct SenderAddressName {
 
 /// Collects the names of all senders from hearings.
 #[derive(Drop)]
-pub struct SenderNames {
+pub struct SenderNameCollector {
     alloc: Global,
     held: Vec<SenderAddressName>,
 
@@ -38,7 +38,7 @@ pub struct SenderNames {
     places: Index,
 }
 
-impl Model for SenderNames {
+impl Model for SenderNameCollector {
     ghost use Rattle.std.specs.Prelude.{List};
     ghost use Rattle.mdns_listeners.specs.declared.sender_names.SenderAddressName.{SenderAddressName};
 
@@ -49,7 +49,7 @@ impl Model for SenderNames {
 
 /// The names of all senders.
 #[derive(Drop)]
-pub struct Names {
+pub struct SenderNames {
     // The address of each name, ascending.
     sources: Vec<SourceAddress>,
 
@@ -57,7 +57,7 @@ pub struct Names {
     names: Vec<Name>,
 }
 
-impl Model for Names {
+impl Model for SenderNames {
     ghost use Rattle.std.specs.Prelude.{◌≡◌, ℕ, List, length};
     ghost use Rattle.mdns_capture.specs.declared.source_address.SourceAddress.{SourceAddress};
 
@@ -68,12 +68,12 @@ impl Model for Names {
     ghost invariant = { λ a. length a.sources.items ≡ length a.names.items };
 }
 
-impl SenderNames {
+impl SenderNameCollector {
     /// Makes a collection of no names. It allocates nothing yet.
-    pub fn new(alloc: Global) -> SenderNames
+    pub fn new(alloc: Global) -> SenderNameCollector
         ensures { HoldsNames result [] }
     {
-        SenderNames {
+        SenderNameCollector {
             alloc,
             held: Vec::new(alloc),
             places: Index::new(alloc),
@@ -106,10 +106,10 @@ impl SenderNames {
 
     /// Sorts the names. After `Want` they are lost.
     #[tactic(auto, using(crate::proofs::HeldNameLemmas::for_finish))]
-    pub fn finish(self) -> Result<Names, Want>
+    pub fn finish(self) -> Result<SenderNames, Want>
         ensures { IfOk result (λ names. (heard : List Hearing) → HoldsNames self heard → ListsNames names heard) }
     {
-        let SenderNames {
+        let SenderNameCollector {
             alloc,
             held,
             places: _,
@@ -267,7 +267,7 @@ fn distinct(names: Vec<SenderAddressName>) -> Vec<SenderAddressName>
 }
 
 // Lists the addresses and the names.
-fn split(alloc: Global, held: Vec<SenderAddressName>) -> Result<Names, Want>
+fn split(alloc: Global, held: Vec<SenderAddressName>) -> Result<SenderNames, Want>
     ensures { IfOk result (λ names. (names.0 ≡ map (λ one. one.source) held.items) × (names.1 ≡ map (λ one. one.name) held.items)) }
 {
     let mut sources = Vec::with_capacity(alloc, held.len())?;
@@ -276,10 +276,10 @@ fn split(alloc: Global, held: Vec<SenderAddressName>) -> Result<Names, Want>
         sources.push(one.source)?;
         names.push(one.name)?;
     }
-    Ok(Names { sources, names })
+    Ok(SenderNames { sources, names })
 }
 
-impl Names {
+impl SenderNames {
     /// Returns the names that a sender goes by, in the order of their folded wire forms, each in its least spelling.
     pub fn names_of(&self, sender: &SourceAddress) -> &[Name]
         ensures { (heard : List Hearing) → ListsNames self.now heard → AreNames sender.now heard result.now }

@@ -5,8 +5,8 @@ ghost use Rattle.mdns_capture.specs.Savefile.{PacketAt};
 ghost use Rattle.mdns_survey.specs.{Outcomes.{Outcome}, Readings.{HaveSpans}};
 ghost use Rattle.mdns_listeners.specs.{Listeners.{Gathered}, Warned.{WarnsOf}};
 
-use crate::beside::Beside;
 use crate::groups::Groups;
+use crate::hearer_and_messages::HearerAndMessages;
 use crate::listeners::{MessageCollector, heard_by};
 use crate::together::pairs_together;
 use crate::warnings::push_warnings;
@@ -30,7 +30,7 @@ pub struct Warned<'a, Q> {
 impl<'a, Q: Question<Collector = Filtered<MessageChronicle>>> Question for Warned<'a, Q> {
     ghost use Rattle.mdns_listeners.specs.{Listeners.{Gathered}, Warned.{asked_warned}};
 
-    type Collector = Beside<Filtered<MessageChronicle>>;
+    type Collector = HearerAndMessages<Filtered<MessageChronicle>>;
 
     ghost asked = { λ warned. asked_warned warned.groups.now (Q.asked warned.question) };
 
@@ -40,8 +40,11 @@ impl<'a, Q: Question<Collector = Filtered<MessageChronicle>>> Question for Warne
     ghost Heard = { λ warned now packets outcomes. Q.Heard warned.question now.hearer packets outcomes
         × Gathered warned.groups.now.by_file now.messages packets outcomes };
 
-    fn collector(&self, alloc: Global) -> Result<Beside<Filtered<MessageChronicle>>, Want> {
-        Ok(Beside {
+    fn collector(
+        &self,
+        alloc: Global,
+    ) -> Result<HearerAndMessages<Filtered<MessageChronicle>>, Want> {
+        Ok(HearerAndMessages {
             hearer: self.question.collector(alloc)?,
             messages: MessageCollector::new(alloc, self.groups.by_file())?,
         })
@@ -56,11 +59,11 @@ impl<'a, Q: Answer + Question<Collector = Filtered<MessageChronicle>> + Drop> An
         self,
         alloc: Global,
         preface: String,
-        collector: Beside<Filtered<MessageChronicle>>,
+        collector: HearerAndMessages<Filtered<MessageChronicle>>,
         readings: &[Reading],
         out: &mut W,
     ) -> Result<Option<String>, SurveyFault> {
-        let Beside { hearer, messages } = collector;
+        let HearerAndMessages { hearer, messages } = collector;
         let mut before = preface;
         match warn(&mut before, self.groups, messages, readings) {
             Ok(()) => self.question.write(alloc, before, hearer, readings, out),

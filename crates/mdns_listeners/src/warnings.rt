@@ -1,5 +1,5 @@
-//! Lines that warn that two listeners' clocks don't agree, and one of all pairs of which nothing shows whether they do. After `Want`
-//! the contents of `to` are not specified.
+//! Lines that warn that two listeners' clocks don't agree, and one of all pairs of which nothing shows whether they do. After
+//! `Want` the contents of `to` are not specified.
 
 ghost use Rattle.std.specs.{Prelude.{◌≡◌, ◌++◌, map, OnOk, codes, string_bytes}, List.{count_by, flat_map}};
 ghost use Rattle.mdns_listeners.specs.Warnings.{agree, apart_words, counts_text, is_untold, line_of_warned, name_text, pairs_word, untold_text};

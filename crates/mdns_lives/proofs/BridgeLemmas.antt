@@ -11,10 +11,10 @@ use Rattle.mdns_lives.specs.declared.life.{RecordHearing.{RecordHearing}, Life.{
 use Rattle.mdns_lives.specs.declared.life.EndReason.TheVariants.{Expired, Goodbye, Flushed}
 use Rattle.mdns_lives.specs.Lives.{heard_until, IsLiveThen, IsStruckAt, IsEndFor, EndsThen, IsGoodbyeOf, IsTakenBack, AreLives}
 use Rattle.mdns_lives.specs.History.{heard_of, IsHistory, AreFlushes, IsUpTo, IsLastAt, IsLiveAt, IsFlushEnd, IsEndBy, EndsBy, AreLivesBy}
-use Rattle.mdns_lives.specs.LifeWalk.{told}
+use Rattle.mdns_lives.specs.LifeWalk.{with_taken_back}
 use Rattle.mdns_cache.proofs.StandsPartLemmas.{from_map}
 use Rattle.mdns_lives.proofs.{FilterLemmas.{from-filter, to-filter}, OrderLemmas.{heard-same, same_moment, same_ttl}}
-use Rattle.mdns_lives.proofs.GoodbyeLemmas.{told-apart, told-in_one, told-taken}
+use Rattle.mdns_lives.proofs.GoodbyeLemmas.{with_taken_back-apart, with_taken_back-in_one, with_taken_back-taken}
 
 -- ---- the hearings until a moment
 
@@ -174,26 +174,26 @@ module _ (some_last : SomeLast) (heard : List Hearing) (key : Key) (history : Li
   -- ---- the lives
 
   pub AreLives-from_history : (goodbye : Option Moment) → IsGoodbyeOf heard key goodbye → (lives : List Life)
-      → AreLivesBy history flushes lives → AreLives heard key (map (told goodbye) lives)
+      → AreLivesBy history flushes lives → AreLives heard key (map (with_taken_back goodbye) lives)
   AreLives-from_history goodbye is lives are = record {
-    apart = told-apart goodbye lives are.apart;
-    exactly = λ now. let same = told-in_one goodbye lives now in
+    apart = with_taken_back-apart goodbye lives are.apart;
+    exactly = λ now. let same = with_taken_back-in_one goodbye lives now in
         (λ w. same.1 ((are.exactly now).0 (live-into now w)), λ w. live-from now ((are.exactly now).1 (same.0 w)));
-    ends = λ life m. let w = from_map (told goodbye) lives life m in
+    ends = λ life m. let w = from_map (with_taken_back goodbye) lives life m in
         let e = ends-from w.0 (are.ends w.0 w.2) in
         subst (EndsThen heard key) w.1
         (record { last = e.last; is_last = e.is_last; moment = e.moment; ttl = e.ttl; ends = e.ends });
-    goodbyes = λ life m. let w = from_map (told goodbye) lives life m in
-        subst (IsTakenBack heard key) w.1 (told-taken heard key goodbye is w.0);
+    goodbyes = λ life m. let w = from_map (with_taken_back goodbye) lives life m in
+        subst (IsTakenBack heard key) w.1 (with_taken_back-taken heard key goodbye is w.0);
   }
 
-  pub AreLivesBy-from_lives : (lives : List Life) → AreLives heard key lives → AreLivesBy history flushes (map (told None) lives)
+  pub AreLivesBy-from_lives : (lives : List Life) → AreLives heard key lives → AreLivesBy history flushes (map (with_taken_back None) lives)
   AreLivesBy-from_lives lives are = record {
-    apart = told-apart None lives are.apart;
-    exactly = λ now. let same = told-in_one None lives now in
+    apart = with_taken_back-apart None lives are.apart;
+    exactly = λ now. let same = with_taken_back-in_one None lives now in
         (λ w. same.1 ((are.exactly now).0 (live-from now w)), λ w. live-into now ((are.exactly now).1 (same.0 w)));
-    ends = λ life m. let w = from_map (told None) lives life m in
+    ends = λ life m. let w = from_map (with_taken_back None) lives life m in
         let e = ends-into w.0 (are.ends w.0 w.2) in
         subst (EndsBy history flushes) w.1 (record { is_last = e.is_last; ends = e.ends });
-    untold = λ life m. let w = from_map (told None) lives life m in subst (λ (x : Life). x.taken_back ≡ None) w.1 refl;
+    untold = λ life m. let w = from_map (with_taken_back None) lives life m in subst (λ (x : Life). x.taken_back ≡ None) w.1 refl;
   }

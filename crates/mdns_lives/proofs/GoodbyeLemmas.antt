@@ -8,7 +8,7 @@ use Rattle.mdns_cache.specs.Live.{IsNewest, SameHearings}
 use Rattle.mdns_cache.proofs.{ContentsLemmas.{newer}, StandsForLemmas.{newest-append}, RepeatLemmas.{nothing}}
 use Rattle.mdns_cache.proofs.StandsPartLemmas.{Contains-nil, Contains-head, Contains-cases}
 use Rattle.mdns_lives.specs.declared.life.Life.{Life}
-use Rattle.mdns_lives.specs.{LifeWalk.{told}, Lives.{AreApart, AreApartAfter, IsGoodbyeOf, IsInOne, IsTakenBack, goodbyes_of}}
+use Rattle.mdns_lives.specs.{LifeWalk.{with_taken_back}, Lives.{AreApart, AreApartAfter, IsGoodbyeOf, IsInOne, IsTakenBack, goodbyes_of}}
 use Rattle.mdns_lives.proofs.FilterLemmas.{filter-same}
 
 -- ---- newest hearings
@@ -65,10 +65,10 @@ taken-same heard others key life same u goodbye =
       λ w. (u goodbye).1 (goodbye-same others heard key (Some goodbye) back w.0, w.1),
     )
 
-pub told-taken : (heard : List Hearing) (key : Key) (o : Option Moment) → IsGoodbyeOf heard key o → (life : Life)
-    → IsTakenBack heard key (told o life)
-told-taken heard key None none life goodbye = grind (arith, Contains-nil)
-told-taken heard key (Some latest) newest life goodbye = (
+pub with_taken_back-taken : (heard : List Hearing) (key : Key) (o : Option Moment) → IsGoodbyeOf heard key o → (life : Life)
+    → IsTakenBack heard key (with_taken_back o life)
+with_taken_back-taken heard key None none life goodbye = grind (arith, Contains-nil)
+with_taken_back-taken heard key (Some latest) newest life goodbye = (
   λ is. grind (arith, nat_tests),
   λ w. (let same = one_newest (goodbyes_of heard key) latest goodbye newest w.0 in grind (arith, nat_tests)),
 )
@@ -76,14 +76,14 @@ told-taken heard key (Some latest) newest life goodbye = (
 -- ---- they are apart, and at the same moments
 
 module _ (o : Option Moment) where
-  told-after : (low : ℕ) (lives : List Life) → AreApartAfter low lives → AreApartAfter low (map (told o) lives)
-  told-after low [] a = tt
-  told-after low (life ∷ lives) a = (a.0, a.1, told-after life.until lives a.2)
+  with_taken_back-after : (low : ℕ) (lives : List Life) → AreApartAfter low lives → AreApartAfter low (map (with_taken_back o) lives)
+  with_taken_back-after low [] a = tt
+  with_taken_back-after low (life ∷ lives) a = (a.0, a.1, with_taken_back-after life.until lives a.2)
 
-  pub told-apart : (lives : List Life) → AreApart lives → AreApart (map (told o) lives)
-  told-apart [] a = tt
-  told-apart (life ∷ lives) a = (a.0, told-after life.until lives a.1)
+  pub with_taken_back-apart : (lives : List Life) → AreApart lives → AreApart (map (with_taken_back o) lives)
+  with_taken_back-apart [] a = tt
+  with_taken_back-apart (life ∷ lives) a = (a.0, with_taken_back-after life.until lives a.1)
 
-  pub told-in_one : (lives : List Life) (now : ℕ) → IsInOne (map (told o) lives) now ↔ IsInOne lives now
-  told-in_one [] now = (λ w. w, λ w. w)
-  told-in_one (life ∷ lives) now = grind (arith, told-in_one lives now)
+  pub with_taken_back-in_one : (lives : List Life) (now : ℕ) → IsInOne (map (with_taken_back o) lives) now ↔ IsInOne lives now
+  with_taken_back-in_one [] now = (λ w. w, λ w. w)
+  with_taken_back-in_one (life ∷ lives) now = grind (arith, with_taken_back-in_one lives now)

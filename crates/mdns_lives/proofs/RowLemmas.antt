@@ -15,7 +15,7 @@ use Rattle.mdns_join.proofs.FlushWalkLemmas.{HasLater}
 use Rattle.mdns_lives.specs.declared.{account.Account.{Account}, life.RecordHearing.{RecordHearing}, life.Life.{Life}}
 use Rattle.mdns_lives.specs.{Account.{IsAccount}, Lives.{AreLives, IsGoodbyeOf}, History.{IsHeardAs, IsHistory, AreFlushes, AreLivesBy}}
 use Rattle.mdns_lives.specs.{Seconds.{AreEndsOf, AreEndsIn, ends_at, listed_ends}, laws.Account.{account-laws}}
-use Rattle.mdns_lives.specs.{LentLives.{flushes_held, row_held, rows_by}, LifeWalk.{told, walked}}
+use Rattle.mdns_lives.specs.{LentLives.{flushes_held, row_held, rows_by}, LifeWalk.{walked, with_taken_back}}
 use Rattle.mdns_lives.specs.Chronicle.{Accounts, Chronicles, AreAllLives, latest_in, history_in, goodbye_in, IsFlushIn, rows_of}
 use Rattle.mdns_lives.proofs.{EndsLemmas.{AreLivesBy-from_ends}, ListedLemmas.{listed-in_order, listed-among, listed-between}}
 use Rattle.mdns_lives.proofs.{SomeLivesLemmas.{some_history}, WalkLemmas.{AreLivesBy-walked}}
@@ -43,7 +43,7 @@ flush_in-held (Some ms) m = (λ h. h, λ h. h)
 abbrev pub ByHistory : Type 0
 ByHistory = (heard : List Hearing) (key : Key) (history : List RecordHearing) (flushes : List ℕ) (goodbye : Option Moment)
     (lives : List Life) → IsHistory heard key history → AreFlushes heard key.set flushes → IsGoodbyeOf heard key goodbye
-    → AreLivesBy history flushes lives → AreLives heard key (map (told goodbye) lives)
+    → AreLivesBy history flushes lives → AreLives heard key (map (with_taken_back goodbye) lives)
 
 module _ (by_history : ByHistory) (c : Accounts) (heard : List Hearing) (s : Chronicles c heard) where
   module _ (k : Key) (a : Account) (m : Contains c.records (k, a)) where
@@ -73,7 +73,7 @@ module _ (by_history : ByHistory) (c : Accounts) (heard : List Hearing) (s : Chr
     goodbye_of_entry : IsGoodbyeOf heard k a.goodbye
     goodbye_of_entry = subst (λ (o : Option Account). IsGoodbyeOf heard k (goodbye_in o)) at (s.goodbyes k)
 
-    lives_of_entry : AreLives heard k (map (told a.goodbye) (walked (flushes_held c.flushes k.set) (listed_ends a.history)))
+    lives_of_entry : AreLives heard k (map (with_taken_back a.goodbye) (walked (flushes_held c.flushes k.set) (listed_ends a.history)))
     lives_of_entry =
         let all = some_history heard k in
         let listed = listed_ends a.history in
@@ -103,12 +103,12 @@ module _ (by_history : ByHistory) (c : Accounts) (heard : List Hearing) (s : Chr
         let e = w.0 in
         subst (λ (row : Row). IsLast heard (key_of_last row.0) row.0 × AreLives heard (key_of_last row.0) row.1) w.1
         (subst (λ (k : Key). IsLast heard k e.1.latest
-        × AreLives heard k (map (told e.1.goodbye) (walked (flushes_held c.flushes e.0.set) (listed_ends e.1.history))))
+        × AreLives heard k (map (with_taken_back e.1.goodbye) (walked (flushes_held c.flushes e.0.set) (listed_ends e.1.history))))
         (sym (own e.0 e.1 w.2))
         (last_of_entry e.0 e.1 w.2, lives_of_entry e.0 e.1 w.2));
     all = λ key l last.
         let w = entry_of_last key l last in
-        let lives = map (told w.0.goodbye) (walked (flushes_held c.flushes key.set) (listed_ends w.0.history)) in (
+        let lives = map (with_taken_back w.0.goodbye) (walked (flushes_held c.flushes key.set) (listed_ends w.0.history)) in (
           lives,
           grind (arith, Contains-map (row_held c.flushes) c.records (key, w.0) w.1),
         );
@@ -131,7 +131,7 @@ module _ (old new : List (RecordSet × List ℕ)) (entries rest : List (Key × A
 
   -- the next row, and those after it
   pub row_next : HasLater key.set old new → (last : Latest) (lives : List Life) → last ≡ a.latest
-      → lives ≡ map (told a.goodbye) (walked (flushes_held old key.set) (listed_ends a.history))
+      → lives ≡ map (with_taken_back a.goodbye) (walked (flushes_held old key.set) (listed_ends a.history))
       → rows_by old entries ≡ (last, lives) ∷ rows_by new rest
   row_next later last lives e f =
       grind (arith, rows_later old new key rest (sorted_above key_cmp-total key_cmp-exact (key, a) rest sorted_is) later)

@@ -7,7 +7,7 @@ use Rattle.mdns_message.specs.laws.Resource.{key_cmp-total, key_cmp-exact}
 use Rattle.join_map.specs.laws.Entries.{is_Equal}
 use Rattle.mdns_cache.specs.Live.{flush_moments}
 use Rattle.mdns_lives.specs.{declared.life.RecordHearing.{RecordHearing}, declared.life.Life.{Life}, Lives.{AreLives, goodbyes_of}}
-use Rattle.mdns_lives.specs.{History.{heard_of, IsHeardAs, IsHistory, AreFlushes, IsUpTo, AreInOrder}, LifeWalk.{told, walked}}
+use Rattle.mdns_lives.specs.{History.{heard_of, IsHeardAs, IsHistory, AreFlushes, IsUpTo, AreInOrder}, LifeWalk.{walked, with_taken_back}}
 use Rattle.mdns_cache.proofs.StandsPartLemmas.{Contains-nil, Contains-head, Contains-later, Contains-cases}
 use Rattle.mdns_lives.proofs.{OrderLemmas.{IsUpTo-onward, either_order, first_least, in_order-rest}, WalkLemmas.{AreLivesBy-walked}}
 use Rattle.mdns_lives.proofs.{BridgeLemmas.{SomeLast, AreLives-from_history}, GoodbyeLemmas.{some_newest}}
@@ -115,7 +115,7 @@ some_lives last heard key are =
     let h = some_history heard key in
     let flushes = flush_moments heard key.set in
     let goodbye = some_newest (goodbyes_of heard key) in (
-      map (told goodbye.0) (walked flushes h.history),
+      map (with_taken_back goodbye.0) (walked flushes h.history),
       AreLives-from_history last heard key h.history flushes h.is_history are goodbye.0 goodbye.1 (walked flushes h.history)
           (AreLivesBy-walked flushes h.history h.in_order),
     )

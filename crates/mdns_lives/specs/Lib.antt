@@ -5,7 +5,7 @@ pub mod Each
 pub mod Heard
 pub mod History
 pub mod Lives
-pub mod Packed
+pub mod PackedHearing
 pub mod MessageChronicle
 pub mod LentLives
 pub mod Seconds

@@ -55,8 +55,8 @@ taken_back_in life None = None
 taken_back_in life (Some goodbye) = if takes_back life goodbye then Some goodbye else None
 
 -- the life, which tells the record's latest goodbye if it takes it back
-abbrev pub told : Option Moment → Life → Life
-told goodbye life = record {
+abbrev pub with_taken_back : Option Moment → Life → Life
+with_taken_back goodbye life = record {
   from = life.from;
   last = life.last;
   until = life.until;

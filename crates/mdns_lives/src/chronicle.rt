@@ -11,9 +11,9 @@ ghost use Rattle.mdns_lives.specs.Chronicle.{AreAccounts, Chronicles, accounts, 
 use crate::account::Account;
 use crate::flush_moments::FlushMoments;
 use crate::flushes::Flushes;
+use crate::hearing_at_moments::HearingAtMoments;
 use crate::lives::Lives;
-use crate::repeats::Repeats;
-use crate::waiting::{MomentsAtOnce, Waiting};
+use crate::waiting_moments::{MomentsAtOnce, WaitingMoments};
 use join_map::{JoinMap, Semilattice, Unsorted};
 use mdns_cache::guesses::Guesses;
 use mdns_capture::Moment;
@@ -90,7 +90,7 @@ impl Chronicle {
     pub(crate) fn hear_at_each(
         &mut self,
         hearing: BorrowedHearing<'_>,
-        waiting: &Waiting,
+        waiting: &WaitingMoments,
     ) -> Result<(), Want>
         ensures { OnOk result ((heard : List Hearing) → Chronicles self.old heard
             → Chronicles self.new (heard ++ at_each waiting.now (hearing_lent hearing.entry))) }
@@ -139,7 +139,7 @@ impl Chronicle {
         ensures held { AreAccounts self.new }
     {
         let hashes = hearing.hashes;
-        let repeats = Repeats { hearing, moments };
+        let repeats = HearingAtMoments { hearing, moments };
         self.hear_record(hashes.record, &repeats)?;
         self.hear_flush(hashes.set, &repeats)?;
         self.newest = newer(self.newest, Some(hearing.moment));
@@ -148,7 +148,7 @@ impl Chronicle {
 
     // Joins hearings of one record into its account, which is looked up by the hash unless its place is guessed, and returns
     // the place.
-    fn hear_record(&mut self, hash: u64, repeats: &Repeats) -> Result<usize, Want>
+    fn hear_record(&mut self, hash: u64, repeats: &HearingAtMoments) -> Result<usize, Want>
         ensures ok { OnOk result (self.new ≡ accounts (joined key_cmp join_account self.old.records
             (accounts_each (hearing_lent repeats.now.hearing.now) repeats.now.moments).records)
             self.old.flushes self.old.newest) }
@@ -165,7 +165,7 @@ impl Chronicle {
     // Joins the moments of hearings with the cache-flush bit into those of their record set, which is looked up by the hash
     // unless its place is guessed, and returns the place; 0 where nothing was to be joined.
     #[tactic(auto, using(mdns_cache::proofs::GatheringLemmas::any_fit, crate::proofs::EachLemmas::flushes_gathered, crate::proofs::PartLemmas::gathered_accounts))]
-    fn hear_flush(&mut self, hash: u64, repeats: &Repeats) -> Result<usize, Want>
+    fn hear_flush(&mut self, hash: u64, repeats: &HearingAtMoments) -> Result<usize, Want>
         ensures ok { OnOk result (self.new ≡ accounts self.old.records (joined set_key_cmp union self.old.flushes
             (flushes_each (hearing_lent repeats.now.hearing.now) repeats.now.moments)) self.old.newest) }
         ensures err { OnErr result (self.new ≡ self.old) }

@@ -10,7 +10,7 @@ ghost use Rattle.mdns_lives.specs.{Seconds.{seconds_of}, laws.Seconds.{seconds-l
 
 use crate::flush_moments::sort_runs;
 use crate::life::RecordHearing;
-use crate::packed::Packed;
+use crate::packed_hearing::PackedHearing;
 use join_map::{Join, JoinOwn, Semilattice};
 use mdns_capture::Moment;
 use mdns_join::Latest;
@@ -34,7 +34,7 @@ const SHORT: usize = 32;
 /// dropped, as long as more than 32 are left. n hearings take about n log n steps in all.
 #[derive(Drop)]
 pub struct History {
-    items: Vec<Packed>,
+    items: Vec<PackedHearing>,
 }
 
 impl Model for History {
@@ -91,7 +91,7 @@ impl History {
     }
 
     // Adds hearings one by one. After `Want` some of them may have been added.
-    fn add_all(&mut self, items: &[Packed]) -> Result<(), Want>
+    fn add_all(&mut self, items: &[PackedHearing]) -> Result<(), Want>
         ensures ok { OnOk result (self.new ≡ join_seconds self.old (seconds_of items.now)) }
         ensures err { OnErr result (JoinsFirst self.old items.now self.new) }
     {
@@ -112,7 +112,7 @@ impl History {
     }
 
     /// Returns hearings with the same value, in the order of their moments, then TTLs; `None` where they aren't held so.
-    pub(crate) fn in_order(&self) -> Option<&[Packed]>
+    pub(crate) fn in_order(&self) -> Option<&[PackedHearing]>
         ensures in_order { IfSome result (λ items. AreInOrder items.now) }
         ensures same { IfSome result (λ items. seconds_of items.now ≡ self.now) }
     {
@@ -125,7 +125,7 @@ impl History {
 
     /// Copies the hearings in the order of their moments, then TTLs.
     #[tactic(auto, using(crate::proofs::SecondsLemmas::seconds_of_moved, crate::proofs::SortedLemmas::AreInOrder_from_sorted))]
-    pub(crate) fn sorted(&self, alloc: Global) -> Result<Vec<Packed>, Want>
+    pub(crate) fn sorted(&self, alloc: Global) -> Result<Vec<PackedHearing>, Want>
         ensures in_order { IfOk result (λ sorted. AreInOrder sorted.items) }
         ensures same { IfOk result (λ sorted. seconds_of sorted.items ≡ self.now) }
     {
@@ -198,10 +198,10 @@ fn join_latest(
 // room for more.
 fn with_each(
     alloc: Global,
-    items: &[Packed],
+    items: &[PackedHearing],
     ttl: u32,
     moments: &[Moment],
-) -> Result<Vec<Packed>, Want>
+) -> Result<Vec<PackedHearing>, Want>
     ensures items { IfOk result (λ copied. copied.items ≡ items.now ++ heard_each ttl moments.now) }
     ensures capacity { IfOk result (λ copied. vec_capacity copied ≡ vec_len copied) }
 {
@@ -214,7 +214,7 @@ fn with_each(
 }
 
 // Adds a hearing to a list as `History::add` does.
-fn push_one(items: &mut Vec<Packed>, heard: RecordHearing) -> Result<(), Want>
+fn push_one(items: &mut Vec<PackedHearing>, heard: RecordHearing) -> Result<(), Want>
     ensures ok { OnOk result (seconds_of items.new.items ≡ join_seconds (seconds_of items.old.items) (only heard)) }
     ensures err { OnErr result (seconds_of items.new.items ≡ seconds_of items.old.items) }
     ensures room { OnOk result (HasRoomAfter (vec_capacity items.old) (vec_capacity items.new) (vec_len items.new)) }
@@ -222,14 +222,14 @@ fn push_one(items: &mut Vec<Packed>, heard: RecordHearing) -> Result<(), Want>
         → IsRoomFor (seconds_of items.new.items) (vec_len items.new) (vec_capacity items.new) }
 {
     make_room(items, 1)?;
-    items.push_reserved(Packed::of(heard));
+    items.push_reserved(PackedHearing::of(heard));
     Ok(())
 }
 
 // Adds a hearing at each of some moments to a list as `History::add_own` does.
 #[tactic(auto, using(crate::proofs::EachLemmas::room_appended, crate::proofs::SecondsLemmas::seconds_of_append))]
 fn push_own(
-    items: &mut Vec<Packed>,
+    items: &mut Vec<PackedHearing>,
     alloc: Global,
     key: &Key,
     hearing: &BorrowedHearing,
@@ -286,7 +286,7 @@ pub(crate) fn copy_of<T: Copy>(alloc: Global, items: &[T]) -> Result<Vec<T>, Wan
 }
 
 // Makes room for so many hearings. A long list is thinned first: it grows only if most of it is left.
-fn make_room(items: &mut Vec<Packed>, more: usize) -> Result<(), Want>
+fn make_room(items: &mut Vec<PackedHearing>, more: usize) -> Result<(), Want>
     requires { more ≤ 64 }
     ensures same { seconds_of items.new.items ≡ seconds_of items.old.items }
     ensures room { OnOk result (vec_len items.new + more ≤ vec_capacity items.new) }
@@ -309,14 +309,14 @@ fn make_room(items: &mut Vec<Packed>, more: usize) -> Result<(), Want>
     Ok(())
 }
 
-fn push_each(items: &mut Vec<Packed>, ttl: u32, moments: &[Moment])
+fn push_each(items: &mut Vec<PackedHearing>, ttl: u32, moments: &[Moment])
     requires { vec_len items.old + length moments.now ≤ vec_capacity items.old }
     ensures items { items.new.items ≡ items.old.items ++ heard_each ttl moments.now }
     ensures len { vec_len items.new ≡ vec_len items.old + length moments.now }
     ensures capacity { vec_capacity items.new ≡ vec_capacity items.old }
 {
     for moment in moments {
-        items.push_reserved(Packed::of(RecordHearing {
+        items.push_reserved(PackedHearing::of(RecordHearing {
             moment: *moment,
             ttl,
         }));
@@ -326,7 +326,7 @@ fn push_each(items: &mut Vec<Packed>, ttl: u32, moments: &[Moment])
 // Sorts hearings in place, and drops those between the first and the last of their second, as long as more than `SHORT`
 // are left.
 #[tactic(auto, using(std::proofs::lemmas::List::Sorted::length_permutation, crate::proofs::RoomLemmas::few, crate::proofs::SecondsLemmas::for_thin, crate::proofs::SortedLemmas::for_thin, crate::proofs::ThinLemmas::for_thin))]
-fn thin(items: &mut Vec<Packed>)
+fn thin(items: &mut Vec<PackedHearing>)
     ensures same { seconds_of items.new.items ≡ seconds_of items.old.items }
     ensures in_order { AreInOrder items.new.items }
     ensures short { (vec_len items.new ≤ 32) ⊎ (vec_len items.new ≤ 2 * length (seconds_of items.new.items)) }
@@ -346,7 +346,7 @@ fn thin(items: &mut Vec<Packed>)
 
 // Moves the hearing at a place behind the first `kept` ones, or, where the last two of these are of its second and more
 // than `SHORT` are left, in place of the last one. Returns how many are kept now.
-fn keep(items: &mut Vec<Packed>, kept: usize, place: usize) -> usize
+fn keep(items: &mut Vec<PackedHearing>, kept: usize, place: usize) -> usize
     requires kept { kept ≤ place }
     requires place { place < length items.old.items }
     ensures len { length items.new.items ≡ length items.old.items }
@@ -370,7 +370,7 @@ fn keep(items: &mut Vec<Packed>, kept: usize, place: usize) -> usize
 }
 
 // Returns whether no hearing is earlier than the one before it, or has a smaller TTL at the same moment.
-fn ascend(items: &[Packed]) -> bool
+fn ascend(items: &[PackedHearing]) -> bool
     ensures { IsTrue result → AreInOrder items.now }
 {
     let Some((first, rest)) = items.split_first() else {

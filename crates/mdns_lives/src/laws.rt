@@ -5,7 +5,7 @@ ghost use Rattle.mdns_capture.specs.declared.moment.Moment.{Moment};
 ghost use Rattle.mdns_message.specs.{declared.hearing.Hearing.{Hearing}, declared.key.Key.{Key}, Resource.{IsOf}};
 ghost use Rattle.mdns_lives.specs.declared.life.{RecordHearing.{RecordHearing}, Life.{Life}};
 ghost use Rattle.mdns_lives.specs.{History.{IsHistory, AreFlushes, AreLivesBy}, Seconds.{AreEndsOf}, Chronicle.{AreAllLives, live_rows}};
-ghost use Rattle.mdns_lives.specs.{Lives.{AreLives, IsDuring, IsGoodbyeOf, IsLiveThen, heard_before}, LifeWalk.{told}};
+ghost use Rattle.mdns_lives.specs.{Lives.{AreLives, IsDuring, IsGoodbyeOf, IsLiveThen, heard_before}, LifeWalk.{with_taken_back}};
 ghost use Rattle.mdns_lives.specs.Since.{AreLiveSince, all_since_rows};
 ghost use Rattle.mdns_join.specs.declared.latest.Latest.{Latest};
 ghost use Rattle.mdns_cache.specs.Live.{AreLiveRecords, IsEnd, IsLive, SameHearings};
@@ -29,10 +29,10 @@ pub fn lives_by_ends()
 pub fn lives_by_history()
     ensures into { (heard : List Hearing) (key : Key) (history : List RecordHearing) (flushes : List ℕ) (goodbye : Option Moment)
         (lives : List Life) → IsHistory heard key history → AreFlushes heard key.set flushes → IsGoodbyeOf heard key goodbye
-        → AreLivesBy history flushes lives → AreLives heard key (map (told goodbye) lives) }
+        → AreLivesBy history flushes lives → AreLives heard key (map (with_taken_back goodbye) lives) }
     ensures back { (heard : List Hearing) (key : Key) (history : List RecordHearing) (flushes : List ℕ) (lives : List Life)
         → IsHistory heard key history → AreFlushes heard key.set flushes
-        → AreLives heard key lives → AreLivesBy history flushes (map (told None) lives) }
+        → AreLives heard key lives → AreLivesBy history flushes (map (with_taken_back None) lives) }
 {
     one_last_hearing();
 }

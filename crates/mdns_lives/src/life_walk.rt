@@ -3,12 +3,12 @@
 ghost use Rattle.std.specs.Prelude.{◌≡◌, ◌+◌, ◌++◌, ◌∷◌, ℕ, List, map, IfOk, OnOk};
 ghost use Rattle.mdns_capture.specs.Limits.{second};
 ghost use Rattle.mdns_lives.specs.{declared.life.RecordHearing.{RecordHearing}, History.{AreInOrder}, Lives.{AreApart}};
-ghost use Rattle.mdns_lives.specs.LifeWalk.{GiveSameEnds, life_after, lives_from, takes_back, told, walked};
+ghost use Rattle.mdns_lives.specs.LifeWalk.{GiveSameEnds, life_after, lives_from, takes_back, walked, with_taken_back};
 ghost use Rattle.mdns_join.specs.{Kept.{IsAscending, IsAscendingAbove}, Nanos.{nanos_of}};
 ghost use Rattle.mdns_cache.specs.LentRecords.{end_of};
 
 use crate::life::{EndReason, Life, RecordHearing};
-use crate::packed::Packed;
+use crate::packed_hearing::PackedHearing;
 use mdns_cache::lifetime::lifetime_nanos;
 use mdns_capture::Moment;
 use mdns_capture::moment::SECOND;
@@ -23,14 +23,14 @@ const NEAR: usize = 4;
 /// moments of its record set, ascending. The one that takes the latest goodbye back tells it.
 pub(crate) fn lives_of(
     alloc: Global,
-    heard: &[Packed],
+    heard: &[PackedHearing],
     flushes: &[Moment],
     goodbye: Option<Moment>,
 ) -> Result<Vec<Life>, Want>
     requires heard { AreInOrder heard.now }
     requires flushes { IsAscending (nanos_of flushes.now) }
     ensures apart { IfOk result (λ lives. AreApart lives.items) }
-    ensures walked { IfOk result (λ lives. lives.items ≡ map (told goodbye) (walked (nanos_of flushes.now) heard.now)) }
+    ensures walked { IfOk result (λ lives. lives.items ≡ map (with_taken_back goodbye) (walked (nanos_of flushes.now) heard.now)) }
 {
     let mut lives = Vec::with_capacity(alloc, 1)?;
     let Some((first, rest)) = heard.split_first() else {
@@ -46,14 +46,14 @@ pub(crate) fn lives_of(
 fn push_lives(
     lives: &mut Vec<Life>,
     life: Life,
-    heard: &[Packed],
+    heard: &[PackedHearing],
     flushes: &[Moment],
     goodbye: Option<Moment>,
 ) -> Result<(), Want>
     requires heard { AreInOrder heard.now }
     requires flushes { IsAscending (nanos_of flushes.now) }
     ensures { OnOk result (lives.new.items
-        ≡ lives.old.items ++ map (told goodbye) (lives_from (nanos_of flushes.now) life heard.now)) }
+        ≡ lives.old.items ++ map (with_taken_back goodbye) (lives_from (nanos_of flushes.now) life heard.now)) }
 {
     let mut life = life;
     let mut later = flushes;
@@ -62,7 +62,7 @@ fn push_lives(
         later = later_than(later, next.moment);
         life = take_next(lives, life, next, later, goodbye)?;
     }
-    lives.push(told(goodbye, life))?;
+    lives.push(with_taken_back(goodbye, life))?;
     Ok(())
 }
 
@@ -76,8 +76,8 @@ fn take_next(
 ) -> Result<Life, Want>
     requires { IsAscendingAbove (next.moment.nanos + second) (nanos_of later.now) }
     ensures { IfOk result (λ taken. (hs : List RecordHearing)
-        → lives.new.items ++ map (told goodbye) (lives_from (nanos_of later.now) taken hs)
-        ≡ lives.old.items ++ map (told goodbye) (lives_from (nanos_of later.now) life (next ∷ hs))) }
+        → lives.new.items ++ map (with_taken_back goodbye) (lives_from (nanos_of later.now) taken hs)
+        ≡ lives.old.items ++ map (with_taken_back goodbye) (lives_from (nanos_of later.now) life (next ∷ hs))) }
 {
     let after = life_after(later, next);
     if next.moment.nanos() <= life.until {
@@ -86,7 +86,7 @@ fn take_next(
             ..after
         });
     }
-    lives.push(told(goodbye, life))?;
+    lives.push(with_taken_back(goodbye, life))?;
     Ok(after)
 }
 
@@ -98,8 +98,8 @@ fn takes_back(life: &Life, goodbye: Moment) -> bool
 }
 
 // Tells the record's latest goodbye in the life that takes it back.
-fn told(goodbye: Option<Moment>, life: Life) -> Life
-    ensures { result ≡ told goodbye life }
+fn with_taken_back(goodbye: Option<Moment>, life: Life) -> Life
+    ensures { result ≡ with_taken_back goodbye life }
 {
     let taken_back = goodbye.filter(|goodbye| takes_back(&life, *goodbye));
     Life { taken_back, ..life }

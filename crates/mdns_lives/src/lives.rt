@@ -6,7 +6,7 @@ ghost use Rattle.mdns_message.specs.{Resource.{key_cmp, set_key_cmp}, declared.h
 ghost use Rattle.mdns_cache.specs.{Contents.{later_moment}, Live.{IsNewest}, LentRecords.{last_lent}};
 ghost use Rattle.mdns_lives.specs.{Account.{join_account}};
 ghost use Rattle.mdns_lives.specs.{Chronicle.{AreAccounts, AreAllLives, Chronicles, accounts, join_accounts, rows_of}, Lives.{AreApart}};
-ghost use Rattle.mdns_lives.specs.{LentLives.{LosesFirst, row_lent}, Seconds.{listed_ends}, LifeWalk.{told, walked}};
+ghost use Rattle.mdns_lives.specs.{LentLives.{LosesFirst, row_lent}, Seconds.{listed_ends}, LifeWalk.{walked, with_taken_back}};
 ghost use Rattle.mdns_join.specs.{Kept.{IsAscending, union}, Nanos.{nanos_of}};
 
 use crate::account::Account;
@@ -208,12 +208,12 @@ impl<'a> Model for RecordHeard<'a> {
     ghost use Rattle.mdns_join.specs.Nanos.{nanos_of};
     ghost use Rattle.mdns_cache.specs.LentRecords.{last_lent};
     ghost use Rattle.mdns_lives.specs.declared.life.Life.{Life};
-    ghost use Rattle.mdns_lives.specs.LifeWalk.{told, walked};
+    ghost use Rattle.mdns_lives.specs.LifeWalk.{walked, with_taken_back};
     ghost use Rattle.mdns_lives.specs.Seconds.{listed_ends};
 
     ghost Value = { Latest × List Life };
 
-    ghost view = { λ a. (last_lent a.last, map (told a.goodbye) (walked (nanos_of a.flushes.now) (listed_ends a.history.now))) };
+    ghost view = { λ a. (last_lent a.last, map (with_taken_back a.goodbye) (walked (nanos_of a.flushes.now) (listed_ends a.history.now))) };
 
     ghost invariant = { λ a. IsAscending (nanos_of a.flushes.now) };
 }
@@ -249,8 +249,8 @@ impl<'a> RecordHeard<'a> {
     }
 }
 
-// Returns the lives of a record, of which one may take its latest goodbye back. `finish` has sorted its hearings, unless it joined entries of one record; `join_with` leaves
-// a few unsorted behind many.
+// Returns the lives of a record, of which one may take its latest goodbye back. `finish` has sorted its hearings, unless it joined
+// entries of one record; `join_with` leaves a few unsorted behind many.
 #[tactic(auto, using(crate::proofs::ListedLemmas::walked_listed))]
 fn lives_by(
     alloc: Global,
@@ -260,7 +260,7 @@ fn lives_by(
 ) -> Result<Vec<Life>, Want>
     requires { IsAscending (nanos_of flushes.now) }
     ensures walked { IfOk result (λ lives. lives.items
-        ≡ map (told goodbye) (walked (nanos_of flushes.now) (listed_ends history.now))) }
+        ≡ map (with_taken_back goodbye) (walked (nanos_of flushes.now) (listed_ends history.now))) }
     ensures apart { IfOk result (λ lives. AreApart lives.items) }
 {
     if let Some(heard) = history.in_order() {

@@ -7,7 +7,7 @@ ghost use Rattle.mdns_cache.specs.Repeats.{ReadsAs, all_at_each};
 ghost use Rattle.mdns_lives.specs.{Chronicle.{Chronicles}, MessageChronicle.{ChroniclesAt, RecordsAll, awaited, messages_with, recorded}};
 
 use crate::chronicle::Chronicle;
-use crate::waiting::Waiting;
+use crate::waiting_moments::WaitingMoments;
 use mdns_cache::RememberedMessages;
 use mdns_capture::Moment;
 use mdns_message::MessageReader;
@@ -27,7 +27,7 @@ pub struct MessageChronicle {
     messages: RememberedMessages,
 
     // The moments of the message at each place.
-    waiting: Vec<Waiting>,
+    waiting: Vec<WaitingMoments>,
 
     // The place of the message that was found last.
     found: usize,
@@ -167,7 +167,7 @@ impl MessageChronicle {
         if !self.messages.remember(self.alloc, message, moment, read) {
             return Ok(false);
         }
-        self.waiting.push(Waiting::of(self.alloc, moment)?)?;
+        self.waiting.push(WaitingMoments::of(self.alloc, moment)?)?;
         Ok(true)
     }
 }
@@ -187,7 +187,7 @@ fn hear_all(chronicle: &mut Chronicle, read: &MessageReader) -> Result<(), Want>
 fn hear_all_at_each(
     chronicle: &mut Chronicle,
     read: &MessageReader,
-    waiting: &Waiting,
+    waiting: &WaitingMoments,
 ) -> Result<(), Want>
     ensures { OnOk result ((told : List Hearing) → Chronicles chronicle.old told
         → Chronicles chronicle.new (told ++ all_at_each waiting.now read.now)) }
@@ -202,7 +202,7 @@ fn hear_all_at_each(
 fn hear_and_clear(
     chronicle: &mut Chronicle,
     read: &MessageReader,
-    waiting: &mut Waiting,
+    waiting: &mut WaitingMoments,
 ) -> Result<(), Want>
     ensures hears { OnOk result ((told : List Hearing) → Chronicles chronicle.old told
         → Chronicles chronicle.new (told ++ all_at_each waiting.old read.now)) }
@@ -219,7 +219,7 @@ fn hear_at_each(
     chronicle: &mut Chronicle,
     reader: &mut MessageReader,
     message: &[u8],
-    waiting: &Waiting,
+    waiting: &WaitingMoments,
 ) -> Result<(), Want>
     ensures { OnOk result ((told : List Hearing) → Chronicles chronicle.old told
         → ChroniclesAt chronicle.new message.now waiting.now told) }
@@ -241,7 +241,7 @@ fn hear_place(
     chronicle: &mut Chronicle,
     reader: &mut MessageReader,
     messages: &RememberedMessages,
-    waiting: &[Waiting],
+    waiting: &[WaitingMoments],
     place: usize,
 ) -> Result<(), Want>
     ensures { OnOk result ((heard : List Hearing)
@@ -262,7 +262,7 @@ fn hear_messages(
     chronicle: &mut Chronicle,
     reader: &mut MessageReader,
     messages: &RememberedMessages,
-    waiting: &[Waiting],
+    waiting: &[WaitingMoments],
 ) -> Result<(), Want>
     ensures { OnOk result ((heard : List Hearing)
         → RecordsAll chronicle.old (messages_with messages.now waiting.now) heard → Chronicles chronicle.new heard) }

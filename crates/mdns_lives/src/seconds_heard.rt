@@ -9,7 +9,7 @@ ghost use Rattle.mdns_lives.specs.Seconds.{listed_ends, second_of};
 use crate::history::History;
 use crate::life::RecordHearing;
 use crate::lives::Lives;
-use crate::packed::Packed;
+use crate::packed_hearing::PackedHearing;
 use mdns_capture::moment::SECOND;
 use mdns_message::Resource;
 use memory::Want;
@@ -51,7 +51,7 @@ fn seconds_by(alloc: Global, history: &History) -> Result<Vec<SecondHeard>, Want
 }
 
 // Returns the seconds of hearings in the order of their moments, then TTLs.
-fn seconds_of(alloc: Global, heard: &[Packed]) -> Result<Vec<SecondHeard>, Want>
+fn seconds_of(alloc: Global, heard: &[PackedHearing]) -> Result<Vec<SecondHeard>, Want>
     requires { AreInOrder heard.now }
     ensures { IfOk result (λ seconds. seconds.items ≡ seconds_walked heard.now) }
 {
@@ -67,7 +67,7 @@ fn seconds_of(alloc: Global, heard: &[Packed]) -> Result<Vec<SecondHeard>, Want>
 fn push_seconds(
     to: &mut Vec<SecondHeard>,
     current: SecondHeard,
-    heard: &[Packed],
+    heard: &[PackedHearing],
 ) -> Result<(), Want>
     ensures { OnOk result (to.new.items ≡ to.old.items ++ seconds_from current heard.now) }
 {

@@ -1,7 +1,7 @@
 -- Questions and resource records at an offset of a message m (RFC 1035, sections 4.1.2 and 4.1.3).
 use Rattle.std.specs.Prelude.{◌≡◌, ◌≢◌, ◌⊎◌, ◌==◌, ℕ, ◌+◌, ◌<◌, ◌≤◌, List, [], ◌∷◌, length, drop, take, bit_and, Bool}
 use Rattle.std.specs.Prelude.{not, if◌then◌else◌, Option, None, Some}
-use Rattle.mdns_capture.specs.{Savefile.{number_at}, Frame.{word_at}, declared.savefile.Order.TheVariants.{Big}}
+use Rattle.mdns_capture.specs.{Savefile.{number_at}, Frame.{word_at}, declared.savefile.Endianness.TheVariants.{Big}}
 use Rattle.dns_name.specs.NameAt.{NameReads}
 use Rattle.mdns_message.specs.declared.body.RecordData.TheVariants as body
 use Rattle.mdns_message.specs.{declared.resource.Resource.{Resource}, declared.fault.MessageFault.{MessageFault}, Fault.{HasNameFault}}

@@ -28,7 +28,7 @@ pub use hearing_iter::HearingIter;
 pub use key::Key;
 pub use memory::Want;
 pub use message::{MessageReader, hearings};
-pub use parts::{Address, Content, Service};
+pub use parts::{Address, Content, SrvData};
 pub use record_type::RecordType;
 pub use resource::Resource;
 pub use search_hash::SearchHashes;

@@ -2,7 +2,7 @@
 
 ghost use Rattle.std.specs.Prelude.{◌≡◌, option_map};
 ghost use Rattle.mdns_message.specs.Borrowed.{body_lent};
-ghost use Rattle.mdns_message.specs.Parts.{address_of, content_lent, content_of, pointer_of, service_lent, service_of, text_of};
+ghost use Rattle.mdns_message.specs.Parts.{address_of, content_lent, content_of, pointer_of, srv_lent, srv_of, text_of};
 
 use crate::body::RecordData;
 use crate::borrowed::BorrowedBody;
@@ -19,7 +19,7 @@ pub enum Address {
 
 /// Where a service is: a port of the host `target` (RFC 2782).
 #[derive(Clone, Copy, Debug)]
-pub struct Service<N> {
+pub struct SrvData<N> {
     pub priority: u16,
     pub weight: u16,
     pub port: u16,
@@ -33,7 +33,7 @@ pub enum Content<N, T> {
     Name(N),
     /// Strings, each after its length octet (RFC 1035, section 3.3).
     Strings(T),
-    Service(Service<N>),
+    Srv(SrvData<N>),
 }
 
 impl<N, T> RecordData<N, T> {
@@ -49,7 +49,7 @@ impl<N, T> RecordData<N, T> {
     }
 
     /// Returns the name to which a PTR record points.
-    pub fn pointer(&self) -> Option<&N>
+    pub fn ptr_target(&self) -> Option<&N>
         ensures { option_map (λ name. name.now) result ≡ pointer_of self.now }
     {
         match self {
@@ -69,8 +69,8 @@ impl<N, T> RecordData<N, T> {
     }
 
     /// Returns the service of an SRV record.
-    pub fn service(&self) -> Option<Service<&N>>
-        ensures { option_map service_lent result ≡ service_of self.now }
+    pub fn srv(&self) -> Option<SrvData<&N>>
+        ensures { option_map srv_lent result ≡ srv_of self.now }
     {
         match self {
             RecordData::Srv {
@@ -78,7 +78,7 @@ impl<N, T> RecordData<N, T> {
                 weight,
                 port,
                 target,
-            } => Some(Service {
+            } => Some(SrvData {
                 priority: *priority,
                 weight: *weight,
                 port: *port,
@@ -104,7 +104,7 @@ impl<'a> BorrowedBody<'a> {
                 weight,
                 port,
                 target,
-            } => Content::Service(Service {
+            } => Content::Srv(SrvData {
                 priority: *priority,
                 weight: *weight,
                 port: *port,

@@ -20,7 +20,7 @@ use Rattle.mdns_page.specs.{Lanes.{bases_text}, Lead.{Ended}}
 use Rattle.mdns_page.specs.{Lead.{about_line, ending_warning, pair_warning}, Picture.{goes_on}, LiveSection.{address_html, live_group}}
 use Rattle.mdns_page.specs.{LiveSection.{live_row, live_text, server_html, text_html}, Document.{Shown, head, page}}
 use Rattle.mdns_page.specs.Timeline.{Row, content_name, count_last, group_text, is_large, is_open, lives_in, owner_of, row_text, timeline}
-use Rattle.mdns_page.specs.declared.kept_records.{TimelinePart.{TimelinePart}, TimelinePart.TheVariants.{Addresses, Instances, Names}}
+use Rattle.mdns_page.specs.declared.timeline_records.{TimelinePart.{TimelinePart}, TimelinePart.TheVariants.{Addresses, Instances, Names}}
 use Rattle.mdns_page.proofs.{GroupLemmas.{grouped_all}, LiveWordLemmas.{some-items}}
 use Rattle.mdns_page.proofs.SameLists.{append-same, count-same, flat_map-alike, flat_map-same, groups-same, length-same}
 

@@ -9,8 +9,9 @@ use Rattle.mdns_lives.specs.{declared.life.Life.{Life}, declared.seconds_heard.S
 use Rattle.mdns_lives.specs.{Chronicle.{Accounts, Chronicles}, Heard.{AreSecondsHeard, seconds_held}}
 use Rattle.mdns_lives.proofs.HeardLemmas.{heard-held}
 use Rattle.mdns_browse.specs.Services.{AreEach}
-use Rattle.mdns_page.specs.{TimelineRows.{AreShownBy, Tells}, Timeline.{Row, counted_lent, heard_lent, held_lent, seconds_lent, shown_seconds}}
-use Rattle.mdns_page.specs.declared.{hearers.Hearers.{Hearers}, timeline_rows.CountedRow.{CountedRow}}
+use Rattle.mdns_page.specs.{TimelineRows.{AreShownBy, GivesSeconds}, Timeline.{Row, counted_lent, heard_lent, held_lent, seconds_lent}}
+use Rattle.mdns_page.specs.Timeline.{shown_seconds}
+use Rattle.mdns_page.specs.declared.{seconds_by_capture.Hearers.{Hearers}, timeline_rows.CountedRow.{CountedRow}}
 use Rattle.mdns_page.proofs.LiveLemmas.{each-count}
 use Rattle.std.proofs.lemmas.List.{append-nil}
 
@@ -70,8 +71,8 @@ held-each key (c ∷ chronicles) [] are = absurd are
 held-each key (c ∷ chronicles) (heard ∷ each) are = (heard-held c heard are.0 key, held-each key chronicles each are.1)
 
 module _ (hearers : Hearers) (each : List (List Hearing)) (are : AreEach Chronicles hearers.chronicles.now each)
-    (tells : Tells (nat_lt 4 (length hearers.chronicles.now)) (λ key. each) hearers.told) (key : Key) where
-  heard-by : (told : Option (Vec (Vec SecondHeard))) → get key_cmp hearers.told key ≡ told
+    (gives : GivesSeconds (nat_lt 4 (length hearers.chronicles.now)) (λ key. each) hearers.by_record) (key : Key) where
+  heard-by : (told : Option (Vec (Vec SecondHeard))) → get key_cmp hearers.by_record key ≡ told
       → AreShownBy (nat_lt 4 (length hearers.chronicles.now)) each key
       (unwrap_or (option_map (λ (heard : Vec (Vec SecondHeard)). map seconds_lent heard.items) told) (held_lent hearers.chronicles.now key))
   heard-by None is = record {
@@ -79,12 +80,12 @@ module _ (hearers : Hearers) (each : List (List Hearing)) (are : AreEach Chronic
     are = held-each key hearers.chronicles.now each are;
     shown = refl;
   }
-  heard-by (Some heard) is = tells key heard is
+  heard-by (Some heard) is = gives key heard is
 
   pub shown-lent : AreShownBy (nat_lt 4 (length each)) each key (heard_lent hearers key)
   shown-lent =
       subst (λ (n : ℕ). AreShownBy (nat_lt 4 n) each key (heard_lent hearers key))
-      (each-count Chronicles hearers.chronicles.now each are) (heard-by (get key_cmp hearers.told key) refl)
+      (each-count Chronicles hearers.chronicles.now each are) (heard-by (get key_cmp hearers.by_record key) refl)
 
 -- ---- one row more
 

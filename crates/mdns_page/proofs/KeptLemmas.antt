@@ -11,7 +11,7 @@ use Rattle.mdns_cache.specs.Live.{key_of_last}
 use Rattle.mdns_lives.specs.{Chronicle.{AreAllLives}}
 use Rattle.mdns_lives.specs.declared.{life.Life.{Life}}
 use Rattle.mdns_browse.specs.{declared.about.Subject.{Subject}, Services.{name_if}}
-use Rattle.mdns_page.specs.KeptRecords.{looked_up}
+use Rattle.mdns_page.specs.TimelineRecords.{looked_up}
 use Rattle.std.proofs.lemmas.Result.{IfOk-weaker}
 
 -- ---- names that a record gives

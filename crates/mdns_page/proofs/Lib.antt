@@ -4,7 +4,7 @@ mod ComparedLemmas
 pub mod CountLemmas
 mod CountedLemmas
 mod GroupLemmas
-mod HearerLemmas
+mod SecondsByCaptureLemmas
 pub mod HtmlLemmas
 mod KeptLemmas
 pub mod LiveLemmas

@@ -9,7 +9,7 @@ use Rattle.mdns_lives.specs.{Heard.{number_of}, Lives.{AreApart, AreApartAfter},
 use Rattle.mdns_lives.specs.declared.{life.{EndReason.{EndReason}, Life.{Life}, RecordHearing.{RecordHearing}}, seconds_heard.SecondHeard.{SecondHeard}}
 use Rattle.mdns_page.specs.{Axis.{place, place_end}, Lanes.{goodbye_of, is_goodbye, point, second_mark}, Picture.{AreInOrder, bar_mark, differing, drawn_mark}}
 use Rattle.mdns_page.specs.Picture.{end_mark, is_for, is_same, mark_of, outlasts}
-use Rattle.mdns_page.specs.declared.{axis.Axis.{Axis}, picture.{Mark.{Mark}, Stroke.{Stroke}}}
+use Rattle.mdns_page.specs.declared.{axis.Axis.{Axis}, picture.{StrokeSpan.{StrokeSpan}, Stroke.{Stroke}}}
 use Rattle.mdns_page.specs.declared.picture.Stroke.TheVariants.{Bar, Server, Pin, Head, Tick, GoodbyeTick}
 
 quotient-mono : (a b unit : ℕ) → 0 < unit → a ≤ b → a / unit ≤ b / unit
@@ -23,35 +23,36 @@ place-mono axis a b low = grind (arith, quotient-mono)
 
 -- the mark of what lasts from the one moment to the other, if it has one, lies between their places, moved by these distances
 module _ (axis : Axis) (a b : ℕ) where
-  record IsAt (from until : ℕ) (mark : Mark) : Type 0 where
+  record IsAt (from until : ℕ) (mark : StrokeSpan) : Type 0 where
     after : (place axis from + a ≤ mark.begin) × (place axis from + b ≤ mark.end)
     before : (mark.begin ≤ place axis until + a) × (mark.end ≤ place axis until + b)
 
-  abbrev IsAtIf : (from until : ℕ) → Option Mark → Type 0
+  abbrev IsAtIf : (from until : ℕ) → Option StrokeSpan → Type 0
   IsAtIf from until None = Unit {0}
   IsAtIf from until (Some mark) = IsAt from until mark
 
   -- a mark of what ended by then
-  abbrev IsBy : ℕ → Mark → Type 0
+  abbrev IsBy : ℕ → StrokeSpan → Type 0
   IsBy by mark = (mark.begin ≤ place axis by + a) × (mark.end ≤ place axis by + b)
 
-  by-later : (by later : ℕ) (mark : Mark) → by ≤ later → IsBy by mark → IsBy later mark
+  by-later : (by later : ℕ) (mark : StrokeSpan) → by ≤ later → IsBy by mark → IsBy later mark
   by-later by later mark low is = let moved = place-mono axis by later low in (omega (arith, is.0, moved), omega (arith, is.1, moved))
 
-  module _ {X : Type 0} (from until : X → ℕ) (mark_of : X → Option Mark) where
+  module _ {X : Type 0} (from until : X → ℕ) (mark_of : X → Option StrokeSpan) where
     -- each begins after the one before it has ended, and has such a mark
     abbrev Follow : ℕ → List X → Type 0
     Follow low [] = Unit {0}
     Follow low (x ∷ xs) = (low ≤ from x) × (from x ≤ until x) × IsAtIf (from x) (until x) (mark_of x) × Follow (until x) xs
 
-    one-more : (before mark : Mark) (marks : List Mark) (same : Bool) → is_same before mark ≡ same → before.begin ≤ mark.begin
+    one-more : (before mark : StrokeSpan) (marks : List StrokeSpan) (same : Bool) → is_same before mark ≡ same → before.begin ≤ mark.begin
         → before.end ≤ mark.end → AreInOrder (before ∷ differing (Some before) marks) → AreInOrder (mark ∷ differing (Some mark) marks)
         → AreInOrder (before ∷ (if same then differing (Some before) marks else mark ∷ differing (Some mark) marks))
     one-more before mark marks true is begins ends without one = without
     one-more before mark marks false is begins ends without one = (record { begins = begins; ends = ends; another = is }, one)
 
-    with-next : (low from until : ℕ) (before : Mark) (next : Option Mark) (marks : List Mark) → low ≤ from → from ≤ until
-        → IsBy low before → IsAtIf from until next → ((mark : Mark) → IsBy until mark → AreInOrder (mark ∷ differing (Some mark) marks))
+    with-next : (low from until : ℕ) (before : StrokeSpan) (next : Option StrokeSpan) (marks : List StrokeSpan) → low ≤ from → from ≤ until
+        → IsBy low before → IsAtIf from until next
+        → ((mark : StrokeSpan) → IsBy until mark → AreInOrder (mark ∷ differing (Some mark) marks))
         → AreInOrder (before ∷ differing (Some before) (cons_option next marks))
     with-next low from until before None marks apart some is next rest = rest before (by-later low until before (omega arith) is)
     with-next low from until before (Some mark) marks apart some is next rest =
@@ -59,15 +60,17 @@ module _ (axis : Axis) (a b : ℕ) where
         one-more before mark marks (is_same before mark) refl (omega (arith, moved, is.0, next.after.0)) (omega (arith, moved, is.1, next.after.1))
         (rest before (by-later low until before (omega arith) is)) (rest mark next.before)
 
-    marks-after : (low : ℕ) (before : Mark) (xs : List X) → Follow low xs → IsBy low before
+    marks-after : (low : ℕ) (before : StrokeSpan) (xs : List X) → Follow low xs → IsBy low before
         → AreInOrder (before ∷ differing (Some before) (filter_map mark_of xs))
     marks-after low before [] follow is = tt
     marks-after low before (x ∷ xs) follow is =
         with-next low (from x) (until x) before (mark_of x) (filter_map mark_of xs) follow.0 follow.1 is follow.2
         (λ mark by. marks-after (until x) mark xs follow.3 by)
 
-    with-first : (from until : ℕ) (next : Option Mark) (marks : List Mark) → IsAtIf from until next → AreInOrder (differing None marks)
-        → ((mark : Mark) → IsBy until mark → AreInOrder (mark ∷ differing (Some mark) marks)) → AreInOrder (differing None (cons_option next marks))
+    with-first : (from until : ℕ) (next : Option StrokeSpan) (marks : List StrokeSpan) → IsAtIf from until next
+        → AreInOrder (differing None marks)
+        → ((mark : StrokeSpan) → IsBy until mark → AreInOrder (mark ∷ differing (Some mark) marks))
+        → AreInOrder (differing None (cons_option next marks))
     with-first from until None marks next without rest = without
     with-first from until (Some mark) marks next without rest = rest mark next.before
 
@@ -90,11 +93,11 @@ ends-at : (axis : Axis) (from until : ℕ) → from ≤ until
 unfolding place_end
 ends-at axis from until low = let moved = place-mono axis from until low in (omega arith, omega (arith, moved))
 
-if-at : (axis : Axis) (a b from until : ℕ) (mark : Option Mark) (is : Bool) → IsAtIf axis a b from until mark
+if-at : (axis : Axis) (a b from until : ℕ) (mark : Option StrokeSpan) (is : Bool) → IsAtIf axis a b from until mark
     → IsAtIf axis a b from until (if is then mark else None)
 if-at axis a b from until mark is at = cond_both is mark None (IsAtIf axis a b from until) (λ _. at) (λ _. tt)
 
-unless-at : (axis : Axis) (a b from until : ℕ) (mark : Option Mark) (is : Bool) → IsAtIf axis a b from until mark
+unless-at : (axis : Axis) (a b from until : ℕ) (mark : Option StrokeSpan) (is : Bool) → IsAtIf axis a b from until mark
     → IsAtIf axis a b from until (if is then None else mark)
 unless-at axis a b from until mark is at = cond_both is None mark (IsAtIf axis a b from until) (λ _. tt) (λ _. at)
 
@@ -109,7 +112,7 @@ pin-at : (axis : Axis) (reason : EndReason) (life : Life) → life.from.nanos �
 pin-at axis reason life some =
     let ends = ends-at axis life.from.nanos life.until some in
     let end = place_end axis life.from.nanos life.until in
-    let pin : Mark = record { begin = end; end = end } in
+    let pin : StrokeSpan = record { begin = end; end = end } in
     let at : IsAt axis 3 3 life.from.nanos life.until pin = record { after = (ends.0, ends.0); before = (ends.1, ends.1) } in
     unless-at axis 3 3 life.from.nanos life.until (if is_for reason life.reason then Some pin else None) (outlasts axis life)
     (if-at axis 3 3 life.from.nanos life.until (Some pin) (is_for reason life.reason) at)
@@ -162,7 +165,7 @@ point-at axis n heard within =
     let from = place-mono axis (n * second) heard.moment.nanos (omega (arith, within)) in
     let until = place-mono axis heard.moment.nanos (n * second + second - 1) (omega (arith, within)) in
     let at = place axis heard.moment.nanos in
-    let tick : Mark = record { begin = at; end = at } in
+    let tick : StrokeSpan = record { begin = at; end = at } in
     let is : IsAt axis 0 0 (n * second) (n * second + second - 1) tick = record {
       after = (omega (arith, from), omega (arith, from));
       before = (omega (arith, until), omega (arith, until));

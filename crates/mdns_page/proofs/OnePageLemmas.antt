@@ -18,9 +18,9 @@ use Rattle.mdns_survey.proofs.{ListenedLemmas.{known-read}, LivesLawLemmas.{OneL
 use Rattle.mdns_survey.proofs.{OneSurveyLemmas.{one-read}, OutcomeLemmas.{OnePayload, OneReading, OneTelling}}
 use Rattle.mdns_listeners.specs.Groups.{Grouped}
 use Rattle.mdns_page.specs.{Axis.{bound_or, dates_of}, ByListener.{hearings_by}, Captures.{Comparison}, Collected.{Compares}}
-use Rattle.mdns_page.specs.declared.{axis.Axis.{Axis}, kept_records.TimelinePart.{TimelinePart}}
-use Rattle.mdns_page.specs.{declared.kept_records.TimelinePart.TheVariants.{Addresses, Instances, Names}, TimelineRows.{IsCounted}}
-use Rattle.mdns_page.specs.{Html.{isolated}, Document.{page}, Servers.{servers_of}, KeptRecords.{AreRows, kept_of}}
+use Rattle.mdns_page.specs.declared.{axis.Axis.{Axis}, timeline_records.TimelinePart.{TimelinePart}}
+use Rattle.mdns_page.specs.{declared.timeline_records.TimelinePart.TheVariants.{Addresses, Instances, Names}, TimelineRows.{IsCounted}}
+use Rattle.mdns_page.specs.{Html.{isolated}, Document.{page}, Servers.{servers_of}, TimelineRecords.{AreRows, kept_of}}
 use Rattle.mdns_page.specs.{Lead.{known_of}, Page.{SurveysPage, WritesPage, live_at_end}, Timeline.{Row, is_large, is_open, shown_seconds}}
 use Rattle.mdns_page.proofs.{ComparedLemmas.{OneListOfRows, one-comparison}, CountedLemmas.{record_in}}
 use Rattle.mdns_page.proofs.OneCaptureLemmas.{IsAlike, are-alike, endings-alike, facts-alike, lost-alike, section-alike, one-each}

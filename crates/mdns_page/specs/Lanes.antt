@@ -4,7 +4,7 @@ use Rattle.std.specs.Fmt.{decimal}
 use Rattle.mdns_lives.specs.{Window.{in_window}, declared.{life.RecordHearing.{RecordHearing}, seconds_heard.SecondHeard.{SecondHeard}}}
 use Rattle.mdns_survey.specs.declared.reading.Span.{Span}
 use Rattle.mdns_page.specs.{Axis.{drawn_if, place, place_end}, Captures.{Facts, each_from}, Picture.{path}, declared.axis.Axis.{Axis}}
-use Rattle.mdns_page.specs.declared.picture.{Mark.{Mark}, Stroke.{Stroke}, Stroke.TheVariants.{Tick, GoodbyeTick}}
+use Rattle.mdns_page.specs.declared.picture.{StrokeSpan.{StrokeSpan}, Stroke.{Stroke}, Stroke.TheVariants.{Tick, GoodbyeTick}}
 
 -- the height of a picture with so many lanes
 abbrev pub height : ℕ → ℕ
@@ -25,12 +25,12 @@ abbrev pub goodbye_of : SecondHeard → RecordHearing
 goodbye_of second = if second.last.ttl == 0 then second.last else second.first
 
 -- the place of a hearing, if it was in the window
-abbrev pub point : Axis → RecordHearing → Option Mark
+abbrev pub point : Axis → RecordHearing → Option StrokeSpan
 point axis heard =
     let at = place axis heard.moment.nanos in if in_window axis.window heard.moment then Some (record { begin = at; end = at }) else None
 
 -- where the second has a stroke of this kind, if it has one: a tick at its first hearing, or a thick one at its goodbye
-abbrev pub second_mark : Axis → Stroke → SecondHeard → Option Mark
+abbrev pub second_mark : Axis → Stroke → SecondHeard → Option StrokeSpan
 second_mark axis (Tick top) second = if is_goodbye second then None else point axis second.first
 second_mark axis (GoodbyeTick top) second = if is_goodbye second then point axis (goodbye_of second) else None
 second_mark axis _ second = None

@@ -9,8 +9,8 @@ use Rattle.mdns_browse.specs.declared.about.Subject.{Subject}
 use Rattle.mdns_survey.specs.ProgramLines.{is_whole}
 use Rattle.mdns_listeners.specs.{declared.pairs.PairRow.{PairRow}, Warnings.{untold_text, warning_words, warns}}
 use Rattle.people_text.specs.{MomentText.{millis_text}, Shown.{shown}}
-use Rattle.mdns_page.specs.{Captures.{Facts, name_at}, Counts.{commas, count_text}, KeptRecords.{is_of}, Picture.{goes_on, is_for}}
-use Rattle.mdns_page.specs.{Timeline.{is_last}, declared.kept_records.TimelinePart.TheVariants.{Instances}}
+use Rattle.mdns_page.specs.{Captures.{Facts, name_at}, Counts.{commas, count_text}, TimelineRecords.{is_of}, Picture.{goes_on, is_for}}
+use Rattle.mdns_page.specs.{Timeline.{is_last}, declared.timeline_records.TimelinePart.TheVariants.{Instances}}
 use Rattle.mdns_page.specs.declared.{axis.Axis.{Axis}, lead.FileEnding.{FileEnding}}
 
 -- ---- how many instances ended

@@ -8,7 +8,7 @@ pub mod Counts
 pub mod Group
 pub mod HeardWords
 pub mod Html
-pub mod KeptRecords
+pub mod TimelineRecords
 pub mod Legend
 pub mod Lanes
 pub mod Lead

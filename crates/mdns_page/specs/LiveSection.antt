@@ -4,7 +4,7 @@ use Rattle.std.specs.{Prelude.{unwrap_or}, Fmt.{decimal}, List.{filter_map, flat
 use Rattle.mdns_message.specs.{Resource.{Body}, Parts.{address_of}}
 use Rattle.people_text.specs.{MomentText.{duration_text, millis_text}, Shown.{name_shown}}
 use Rattle.mdns_browse.specs.{declared.instance.Server.{Server}, Services.{GivenRow, InstanceRow, instance_row_in}}
-use Rattle.mdns_browse.specs.RecordShown.{shown_address, shown_instance, shown_order, shown_strings, spaced_wide}
+use Rattle.mdns_browse.specs.RecordShown.{shown_address, shown_instance, shown_priority, shown_strings, spaced_wide}
 use Rattle.mdns_join.specs.declared.latest.Latest.{Latest}
 use Rattle.mdns_page.specs.{declared.axis.Axis.{Axis}, Axis.{short_text}, Group.{first_owner, group, grouped, item}}
 
@@ -25,7 +25,7 @@ address_html b = codes "<code>" ++ unwrap_or (option_map shown_address (address_
 -- so that the port is on its right even if the target goes to the left
 abbrev pub server_line : (List ℕ → List ℕ) → (priority weight port : ℕ) → (target : List ℕ) → List ℕ
 server_line say priority weight port target =
-    codes "<p>" ++ say (name_shown target) ++ 58 ∷ decimal port ++ spaced_wide (shown_order priority weight) ++ codes "</p>"
+    codes "<p>" ++ say (name_shown target) ++ 58 ∷ decimal port ++ spaced_wide (shown_priority priority weight) ++ codes "</p>"
 
 abbrev pub server_html : (List ℕ → List ℕ) → Server → List ℕ
 server_html say server =

@@ -11,9 +11,9 @@ use Rattle.mdns_survey.specs.declared.{reading.Reading.{Reading}, request.AsOf.{
 use Rattle.mdns_survey.specs.{Outcomes.{Outcome}, Filter.{counted, counted_each, filter_of}, Readings.{all_moments, lost_in, summaries_of}}
 use Rattle.mdns_survey.specs.{Question.{Asked, asked_at_once}, Surveys.{AllLeft}}
 use Rattle.mdns_listeners.specs.Groups.{Grouped}
-use Rattle.mdns_page.specs.declared.{axis.Axis.{Axis}, kept_records.TimelinePart.TheVariants.{Addresses, Instances, Names}}
+use Rattle.mdns_page.specs.declared.{axis.Axis.{Axis}, timeline_records.TimelinePart.TheVariants.{Addresses, Instances, Names}}
 use Rattle.mdns_page.specs.{Axis.{IsAxis}, ByListener.{facts_by, hearings_by}, Captures.{Comparison}, Collected.{Compares}}
-use Rattle.mdns_page.specs.{KeptRecords.{AreRows, is_drawn, kept_of, looked_up}, LiveSection.{live_text}, SkippedSection.{skipped_text}}
+use Rattle.mdns_page.specs.{TimelineRecords.{AreRows, is_drawn, kept_of, looked_up}, LiveSection.{live_text}, SkippedSection.{skipped_text}}
 use Rattle.mdns_page.specs.{Document.{page}, Html.{isolated}, Lead.{Ended, known_of}, Timeline.{Row, is_large, is_open}}
 
 -- ---- what was live at the end

@@ -3,7 +3,8 @@ use Rattle.std.specs.Prelude.{◌≡◌, ◌≤◌, ℕ, ◌==◌, ◌&&◌, nat
 use Rattle.std.specs.{Prelude.{Some, List, [], ◌∷◌, ◌++◌, codes}, Fmt.{decimal}, List.{filter_map, flat_map}}
 use Rattle.mdns_lives.specs.declared.life.{Life.{Life}, EndReason.{EndReason}, EndReason.TheVariants.{Expired, Goodbye, Flushed}}
 use Rattle.mdns_lives.specs.Window.{meets}
-use Rattle.mdns_page.specs.{Axis.{place, place_end}, BarTitles.{life_title}, declared.axis.Axis.{Axis}, declared.picture.Mark.{Mark}}
+use Rattle.mdns_page.specs.{Axis.{place, place_end}, BarTitles.{life_title}, declared.axis.Axis.{Axis}}
+use Rattle.mdns_page.specs.declared.picture.StrokeSpan.{StrokeSpan}
 use Rattle.mdns_page.specs.declared.picture.{Stroke.{Stroke}, Stroke.TheVariants.{Bar, Server, Pin, Head, Tick, GoodbyeTick}}
 
 -- ---- marks
@@ -23,17 +24,17 @@ abbrev pub outlasts : Axis → Life → Bool
 outlasts axis life = nat_lt (min axis.end.nanos axis.now.nanos) life.until
 
 -- where the life ended, if it did so for this reason
-abbrev pub end_mark : Axis → EndReason → Life → Option Mark
+abbrev pub end_mark : Axis → EndReason → Life → Option StrokeSpan
 end_mark axis reason life =
     let end = place_end axis life.from.nanos life.until in
     if outlasts axis life then None else (if is_for reason life.reason then Some (record { begin = end; end = end }) else None)
 
 -- from where to where the life's bar is
-abbrev pub bar_mark : Axis → Life → Mark
+abbrev pub bar_mark : Axis → Life → StrokeSpan
 bar_mark axis life = record { begin = place axis life.from.nanos; end = place_end axis life.from.nanos life.until }
 
 -- where a life that is drawn has a stroke of this kind, if it has one; ticks are those of hearings
-abbrev pub drawn_mark : Axis → Stroke → Life → Option Mark
+abbrev pub drawn_mark : Axis → Stroke → Life → Option StrokeSpan
 drawn_mark axis Bar life = Some (bar_mark axis life)
 drawn_mark axis Server life = Some (bar_mark axis life)
 drawn_mark axis (Pin reason) life = end_mark axis reason life
@@ -41,27 +42,27 @@ drawn_mark axis (Head reason) life = end_mark axis reason life
 drawn_mark axis _ life = None
 
 -- the same of any life: only those that meet the window are drawn
-abbrev pub mark_of : Axis → Stroke → Life → Option Mark
+abbrev pub mark_of : Axis → Stroke → Life → Option StrokeSpan
 mark_of axis stroke life = if meets axis.window life then drawn_mark axis stroke life else None
 
-abbrev pub is_same : Mark → Mark → Bool
+abbrev pub is_same : StrokeSpan → StrokeSpan → Bool
 is_same a b = (a.begin == b.begin) && (a.end == b.end)
 
 -- the marks without each that is the same as the one before it; marks that ascend are then there once
-abbrev pub differing : Option Mark → List Mark → List Mark
+abbrev pub differing : Option StrokeSpan → List StrokeSpan → List StrokeSpan
 differing before [] = []
 differing None (mark ∷ marks) = mark ∷ differing (Some mark) marks
 differing (Some before) (mark ∷ marks) =
     if is_same before mark then differing (Some before) marks else mark ∷ differing (Some mark) marks
 
 -- a mark begins and ends no earlier than the one before it, and is another one
-pub record IsNext (before mark : Mark) : Type 0 where
+pub record IsNext (before mark : StrokeSpan) : Type 0 where
   pub begins : before.begin ≤ mark.begin
   pub ends : before.end ≤ mark.end
   pub another : is_same before mark ≡ false
 
 -- the marks go from left to right, and each is there once
-abbrev pub AreInOrder : List Mark → Type 0
+abbrev pub AreInOrder : List StrokeSpan → Type 0
 AreInOrder [] = Unit {0}
 AreInOrder (mark ∷ []) = Unit {0}
 AreInOrder (before ∷ mark ∷ marks) = IsNext before mark × AreInOrder (mark ∷ marks)
@@ -83,7 +84,7 @@ class_of (GoodbyeTick top) = codes "z"
 
 -- a stroke as a part of a path: bars are at the height 12, those of servers at 19, pins between the heights 4 and 17, and ticks in
 -- their lanes; a head has a length, since some programs don't draw lines without one
-unfoldable pub mark_text : Stroke → Mark → List ℕ
+unfoldable pub mark_text : Stroke → StrokeSpan → List ℕ
 mark_text Bar mark = codes "M" ++ decimal mark.begin ++ codes " 12H" ++ decimal mark.end
 mark_text Server mark = codes "M" ++ decimal mark.begin ++ codes " 19H" ++ decimal mark.end
 mark_text (Pin reason) mark = codes "M" ++ decimal mark.begin ++ codes " 4V17"
@@ -95,21 +96,21 @@ unfoldable pub path_begin : Stroke → List ℕ
 path_begin stroke = codes "<path class=\"" ++ class_of stroke ++ codes "\" d=\""
 
 -- the strokes as one path; nothing where there is none
-abbrev pub path_of : Stroke → List Mark → List ℕ
+abbrev pub path_of : Stroke → List StrokeSpan → List ℕ
 path_of stroke [] = []
 path_of stroke (mark ∷ marks) = path_begin stroke ++ flat_map (mark_text stroke) (mark ∷ marks) ++ codes "\"/>"
 
 -- the strokes of a kind that lives or seconds have, by where each has one; each place once
-unfoldable pub path : {X : Type 0} → (Stroke → X → Option Mark) → Stroke → List X → List ℕ
+unfoldable pub path : {X : Type 0} → (Stroke → X → Option StrokeSpan) → Stroke → List X → List ℕ
 path mark_of stroke xs = path_of stroke (differing None (filter_map (mark_of stroke) xs))
 
 -- the rest of a path, after the last mark before these, if there was one
-unfoldable pub path_rest : Stroke → Option Mark → List Mark → List ℕ
+unfoldable pub path_rest : Stroke → Option StrokeSpan → List StrokeSpan → List ℕ
 path_rest stroke None marks = path_of stroke (differing None marks)
 path_rest stroke (Some before) marks = flat_map (mark_text stroke) (differing (Some before) marks) ++ codes "\"/>"
 
 -- what is left of it after the last mark of all, if there was one
-abbrev pub path_last : Option Mark → List ℕ
+abbrev pub path_last : Option StrokeSpan → List ℕ
 path_last None = []
 path_last (Some before) = codes "\"/>"
 

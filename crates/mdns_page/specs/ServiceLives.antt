@@ -3,7 +3,7 @@ use Rattle.std.specs.Prelude.{◌≡◌, ℕ, ◌≤◌, ◌&&◌, Bool, nat_lt,
 use Rattle.std.specs.Prelude.{Option, option_map, unwrap_or}
 use Rattle.std.specs.{List.{filter, filter_map, flat_map, list_any}, List.Sorted.{IsStrictlySortedBy}}
 use Rattle.mdns_capture.specs.Savefile.{PacketAt}
-use Rattle.mdns_message.specs.{declared.{hearing.Hearing.{Hearing}, parts.Service.{Service}}, Parts.{service_of}, Resource.{key_cmp}}
+use Rattle.mdns_message.specs.{declared.{hearing.Hearing.{Hearing}, parts.SrvData.{SrvData}}, Parts.{srv_of}, Resource.{key_cmp}}
 use Rattle.mdns_join.specs.declared.latest.Latest.{Latest}
 use Rattle.mdns_cache.specs.Live.{key_of_last}
 use Rattle.mdns_lives.specs.{Chronicle.{AreAllLives}, Window.{meets}}
@@ -12,17 +12,18 @@ use Rattle.mdns_browse.specs.{Services.{body_of, instance_given}, ServiceLifeTex
 use Rattle.mdns_survey.specs.declared.{summary.Summary.{Summary}}
 use Rattle.mdns_survey.specs.{Filter.{counted, filter_of}, Head.{IsHead}, LivesAnswer.{captures_begin, captures_end}}
 use Rattle.mdns_survey.specs.{Outcomes.{AllRead, Outcome}, Question.{Asked, asked_at_once}, Readings.{all_moments}}
-use Rattle.mdns_page.specs.declared.{kept_records.TimelinePart.TheVariants.{Instances}, service_lives.ServiceLivesRequest.{ServiceLivesRequest}}
-use Rattle.mdns_page.specs.{KeptRecords.{is_shown, kept_of}, Servers.{servers_named}}
+use Rattle.mdns_page.specs.declared.timeline_records.TimelinePart.TheVariants.{Instances}
+use Rattle.mdns_page.specs.declared.service_lives.ServiceLivesRequest.{ServiceLivesRequest}
+use Rattle.mdns_page.specs.{TimelineRecords.{has_row, kept_of}, Servers.{servers_named}}
 
 -- each of two lives begins before the other ends
 abbrev pub lives_meet : Life → Life → Bool
 lives_meet life other = nat_lt life.from.nanos other.until && nat_lt other.from.nanos life.until
 
 -- the servers of an instance in a life of it: of its SRV records (RFC 6763, section 5), in key order, those with a life that meets it
-abbrev pub servers_in : List (Latest × List Life) → Life → List (Service (List ℕ))
+abbrev pub servers_in : List (Latest × List Life) → Life → List (SrvData (List ℕ))
 servers_in named life =
-    filter_map (λ (row : Latest × List Life). service_of (body_of row.0))
+    filter_map (λ (row : Latest × List Life). srv_of (body_of row.0))
     (filter (λ (row : Latest × List Life). list_any (lives_meet life) row.1) named)
 
 -- some lives of the instance of this name, which a record gives (section 4.1), each with the servers in it, of these SRV records
@@ -37,7 +38,7 @@ lives_given window kept row =
 
 -- The lives of the rows that a page about the same has of instances, in key order: of each those that meet the window.
 abbrev pub service_lives : Window → List (Latest × List Life) → List ServiceLife
-service_lives window kept = flat_map (lives_given window kept) (filter (is_shown Instances window) kept)
+service_lives window kept = flat_map (lives_given window kept) (filter (has_row Instances window) kept)
 
 -- ---- the walk
 

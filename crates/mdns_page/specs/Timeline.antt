@@ -11,9 +11,9 @@ use Rattle.mdns_cache.specs.{LentRecords.{last_lent}, Live.{key_of_last}}
 use Rattle.mdns_lives.specs.{Chronicle.{Accounts}, Heard.{seconds_held}}
 use Rattle.mdns_page.specs.{Counts.{commas, count_text}, Group.{axis_picture, first_owner, group, grouped, item}, HeardWords.{heard_text}}
 use Rattle.mdns_page.specs.{Legend.{key}, Picture.{goes_on}, RowPicture.{picture}, LifeWords.{lives_words}}
-use Rattle.mdns_page.specs.declared.{axis.Axis.{Axis}, kept_records.TimelinePart.{TimelinePart}}
-use Rattle.mdns_page.specs.declared.kept_records.TimelinePart.TheVariants.{Addresses, Instances, Names}
-use Rattle.mdns_page.specs.declared.{hearers.Hearers.{Hearers}, timeline_rows.CountedRow.{CountedRow}, row_picture.Look.{Look}}
+use Rattle.mdns_page.specs.declared.{axis.Axis.{Axis}, timeline_records.TimelinePart.{TimelinePart}}
+use Rattle.mdns_page.specs.declared.timeline_records.TimelinePart.TheVariants.{Addresses, Instances, Names}
+use Rattle.mdns_page.specs.declared.{seconds_by_capture.Hearers.{Hearers}, timeline_rows.CountedRow.{CountedRow}, row_picture.Look.{Look}}
 
 -- ---- rows of records
 
@@ -44,11 +44,11 @@ held_lent chronicles key = shown_seconds (nat_lt 4 (length chronicles)) (map (λ
 
 -- the seconds that are told of a record, if some are
 abbrev pub told_lent : BTreeMap Key (Vec (Vec SecondHeard)) → Key → Option (List (List SecondHeard))
-told_lent told key = option_map (λ (heard : Vec (Vec SecondHeard)). map seconds_lent heard.items) (get key_cmp told key)
+told_lent by_record key = option_map (λ (heard : Vec (Vec SecondHeard)). map seconds_lent heard.items) (get key_cmp by_record key)
 
 -- those that are told, or else those that are held
 abbrev pub heard_lent : Hearers → Key → List (List SecondHeard)
-heard_lent hearers key = unwrap_or (told_lent hearers.told key) (held_lent hearers.chronicles.now key)
+heard_lent hearers key = unwrap_or (told_lent hearers.by_record key) (held_lent hearers.chronicles.now key)
 
 abbrev pub counted_lent : CountedRow → Row
 counted_lent row = record {

@@ -25,7 +25,7 @@ pub record IsCounted (each : List (List Hearing)) (row : Row) : Type 0 where
 abbrev pub among : List Key → Key → Bool
 among keys key = list_any (λ k. is_eq (key_cmp k key)) keys
 
--- what is told of a key is the seconds in which the captures that count for it heard its record
-abbrev pub Tells : (many : Bool) → (Key → List (List Hearing)) → BTreeMap Key (Vec (Vec SecondHeard)) → Type 0
-Tells many each told = (key : Key) (heard : Vec (Vec SecondHeard)) → get key_cmp told key ≡ Some heard
+-- what is given for a key is the seconds in which the captures that count for it heard its record
+abbrev pub GivesSeconds : (many : Bool) → (Key → List (List Hearing)) → BTreeMap Key (Vec (Vec SecondHeard)) → Type 0
+GivesSeconds many each by_record = (key : Key) (heard : Vec (Vec SecondHeard)) → get key_cmp by_record key ≡ Some heard
     → AreShownBy many (each key) key (map seconds_lent heard.items)

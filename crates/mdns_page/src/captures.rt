@@ -316,7 +316,8 @@ fn push_alone(to: &mut String, row: &ListenerRow) -> Result<(), Want>
     Ok(())
 }
 
-// Appends how a capture's clock compares with that of the first earlier capture that has a message in common with it, if there is one.
+// Appends how a capture's clock compares with that of the first earlier capture that has a message in common with it, if there is
+// one.
 fn push_clock_of(
     to: &mut String,
     captures: &[CaptureFacts<'_>],

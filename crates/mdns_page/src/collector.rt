@@ -12,7 +12,7 @@ ghost use Rattle.mdns_page.specs.Collected.{AddsMessages, AreCompared, AreGather
 use crate::captures::Comparison;
 use crate::listener_lives::ListenerLives;
 use mdns_capture::Source;
-use mdns_listeners::beside::Beside;
+use mdns_listeners::hearer_and_messages::HearerAndMessages;
 use mdns_listeners::listeners::{MessageCollector, heard_by};
 use mdns_listeners::together::{are_compared, pairs_together};
 use mdns_listeners::{Groups, ListenerRow, PairRow, listener_rows};
@@ -47,13 +47,13 @@ impl PageCollector {
     }
 
     // Adds what was heard of one more file. After `Want` nothing is promised of the collector.
-    fn add(&mut self, file: Beside<Filtered<MessageChronicle>>) -> Result<(), Want>
+    fn add(&mut self, file: HearerAndMessages<Filtered<MessageChronicle>>) -> Result<(), Want>
         ensures filter { self.new.filter ≡ self.old.filter }
         ensures lives { OnOk result ((heard : List Hearing)
             → RecordsAll file.hearer.hearer.contents file.hearer.hearer.memory heard → AddsFile heard self.old.lives self.new.lives) }
         ensures messages { OnOk result (AddsMessages file.messages self.new.messages) }
     {
-        let Beside {
+        let HearerAndMessages {
             hearer,
             mut messages,
         } = file;
@@ -78,7 +78,7 @@ impl Collector for PageCollector {
         let Some(messages) = self.messages.take() else {
             return self.lives.collect_from(alloc, reader, self.filter);
         };
-        let mut file = Beside {
+        let mut file = HearerAndMessages {
             hearer: Filtered {
                 hearer: MessageChronicle::new(alloc),
                 filter: self.filter,

@@ -8,7 +8,7 @@ ghost use Rattle.mdns_page.specs.{Lanes.{second_mark}, Picture.{path}, Timeline.
 
 use crate::axis::Axis;
 use crate::captures::{CaptureFacts, FEW_CAPTURES};
-use crate::picture::{Mark, Stroke, push_next, push_path_last};
+use crate::picture::{Stroke, StrokeSpan, push_next, push_path_last};
 use mdns_lives::{RecordHearing, SecondHeard};
 use mdns_message::Want;
 use mdns_survey::reading::Span;
@@ -143,7 +143,7 @@ fn push_ticks_path(
 }
 
 // Returns where a second has a stroke of this kind, if it has one: a tick at its first hearing, or a thick one at its goodbye.
-fn second_mark(axis: Axis, stroke: Stroke, second: &SecondHeard) -> Option<Mark>
+fn second_mark(axis: Axis, stroke: Stroke, second: &SecondHeard) -> Option<StrokeSpan>
     ensures { result ≡ second_mark axis stroke second.now }
 {
     match (stroke, is_goodbye(second)) {
@@ -154,14 +154,14 @@ fn second_mark(axis: Axis, stroke: Stroke, second: &SecondHeard) -> Option<Mark>
 }
 
 // Returns the place of a hearing, if it was in the window.
-fn point(axis: Axis, heard: RecordHearing) -> Option<Mark>
+fn point(axis: Axis, heard: RecordHearing) -> Option<StrokeSpan>
     ensures { result ≡ point axis heard }
 {
     if !axis.window.holds(heard.moment) {
         return None;
     }
     let place = axis.place(heard.moment.nanos());
-    Some(Mark {
+    Some(StrokeSpan {
         begin: place,
         end: place,
     })

@@ -95,7 +95,8 @@ pub fn counts()
 {}
 
 /// Names, of instances, types, hosts, files and subjects, and texts reach a page only by the function `say`. If it writes
-/// nothing, two pages are equal that have equally many subjects, and captures, files, rows and live instances that agree in all else.
+/// nothing, two pages are equal that have equally many subjects, and captures, files, rows and live instances that agree in all
+/// else.
 pub fn names()
     ensures { (a b : Shown) (opened : Bool) (lasts others : List Latest) (live now : List GivenRow) → a.axis ≡ b.axis → a.lost ≡ b.lost
         → a.skipped ≡ b.skipped → a.known ≡ b.known → a.comparison ≡ b.comparison → a.live ≡ live_text unsaid a.axis opened lasts live

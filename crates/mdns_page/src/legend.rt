@@ -28,7 +28,7 @@ const LANES_KEY: &str = " \
     <path class=\"n\" d=\"M0 11H26\"/><path class=\"z\" d=\"M13 6v5\"/></svg>goodbye heard</span>";
 
 /// Appends what the strokes of the pictures mean.
-pub(crate) fn push_key(to: &mut String, lanes: u32) -> Result<(), Want>
+pub(crate) fn push_legend(to: &mut String, lanes: u32) -> Result<(), Want>
     ensures { OnOk result (string_bytes to.new ≡ string_bytes to.old ++ key lanes) }
 {
     to.push_str(LIVES_KEY)?;

@@ -5,14 +5,14 @@ ghost use Rattle.std.specs.{Prelude.{unwrap_or, IfOk, OnOk}, Fmt.{decimal}, Stri
 ghost use Rattle.mdns_message.specs.Borrowed.{body_lent};
 ghost use Rattle.people_text.specs.MomentText.{duration_text};
 ghost use Rattle.mdns_browse.specs.{Given.{given_lent, nanos_in}, Json.{first_after}};
-ghost use Rattle.mdns_browse.specs.RecordShown.{shown_address, shown_order, shown_string, shown_strings, spaced_wide};
+ghost use Rattle.mdns_browse.specs.RecordShown.{shown_address, shown_priority, shown_string, shown_strings, spaced_wide};
 ghost use Rattle.mdns_page.specs.{Html.{isolated}, Axis.{short_text}, LiveSection.{given_words, text_html}};
 ghost use Rattle.mdns_page.specs.LiveSheet.{address_after, lines};
 
 use crate::axis::{Axis, Dates, push_short};
 use crate::html::push_isolated;
 use mdns_browse::sheet::InstancePointer;
-use mdns_browse::{push_shown_address, push_shown_order};
+use mdns_browse::{push_shown_address, push_shown_priority};
 use mdns_capture::Moment;
 use mdns_message::text_data::first_string;
 use mdns_message::{Address, BorrowedBody, Want};
@@ -74,12 +74,12 @@ pub(crate) fn push_server(
     target: &str,
 ) -> Result<(), Want>
     ensures { OnOk result (string_bytes to.new ≡ string_bytes to.old
-        ++ (codes "<p>" ++ isolated target.now ++ 58 ∷ decimal port ++ spaced_wide (shown_order priority weight) ++ codes "</p>")) }
+        ++ (codes "<p>" ++ isolated target.now ++ 58 ∷ decimal port ++ spaced_wide (shown_priority priority weight) ++ codes "</p>")) }
 {
     to.push_str("<p>")?;
     push_isolated(to, target)?;
     write!(to, ":{port}")?;
-    push_shown_order(to, priority, weight)?;
+    push_shown_priority(to, priority, weight)?;
     push_word(to, "</p>")
 }
 

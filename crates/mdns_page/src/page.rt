@@ -6,23 +6,23 @@ ghost use Rattle.mdns_message.specs.declared.hearing.Hearing.{Hearing};
 ghost use Rattle.mdns_cache.specs.{Live.{NoneLater}, LentRecords.{last_lent}};
 ghost use Rattle.mdns_lives.specs.{Chronicle.{Chronicles, rows_of}, Since.{live_since_lent}};
 ghost use Rattle.mdns_browse.specs.{Given.{given_lent}, Services.{AreAscending, AreEach}};
-ghost use Rattle.mdns_page.specs.{ByListener.{all_of}, Collected.{rows_lent}, KeptRecords.{is_drawn, looked_up}, Lead.{ended_lent}};
+ghost use Rattle.mdns_page.specs.{ByListener.{all_of}, Collected.{rows_lent}, TimelineRecords.{is_drawn, looked_up}, Lead.{ended_lent}};
 ghost use Rattle.mdns_page.specs.Page.{WritesPage, endings_of, given_of_since, live_at_end};
 
 use crate::axis::{Axis, axis_of};
 use crate::by_listener::facts_by;
 use crate::collector::{ComparisonRows, PageCollector, compared};
 use crate::document::{PageParts, push_page};
-use crate::hearers::hearers_of;
-use crate::kept_records::{
-    TimelinePart, heard_rows, is_drawn, kept_rows, shown_count, unless_large,
-};
 use crate::lead::FileEnding;
 use crate::listener_lives::ListenerLives;
 use crate::live_section::push_live;
 use crate::other_rows::is_large;
+use crate::seconds_by_capture::hearers_of;
 use crate::skipped_section::push_skipped;
 use crate::timeline::is_open;
+use crate::timeline_records::{
+    TimelinePart, heard_rows, is_drawn, kept_rows, shown_count, unless_large,
+};
 use crate::timeline_rows::counted_rows;
 use mdns_browse::about::Subject;
 use mdns_browse::report::ReportFault;
@@ -32,16 +32,16 @@ use mdns_listeners::Groups;
 use mdns_lives::{LiveSince, Lives, Window};
 use mdns_message::Want;
 use mdns_survey::lives_answer::newest_after;
-use mdns_survey::missed::missed_in_lives;
 use mdns_survey::question::{AnswerText, Question, TextAnswer};
 use mdns_survey::reading::Reading;
 use mdns_survey::readings::lost_packets;
 use mdns_survey::request::{AsOf, Subjects};
+use mdns_survey::unmatched::unmatched_in_lives;
 use std::alloc::Global;
 
 /// A page on captures, about the service instances that are about one of the subjects, or about all where there are no
-/// subjects: what each capture is, when each instance, each address, and each name that isn't one label and its type was live, how often
-/// each capture heard it, and what was live at the end. All files of a listener are one capture.
+/// subjects: what each capture is, when each instance, each address, and each name that isn't one label and its type was live, how
+/// often each capture heard it, and what was live at the end. All files of a listener are one capture.
 ///
 /// The captures end as for lives: at the moment of `as_of`, or with `AsOf::Newest` at the latest packet's moment. Pictures
 /// show the window, and without its bounds go from the earliest packet's moment, or the end where that is earlier, to the end:
@@ -100,12 +100,12 @@ impl<'a> TextAnswer for PageRequest<'a> {
             Ok(rows) => rows,
             Err(Want) => return Err(ReportFault::Memory),
         };
-        let missed = match missed_in_lives(alloc, self.about.as_slice(), lives.all()) {
-            Ok(missed) => missed,
+        let unmatched = match unmatched_in_lives(alloc, self.about.as_slice(), lives.all()) {
+            Ok(unmatched) => unmatched,
             Err(Want) => return Err(ReportFault::Memory),
         };
         match page_of(alloc, &self, &lives, &rows, readings, axis) {
-            Ok(text) => Ok(AnswerText { text, missed }),
+            Ok(text) => Ok(AnswerText { text, unmatched }),
             Err(Want) => Err(ReportFault::Memory),
         }
     }

@@ -2,7 +2,7 @@
 
 ghost use Rattle.std.specs.{Prelude.{◌≡◌, ◌++◌, List, IfOk, OnOk, map}, List.{cons_option, flat_map}};
 ghost use Rattle.std.specs.String.{string_bytes};
-ghost use Rattle.mdns_page.specs.declared.picture.{Mark.{Mark}, Stroke.TheVariants.{Server}};
+ghost use Rattle.mdns_page.specs.declared.picture.{StrokeSpan.{StrokeSpan}, Stroke.TheVariants.{Server}};
 ghost use Rattle.mdns_page.specs.Picture.{bar_mark, bars, class_of, drawn_bar, end_mark, goes_on, is_for, is_same, mark_of};
 ghost use Rattle.mdns_page.specs.{Picture.{mark_text, outlasts, path, path_begin, path_last, path_rest, title_word, titled_bar}, Timeline.{lives_lent}};
 
@@ -30,7 +30,7 @@ pub(crate) enum Stroke {
 
 /// Where a stroke begins and ends on the axis.
 #[derive(Clone, Copy)]
-pub(crate) struct Mark {
+pub(crate) struct StrokeSpan {
     pub(crate) begin: u64,
     pub(crate) end: u64,
 }
@@ -131,10 +131,10 @@ pub(crate) fn push_path(
 pub(crate) fn push_next(
     to: &mut String,
     stroke: Stroke,
-    before: Option<Mark>,
-    next: Option<Mark>,
-) -> Result<Option<Mark>, Want>
-    ensures { IfOk result (λ last. (marks : List Mark) → string_bytes to.new ++ path_rest stroke last marks
+    before: Option<StrokeSpan>,
+    next: Option<StrokeSpan>,
+) -> Result<Option<StrokeSpan>, Want>
+    ensures { IfOk result (λ last. (marks : List StrokeSpan) → string_bytes to.new ++ path_rest stroke last marks
         ≡ string_bytes to.old ++ path_rest stroke before (cons_option next marks)) }
 {
     let Some(mark) = next else {
@@ -153,7 +153,7 @@ pub(crate) fn push_next(
 }
 
 /// Appends what ends a path, if it has a stroke.
-pub(crate) fn push_path_last(to: &mut String, last: Option<Mark>) -> Result<(), Want>
+pub(crate) fn push_path_last(to: &mut String, last: Option<StrokeSpan>) -> Result<(), Want>
     ensures { OnOk result (string_bytes to.new ≡ string_bytes to.old ++ path_last last) }
 {
     match last {
@@ -163,7 +163,7 @@ pub(crate) fn push_path_last(to: &mut String, last: Option<Mark>) -> Result<(), 
 }
 
 // Returns where a life has a stroke of this kind, if it has one; only lives that meet the window are drawn.
-fn mark_of(axis: Axis, stroke: Stroke, life: &Life) -> Option<Mark>
+fn mark_of(axis: Axis, stroke: Stroke, life: &Life) -> Option<StrokeSpan>
     ensures { result ≡ mark_of axis stroke life.now }
 {
     if !axis.window.meets(life) {
@@ -177,25 +177,25 @@ fn mark_of(axis: Axis, stroke: Stroke, life: &Life) -> Option<Mark>
 }
 
 // Returns from where to where the bar of a life is.
-fn bar_mark(axis: Axis, life: &Life) -> Mark
+fn bar_mark(axis: Axis, life: &Life) -> StrokeSpan
     ensures { result ≡ bar_mark axis life.now }
 {
     let from = life.from.nanos();
-    Mark {
+    StrokeSpan {
         begin: axis.place(from),
         end: axis.place_end(from, life.until),
     }
 }
 
 // Returns where a life ended, if it did so for this reason.
-fn end_mark(axis: Axis, reason: EndReason, life: &Life) -> Option<Mark>
+fn end_mark(axis: Axis, reason: EndReason, life: &Life) -> Option<StrokeSpan>
     ensures { result ≡ end_mark axis reason life.now }
 {
     if outlasts(axis, life) || !is_for(reason, life.reason) {
         return None;
     }
     let end = axis.place_end(life.from.nanos(), life.until);
-    Some(Mark { begin: end, end })
+    Some(StrokeSpan { begin: end, end })
 }
 
 // Checks that a life goes on after the end of the axis, or of the captures.
@@ -225,7 +225,7 @@ pub(crate) fn is_for(reason: EndReason, other: EndReason) -> bool
 }
 
 // Checks that two marks are the same.
-fn is_same(mark: Mark, other: Mark) -> bool
+fn is_same(mark: StrokeSpan, other: StrokeSpan) -> bool
     ensures { result ≡ is_same mark other }
 {
     mark.begin == other.begin && mark.end == other.end
@@ -260,7 +260,7 @@ fn class_of(stroke: Stroke) -> &'static str
 }
 
 #[tactic(auto, unfolding(crate::specs::Picture::mark_text))]
-fn push_mark(to: &mut String, stroke: Stroke, mark: Mark) -> Result<(), Want>
+fn push_mark(to: &mut String, stroke: Stroke, mark: StrokeSpan) -> Result<(), Want>
     ensures { OnOk result (string_bytes to.new ≡ string_bytes to.old ++ mark_text stroke mark) }
 {
     match stroke {

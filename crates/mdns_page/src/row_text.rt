@@ -9,12 +9,12 @@ ghost use Rattle.mdns_page.specs.Timeline.{content_name, count_last, counted_len
 use crate::axis::Axis;
 use crate::heard_words::push_heard;
 use crate::html::push_isolated;
-use crate::kept_records::TimelinePart;
 use crate::life_words::push_lives_words;
 use crate::other_rows::{push_host_name, push_whole_name};
 use crate::owners::HasOwner;
 use crate::picture::goes_on;
 use crate::row_picture::{Look, push_picture};
+use crate::timeline_records::TimelinePart;
 use crate::timeline_rows::CountedRow;
 use mdns_browse::push_shown_instance;
 use mdns_lives::{Life, SecondHeard};
@@ -76,7 +76,7 @@ fn push_row(
     let alloc = *to.allocator();
     let record = row.record;
     let hearers = row.hearers;
-    if let Some(heard) = hearers.told(alloc, record.last.resource)? {
+    if let Some(heard) = hearers.by_record(alloc, record.last.resource)? {
         return push_heard_row(to, scratch, part, look, row, heard);
     }
     let heard = hearers.look_up(alloc, record.last.resource)?;

@@ -1,7 +1,7 @@
 //! The servers of instances: their SRV records among all that were heard, in key order.
 
 ghost use Rattle.std.specs.{Prelude.{◌≡◌, List, is_some, map}, List.Sorted.{IsStrictlySortedBy}};
-ghost use Rattle.mdns_message.specs.{Parts.{service_of}, Resource.{key_cmp, set_key_cmp, set_key_of, type_number}};
+ghost use Rattle.mdns_message.specs.{Parts.{srv_of}, Resource.{key_cmp, set_key_cmp, set_key_of, type_number}};
 ghost use Rattle.mdns_message.specs.declared.record_type.RecordType.TheVariants.{Srv};
 ghost use Rattle.mdns_join.specs.declared.latest.Latest.{Latest};
 ghost use Rattle.mdns_lives.specs.{declared.life.Life.{Life}, LentLives.{row_lent}};
@@ -18,9 +18,9 @@ use std::cmp::Ordering;
 /// Checks that a record is an SRV record.
 #[tactic(auto, using(crate::proofs::KeptLemmas::some_mapped))]
 pub(crate) fn is_server(last: &Last<'_>) -> bool
-    ensures { result ≡ is_some (service_of (body_of (last_lent last.now))) }
+    ensures { result ≡ is_some (srv_of (body_of (last_lent last.now))) }
 {
-    last.resource.body.service().is_some()
+    last.resource.body.srv().is_some()
 }
 
 /// Finds the SRV records of the instance that PTR data gives, by binary search; none for other data.
@@ -29,7 +29,7 @@ pub(crate) fn servers_of<'a, 'b>(rows: &'a [RecordLives<'b>], body: &Body) -> &'
     ensures { IsStrictlySortedBy key_cmp (map (λ (row : Latest × List Life). key_of_last row.0) (map row_lent rows.now))
         → map lives_lent result.now ≡ servers_of (map row_lent rows.now) body.now }
 {
-    match body.pointer() {
+    match body.ptr_target() {
         Some(name) => servers_named(rows, name),
         None => &rows[..0],
     }

@@ -2,29 +2,29 @@
 
 ghost use Rattle.std.specs.Prelude.{◌≡◌, ◌++◌, ◌≤◌, ◌∷◌, [], Contains, IfOk, OnOk, map, string_bytes, List};
 ghost use Rattle.std.specs.List.{All, filter, list_any};
-ghost use Rattle.mdns_message.specs.{Parts.{service_lent}, declared.hearing.Hearing.{Hearing}};
+ghost use Rattle.mdns_message.specs.{Parts.{srv_lent}, declared.hearing.Hearing.{Hearing}};
 ghost use Rattle.mdns_lives.specs.{Chronicle.{Chronicles}, LentLives.{row_lent}, Window.{meets}, declared.life.Life.{Life}};
 ghost use Rattle.mdns_browse.specs.{LifeText.{nanos_if_some}, ServiceLifeText.{service_life_lent}};
 ghost use Rattle.mdns_page.specs.ServiceLives.{AreRecords, IsWithin, WritesServiceLives};
 ghost use Rattle.mdns_page.specs.ServiceLives.{lives_given, lives_meet, lives_named, meets_span, servers_in, service_lives};
 
-use crate::kept_records::{TimelinePart, heard_rows, is_shown, kept_rows};
 use crate::servers::servers_named;
+use crate::timeline_records::{TimelinePart, has_row, heard_rows, kept_rows};
 use mdns_browse::report::{Form, ReportFault};
 use mdns_browse::service_life_text::{ServiceLife, service_lives_text};
 use mdns_browse::services::instance_of;
 use mdns_capture::Moment;
 use mdns_lives::{Life, Lives, MessageChronicle, RecordLives, Window};
-use mdns_message::{Name, Service, Want};
+use mdns_message::{Name, SrvData, Want};
 use mdns_survey::filter::Filtered;
 use mdns_survey::head::headed;
 use mdns_survey::hearer::lives_of_chronicle;
 use mdns_survey::lives_answer::newest_after;
-use mdns_survey::missed::missed_in_lives;
 use mdns_survey::question::{AnswerText, Question, TextAnswer};
 use mdns_survey::reading::Reading;
 use mdns_survey::readings::{captures_begin, captures_end};
 use mdns_survey::request::{AsOf, Subjects};
+use mdns_survey::unmatched::unmatched_in_lives;
 use std::alloc::Global;
 
 /// The lives of the service instances that are about one of the subjects, or of all where there are no subjects: a line for each
@@ -73,8 +73,8 @@ impl TextAnswer for ServiceLivesRequest {
         if let Some(newest) = newest_after(&lives, end_of_captures) {
             return Err(ReportFault::Early { newest });
         }
-        let missed = match missed_in_lives(alloc, self.about.as_slice(), &lives) {
-            Ok(missed) => missed,
+        let unmatched = match unmatched_in_lives(alloc, self.about.as_slice(), &lives) {
+            Ok(unmatched) => unmatched,
             Err(Want) => return Err(ReportFault::Memory),
         };
         let report = match text_of(alloc, &self, &lives, begin, end_of_captures) {
@@ -82,7 +82,7 @@ impl TextAnswer for ServiceLivesRequest {
             Err(Want) => return Err(ReportFault::Memory),
         };
         match headed(alloc, self.form, readings, report) {
-            Ok(text) => Ok(AnswerText { text, missed }),
+            Ok(text) => Ok(AnswerText { text, unmatched }),
             Err(Want) => Err(ReportFault::Memory),
         }
     }
@@ -126,7 +126,7 @@ fn service_lives<'a>(
 {
     let mut services = Vec::new(alloc);
     for record in kept {
-        if !is_shown(TimelinePart::Instances, window, record) {
+        if !has_row(TimelinePart::Instances, window, record) {
             continue;
         }
         push_given(&mut services, window, record, kept)?;
@@ -170,8 +170,8 @@ fn lives_shown(alloc: Global, window: Window, lives: &[Life]) -> Result<Vec<Life
     )
 }
 
-// Appends lives of the instance of this name, which a record gives, with the servers in each. Each half of the lives is given only what
-// of the SRV records meets its time, so that not every life is compared with every one of a record's.
+// Appends lives of the instance of this name, which a record gives, with the servers in each. Each half of the lives is given only
+// what of the SRV records meets its time, so that not every life is compared with every one of a record's.
 fn push_lives<'a>(
     to: &mut Vec<ServiceLife<'a>>,
     record: &'a RecordLives<'a>,
@@ -234,8 +234,8 @@ fn servers_in<'a>(
     alloc: Global,
     named: &[RecordLives<'a>],
     life: &Life,
-) -> Result<Vec<Service<&'a Name>>, Want>
-    ensures { IfOk result (λ servers. map service_lent servers.items ≡ servers_in (map row_lent named.now) life.now) }
+) -> Result<Vec<SrvData<&'a Name>>, Want>
+    ensures { IfOk result (λ servers. map srv_lent servers.items ≡ servers_in (map row_lent named.now) life.now) }
 {
     let mut servers = Vec::new(alloc);
     for record in named {
@@ -243,7 +243,7 @@ fn servers_in<'a>(
             continue;
         }
         // Every record is an SRV record: no other data has this type number.
-        let Some(service) = record.last.resource.body.service() else {
+        let Some(service) = record.last.resource.body.srv() else {
             continue;
         };
         servers.push(service)?;

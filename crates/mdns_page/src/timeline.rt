@@ -5,19 +5,19 @@ ghost use Rattle.std.specs.Prelude.{◌≡◌, ◌+◌, [], ◌++◌, ◌<◌, c
 ghost use Rattle.std.specs.{List.{flat_map}, String.{string_bytes}};
 ghost use Rattle.mdns_page.specs.{Counts.{commas}, Group.{grouped}, Html.{isolated}};
 ghost use Rattle.mdns_page.specs.Timeline.{counted_lent, group_count, group_name, group_text, is_open, others_text, owner_of, timeline};
-ghost use Rattle.mdns_page.specs.{Timeline.{timeline_begin}, declared.kept_records.TimelinePart.TheVariants.{Instances}};
+ghost use Rattle.mdns_page.specs.{Timeline.{timeline_begin}, declared.timeline_records.TimelinePart.TheVariants.{Instances}};
 
 use crate::axis::Axis;
 use crate::bar_titles::are_titled;
 use crate::counts::{push_commas, push_count};
 use crate::group::{push_axis_picture, push_group_begin};
 use crate::html::push_isolated;
-use crate::kept_records::TimelinePart;
-use crate::legend::push_key;
+use crate::legend::push_legend;
 use crate::other_rows::{is_large, push_whole_name};
 use crate::owners::following_len;
 use crate::row_picture::Look;
 use crate::row_text::{live_rows, push_rows};
+use crate::timeline_records::TimelinePart;
 use crate::timeline_rows::CountedRow;
 use mdns_message::Want;
 
@@ -83,7 +83,7 @@ fn push_begin(to: &mut String, titled: bool, large: bool, lanes: u32) -> Result<
          and names that are not one label and the type are left out.",
     )?;
     to.push_str("</p>\n")?;
-    push_key(to, lanes)?;
+    push_legend(to, lanes)?;
     to.push_str("<div class=\"g\">\n")?;
     Ok(())
 }

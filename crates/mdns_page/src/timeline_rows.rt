@@ -6,12 +6,12 @@ ghost use Rattle.mdns_cache.specs.Live.{key_of_last};
 ghost use Rattle.mdns_browse.specs.Services.{AreEach, body_of};
 ghost use Rattle.mdns_join.specs.declared.latest.Latest.{Latest};
 ghost use Rattle.mdns_lives.specs.{declared.life.Life.{Life}, Chronicle.{Chronicles}, LentLives.{row_lent}};
-ghost use Rattle.mdns_page.specs.{TimelineRows.{IsCounted, Tells}, KeptRecords.{is_shown}, Servers.{servers_of}};
+ghost use Rattle.mdns_page.specs.{TimelineRows.{GivesSeconds, IsCounted}, TimelineRecords.{has_row}, Servers.{servers_of}};
 ghost use Rattle.mdns_page.specs.Timeline.{Row, counted_lent};
 
-use crate::hearers::Hearers;
-use crate::kept_records::{TimelinePart, is_shown};
+use crate::seconds_by_capture::Hearers;
 use crate::servers::servers_of;
+use crate::timeline_records::{TimelinePart, has_row};
 use mdns_lives::{RecordLives, Window};
 use mdns_message::Want;
 use std::alloc::Global;
@@ -39,16 +39,16 @@ pub(crate) fn counted_rows<'a>(
 ) -> Result<Vec<CountedRow<'a>>, Want>
     ensures records { IfOk result (λ rows.
         map (λ (row : Row). (row.last, row.lives)) (map counted_lent rows.items)
-        ≡ filter (is_shown part window) (map row_lent records.now)) }
+        ≡ filter (has_row part window) (map row_lent records.now)) }
     ensures heard { IfOk result (λ rows. (each : List (List Hearing)) → AreEach Chronicles hearers.now.chronicles.now each
-        → Tells (nat_lt 4 (length hearers.now.chronicles.now)) (λ key. each) hearers.now.told
+        → GivesSeconds (nat_lt 4 (length hearers.now.chronicles.now)) (λ key. each) hearers.now.by_record
         → All (IsCounted each) (map counted_lent rows.items)) }
     ensures servers { IfOk result (λ rows. IsStrictlySortedBy key_cmp (map (λ (row : Latest × List Life). key_of_last row.0) (map row_lent servers.now))
         → All (λ (row : Row). row.servers ≡ servers_of (map row_lent servers.now) (body_of row.last)) (map counted_lent rows.items)) }
 {
     let mut rows = Vec::new(alloc);
     for record in records {
-        if !is_shown(part, window, record) {
+        if !has_row(part, window, record) {
             continue;
         }
         rows.push(counted_row(record, servers, hearers))?;
@@ -64,7 +64,7 @@ fn counted_row<'a>(
 ) -> CountedRow<'a>
     ensures record { ((counted_lent result).last, (counted_lent result).lives) ≡ row_lent «record».now }
     ensures heard { (each : List (List Hearing)) → AreEach Chronicles hearers.now.chronicles.now each
-        → Tells (nat_lt 4 (length hearers.now.chronicles.now)) (λ key. each) hearers.now.told → IsCounted each (counted_lent result) }
+        → GivesSeconds (nat_lt 4 (length hearers.now.chronicles.now)) (λ key. each) hearers.now.by_record → IsCounted each (counted_lent result) }
     ensures servers { IsStrictlySortedBy key_cmp (map (λ (row : Latest × List Life). key_of_last row.0) (map row_lent servers.now))
         → (counted_lent result).servers ≡ servers_of (map row_lent servers.now) (body_of (counted_lent result).last) }
 {

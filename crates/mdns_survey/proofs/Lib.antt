@@ -8,7 +8,7 @@ pub mod ListenedLemmas
 pub mod LivesLawLemmas
 pub mod LivesLemmas
 pub mod LossLemmas
-pub mod MissedLemmas
+pub mod UnmatchedLemmas
 pub mod OneSurveyLemmas
 pub mod OutcomeLemmas
 pub mod QuestionLemmas

@@ -16,11 +16,12 @@ use Rattle.mdns_survey.specs.declared.survey.{SurveyFault.{SurveyFault}, SurveyF
 use Rattle.mdns_survey.specs.{declared.reading.Reading.{Reading}, declared.summary.Summary.{Summary}, Outcomes.{AllRead, Outcome}}
 use Rattle.mdns_survey.specs.{Listen.{IsNoReadFault}, declared.listen.ListenFault.{ListenFault}, declared.request.AsOf.{AsOf}}
 use Rattle.mdns_survey.specs.declared.request.{AsOf.TheVariants.{Newest, At, Before}, ReportRequest.{ReportRequest}}
-use Rattle.mdns_survey.specs.{Head.{Heads}, Question.{HearsReaders, IsAnswer, IsTooEarly, MissesIn, Refuses, asked_report}, Filter.{counted}}
+use Rattle.mdns_survey.specs.{Head.{Heads}, Question.{HearsReaders, IsAnswer, IsTooEarly, LeavesUnmatchedIn, Refuses, asked_report}}
+use Rattle.mdns_survey.specs.Filter.{counted}
 use Rattle.mdns_survey.specs.{Filter.{filter_of}, Request.{IsEarly, at_or_newest, moment_of, plain_request}, Readings.{summaries_of}}
 use Rattle.mdns_survey.specs.Surveys.{all_hearings, IsAsOf, ReportsRequest, SurveysBy, SurveysReport, SurveysRequest}
 use Rattle.mdns_survey.specs.Refusals.{RefusesBy, RefusesReaders, RefusesReader, BlamesReaders}
-use Rattle.mdns_survey.specs.Missed.{Misses}
+use Rattle.mdns_survey.specs.Unmatched.{LeavesUnmatched}
 use Rattle.mdns_survey.proofs.{ListenedLemmas.{known-head, known-read}, SelectedLemmas.{counted-at, is-earlier}}
 
 -- the file header of these bytes has no fault, where they are known
@@ -137,16 +138,16 @@ module _ {Heard : List (List PacketAt) → List (List Outcome) → Type 0} (left
       → AllRead captures hears.packets hears.outcomes (summaries_of readings)
   read-heard captures known = known-read lefts captures hears.packets hears.outcomes readings known hears.read
 
-  -- what is missed by the hearings that count
-  pub misses-heard : (about : List Subject) (as_of : AsOf) (missed : Option (List ℕ))
-      → Misses about (counted (filter_of as_of) hears.outcomes) missed → (captures : List (List ℕ))
-      → lefts ≡ map (λ x. Some x) captures → MissesIn about as_of captures missed
-  misses-heard about as_of missed misses captures known = record {
+  -- what is unmatched by the hearings that count
+  pub leaves-heard : (about : List Subject) (as_of : AsOf) (unmatched : Option (List ℕ))
+      → LeavesUnmatched about (counted (filter_of as_of) hears.outcomes) unmatched → (captures : List (List ℕ))
+      → lefts ≡ map (λ x. Some x) captures → LeavesUnmatchedIn about as_of captures unmatched
+  leaves-heard about as_of unmatched leaves captures known = record {
     packets = hears.packets;
     outcomes = hears.outcomes;
     summaries = summaries_of readings;
     read = read-heard captures known;
-    misses = misses;
+    leaves = leaves;
   }
 
   -- a moment that was asked for, and is earlier than the newest of the hearings that count

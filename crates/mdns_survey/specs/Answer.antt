@@ -4,31 +4,31 @@ use Rattle.std.specs.{List.{list_all}, Io.KnownBytes.{Appends}}
 use Rattle.mdns_capture.specs.{declared.stream.Source.{Ghosts}, Output.{Writing}}
 use Rattle.mdns_survey.specs.declared.{request.Request.{Request}, request.Request.TheVariants.{Check}, summary.Summary.{Summary}}
 use Rattle.mdns_survey.specs.{declared.survey.SurveyFault.{SurveyFault}, ProgramLines.{fault_line_text, is_whole}, Question.{Asked}}
-use Rattle.mdns_survey.specs.{Question.{MissesIn, Refuses, asked_of}, Refusals.{BlamesReaders, BlamesWriter, Leaves}}
-use Rattle.mdns_survey.specs.Said.{Says, ending_lines, missed_lines}
+use Rattle.mdns_survey.specs.{Question.{LeavesUnmatchedIn, Refuses, asked_of}, Refusals.{BlamesReaders, BlamesWriter, Leaves}}
+use Rattle.mdns_survey.specs.Said.{Says, ending_lines, unmatched_lines}
 
 -- 0 where every capture is whole, else 1
 abbrev pub status_of : List Summary → ℕ
 status_of summaries = if list_all (λ summary. is_whole summary.ending) summaries then 0 else 1
 
--- and 1 where something is missed
+-- and 1 where subjects are unmatched
 abbrev pub status_with : List Summary → Option (List ℕ) → ℕ
 status_with summaries None = status_of summaries
 status_with summaries (Some words) = 1
 
 -- A text that answers over the captures was written, the program's error lines where these are to be said, and else none: one for
--- each capture that isn't whole, and then one of what is missed. And this is the status.
+-- each capture that isn't whole, and then one of what is unmatched. And this is the status.
 pub record Reports (asked : Asked) (says : Bool) (program : List ℕ) (names captures : List (List ℕ)) (out err : Writing)
     (status : ℕ) : Type 0 where
   pub summaries : List Summary
   pub text : List ℕ
   pub surveys : asked.Answers captures summaries text
   pub written : Appends out.old out.new text
-  pub missed : Option (List ℕ)
-  pub misses : MissesIn asked.about asked.as_of captures missed
-  pub says_lines : MatchBool says (Says program (ending_lines program names summaries ++ missed_lines program missed) err)
+  pub unmatched : Option (List ℕ)
+  pub leaves : LeavesUnmatchedIn asked.about asked.as_of captures unmatched
+  pub says_lines : MatchBool says (Says program (ending_lines program names summaries ++ unmatched_lines program unmatched) err)
       ((err.new ≡ err.old) × (err.new_failures ≡ err.failures))
-  pub is_status : status ≡ status_with summaries missed
+  pub is_status : status ≡ status_with summaries unmatched
 
 -- the report, the lives or the check was written, and nothing else; beside a check no error lines
 abbrev pub Answers : Request → List (List ℕ) → List (List ℕ) → Writing → Writing → ℕ → Type 0

@@ -7,7 +7,7 @@ pub mod Laws
 pub mod ProgramLines
 pub mod LivesAnswer
 pub mod Listen
-pub mod Missed
+pub mod Unmatched
 pub mod Question
 pub mod Reading
 pub mod Readings

@@ -30,8 +30,8 @@ abbrev pub ending_line_text : List ℕ → List ℕ → Ending → List ℕ
 ending_line_text program name ending = program <> codes ": " <> name <> codes ": " <> ending_text ending
 
 -- the error line of a program where nothing heard is about the words
-abbrev pub missed_line_text : List ℕ → List ℕ → List ℕ
-missed_line_text program words = program <> codes ": nothing heard is about " <> words
+abbrev pub unmatched_line_text : List ℕ → List ℕ → List ℕ
+unmatched_line_text program words = program <> codes ": nothing heard is about " <> words
 
 -- the error line for a file that can't be opened
 abbrev pub open_line_text : List ℕ → List ℕ → List ℕ

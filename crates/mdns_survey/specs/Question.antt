@@ -7,7 +7,8 @@ use Rattle.mdns_survey.specs.declared.request.{LivesRequest.{LivesRequest}, Repo
 use Rattle.mdns_survey.specs.declared.{request.Request.TheVariants.{Report, Lives, Check}, summary.Summary.{Summary}}
 use Rattle.mdns_survey.specs.declared.survey.{SurveyFault.{SurveyFault}, SurveyFault.TheVariants.{File, Early, Memory, Write}}
 use Rattle.mdns_browse.specs.declared.about.Subject.{Subject}
-use Rattle.mdns_survey.specs.{Filter.{counted, filter_of}, Missed.{Misses}, Outcomes.{AllRead, Outcome}, ProgramLines.{check_lines_text}}
+use Rattle.mdns_survey.specs.{Filter.{counted, filter_of}, Unmatched.{LeavesUnmatched}, Outcomes.{AllRead, Outcome}}
+use Rattle.mdns_survey.specs.ProgramLines.{check_lines_text}
 use Rattle.mdns_survey.specs.{LivesAnswer.{SurveysLivesWithHead, WritesFirstRecords}, Refusals.{FirstFails, HasNewest}, Request.{IsEarly}}
 use Rattle.mdns_survey.specs.Surveys.{AllLeft, SurveysRequest}
 
@@ -95,17 +96,18 @@ WritesAnswer asked lefts summaries out =
     (captures : List (List ℕ)) → lefts ≡ map Some captures
     → (text : List ℕ) × asked.Answers captures summaries text × Appends out.old out.new text
 
--- What is missed over the captures, by those hearings that count.
-pub record MissesIn (about : List Subject) (as_of : AsOf) (captures : List (List ℕ)) (missed : Option (List ℕ)) : Type 0 where
+-- What is unmatched over the captures, by those hearings that count.
+pub record LeavesUnmatchedIn (about : List Subject) (as_of : AsOf) (captures : List (List ℕ)) (unmatched : Option (List ℕ)) : Type 0 where
   pub packets : List (List PacketAt)
   pub outcomes : List (List Outcome)
   pub summaries : List Summary
   pub read : AllRead captures packets outcomes summaries
-  pub misses : Misses about (counted (filter_of as_of) outcomes) missed
+  pub leaves : LeavesUnmatched about (counted (filter_of as_of) outcomes) unmatched
 
 -- and where the bytes of the readers are known
-abbrev pub MissesOf : Asked → List (Option (List ℕ)) → Option (List ℕ) → Type 0
-MissesOf asked lefts missed = (captures : List (List ℕ)) → lefts ≡ map Some captures → MissesIn asked.about asked.as_of captures missed
+abbrev pub LeavesUnmatchedOf : Asked → List (Option (List ℕ)) → Option (List ℕ) → Type 0
+LeavesUnmatchedOf asked lefts unmatched =
+    (captures : List (List ℕ)) → lefts ≡ map Some captures → LeavesUnmatchedIn asked.about asked.as_of captures unmatched
 
 -- WHY THERE IS NONE
 

@@ -2,7 +2,7 @@
 use Rattle.std.specs.Prelude.{◌≡◌, ◌⊎◌, ℕ, IsTrue, if◌then◌else◌, List, [], ◌∷◌, ◌++◌, Option, None, Some, codes}
 use Rattle.std.specs.Io.KnownBytes.{Appends}
 use Rattle.mdns_capture.specs.{Stream.{OneMoreFailed}, Output.{AppendsPrefix, Writing}}
-use Rattle.mdns_survey.specs.{declared.summary.Summary.{Summary}, ProgramLines.{ending_line_text, is_whole, missed_line_text}}
+use Rattle.mdns_survey.specs.{declared.summary.Summary.{Summary}, ProgramLines.{ending_line_text, is_whole, unmatched_line_text}}
 
 -- the text is these lines as a program writes them, each with its line feed; `out of memory` is said of one whose allocation failed
 abbrev pub AreSaid : List ℕ → List (List ℕ) → List ℕ → Type 0
@@ -38,7 +38,7 @@ ending_lines program (name ∷ names) (summary ∷ summaries) =
     else ending_line_text program name summary.ending ∷ ending_lines program names summaries
 ending_lines program _ _ = []
 
--- the error line of what is missed; none where nothing is
-abbrev pub missed_lines : List ℕ → Option (List ℕ) → List (List ℕ)
-missed_lines program None = []
-missed_lines program (Some words) = missed_line_text program words ∷ []
+-- the error line of what is unmatched; none where nothing is
+abbrev pub unmatched_lines : List ℕ → Option (List ℕ) → List (List ℕ)
+unmatched_lines program None = []
+unmatched_lines program (Some words) = unmatched_line_text program words ∷ []

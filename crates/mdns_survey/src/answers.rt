@@ -5,7 +5,7 @@ ghost use Rattle.mdns_capture.specs.Output.{writing};
 ghost use Rattle.mdns_survey.specs.{Answer.{Answers, IsRefused, IsRefusedOf, Reports}, ProgramLines.{check_lines_text}};
 ghost use Rattle.mdns_survey.specs.{Readings.{summaries_of}, Request.{request_of}};
 
-use crate::error_lines::{refuse, say_lines};
+use crate::error_lines::{say_fault, say_lines};
 use crate::hearer::Forgetful;
 use crate::program_lines::check_line;
 use crate::question::{Answer, AnswerText, Question, TextAnswer, survey_with};
@@ -18,7 +18,7 @@ use mdns_message::Want;
 use std::alloc::Global;
 
 /// Writes the report or the check of the captures `names`, read by `readers`, to `out`, and error lines to `err`.
-/// Returns the exit status: `WHOLE`, `DAMAGED` or `REFUSED` of `status`.
+/// Returns the exit status: `WHOLE`, `INCOMPLETE` or `REFUSED` of `status`.
 ///
 /// After a failed write to `err` nothing more is written there; the status stays the same. No program calls it: they
 /// call `answer_request` or `answer_with`.
@@ -118,7 +118,7 @@ pub fn answer_with<R: Source + Drop, Q: Answer + Drop, O: Sink, E: Sink>(
             }
             status_with(&surveyed)
         }
-        Err(fault) => refuse(alloc, program, files, &fault, err),
+        Err(fault) => say_fault(alloc, program, files, &fault, err),
     }
 }
 
@@ -155,7 +155,10 @@ impl<'a> TextAnswer for Check<'a> {
     ) -> Result<AnswerText, ReportFault> {
         drop(collector);
         match check_lines(alloc, self.names, readings) {
-            Ok(text) => Ok(AnswerText { text, missed: None }),
+            Ok(text) => Ok(AnswerText {
+                text,
+                unmatched: None,
+            }),
             Err(Want) => Err(ReportFault::Memory),
         }
     }

@@ -4,20 +4,20 @@ ghost use Rattle.std.specs.Prelude.{◌≡◌, ◌<◌, ◌∷◌, ◌++◌, [],
 ghost use Rattle.std.specs.{Bool.{OnTrue, OnFalse}, Io.KnownBytes.{Appends}};
 ghost use Rattle.mdns_capture.specs.{Calls.{WritesWell}, Output.{AppendsPrefix, writing}};
 ghost use Rattle.mdns_survey.specs.{ProgramLines.{fault_line_text, said_text, IfFile}, Said.{Says, SaysAll, SaysPrefix}};
-ghost use Rattle.mdns_survey.specs.Said.{ending_lines, missed_lines};
+ghost use Rattle.mdns_survey.specs.Said.{ending_lines, unmatched_lines};
 
-use crate::program_lines::{ending_line_of, fault_line_of, missed_line_of};
+use crate::program_lines::{ending_line_of, fault_line_of, unmatched_line_of};
 use crate::question::Surveyed;
 use crate::status::{REFUSED, is_whole};
 use crate::summary::Summary;
 use crate::survey::SurveyFault;
-use mdns_capture::{Broken, Sink, write_whole};
+use mdns_capture::{Broken, Sink, write_all};
 use mdns_message::Want;
 use std::alloc::Global;
 
 /// Writes the error line of a program that is refused, and returns the status.
 #[tactic(auto, using(crate::proofs::SaidLemmas::says_line, crate::proofs::SaidLemmas::is_said))]
-pub fn refuse<E: Sink>(
+pub fn say_fault<E: Sink>(
     alloc: Global,
     program: &str,
     names: &[String],
@@ -48,7 +48,7 @@ pub fn say_endings<E: Sink>(
     say_each_ending(alloc, program, names, summaries, err);
 }
 
-/// Writes the lines of a survey as `say_endings` does, and then the error line of what it misses.
+/// Writes the lines of a survey as `say_endings` does, and then the error line of the subjects that nothing is about.
 #[tactic(auto, using(crate::proofs::SaidLemmas::for_say_lines))]
 pub(crate) fn say_lines<E: Sink>(
     alloc: Global,
@@ -58,13 +58,17 @@ pub(crate) fn say_lines<E: Sink>(
     err: &mut E,
 )
     ensures { Says program.now (ending_lines program.now (map string_bytes names.now) surveyed.now.summaries.items
-        ++ missed_lines program.now (option_map string_bytes surveyed.now.missed)) (writing E.Sink err.old err.new) }
+        ++ unmatched_lines program.now (option_map string_bytes surveyed.now.unmatched)) (writing E.Sink err.old err.new) }
 {
     if !say_each_ending(alloc, program, names, surveyed.summaries.as_slice(), err) {
         return;
     }
-    if let Some(words) = &surveyed.missed {
-        say(err, program, missed_line_of(alloc, program, words.as_str()));
+    if let Some(words) = &surveyed.unmatched {
+        say(
+            err,
+            program,
+            unmatched_line_of(alloc, program, words.as_str()),
+        );
     }
 }
 
@@ -132,7 +136,7 @@ fn say<E: Sink>(err: &mut E, program: &str, line: Result<String, Want>) -> bool
     ensures well { WritesWell E.Sink err.old err.new result }
 {
     match write_said(err, program, line) {
-        Ok(()) => match write_whole(err, b"\n") {
+        Ok(()) => match write_all(err, b"\n") {
             Ok(()) => true,
             Err(_) => false,
         },
@@ -147,7 +151,7 @@ fn write_said<E: Sink>(err: &mut E, program: &str, line: Result<String, Want>) -
     ensures well { WritesWell E.Sink err.old err.new (is_ok result) }
 {
     match line {
-        Ok(line) => write_whole(err, line.as_bytes()),
+        Ok(line) => write_all(err, line.as_bytes()),
         Err(Want) => write_want(err, program),
     }
 }
@@ -158,8 +162,8 @@ fn write_want<E: Sink>(err: &mut E, program: &str) -> Result<(), Broken>
     ensures prefix { OnErr result (AppendsPrefix (E.written err.old) (E.written err.new) (program.now ++ codes ": out of memory")) }
     ensures well { WritesWell E.Sink err.old err.new (is_ok result) }
 {
-    match write_whole(err, program.as_bytes()) {
-        Ok(()) => write_whole(err, b": out of memory"),
+    match write_all(err, program.as_bytes()) {
+        Ok(()) => write_all(err, b": out of memory"),
         Err(broken) => Err(broken),
     }
 }

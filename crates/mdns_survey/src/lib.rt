@@ -10,7 +10,6 @@ pub mod hearer;
 pub mod laws;
 pub mod listen;
 pub mod lives_answer;
-pub mod missed;
 pub mod outcome;
 pub mod program_lines;
 pub mod question;
@@ -22,6 +21,7 @@ pub mod skips;
 pub mod status;
 pub mod summary;
 pub mod survey;
+pub mod unmatched;
 
 pub use answers::{NamedProgram, answer, answer_request, answer_with};
 pub use listen::{Heard, ListenFault};

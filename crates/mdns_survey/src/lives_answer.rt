@@ -15,16 +15,16 @@ ghost use Rattle.mdns_survey.specs.Refusals.{BlamesWriter};
 use crate::filter::Filtered;
 use crate::head::head_in;
 use crate::hearer::lives_of_chronicle;
-use crate::missed::missed_in_lives;
 use crate::question::{Answer, Question};
 use crate::reading::Reading;
 use crate::readings::{captures_begin, captures_end};
 use crate::request::LivesRequest;
 use crate::survey::SurveyFault;
+use crate::unmatched::unmatched_in_lives;
 use mdns_browse::about::{Subject, keeps_record};
 use mdns_browse::life_text::{Layout, push_lives, push_lives_head};
 use mdns_browse::report::Form;
-use mdns_capture::{Broken, Moment, Sink, write_whole};
+use mdns_capture::{Broken, Moment, Sink, write_all};
 use mdns_lives::{ChosenWalk, Lives, MessageChronicle, RecordLives};
 use mdns_message::Want;
 use std::alloc::Global;
@@ -80,8 +80,8 @@ impl Answer for LivesRequest {
             return Err(SurveyFault::Early { newest });
         }
         let about = self.about.as_slice();
-        let missed = match missed_in_lives(alloc, about, &lives) {
-            Ok(missed) => missed,
+        let unmatched = match unmatched_in_lives(alloc, about, &lives) {
+            Ok(unmatched) => unmatched,
             Err(Want) => return Err(SurveyFault::Memory),
         };
         let columns = lives.chosen(self.which, self.window);
@@ -101,7 +101,7 @@ impl Answer for LivesRequest {
             end_of_captures,
         };
         match write_rows(text, rows, lines, out) {
-            Ok(()) => Ok(missed),
+            Ok(()) => Ok(unmatched),
             Err(fault) => Err(fault),
         }
     }
@@ -247,7 +247,7 @@ fn write_rows<W: Sink>(
             Err(Broken) => return Err(SurveyFault::Write),
         }
     }
-    match write_whole(out, text.as_bytes()) {
+    match write_all(out, text.as_bytes()) {
         Ok(()) => Ok(()),
         Err(Broken) => Err(SurveyFault::Write),
     }
@@ -288,7 +288,7 @@ fn write_piece<W: Sink>(text: &mut String, out: &mut W) -> Result<(), Broken>
     if text.len() < PIECE {
         return Ok(());
     }
-    match write_whole(out, text.as_bytes()) {
+    match write_all(out, text.as_bytes()) {
         Ok(()) => {
             text.clear();
             Ok(())

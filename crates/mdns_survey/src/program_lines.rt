@@ -2,7 +2,8 @@
 
 ghost use Rattle.std.specs.Prelude.{◌≡◌, ◌<◌, IfOk, codes, string_bytes, length, map};
 ghost use Rattle.mdns_browse.specs.RecordText.{moment_text};
-ghost use Rattle.mdns_survey.specs.ProgramLines.{◌<>◌, check_text, ending_line_text, fault_line_text, listen_text, missed_line_text, open_line_text, IfFile};
+ghost use Rattle.mdns_survey.specs.ProgramLines.{◌<>◌, check_text, ending_line_text, fault_line_text, listen_text, unmatched_line_text};
+ghost use Rattle.mdns_survey.specs.ProgramLines.{open_line_text, IfFile};
 
 use crate::listen::ListenFault;
 use crate::summary::Summary;
@@ -55,8 +56,8 @@ pub(crate) fn ending_line_of(
 }
 
 /// Writes the error line of a program where nothing heard is about the words.
-pub(crate) fn missed_line_of(alloc: Global, program: &str, words: &str) -> Result<String, Want>
-    ensures { IfOk result (λ line. string_bytes line ≡ missed_line_text program.now words.now) }
+pub(crate) fn unmatched_line_of(alloc: Global, program: &str, words: &str) -> Result<String, Want>
+    ensures { IfOk result (λ line. string_bytes line ≡ unmatched_line_text program.now words.now) }
 {
     Ok(format!(in alloc; "{program}: nothing heard is about {words}")?)
 }

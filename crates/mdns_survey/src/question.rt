@@ -4,7 +4,7 @@ ghost use Rattle.std.specs.Prelude.{◌≡◌, ℕ, [], length, map, option_map,
 ghost use Rattle.mdns_capture.specs.{Output.{writing}, Savefile.{PacketAt}};
 ghost use Rattle.mdns_browse.specs.Report.{IfEarly};
 ghost use Rattle.mdns_survey.specs.{Outcomes.{Outcome}, ProgramLines.{IfFile}};
-ghost use Rattle.mdns_survey.specs.{Question.{Asked, HearsReaders, IsAnswer, IsTooEarly, MissesOf, Refuses, WritesAnswer}};
+ghost use Rattle.mdns_survey.specs.{Question.{Asked, HearsReaders, IsAnswer, IsTooEarly, LeavesUnmatchedOf, Refuses, WritesAnswer}};
 ghost use Rattle.mdns_survey.specs.{Question.{asked_after}, Readings.{summaries_of}, Refusals.{BlamesReaders, BlamesWriter, Leaves}};
 
 use crate::head::prefaced;
@@ -14,7 +14,7 @@ use crate::readings::summaries_of;
 use crate::summary::Summary;
 use crate::survey::{SurveyFault, collect_all};
 use mdns_browse::report::ReportFault;
-use mdns_capture::{Broken, Sink, Source, write_whole};
+use mdns_capture::{Broken, Sink, Source, write_all};
 use mdns_message::Want;
 use std::alloc::Global;
 
@@ -55,9 +55,9 @@ pub trait Answer: Question {
             → HearsReaders (Self.Heard self collector) lefts readings.now
             → WritesAnswer (asked_after (string_bytes preface) (Self.asked self)) lefts (summaries_of readings.now)
             (writing W.Sink out.old out.new)) }
-        ensures misses { IfOk result (λ missed. (lefts : List (Option (List ℕ)))
+        ensures leaves { IfOk result (λ unmatched. (lefts : List (Option (List ℕ)))
             → HearsReaders (Self.Heard self collector) lefts readings.now
-            → MissesOf (Self.asked self) lefts (option_map string_bytes missed)) }
+            → LeavesUnmatchedOf (Self.asked self) lefts (option_map string_bytes unmatched)) }
         ensures refused { IfErr result (λ fault. (lefts : List (Option (List ℕ)))
             → HearsReaders (Self.Heard self collector) lefts readings.now
             → Refuses (asked_after (string_bytes preface) (Self.asked self)) lefts (writing W.Sink out.old out.new) fault) }
@@ -67,12 +67,12 @@ pub trait Answer: Question {
         ensures unfailed { OnOk result (W.failures out.new ≡ W.failures out.old) };
 }
 
-/// An answer as a text, and what it misses.
+/// An answer as a text, and the subjects that nothing is about.
 #[derive(Drop)]
 pub struct AnswerText {
     pub text: String,
     /// The subjects, with a comma between two, where nothing that was heard is about one of them.
-    pub missed: Option<String>,
+    pub unmatched: Option<String>,
 }
 
 /// A question whose answer is a text that is complete before it is written.
@@ -88,9 +88,9 @@ pub trait TextAnswer: Question {
         ensures right { IfOk result (λ answer. (lefts : List (Option (List ℕ)))
             → HearsReaders (Self.Heard self collector) lefts readings.now
             → IsAnswer (Self.asked self) lefts (summaries_of readings.now) (string_bytes answer.text)) }
-        ensures misses { IfOk result (λ answer. (lefts : List (Option (List ℕ)))
+        ensures leaves { IfOk result (λ answer. (lefts : List (Option (List ℕ)))
             → HearsReaders (Self.Heard self collector) lefts readings.now
-            → MissesOf (Self.asked self) lefts (option_map string_bytes answer.missed)) }
+            → LeavesUnmatchedOf (Self.asked self) lefts (option_map string_bytes answer.unmatched)) }
         ensures early { IfErr result (λ fault. IfEarly fault (λ newest. (lefts : List (Option (List ℕ)))
             → HearsReaders (Self.Heard self collector) lefts readings.now
             → IsTooEarly (Self.asked self).as_of lefts newest)) };
@@ -114,8 +114,8 @@ impl<Q: TextAnswer> Answer for Q {
             Ok(text) => text,
             Err(Want) => return Err(SurveyFault::Memory),
         };
-        match write_whole(out, text.as_bytes()) {
-            Ok(()) => Ok(answer.missed),
+        match write_all(out, text.as_bytes()) {
+            Ok(()) => Ok(answer.unmatched),
             Err(Broken) => Err(SurveyFault::Write),
         }
     }
@@ -127,7 +127,7 @@ pub struct Surveyed {
     /// One for each reader, in order.
     pub summaries: Vec<Summary>,
     /// The subjects, with a comma between two, where nothing that was heard is about one of them.
-    pub missed: Option<String>,
+    pub unmatched: Option<String>,
 }
 
 /// Listens to each reader in order, and writes the answer to `out`.
@@ -147,8 +147,8 @@ pub fn survey_with<R: Source + Drop, Q: Answer + Drop, W: Sink>(
     // Over readers whose bytes are known, an answer over all of them was written, and nothing else.
     ensures written { IfOk result (λ surveyed. WritesAnswer (Q.asked question) (map R.remaining readers.items)
         surveyed.summaries.items (writing W.Sink out.old out.new)) }
-    ensures misses { IfOk result (λ surveyed. MissesOf (Q.asked question) (map R.remaining readers.items)
-        (option_map string_bytes surveyed.missed)) }
+    ensures leaves { IfOk result (λ surveyed. LeavesUnmatchedOf (Q.asked question) (map R.remaining readers.items)
+        (option_map string_bytes surveyed.unmatched)) }
     ensures refused { IfErr result (Refuses (Q.asked question) (map R.remaining readers.items)
         (writing W.Sink out.old out.new)) }
     ensures untouched { IfErr result (Leaves (Q.asked question).at_once out.old out.new) }
@@ -171,7 +171,10 @@ pub fn survey_with<R: Source + Drop, Q: Answer + Drop, W: Sink>(
     };
     let preface = String::new(alloc);
     match question.write(alloc, preface, collector, readings.as_slice(), out) {
-        Ok(missed) => Ok(Surveyed { summaries, missed }),
+        Ok(unmatched) => Ok(Surveyed {
+            summaries,
+            unmatched,
+        }),
         Err(fault) => Err(fault),
     }
 }

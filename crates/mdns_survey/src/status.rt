@@ -11,7 +11,7 @@ use mdns_capture::Ending;
 pub const WHOLE: u8 = 0;
 
 /// The status where all was printed, and some capture wasn't whole, or nothing that was heard is about what is asked about.
-pub const DAMAGED: u8 = 1;
+pub const INCOMPLETE: u8 = 1;
 
 /// The status after an error: nothing was printed, a write failed, or what is printed as it is found (`lives`, `changes`,
 /// `mdnswhy`) stopped after some of its lines.
@@ -22,17 +22,21 @@ pub fn status_of(summaries: &[Summary]) -> u8
     ensures value { result ≡ status_of summaries.now }
     ensures low { result ≤ 1 }
 {
-    if are_whole(summaries) { WHOLE } else { DAMAGED }
+    if are_whole(summaries) {
+        WHOLE
+    } else {
+        INCOMPLETE
+    }
 }
 
 /// Returns the exit status of a survey.
 pub(crate) fn status_with(surveyed: &Surveyed) -> u8
-    ensures value { result ≡ status_with surveyed.now.summaries.items (option_map string_bytes surveyed.now.missed) }
+    ensures value { result ≡ status_with surveyed.now.summaries.items (option_map string_bytes surveyed.now.unmatched) }
     ensures low { result ≤ 1 }
 {
-    match surveyed.missed {
+    match surveyed.unmatched {
         None => status_of(surveyed.summaries.as_slice()),
-        Some(_) => DAMAGED,
+        Some(_) => INCOMPLETE,
     }
 }
 

@@ -11,11 +11,11 @@ ghost use Rattle.mdns_survey.specs.{Surveys.{Listened}, Refusals.{BlamesReaders,
 use crate::filter::Filtered;
 use crate::head::headed;
 use crate::listen::{Collector, ListenFault};
-use crate::missed::missed_in_cache;
 use crate::question::{AnswerText, Question, TextAnswer, survey_with};
 use crate::reading::Reading;
 use crate::request::ReportRequest;
 use crate::summary::Summary;
+use crate::unmatched::unmatched_in_cache;
 use mdns_browse::laws::report_about_all;
 use mdns_browse::report::{Ask, ReportFault, report_in};
 use mdns_cache::{Cache, MessageGathering};
@@ -142,12 +142,12 @@ impl TextAnswer for ReportRequest {
             // The clauses name this very fault, and `?` would convert it.
             Err(fault) => return Err(fault),
         };
-        let missed = match missed_in_cache(alloc, about, &cache) {
-            Ok(missed) => missed,
+        let unmatched = match unmatched_in_cache(alloc, about, &cache) {
+            Ok(unmatched) => unmatched,
             Err(Want) => return Err(ReportFault::Memory),
         };
         match headed(alloc, self.form, readings, report) {
-            Ok(text) => Ok(AnswerText { text, missed }),
+            Ok(text) => Ok(AnswerText { text, unmatched }),
             Err(Want) => Err(ReportFault::Memory),
         }
     }

@@ -5,7 +5,7 @@ use Rattle.std.proofs.Common.{append-nil, drop-drop, length-append, length-drop,
 use lib.Seq.{take-append_seam}
 use Rattle.std.specs.Io.KnownBytes.{Consumes, IsAtEnd, Keeps, ReadConsumes, prepend_known}
 use Rattle.std.proofs.{KnownBytes.{Keeps-refl, prepend_known-nil, prepend_known-read}, lemmas.Bool.{cases_lt}, lemmas.List.{drop_all}}
-use Rattle.mdns_capture.specs.declared.savefile.{BeginFault.{BeginFault}, Format.{Format}, Order.TheVariants.{Big}}
+use Rattle.mdns_capture.specs.declared.savefile.{BeginFault.{BeginFault}, Format.{Format}, Endianness.TheVariants.{Big}}
 use Rattle.mdns_capture.specs.Savefile.{format_fault, format_of, header_fault, number_at}
 use Rattle.mdns_capture.specs.declared.savefile.BeginFault.TheVariants as fault
 use Rattle.mdns_capture.proofs.HeaderLemmas.{header_fault-append}

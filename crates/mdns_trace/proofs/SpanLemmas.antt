@@ -7,7 +7,7 @@ use Rattle.mdns_survey.specs.declared.{reading.Span.{Span}, summary.Summary.{Sum
 use Rattle.mdns_survey.specs.{Outcomes.{Outcome, heard, ComesTo, hearings_in, hearings_of_outcome}, Span.{joined_spans, span_at, span_of}}
 use Rattle.mdns_survey.proofs.SpanLemmas.{span-both}
 use Rattle.mdns_browse.specs.declared.report.Form.{Form}
-use Rattle.mdns_trace.specs.{declared.span_line.Spanned.{Spanned}, Entry.{span_entry}, EntryText.{entry_text}}
+use Rattle.mdns_trace.specs.{declared.span_line.CaptureSpans.{CaptureSpans}, Entry.{span_entry}, EntryText.{entry_text}}
 use Rattle.mdns_trace.specs.{SpanLine.{IsSpanned, hearing_moments}, SpanWritten.{SpansCapture}}
 
 -- ONE PACKET
@@ -43,14 +43,14 @@ hearings-more outcomes outcome old more so_far here = grind (arith, flat_map-app
 -- THE LINE
 
 -- the line that was made of a span is that of its capture
-pub line-made : (form : Form) (file : List ℕ) (left : Option (List ℕ)) (spanned : Spanned) (line : List ℕ) (P : List ℕ → Type 0)
+pub line-made : (form : Form) (file : List ℕ) (left : Option (List ℕ)) (spanned : CaptureSpans) (line : List ℕ) (P : List ℕ → Type 0)
     → IsSpanned left spanned → line ≡ entry_text form file (span_entry spanned) → P line
     → IfSome left (λ bytes. (text : List ℕ) × SpansCapture form file bytes spanned.reading.summary text × P text)
 line-made form file None spanned line P is made holds = tt
 line-made form file (Some bytes) spanned line P is made holds = search arith
 
 -- of that line a prefix went out where the write failed
-pub line-broken : (form : Form) (file : List ℕ) (left old new : Option (List ℕ)) (spanned : Spanned) (line : List ℕ)
+pub line-broken : (form : Form) (file : List ℕ) (left old new : Option (List ℕ)) (spanned : CaptureSpans) (line : List ℕ)
     → IsSpanned left spanned → line ≡ entry_text form file (span_entry spanned) → AppendsPrefix old new line
     → IfSome left
     (λ bytes. (summary : Summary) × ((text : List ℕ) × SpansCapture form file bytes summary text × AppendsPrefix old new text))

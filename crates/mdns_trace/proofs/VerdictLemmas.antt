@@ -4,25 +4,27 @@ use Rattle.std.proofs.Common.{refl, ap, arith, append-nil, length-take-le}
 use Rattle.std.specs.Io.KnownBytes.{IsAtEnd, Keeps}
 use lib.Seq.{take-append-add}
 use Rattle.mdns_capture.specs.{Capture.{IsOver}, Limits.{file_header_size}, declared.stream.Source.{Ghosts as SourceGhosts}}
-use Rattle.mdns_trace.specs.declared.{peeked.Begun.{Begun}, span_line.Spanned.{Spanned}, verdict.Verdict.TheVariants.{Capture, Unread}}
+use Rattle.mdns_trace.specs.declared.{peeked.BegunReader.{BegunReader}, span_line.CaptureSpans.{CaptureSpans}}
+use Rattle.mdns_trace.specs.declared.verdict.Verdict.TheVariants.{Capture, Unread}
 use Rattle.mdns_trace.specs.{Flaw.{head_of}, SpanLine.{IsSpanned}, Usable.{IsUsable, bytes_of}, Verdict.{IsReading, IsVerdict}}
 
 -- A WHOLE CAPTURE
 
-reading-kept : (left kept : Option (List ℕ)) (spanned : Spanned) → Keeps left kept → IsSpanned kept spanned → IsReading left spanned.reading
+reading-kept : (left kept : Option (List ℕ)) (spanned : CaptureSpans) → Keeps left kept → IsSpanned kept spanned
+    → IsReading left spanned.reading
 reading-kept None kept spanned same is = grind arith
 reading-kept (Some bytes) None spanned same is = absurd same
 reading-kept (Some bytes) (Some again) spanned same is = (is.packets, (is.outcomes, rw same at is.is_reading))
 
 module _ {R : Type 0} (source : SourceGhosts R) where
   -- a capture that was begun was read to its end
-  pub judged : (reader : Option R) (begun : Begun R) (spanned : Spanned) → IsUsable source reader begun
+  pub judged : (reader : Option R) (begun : BegunReader R) (spanned : CaptureSpans) → IsUsable source reader begun
       → IsSpanned (bytes_of source begun) spanned → IsOver spanned.reading.summary.ending → IsVerdict source reader (Capture spanned.reading)
   judged None begun spanned is spans over = absurd is
   judged (Some reader) begun spanned is spans over = (over, reading-kept _ _ spanned is.bytes spans)
 
   -- or a read failed
-  pub unread : (reader : Option R) (begun : Begun R) → IsUsable source reader begun → (IsTrue (source.steady begun.inner) → ⊥)
+  pub unread : (reader : Option R) (begun : BegunReader R) → IsUsable source reader begun → (IsTrue (source.steady begun.inner) → ⊥)
       → IsVerdict source reader Unread
   unread None begun is failed = absurd is
   unread (Some reader) begun is failed = λ steady. failed (is.stays steady)

@@ -1,7 +1,7 @@
 -- An entry: what is said at once of a file, in whatever form.
 use Rattle.mdns_capture.specs.{Capture.{packet_lent}, Savefile.{PacketAt}, declared.source_address.SourceAddress.{SourceAddress}}
 use Rattle.mdns_message.specs.{Borrowed.{hearing_lent}, declared.hearing.Hearing.{Hearing}}
-use Rattle.mdns_trace.specs.declared.{entry.Entry.{Entry as LentEntry}, entry.Untold.{Untold}, span_line.Spanned.{Spanned}}
+use Rattle.mdns_trace.specs.declared.{entry.Entry.{Entry as LentEntry}, entry.Untold.{Untold}, span_line.CaptureSpans.{CaptureSpans}}
 use Rattle.mdns_trace.specs.declared.verdict.Verdict.{Verdict}
 use Rattle.mdns_trace.specs.declared.entry.Entry.TheVariants as lent
 
@@ -11,7 +11,7 @@ pub data Entry : Type 0 where
   -- a packet that told nothing, and why
   packet_entry : PacketAt → Untold → Entry
   -- the time span of a capture
-  span_entry : Spanned → Entry
+  span_entry : CaptureSpans → Entry
   -- what a file is
   file_entry : Verdict → Entry
 

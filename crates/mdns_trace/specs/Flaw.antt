@@ -1,7 +1,7 @@
 -- What a file is that isn't a capture, by its first bytes, and what to do about it.
 use Rattle.std.specs.Prelude.{ℕ, Bool, false, ◌%◌, ◌==◌, ◌&&◌, ◌||◌, nat_eq, nat_lt, if◌then◌else◌, List, []}
 use Rattle.std.specs.{Prelude.{◌∷◌, ◌++◌, length, take, Option, Some, None, codes, decimal}, List.{starts_with}}
-use Rattle.mdns_capture.specs.{declared.savefile.Format.{Format}, declared.savefile.Order.TheVariants.{Big}, Limits.{file_header_size}}
+use Rattle.mdns_capture.specs.{declared.savefile.Format.{Format}, declared.savefile.Endianness.TheVariants.{Big}, Limits.{file_header_size}}
 use Rattle.mdns_capture.specs.Savefile.{format_of, number_at}
 use Rattle.mdns_trace.specs.declared.flaw.Flaw.{Flaw}
 use Rattle.mdns_trace.specs.declared.flaw.Flaw.TheVariants as flaw

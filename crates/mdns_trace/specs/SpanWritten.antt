@@ -3,13 +3,13 @@ use Rattle.std.specs.Prelude.{◌≡◌, ℕ, List, Option, Some, IfSome}
 use Rattle.mdns_browse.specs.declared.report.Form.{Form}
 use Rattle.mdns_capture.specs.{declared.stream.Sink.{Ghosts}, Output.{AppendsPrefix}}
 use Rattle.mdns_survey.specs.declared.summary.Summary.{Summary}
-use Rattle.mdns_trace.specs.declared.{span_line.Spanned.{Spanned}, trace.TraceFault.{TraceFault}}
+use Rattle.mdns_trace.specs.declared.{span_line.CaptureSpans.{CaptureSpans}, trace.TraceFault.{TraceFault}}
 use Rattle.mdns_trace.specs.{declared.trace.TraceFault.TheVariants.{Listen, Write}, Entry.{span_entry}, EntryText.{entry_text}}
 use Rattle.mdns_trace.specs.SpanLine.{IsSpanned}
 
 -- the text is the line of a capture with that summary, in that form
 pub record SpansCapture (form : Form) (file bytes : List ℕ) (summary : Summary) (text : List ℕ) : Type 0 where
-  pub spanned : Spanned
+  pub spanned : CaptureSpans
   pub is : IsSpanned (Some bytes) spanned
   pub counts : summary ≡ spanned.reading.summary
   pub line : text ≡ entry_text form file (span_entry spanned)

@@ -11,7 +11,7 @@ use Rattle.mdns_survey.specs.{Outcomes.{Outcome, skipped, refused, heard, AllCom
 use Rattle.mdns_survey.specs.Why.{IsRefusedFor, IsSkippedFor}
 use Rattle.mdns_survey.specs.declared.reading.ReadingFault.TheVariants as reading
 use Rattle.mdns_trace.specs.declared.{entry.Untold.{Untold}, inquiry.Trace.{Trace}, inquiry.Trace.TheVariants.{Hearings, Packets, Spans}}
-use Rattle.mdns_trace.specs.declared.inquiry.Wanted.{Wanted}
+use Rattle.mdns_trace.specs.declared.inquiry.TraceScope.{TraceScope}
 use Rattle.mdns_trace.specs.declared.trace.{Lines.{Lines}, TraceFault.{TraceFault}, TraceFault.TheVariants.{Listen, Write}}
 use Rattle.mdns_lives.specs.{declared.window.Window.{Window}, Window.{in_window}}
 use Rattle.mdns_trace.specs.{Entry.{hearing_entry, packet_entry}, EntryText.{entry_text}}
@@ -113,7 +113,7 @@ abbrev pub AddsLines : (List ℕ → Type 0) → List ℕ → List ℕ → Type 
 AddsLines AreLines old new = (lines : List ℕ) × AreLines lines × (new ≡ old ++ lines)
 
 -- the lines of a packet that are wanted
-abbrev pub AreWanted : Wanted → Wording
+abbrev pub AreWanted : TraceScope → Wording
 AreWanted wanted = AreLinesIn wanted.trace wanted.about.now wanted.window wanted.file.now
 
 -- A consumer took these packets: of their lines some went out, no write failed, and the others wait.

@@ -7,7 +7,7 @@ use Rattle.mdns_capture.specs.declared.source_address.{SourceAddress.{SourceAddr
 use Rattle.mdns_capture.specs.Savefile.{PacketAt}
 use Rattle.mdns_message.specs.{declared.hearing.Hearing.{Hearing}, Resource.{type_name, type_of}}
 use Rattle.mdns_survey.specs.declared.reading.Span.{Span}
-use Rattle.mdns_trace.specs.declared.{entry.Untold.{Untold}, span_line.Spanned.{Spanned}}
+use Rattle.mdns_trace.specs.declared.{entry.Untold.{Untold}, span_line.CaptureSpans.{CaptureSpans}}
 use Rattle.mdns_trace.specs.{HearingLine.{flush_text}, PacketLine.{untold_text}}
 
 -- HEARINGS
@@ -47,7 +47,7 @@ bounds_shown None = codes "none"
 bounds_shown (Some span) = millis_text span.first.nanos ++ codes " to " ++ millis_text span.last.nanos
 
 -- the line of a file of that name: the span of its packets, that of its hearings, and the snapshot length
-unfoldable pub span_row : List ℕ → Spanned → List ℕ
+unfoldable pub span_row : List ℕ → CaptureSpans → List ℕ
 span_row file spanned =
     file ++ codes "  packets " ++ bounds_shown spanned.reading.span ++ codes "  hearings " ++ bounds_shown spanned.hearings
     ++ codes "  snap " ++ decimal spanned.reading.snap_length ++ 10 ∷ []

@@ -4,7 +4,7 @@ use Rattle.mdns_browse.specs.Json.{json_bool, json_member, json_object, json_str
 use Rattle.mdns_capture.specs.{declared.source_address.SourceAddress.{SourceAddress}, Savefile.{PacketAt}}
 use Rattle.mdns_message.specs.declared.hearing.Hearing.{Hearing}
 use Rattle.mdns_survey.specs.{declared.reading.Span.{Span}, Reasons.{row_of}}
-use Rattle.mdns_trace.specs.declared.{entry.Untold.{Untold}, span_line.Spanned.{Spanned}}
+use Rattle.mdns_trace.specs.declared.{entry.Untold.{Untold}, span_line.CaptureSpans.{CaptureSpans}}
 use Rattle.mdns_trace.specs.{HearingLine.{address_text}, MomentMember.{moment_member}, PacketLine.{fault_at, fault_text}}
 use Rattle.mdns_trace.specs.declared.entry.Untold.TheVariants as untold
 
@@ -53,12 +53,12 @@ bounds_json (Some span) =
     json_object (moment_member (codes "first") span.first.nanos ∷ moment_member (codes "last") span.last.nanos ∷ [])
 
 -- the time spans of a capture, and its snapshot length
-unfoldable pub span_members : Spanned → List (List ℕ)
+unfoldable pub span_members : CaptureSpans → List (List ℕ)
 span_members spanned =
     json_member (codes "packets") (bounds_json spanned.reading.span)
     ∷ json_member (codes "hearings") (bounds_json spanned.hearings)
     ∷ json_member (codes "snap") (decimal spanned.reading.snap_length) ∷ []
 
 -- the line of a time span
-unfoldable pub span_json : List ℕ → Spanned → List ℕ
+unfoldable pub span_json : List ℕ → CaptureSpans → List ℕ
 span_json file spanned = json_object (json_member (codes "file") (json_string file) ∷ span_members spanned) ++ 10 ∷ []

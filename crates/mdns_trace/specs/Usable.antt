@@ -6,7 +6,7 @@ use Rattle.mdns_capture.specs.declared.{savefile.BeginFault.TheVariants.{Read as
 use Rattle.mdns_capture.specs.{Output.{AppendsPrefix, Writing}, Savefile.{header_fault}, Stream.{OneMoreFailed}}
 use Rattle.mdns_survey.specs.declared.{listen.ListenFault.TheVariants.{Begin, Memory as ListenMemory}, survey.SurveyFault.{SurveyFault}}
 use Rattle.mdns_survey.specs.Said.{GoesOut}
-use Rattle.mdns_trace.specs.declared.{each_file.FilesFault.{FilesFault}, peeked.Begun.{Begun}, trace.TraceFault.{TraceFault}}
+use Rattle.mdns_trace.specs.declared.{each_file.FilesFault.{FilesFault}, peeked.BegunReader.{BegunReader}, trace.TraceFault.{TraceFault}}
 use Rattle.mdns_trace.specs.declared.{trace.TraceFault.TheVariants.{Listen}, usable.Usable.{Usable}, verdict.Verdict.{Verdict}}
 use Rattle.mdns_trace.specs.{declared.verdict.Verdict.TheVariants.{Other, Unread, Unopened}, EachFile.{StopsAmong, WritesEach}}
 use Rattle.mdns_trace.specs.{TraceAnswer.{survey_fault}, Verdict.{IsVerdict, verdict_text}}
@@ -14,17 +14,17 @@ use Rattle.mdns_trace.specs.{TraceAnswer.{survey_fault}, Verdict.{IsVerdict, ver
 -- A FILE
 
 -- the bytes that a begun capture has left, where they are known
-abbrev pub bytes_of : {R : Type 0} → SourceGhosts R → Begun R → Option (List ℕ)
+abbrev pub bytes_of : {R : Type 0} → SourceGhosts R → BegunReader R → Option (List ℕ)
 bytes_of source begun = prepend_known (drop begun.at begun.header) (source.remaining begun.inner)
 
 -- The capture of that reader was begun: its file header has no fault, and all its bytes are left, as steadily.
-pub record IsBegun {R : Type 0} (source : SourceGhosts R) (reader : R) (begun : Begun R) : Type 0 where
+pub record IsBegun {R : Type 0} (source : SourceGhosts R) (reader : R) (begun : BegunReader R) : Type 0 where
   pub sound : IfSome (source.remaining reader) (λ bytes. header_fault bytes ≡ None)
   pub bytes : KeepsBytes (source.remaining reader) (bytes_of source begun)
   pub stays : IsTrue (source.steady reader) → IsTrue (source.steady begun.inner)
 
 -- the file can be used: it was opened, and is a capture
-abbrev pub IsUsable : {R : Type 0} → SourceGhosts R → Option R → Begun R → Type 0
+abbrev pub IsUsable : {R : Type 0} → SourceGhosts R → Option R → BegunReader R → Type 0
 IsUsable source None begun = ⊥
 IsUsable source (Some reader) begun = IsBegun source reader begun
 
@@ -41,13 +41,13 @@ left_out_line program name verdict = verdict_text (program ++ codes ": " ++ name
 -- FILES, ONE AFTER ANOTHER
 
 -- a file is kept, with its name and this reader
-pub record Keeps {R : Type 0} (name : List ℕ) (begun : Begun R) (old new : Usable R) : Type 0 where
+pub record Keeps {R : Type 0} (name : List ℕ) (begun : BegunReader R) (old new : Usable R) : Type 0 where
   pub names : map string_bytes new.names.items ≡ map string_bytes old.names.items ++ name ∷ []
   pub readers : new.readers.items ≡ old.readers.items ++ begun ∷ []
   pub lines : new.lines ≡ old.lines
 
 pub record KeepsFile {R : Type 0} (source : SourceGhosts R) (name : List ℕ) (reader : Option R) (old new : Usable R) : Type 0 where
-  pub begun : Begun R
+  pub begun : BegunReader R
   pub is : IsUsable source reader begun
   pub keeps : Keeps name begun old new
 
@@ -61,17 +61,17 @@ pub record LeavesFile {R : Type 0} (source : SourceGhosts R) (program name : Lis
   pub lines : string_bytes new.lines ≡ string_bytes old.lines ++ left_out_line program name verdict
 
 -- a file is kept, or left out
-abbrev pub SortsFile : {R : Type 0} → SourceGhosts R → List ℕ → List ℕ → Option R → Usable R → Usable R → Bool → Type 0
-SortsFile source program name reader old new true = KeepsFile source name reader old new
-SortsFile source program name reader old new false = LeavesFile source program name reader old new
+abbrev pub SeparatesFile : {R : Type 0} → SourceGhosts R → List ℕ → List ℕ → Option R → Usable R → Usable R → Bool → Type 0
+SeparatesFile source program name reader old new true = KeepsFile source name reader old new
+SeparatesFile source program name reader old new false = LeavesFile source program name reader old new
 
 -- the read of a file failed, or an allocation
-abbrev pub StopsSorting : {R : Type 0} → SourceGhosts R → List ℕ → Option R → Usable R → Usable R → TraceFault → Type 0
-StopsSorting source name reader old new (Listen (Begin BeginRead)) = IsVerdict source reader Unread
-StopsSorting source name reader old new (Listen ListenMemory) = ⊤
-StopsSorting source name reader old new fault = ⊥
+abbrev pub StopsSeparating : {R : Type 0} → SourceGhosts R → List ℕ → Option R → Usable R → Usable R → TraceFault → Type 0
+StopsSeparating source name reader old new (Listen (Begin BeginRead)) = IsVerdict source reader Unread
+StopsSeparating source name reader old new (Listen ListenMemory) = ⊤
+StopsSeparating source name reader old new fault = ⊥
 
--- a file that is such stops the sorting
+-- a file that is such stops that
 abbrev pub IsFatal : Verdict → TraceFault → Type 0
 IsFatal verdict (Listen (Begin BeginRead)) = verdict ≡ Unread
 IsFatal verdict (Listen ListenMemory) = ⊤
@@ -84,21 +84,21 @@ pub record IsEmpty {R : Type 0} (usable : Usable R) : Type 0 where
   pub lines : string_bytes usable.lines ≡ []
 
 -- Each of the files of these readers is kept or left out, in their order.
-pub record IsSorted {R : Type 0} (source : SourceGhosts R) (program : List ℕ) (names : List (List ℕ)) (readers : List (Option R))
+pub record IsSeparated {R : Type 0} (source : SourceGhosts R) (program : List ℕ) (names : List (List ℕ)) (readers : List (Option R))
     (usable : Usable R) : Type 0 where
   pub begin : Usable R
   pub is_empty : IsEmpty begin
   pub kept : List Bool
-  pub sorts : WritesEach (SortsFile source program) begin names readers usable kept
+  pub separates : WritesEach (SeparatesFile source program) begin names readers usable kept
 
--- Not all were sorted, for this fault of the file at its index.
-pub record IsUnsorted {R : Type 0} (source : SourceGhosts R) (program : List ℕ) (names : List (List ℕ)) (readers : List (Option R))
+-- Not all were separated, for this fault of the file at its index.
+pub record IsUnseparated {R : Type 0} (source : SourceGhosts R) (program : List ℕ) (names : List (List ℕ)) (readers : List (Option R))
     (fault : SurveyFault) : Type 0 where
   pub begin : Usable R
   pub is_empty : IsEmpty begin
   pub end : Usable R
   pub found : FilesFault
-  pub stops : StopsAmong (SortsFile source program) (StopsSorting source) names readers begin end found
+  pub stops : StopsAmong (SeparatesFile source program) (StopsSeparating source) names readers begin end found
   pub is_fault : fault ≡ survey_fault found
 
 -- THE LINES

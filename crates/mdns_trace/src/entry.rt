@@ -1,6 +1,6 @@
 //! Entries: what is said at once of a file, in whatever form.
 
-use crate::span_line::Spanned;
+use crate::span_line::CaptureSpans;
 use crate::verdict::Verdict;
 use mdns_capture::{Packet, SourceAddress};
 use mdns_message::{BorrowedHearing, MessageFault};
@@ -20,7 +20,7 @@ pub(crate) enum Entry<'a> {
         untold: Untold,
     },
     /// The time span of a capture.
-    Span(&'a Spanned),
+    Span(&'a CaptureSpans),
     /// What the file is.
     File(&'a Verdict),
 }

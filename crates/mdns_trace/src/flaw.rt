@@ -3,7 +3,7 @@
 ghost use Rattle.std.specs.Prelude.{◌≡◌, ◌≤◌, ◌++◌, IfSome, None, OnOk, Some, length, string_bytes};
 ghost use Rattle.std.specs.Bool.{OnFalse, OnTrue};
 ghost use Rattle.mdns_capture.specs.{Limits.{file_header_size}, Savefile.{format_of, header_fault, number_at}};
-ghost use Rattle.mdns_capture.specs.declared.savefile.Order.TheVariants.{Big};
+ghost use Rattle.mdns_capture.specs.declared.savefile.Endianness.TheVariants.{Big};
 ghost use Rattle.mdns_trace.specs.{Verdict.{IsNoCapture}, Flaw.{cure_text, flaw_in, flaw_of, flaw_short, is_ethernet, link_cure}};
 ghost use Rattle.mdns_trace.specs.Flaw.{link_name, link_text, named, what_text};
 

@@ -27,7 +27,7 @@ pub struct Tracer<'a> {
 
 /// What is written of one capture, whose file's name is written as it is.
 #[derive(Clone, Copy)]
-pub(crate) struct Wanted<'a> {
+pub(crate) struct TraceScope<'a> {
     pub(crate) alloc: Global,
     pub(crate) trace: Trace,
     pub(crate) about: &'a [Subject],

@@ -29,7 +29,7 @@ pub use flaw::Flaw;
 pub use hearing_line::push_hearing_line;
 pub use inquiry::{Inquiry, Trace, Tracer};
 pub use mdns_lives::Window;
-pub use peeked::Begun;
+pub use peeked::BegunReader;
 pub use trace::{TraceFault, write_trace};
 pub use trace_answer::answer_traces;
 pub use verdict::Verdict;

@@ -13,13 +13,13 @@ use mdns_capture::{Broken, Source};
 /// A capture whose file header was read before: a reader that gives the bytes of `header` from the index `at` on, and then
 /// those of `inner`.
 #[derive(Drop)]
-pub struct Begun<R> {
+pub struct BegunReader<R> {
     pub header: [u8; FILE_HEADER],
     pub at: usize,
     pub inner: R,
 }
 
-impl<R: Source> Source for Begun<R> {
+impl<R: Source> Source for BegunReader<R> {
     ghost use Rattle.mdns_trace.specs.Usable.{bytes_of};
 
     ghost remaining = { bytes_of R.Source };
@@ -41,9 +41,9 @@ impl<R: Source> Source for Begun<R> {
     }
 }
 
-/// Reads the file header of a capture, and returns a reader of the whole capture. `Err` is what the file is where there is no reader,
-/// since it can't be opened, where it is no capture, or where the read failed.
-pub(crate) fn begin<R: Source + Drop>(reader: Option<R>) -> Result<Begun<R>, Verdict>
+/// Reads the file header of a capture, and returns a reader of the whole capture. `Err` is what the file is where there is no
+/// reader, since it can't be opened, where it is no capture, or where the read failed.
+pub(crate) fn begin<R: Source + Drop>(reader: Option<R>) -> Result<BegunReader<R>, Verdict>
     ensures begun { IfOk result (IsUsable R.Source reader) }
     ensures verdict { IfErr result (IsVerdict R.Source reader) }
     ensures kind { IfErr result (λ verdict. is_usable verdict ≡ false) }
@@ -54,7 +54,7 @@ pub(crate) fn begin<R: Source + Drop>(reader: Option<R>) -> Result<Begun<R>, Ver
     let mut header = [0; FILE_HEADER];
     match read_head(&mut reader, &mut header) {
         Ok(count) => match flaw_by(&header[..count]) {
-            None => Ok(Begun {
+            None => Ok(BegunReader {
                 header,
                 at: 0,
                 inner: reader,

@@ -13,7 +13,7 @@ use crate::entry_text::text_of;
 use crate::trace::TraceFault;
 use mdns_browse::format::push_nanos;
 use mdns_browse::report::Form;
-use mdns_capture::{Broken, Moment, Packet, Sink, Source, write_whole};
+use mdns_capture::{Broken, Moment, Packet, Sink, Source, write_all};
 use mdns_message::Want;
 use mdns_survey::listen::{ListenFault, listen_with};
 use mdns_survey::outcome::PacketOutcome;
@@ -23,7 +23,7 @@ use std::alloc::Global;
 
 /// A capture that was read whole, and the time span of its hearings.
 #[derive(Clone, Copy)]
-pub(crate) struct Spanned {
+pub(crate) struct CaptureSpans {
     pub reading: Reading,
     /// `None` if there are no hearings.
     pub hearings: Option<Span>,
@@ -65,7 +65,7 @@ pub(crate) fn write_span<R: Source + Drop, W: Sink>(
         Ok(line) => line,
         Err(Want) => return Err(TraceFault::Listen(ListenFault::Memory)),
     };
-    match write_whole(out, line.as_bytes()) {
+    match write_all(out, line.as_bytes()) {
         Ok(()) => Ok(spanned.reading.summary),
         Err(Broken) => Err(TraceFault::Write),
     }
@@ -75,7 +75,7 @@ pub(crate) fn write_span<R: Source + Drop, W: Sink>(
 pub(crate) fn read_spanned<R: Source + Drop>(
     alloc: Global,
     reader: R,
-) -> Result<Spanned, ListenFault>
+) -> Result<CaptureSpans, ListenFault>
     ensures spanned { IfOk result (IsSpanned (R.remaining reader)) }
     ensures sound { IfOk result (λ _. IfSome (R.remaining reader) (λ bytes. header_fault bytes ≡ None)) }
     ensures over { IfOk result (λ spanned. IsOver spanned.reading.summary.ending) }
@@ -84,7 +84,7 @@ pub(crate) fn read_spanned<R: Source + Drop>(
 {
     let mut hearings = HearingSpan { span: None };
     match listen_with(alloc, reader, &mut hearings) {
-        Ok(reading) => Ok(Spanned {
+        Ok(reading) => Ok(CaptureSpans {
             reading,
             hearings: hearings.span,
         }),
@@ -127,7 +127,11 @@ fn span_of_found(moment: Moment, found: &PacketOutcome) -> Option<Span>
 /// Appends the line of a file with that span. The name of `file` is written as it is. After `Want` nothing is promised of
 /// `to`.
 #[tactic(auto, unfolding(crate::specs::SpanLine::span_line))]
-pub(crate) fn push_span_line(to: &mut String, file: &str, spanned: &Spanned) -> Result<(), Want>
+pub(crate) fn push_span_line(
+    to: &mut String,
+    file: &str,
+    spanned: &CaptureSpans,
+) -> Result<(), Want>
     ensures { OnOk result (string_bytes to.new ≡ string_bytes to.old ++ span_line file.now spanned.now) }
 {
     to.push_str(file)?;

@@ -11,11 +11,11 @@ ghost use Rattle.mdns_trace.specs.Trace.{AreLinesIn, AreWanted, IsPacketLine, Le
 
 use crate::entry::{Entry, Untold};
 use crate::entry_text::push_entry;
-use crate::inquiry::{Trace, Tracer, Wanted};
+use crate::inquiry::{Trace, TraceScope, Tracer};
 use crate::span_line::write_span;
 use mdns_browse::about::keeps_record;
 use mdns_browse::report::Form;
-use mdns_capture::{BeginFault, Broken, Packet, Sink, Source, SourceAddress, write_whole};
+use mdns_capture::{BeginFault, Broken, Packet, Sink, Source, SourceAddress, write_all};
 use mdns_message::text_data::push_string;
 use mdns_message::{MessageReader, Want};
 use mdns_survey::listen::ListenFault;
@@ -90,7 +90,7 @@ fn write_lines<R: Source + Drop, W: Sink>(
         Err(Want) => return Err(TraceFault::Listen(ListenFault::Begin(BeginFault::Memory))),
     };
     let mut lines = Lines {
-        wanted: Wanted {
+        wanted: TraceScope {
             alloc,
             trace: tracer.trace,
             about: tracer.about,
@@ -127,7 +127,7 @@ fn print_lines<R: Source + Drop, W: Sink>(
         Ok(reading) => reading.summary,
         Err(fault) => return Err(trace_fault(fault)),
     };
-    match write_whole(lines.out, lines.text.as_bytes()) {
+    match write_all(lines.out, lines.text.as_bytes()) {
         Ok(()) => Ok(summary),
         Err(Broken) => Err(TraceFault::Write),
     }
@@ -146,7 +146,7 @@ fn trace_fault(fault: ReadingFault<TraceFault>) -> TraceFault
 // The lines of packets, on their way to a writer.
 #[derive(Drop)]
 struct Lines<'a, W: Sink> {
-    wanted: Wanted<'a>,
+    wanted: TraceScope<'a>,
     // The lines that wait until a piece is full.
     text: String,
     out: &'a mut W,
@@ -189,7 +189,7 @@ pub(crate) fn word_of(alloc: Global, name: &str) -> Result<String, Want>
 
 // Appends the lines of a packet, if its moment is in the window.
 fn push_packet(
-    wanted: Wanted<'_>,
+    wanted: TraceScope<'_>,
     found: &PacketOutcome,
     packet: &Packet<'_>,
     text: &mut String,
@@ -211,7 +211,7 @@ fn push_packet(
 
 // Appends the lines of the hearings of a packet.
 fn push_hearings(
-    wanted: Wanted<'_>,
+    wanted: TraceScope<'_>,
     form: Form,
     found: &PacketOutcome,
     packet: &Packet<'_>,
@@ -232,7 +232,7 @@ fn push_hearings(
 // Appends the line of each hearing of a message whose record is about one of the subjects, in order; of each hearing
 // where there are no subjects.
 fn push_hearing_lines(
-    wanted: Wanted<'_>,
+    wanted: TraceScope<'_>,
     form: Form,
     to: &mut String,
     source: &SourceAddress,
@@ -257,7 +257,7 @@ fn push_hearing_lines(
 
 // Appends the line of a packet, if it told nothing.
 fn push_why(
-    wanted: Wanted<'_>,
+    wanted: TraceScope<'_>,
     form: Form,
     found: &PacketOutcome,
     packet: &Packet<'_>,
@@ -287,7 +287,7 @@ fn write_piece<W: Sink>(text: &mut String, out: &mut W) -> Result<(), Broken>
     if text.len() < PIECE {
         return Ok(());
     }
-    match write_whole(out, text.as_bytes()) {
+    match write_all(out, text.as_bytes()) {
         Ok(()) => {
             text.clear();
             Ok(())

@@ -8,14 +8,15 @@ use crate::each_file::{FilesFault, write_traces};
 use crate::inquiry::Tracer;
 use crate::trace::TraceFault;
 use crate::trace_csv::header_of;
-use mdns_capture::{Broken, Sink, Source, write_whole};
-use mdns_survey::error_lines::{refuse, say_endings};
+use mdns_capture::{Broken, Sink, Source, write_all};
+use mdns_survey::error_lines::{say_endings, say_fault};
 use mdns_survey::status::{REFUSED, status_of};
 use mdns_survey::survey::SurveyFault;
 use std::alloc::Global;
 
 /// Writes the lines of the captures `names`, read by `readers`, to `out` as `write_traces` does, for hearings as comma-separated
-/// values after a header, and error lines to `err`. Returns the exit status: `WHOLE`, `DAMAGED` or `REFUSED` of `mdns_survey::status`.
+/// values after a header, and error lines to `err`. Returns the exit status: `WHOLE`, `INCOMPLETE` or `REFUSED` of
+/// `mdns_survey::status`.
 ///
 /// After a failed write to `err` nothing more is written there; the status stays the same.
 pub fn answer_traces<R: Source + Drop, O: Sink, E: Sink>(
@@ -35,16 +36,16 @@ pub fn answer_traces<R: Source + Drop, O: Sink, E: Sink>(
     ensures refused { result ≡ REFUSED → IsTraceRefused R.Source O.Sink tracer.entry.trace tracer.entry.about.now
         tracer.entry.window (map string_bytes names.now) readers.items out.old out.new (writing E.Sink err.old err.new) }
 {
-    match write_whole(out, header_of(tracer.trace).as_bytes()) {
+    match write_all(out, header_of(tracer.trace).as_bytes()) {
         Ok(()) => {}
-        Err(Broken) => return refuse(alloc, "mdnswhy", names, &SurveyFault::Write, err),
+        Err(Broken) => return say_fault(alloc, "mdnswhy", names, &SurveyFault::Write, err),
     }
     match write_traces(alloc, tracer, names, readers, out) {
         Ok(summaries) => {
             say_endings(alloc, "mdnswhy", names, summaries.as_slice(), err);
             status_of(summaries.as_slice())
         }
-        Err(fault) => refuse(alloc, "mdnswhy", names, &survey_fault(fault), err),
+        Err(fault) => say_fault(alloc, "mdnswhy", names, &survey_fault(fault), err),
     }
 }
 

@@ -8,7 +8,7 @@ ghost use Rattle.mdns_trace.specs.TraceColumns.{bounds_shown, hearing_row, packe
 
 use crate::entry::Untold;
 use crate::packet_line::push_untold;
-use crate::span_line::Spanned;
+use crate::span_line::CaptureSpans;
 use mdns_browse::format::push_ipv4;
 use mdns_browse::{push_padded, push_shown_record};
 use mdns_capture::{Packet, SourceAddress};
@@ -123,7 +123,7 @@ pub(crate) fn push_packet_row(
 
 /// Appends the line of a time span of `file`, whose name is written as it is.
 #[tactic(auto, unfolding(crate::specs::TraceColumns::span_row))]
-pub(crate) fn push_span_row(to: &mut String, file: &str, spanned: &Spanned) -> Result<(), Want>
+pub(crate) fn push_span_row(to: &mut String, file: &str, spanned: &CaptureSpans) -> Result<(), Want>
     ensures { OnOk result (string_bytes to.new ≡ string_bytes to.old ++ span_row file.now spanned.now) }
 {
     write!(to, "{file}  packets ")?;

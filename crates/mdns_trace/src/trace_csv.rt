@@ -9,7 +9,7 @@ ghost use Rattle.mdns_trace.specs.{TraceColumns.{source_shown}, TraceCsv.{hearin
 use crate::inquiry::Trace;
 use crate::trace_columns::push_source;
 use mdns_browse::ResourceTexts;
-use mdns_browse::csv::{Field, push_csv_line};
+use mdns_browse::csv::{CsvField, push_csv_line};
 use mdns_browse::report::Form;
 use mdns_capture::SourceAddress;
 use mdns_message::{BorrowedHearing, Want};
@@ -59,14 +59,14 @@ fn push_line<'a>(
     push_csv_line(
         to,
         &[
-            Field::Moment(hearing.moment.nanos()),
-            Field::Text(file),
-            Field::Text(address),
-            Field::Text(texts.owner.as_str()),
-            Field::Text(hearing.heard.body.record_type().name()),
-            Field::Text(texts.words.as_str()),
-            Field::Number(hearing.ttl as u64),
-            Field::Flag(hearing.flush),
+            CsvField::Moment(hearing.moment.nanos()),
+            CsvField::Text(file),
+            CsvField::Text(address),
+            CsvField::Text(texts.owner.as_str()),
+            CsvField::Text(hearing.heard.body.record_type().name()),
+            CsvField::Text(texts.words.as_str()),
+            CsvField::Number(hearing.ttl as u64),
+            CsvField::Flag(hearing.flush),
         ],
     )
 }

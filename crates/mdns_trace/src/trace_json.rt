@@ -11,7 +11,7 @@ use crate::entry::Untold;
 use crate::hearing_line::push_address;
 use crate::moment_member::push_moment_member;
 use crate::packet_line::{fault_at, fault_words};
-use crate::span_line::Spanned;
+use crate::span_line::CaptureSpans;
 use mdns_browse::json::{push_json_name, push_number_member, push_text_member};
 use mdns_browse::push_resource_members;
 use mdns_capture::{Packet, SourceAddress};
@@ -109,7 +109,7 @@ pub(crate) fn push_span_json(
     alloc: Global,
     to: &mut String,
     file: &str,
-    spanned: &Spanned,
+    spanned: &CaptureSpans,
 ) -> Result<(), Want>
     ensures { OnOk result (string_bytes to.new ≡ string_bytes to.old ++ span_json file.now spanned.now) }
 {
@@ -121,7 +121,7 @@ pub(crate) fn push_span_json(
 }
 
 #[tactic(auto, unfolding(crate::specs::TraceJson::span_members, mdns_browse::specs::Json::parted))]
-fn push_span_members(alloc: Global, to: &mut String, spanned: &Spanned) -> Result<(), Want>
+fn push_span_members(alloc: Global, to: &mut String, spanned: &CaptureSpans) -> Result<(), Want>
     ensures { OnOk result (string_bytes to.new ≡ string_bytes to.old ++ parted false (span_members spanned.now)) }
 {
     push_bounds_member(alloc, to, "packets", spanned.reading.span)?;

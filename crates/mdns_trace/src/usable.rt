@@ -3,18 +3,18 @@
 ghost use Rattle.std.specs.Prelude.{◌≡◌, ◌<◌, ◌++◌, IfErr, IfOk, IsTrue, OnOk, false, length, map, string_bytes};
 ghost use Rattle.mdns_capture.specs.Output.{writing};
 ghost use Rattle.mdns_survey.specs.ProgramLines.{IfFile};
-ghost use Rattle.mdns_trace.specs.Usable.{IsFatal, IsSorted, IsUnsorted, Keeps, SaysText, is_left_out, least_status};
+ghost use Rattle.mdns_trace.specs.Usable.{IsFatal, IsSeparated, IsUnseparated, Keeps, SaysText, is_left_out, least_status};
 ghost use Rattle.mdns_trace.specs.{Usable.{left_out_line}, Verdicts.{is_usable}};
 
 use crate::each_file::{Scribe, write_each};
-use crate::peeked::{Begun, begin};
+use crate::peeked::{BegunReader, begin};
 use crate::trace::TraceFault;
 use crate::trace_answer::survey_fault;
 use crate::verdict::{Verdict, push_verdict};
-use mdns_capture::{BeginFault, Broken, Sink, Source, write_whole};
+use mdns_capture::{BeginFault, Broken, Sink, Source, write_all};
 use mdns_message::Want;
 use mdns_survey::listen::ListenFault;
-use mdns_survey::status::{DAMAGED, WHOLE};
+use mdns_survey::status::{INCOMPLETE, WHOLE};
 use mdns_survey::survey::SurveyFault;
 use std::alloc::Global;
 
@@ -24,14 +24,14 @@ pub struct Usable<R> {
     /// The names of the files that can be used, in their order.
     pub names: Vec<String>,
     /// A reader for each name.
-    pub readers: Vec<Begun<R>>,
+    pub readers: Vec<BegunReader<R>>,
     /// A line for each file that was left out: what it is, and what to do about it.
     pub lines: String,
 }
 
 impl<R: Source + Drop> Usable<R> {
     // Keeps a file.
-    fn keep(&mut self, alloc: Global, name: &str, begun: Begun<R>) -> Result<(), Want>
+    fn keep(&mut self, alloc: Global, name: &str, begun: BegunReader<R>) -> Result<(), Want>
         ensures { OnOk result (Keeps name.now begun self.old self.new) }
     {
         let name = String::from_str(alloc, name)?;
@@ -43,7 +43,7 @@ impl<R: Source + Drop> Usable<R> {
     }
 
     /// Writes the lines of the files that were left out, or where the write fails a prefix of them. Returns the least exit
-    /// status of an answer over the others: `DAMAGED`, or `WHOLE` where no file was left out.
+    /// status of an answer over the others: `INCOMPLETE`, or `WHOLE` where no file was left out.
     pub fn say_left_out<E: Sink>(&self, err: &mut E) -> u8
         ensures status { result ≡ least_status (string_bytes self.now.lines) }
         ensures says { SaysText (string_bytes self.now.lines) (writing E.Sink err.old err.new) }
@@ -51,27 +51,27 @@ impl<R: Source + Drop> Usable<R> {
         if self.lines.is_empty() {
             return WHOLE;
         }
-        match write_whole(err, self.lines.as_bytes()) {
-            Ok(()) | Err(Broken) => DAMAGED,
+        match write_all(err, self.lines.as_bytes()) {
+            Ok(()) | Err(Broken) => INCOMPLETE,
         }
     }
 }
 
-// Sorts files: keeps those that can be used, and leaves out the others, with a line that begins with the program's name.
+// Separates files: keeps those that can be used, and leaves out the others, with a line that begins with the program's name.
 #[derive(Clone, Copy)]
-struct Sorter<'a> {
+struct Separator<'a> {
     program: &'a str,
 }
 
-impl<R: Source + Drop> Scribe<Option<R>, Usable<R>> for Sorter<'_> {
-    ghost use Rattle.mdns_trace.specs.Usable.{SortsFile, StopsSorting};
+impl<R: Source + Drop> Scribe<Option<R>, Usable<R>> for Separator<'_> {
+    ghost use Rattle.mdns_trace.specs.Usable.{SeparatesFile, StopsSeparating};
 
     /// Whether the file is kept.
     type Finding = bool;
 
-    ghost Writes = { λ sorter. SortsFile R.Source sorter.program.now };
+    ghost Writes = { λ separator. SeparatesFile R.Source separator.program.now };
 
-    ghost Stops = { λ sorter. StopsSorting R.Source };
+    ghost Stops = { λ separator. StopsSeparating R.Source };
 
     fn write(
         &self,
@@ -129,24 +129,24 @@ fn push_left_out(
     push_verdict(to, file.as_str(), verdict)
 }
 
-/// Sorts files, of which `readers` are the readers, `None` for one that can't be opened: those that can be used, captures by their
-/// file headers, and a line that begins with `program` for each of the others. Of each file the file header is read, and
+/// Separates files, of which `readers` are the readers, `None` for one that can't be opened: those that can be used, captures by
+/// their file headers, and a line that begins with `program` for each of the others. Of each file the file header is read, and
 /// nothing after it.
 ///
 /// # Errors
 ///
 /// `File` carries the index of the first file of which a read failed. The only other fault is `Memory`.
 #[tactic(auto, using(crate::proofs::UsableLemmas::paired))]
-pub fn sort_files<R: Source + Drop>(
+pub fn separate_usable<R: Source + Drop>(
     alloc: Global,
     program: &str,
     names: &[String],
     readers: Vec<Option<R>>,
 ) -> Result<Usable<R>, SurveyFault>
     requires { length names.now ≡ length readers.items }
-    ensures sorted { IfOk result (IsSorted R.Source program.now (map string_bytes names.now) readers.items) }
+    ensures separated { IfOk result (IsSeparated R.Source program.now (map string_bytes names.now) readers.items) }
     ensures paired { IfOk result (λ usable. length usable.names.items ≡ length usable.readers.items) }
-    ensures refused { IfErr result (IsUnsorted R.Source program.now (map string_bytes names.now) readers.items) }
+    ensures refused { IfErr result (IsUnseparated R.Source program.now (map string_bytes names.now) readers.items) }
     ensures within { IfErr result (λ fault. IfFile fault (λ index _. index < length names.now)) }
 {
     let mut usable = Usable {
@@ -154,7 +154,7 @@ pub fn sort_files<R: Source + Drop>(
         readers: Vec::new(alloc),
         lines: String::new(alloc),
     };
-    match write_each(alloc, &Sorter { program }, names, readers, &mut usable) {
+    match write_each(alloc, &Separator { program }, names, readers, &mut usable) {
         Ok(_) => Ok(usable),
         Err(fault) => Err(survey_fault(fault)),
     }

@@ -11,11 +11,11 @@ use crate::entry_text::text_of;
 use crate::trace::TraceFault;
 use crate::verdict::{Verdict, is_silent, judge};
 use mdns_browse::report::Form;
-use mdns_capture::{Broken, Sink, Source, write_whole};
-use mdns_survey::error_lines::refuse;
+use mdns_capture::{Broken, Sink, Source, write_all};
+use mdns_survey::error_lines::say_fault;
 use mdns_survey::listen::ListenFault;
 use mdns_survey::reading::Reading;
-use mdns_survey::status::{DAMAGED, REFUSED, WHOLE, is_whole};
+use mdns_survey::status::{INCOMPLETE, REFUSED, WHOLE, is_whole};
 use mdns_survey::survey::SurveyFault;
 use std::alloc::Global;
 
@@ -73,7 +73,7 @@ impl<R: Source + Drop, W: Sink> Scribe<Option<R>, W> for Judge {
         let Ok(lines) = text_of(alloc, self.form, name, &Entry::File(&verdict)) else {
             return Err(TraceFault::Listen(ListenFault::Memory));
         };
-        match write_whole(out, lines.as_bytes()) {
+        match write_all(out, lines.as_bytes()) {
             Ok(()) => Ok(verdict),
             Err(Broken) => Err(TraceFault::Write),
         }
@@ -81,7 +81,7 @@ impl<R: Source + Drop, W: Sink> Scribe<Option<R>, W> for Judge {
 }
 
 // Returns the exit status for these verdicts: `REFUSED` if some file is no capture, `WHOLE` if all files are sound, and
-// else `DAMAGED`.
+// else `INCOMPLETE`.
 fn status_of(verdicts: &[Verdict]) -> u8
     ensures value { result ≡ status_of verdicts.now }
     ensures low { result ≤ 2 }
@@ -91,7 +91,7 @@ fn status_of(verdicts: &[Verdict]) -> u8
     } else if are_sound(verdicts) {
         WHOLE
     } else {
-        DAMAGED
+        INCOMPLETE
     }
 }
 
@@ -148,7 +148,7 @@ pub fn answer_files<R: Source + Drop, O: Sink, E: Sink>(
 {
     match write_verdicts(alloc, form, names, readers, out) {
         Ok(verdicts) => status_of(verdicts.as_slice()),
-        Err(fault) => refuse(alloc, "mdnswhy", names, &survey_fault(fault), err),
+        Err(fault) => say_fault(alloc, "mdnswhy", names, &survey_fault(fault), err),
     }
 }
 

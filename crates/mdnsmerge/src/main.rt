@@ -70,7 +70,7 @@ fn answer_all(rt: &HostRuntime, task: Task, names: &[String]) -> u8 {
 fn answer_usable(rt: &HostRuntime, task: Task, names: &[String]) -> u8 {
     let mut err = Through(rt.stderr());
     match open_usable(rt, MDNSMERGE, names, &mut err) {
-        Ok(usable) => answer_sorted(
+        Ok(usable) => answer_over_usable(
             rt.alloc(),
             task,
             usable,
@@ -82,7 +82,7 @@ fn answer_usable(rt: &HostRuntime, task: Task, names: &[String]) -> u8 {
 }
 
 // Writes the lines of the files that were left out, does the task over the others, and returns the exit status.
-fn answer_sorted<R: Source + Drop, O: Sink, E: Sink>(
+fn answer_over_usable<R: Source + Drop, O: Sink, E: Sink>(
     alloc: Global,
     task: Task,
     usable: Usable<R>,

@@ -79,7 +79,13 @@ pub(crate) fn answer_task<R: Source + Drop, O: Sink, E: Sink>(
                 };
                 answer_with(page, true, named(names), readers, out, err)
             }
-            Err(Want) => error_lines::refuse(alloc, "mdnsmerge", names, &SurveyFault::Memory, err),
+            Err(Want) => error_lines::say_fault(
+                alloc,
+                "mdnsmerge",
+                names,
+                &SurveyFault::Memory,
+                err,
+            ),
         },
     }
 }
@@ -117,7 +123,7 @@ fn answer_lives<
             };
             answer_with(warned, true, named(names), readers, out, err)
         }
-        Err(Want) => error_lines::refuse(alloc, "mdnsmerge", names, &SurveyFault::Memory, err),
+        Err(Want) => error_lines::say_fault(alloc, "mdnsmerge", names, &SurveyFault::Memory, err),
     }
 }
 

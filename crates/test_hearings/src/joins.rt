@@ -2,7 +2,7 @@
 
 use crate::asserts::holds;
 use mdns_capture::Moment;
-use mdns_join::{Join, JoinInto, LateMoments, Latest, Moments};
+use mdns_join::{Join, LateMoments, Latest, Moments, ToValue};
 use mdns_message::{Hearing, Want};
 use std::alloc::Global;
 use test_values::names::A_LOCAL;

@@ -7,7 +7,7 @@ use mdns_capture::Source;
 use mdns_listeners::Groups;
 use mdns_listeners::listeners::ListenersRequest;
 use mdns_survey::answers::{NamedProgram, answer_with};
-use mdns_survey::status::{DAMAGED, REFUSED, WHOLE};
+use mdns_survey::status::{INCOMPLETE, REFUSED, WHOLE};
 use std::alloc::Global;
 use test_values::changed;
 use test_values::one_answer::{ONE_PACKET, THREE_PACKETS};
@@ -152,13 +152,13 @@ fn is_answered(alloc: Global, form: Form, captures: [&[u8]; 2], answered: Answer
 // How many bytes of `two_senders` and of `at_101` are read, and what is answered. Three packets are two where the third is cut.
 const SIZES: &[(usize, usize, &str, &str, u8)] = &[
     (210, 117, LINES, "", WHOLE),
-    (302, 117, LINES, "mdnswhy: a.pcap: cut at 210\n", DAMAGED),
+    (302, 117, LINES, "mdnswhy: a.pcap: cut at 210\n", INCOMPLETE),
     (
         302,
         116,
         FIRST_ALONE,
         "mdnswhy: a.pcap: cut at 210\nmdnswhy: b.pcap: cut at 24\n",
-        DAMAGED,
+        INCOMPLETE,
     ),
     (
         23,

@@ -2,7 +2,7 @@
 
 use crate::asserts::no_row_failed;
 use crate::requests::{PACKET, RECORDS, answer_of};
-use mdns_survey::status::{DAMAGED, REFUSED};
+use mdns_survey::status::{INCOMPLETE, REFUSED};
 use std::alloc::Global;
 use test_values::lines::AT_100;
 use test_values::streams::{SlowWriter, slow_writer};
@@ -58,7 +58,7 @@ fn failed_call(alloc: Global, size: usize, lines: &str, report: &str, want: u8) 
 fn endings_that_cant_be_written_leave_the_answer(rt: HostRuntime) {
     no_row_failed(
         &rt,
-        failed_call(rt.alloc(), 116, TWO_LINES, AT_100, DAMAGED),
+        failed_call(rt.alloc(), 116, TWO_LINES, AT_100, INCOMPLETE),
     );
 }
 

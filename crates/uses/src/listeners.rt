@@ -19,8 +19,8 @@ use mdns_listeners::laws::{
 };
 use mdns_listeners::listeners::ListenersRequest;
 use mdns_listeners::{
-    Groups, HeardMessage, HeardMessages, ListenerRow, ListenerSpans, Names, PairRow, SenderRow,
-    listener_rows, pair_rows, sender_rows,
+    Groups, HeardMessage, HeardMessages, ListenerRow, ListenerSpans, PairRow, SenderNames,
+    SenderRow, listener_rows, pair_rows, sender_rows,
 };
 use mdns_message::{Name, Want};
 use mdns_survey::answers::{NamedProgram, answer_with};
@@ -178,8 +178,8 @@ pub fn rows_of_parts(
 /// whatever order and however often.
 pub fn names_in_any_order<'a>(
     sender: &SourceAddress,
-    one: &'a Names,
-    other: &'a Names,
+    one: &'a SenderNames,
+    other: &'a SenderNames,
 ) -> (&'a [Name], &'a [Name])
     ensures one { (heard : List Hearing) → ListsNames one.now heard → AreNames sender.now heard result.0.now }
     ensures other { (heard : List Hearing) → ListsNames other.now heard → AreNames sender.now heard result.1.now }

@@ -10,7 +10,7 @@ use mdns_browse::report::{Ask, Form};
 use mdns_capture::{BeginFault, Broken, Ending, Source};
 use mdns_message::Want;
 use mdns_survey::listen::ListenFault;
-use mdns_survey::status::{DAMAGED, REFUSED, WHOLE};
+use mdns_survey::status::{INCOMPLETE, REFUSED, WHOLE};
 use mdns_survey::survey::{SurveyFault, survey};
 use mdns_survey::{
     AsOf, ReportRequest, Request, Subjects, Summary, Tally, What, check_line, ending_line,
@@ -162,7 +162,7 @@ pub(super) enum AnswerTest {
 // Returns whether the error line of a cut capture was written. Where only that line's allocation fails, the status is
 // the same.
 fn has_ending_line(out: &SlowWriter, err: &SlowWriter, status: u8) -> Result<bool, Want> {
-    if status != DAMAGED || !out.bytes.is_empty() {
+    if status != INCOMPLETE || !out.bytes.is_empty() {
         return Ok(false);
     }
     if has_line(err, NO_MEMORY) {

@@ -3,7 +3,7 @@ use Rattle.std.proofs.lemmas.List.Sorted.{IsNonDecreasingBy-drop, IsPartitionPoi
 use Rattle.std.specs.{Cmp.Lexicographic.{nat_list_cmp_total, slice_cmp}, List.Sorted.{IsNonDecreasingBy}}
 use Rattle.std.specs.Ordering.{is_le, is_lt, nat_cmp, ordering_index}
 use Rattle.dns_name.specs.Name.{folded}
-use Rattle.mdns_browse.specs.{Hosts.{is_on, served_lent}, Services.{same_text}, declared.host.HostService.{HostService}}
+use Rattle.mdns_browse.specs.{Hosts.{is_on, served_lent}, Services.{same_text}, declared.host.HostedInstance.{HostedInstance}}
 use Rattle.mdns_browse.proofs.SearchLemmas.{after_whole, filter-map, filter-rest, rising-le, rising-lt}
 use Rattle.mdns_browse.proofs.host.services_on.Goals as goal
 
@@ -15,9 +15,9 @@ returns c sorted =
     let first = c.partition_point-first.result in
     let count = c.partition_point-count.result in
     let after = take (length services - first) (drop first services) in
-    let ord = λ (it : HostService). slice_cmp nat_cmp (folded it.target.now) (folded name) in
+    let ord = λ (it : HostedInstance). slice_cmp nat_cmp (folded it.target.now) (folded name) in
     let whole = after_whole services first in
-    let rises = searchable_from_sorted nat_list_cmp_total (λ (it : HostService). folded it.target.now) services (folded name) sorted in
+    let rises = searchable_from_sorted nat_list_cmp_total (λ (it : HostedInstance). folded it.target.now) services (folded name) sorted in
     let left = subst (λ rows. IsNonDecreasingBy (λ it. ordering_index (ord it)) rows) (sym whole)
     (IsNonDecreasingBy-drop (λ it. ordering_index (ord it)) first services rises) in
     ap (map served_lent)

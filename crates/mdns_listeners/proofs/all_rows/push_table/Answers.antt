@@ -1,6 +1,6 @@
 use Rattle.std.proofs.Common.{List, ◌∷◌, ap, map, string_bytes}
 use Rattle.mdns_browse.specs.declared.report.Form.{Form}
-use Rattle.mdns_listeners.specs.{AllRows.{all_rows_lent, rows_of}, Fields.{Field, heads_of}, Sheet.{SheetNow}}
+use Rattle.mdns_listeners.specs.{AllRows.{all_rows_lent, rows_of}, Fields.{Field, heads_of}, RowSheet.{SheetNow}}
 use Rattle.mdns_listeners.proofs.SheetLemmas.{table_taken}
 use Rattle.mdns_listeners.proofs.all_rows.push_table.Goals as goal
 

@@ -1,6 +1,6 @@
 use Rattle.std.proofs.Common.{◌≡◌, drop, map, string_bytes}
 use Rattle.std.specs.List.{enumerate_from, fold}
-use Rattle.mdns_listeners.specs.{AllRows.{listener_at}, Sheet.{taken}}
+use Rattle.mdns_listeners.specs.{AllRows.{listener_at}, RowSheet.{taken}}
 use Rattle.mdns_listeners.proofs.all_rows.take_listeners.Given as goal
 
 -- the sheet after the rows so far, and after those that are left

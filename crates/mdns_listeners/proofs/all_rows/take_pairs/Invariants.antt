@@ -1,6 +1,6 @@
 use Rattle.std.proofs.Common.{◌≡◌, drop, map, string_bytes}
 use Rattle.std.specs.List.{fold}
-use Rattle.mdns_listeners.specs.{AllRows.{pair_at}, Sheet.{taken}}
+use Rattle.mdns_listeners.specs.{AllRows.{pair_at}, RowSheet.{taken}}
 use Rattle.mdns_listeners.proofs.all_rows.take_pairs.Given as goal
 
 -- the sheet after the rows so far, and after those that are left

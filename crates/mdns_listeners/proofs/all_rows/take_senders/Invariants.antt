@@ -1,6 +1,6 @@
 use Rattle.std.proofs.Common.{◌≡◌, drop, map, string_bytes}
 use Rattle.std.specs.List.{fold}
-use Rattle.mdns_listeners.specs.{AllRows.{sender_at}, NamedSender.{sender_lent}, Sheet.{taken}}
+use Rattle.mdns_listeners.specs.{AllRows.{sender_at}, NamedSender.{sender_lent}, RowSheet.{taken}}
 use Rattle.mdns_listeners.proofs.all_rows.take_senders.Given as goal
 
 -- the sheet after the rows so far, and after those that are left

@@ -6,7 +6,8 @@ use Rattle.mdns_join.specs.declared.latest.Latest.{Latest}
 use Rattle.mdns_lives.specs.{Chronicle.{rows_of}, declared.live_since.LiveSince.{LiveSince}}
 use Rattle.mdns_lives.specs.Since.{AreLiveSince, all_since_rows, live_since_lent}
 use Rattle.mdns_browse.specs.{Given.{given_lent}, Services.{AreAscending, GivenRow}}
-use Rattle.mdns_page.specs.{Html.{isolated}, KeptRecords.{is_drawn, looked_up}, LiveSection.{live_text}, Page.{given_of_since, live_given}}
+use Rattle.mdns_page.specs.{Html.{isolated}, TimelineRecords.{is_drawn, looked_up}, LiveSection.{live_text}}
+use Rattle.mdns_page.specs.Page.{given_of_since, live_given}
 use Rattle.mdns_page.proofs.{KeptLemmas.{kept-all, map-whole}, SurveyLemmas.{live-ascending}}
 use Rattle.mdns_page.proofs.page.live_of.Goals as goal
 

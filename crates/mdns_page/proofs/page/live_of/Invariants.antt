@@ -3,7 +3,7 @@ use Rattle.std.specs.List.{filter}
 use Rattle.mdns_cache.specs.LentRecords.{last_lent}
 use Rattle.mdns_lives.specs.{declared.live_since.LiveSince.{LiveSince}, Since.{live_since_lent}}
 use Rattle.mdns_browse.specs.{Given.{given_lent}, Services.{AreAscending}}
-use Rattle.mdns_page.specs.{Page.{given_of_since}, KeptRecords.{is_drawn}}
+use Rattle.mdns_page.specs.{Page.{given_of_since}, TimelineRecords.{is_drawn}}
 use Rattle.mdns_page.proofs.page.live_of.Given as goal
 
 -- the last hearings of the records so far, and those of them that are drawn

@@ -7,10 +7,10 @@ use Rattle.mdns_join.specs.declared.latest.Latest.{Latest}
 use Rattle.mdns_lives.specs.{Chronicle.{Accounts, Chronicles}, LentLives.{row_lent}, declared.life.Life.{Life}}
 use Rattle.mdns_browse.specs.{declared.about.Subject.{Subject}, Services.{AreEach}}
 use Rattle.mdns_page.specs.{Captures.{comparison_lent, facts_lent}, Collected.{rows_lent}, Html.{isolated}, Lead.{ended_lent, known_lent, known_of}}
-use Rattle.mdns_page.specs.{KeptRecords.{AreRows, is_kept, is_shown, kept_of, looked_up}, SkippedSection.{skipped_text}}
+use Rattle.mdns_page.specs.{TimelineRecords.{AreRows, has_row, is_kept, kept_of, looked_up}, SkippedSection.{skipped_text}}
 use Rattle.mdns_page.specs.{Document.{Shown, page}, Page.{WritesPage, live_at_end}, Timeline.{Row, counted_lent, is_large, is_open}}
-use Rattle.mdns_page.specs.declared.kept_records.{TimelinePart.{TimelinePart}, TimelinePart.TheVariants.{Addresses, Instances, Names}}
-use Rattle.mdns_page.specs.declared.hearers.Hearers.{Hearers}
+use Rattle.mdns_page.specs.declared.timeline_records.{TimelinePart.{TimelinePart}, TimelinePart.TheVariants.{Addresses, Instances, Names}}
+use Rattle.mdns_page.specs.declared.seconds_by_capture.Hearers.{Hearers}
 use Rattle.mdns_page.proofs.{CountedLemmas.{record_in}, KeptLemmas.{few-sorted, looked_up-sorted, some-sorted}}
 use Rattle.mdns_page.proofs.page.page_of.Goals as goal
 
@@ -44,7 +44,8 @@ returns c = λ each heard chronicled held latest.
     let by_addresses = by c.in_ok-of_addresses.of_addresses c.in_ok-of_addresses.ensures.chronicles in
     let by_others = by c.in_ok-of_others.of_others c.in_ok-of_others.ensures.chronicles in
     let count : c.shown_count-count.result ≡ length rows =
-    c.shown_count-count.ensures ∙ sym (length-filter (is_shown Instances axis.window) records) ∙ ap length (sym c.in_ok-rows.ensures.records) ∙ length-map rows record_in in
+    c.shown_count-count.ensures ∙ sym (length-filter (has_row Instances axis.window) records) ∙ ap length (sym c.in_ok-rows.ensures.records)
+    ∙ length-map rows record_in in
     let few : map row_lent c.unless_large-few.result.now ≡ (if is_large (length rows) then [] else records) =
     c.unless_large-few.ensures
     ∙ ap (λ (large : Bool). if large then [] else records) (c.is_large.ensures ∙ ap is_large count) in
@@ -53,8 +54,8 @@ returns c = λ each heard chronicled held latest.
     let few_in_order = subst Ascending (sym few) (few-sorted (is_large (length rows)) records in_order) in
     let are = λ (part : TimelinePart) (large : Bool) (made : List Row) (own : AreRows part axis.window large each records made).
     subst (λ (rs : List (Latest × List Life)). AreRows part axis.window large each rs made) kept own in
-    let filtered = λ (part : TimelinePart). ap (filter (is_shown part axis.window)) few in
-    let few_shown = λ (part : TimelinePart). sym (length-filter (is_shown part axis.window) (map row_lent c.unless_large-few.result.now)) in
+    let filtered = λ (part : TimelinePart). ap (filter (has_row part axis.window)) few in
+    let few_shown = λ (part : TimelinePart). sym (length-filter (has_row part axis.window) (map row_lent c.unless_large-few.result.now)) in
     let count_addresses : c.shown_count-address_count.result ≡ length addresses =
     c.shown_count-address_count.ensures ∙ few_shown Addresses ∙ ap length (sym c.in_ok-addresses.ensures.records) ∙ length-map addresses record_in in
     let count_others : c.shown_count.result ≡ length others =
@@ -87,19 +88,19 @@ returns c = λ each heard chronicled held latest.
       instances = rows;
       are_instances = are Instances _ rows (record {
         are = c.in_ok-rows.ensures.records;
-        counted = c.in_ok-rows.ensures.heard each by_rows (c.in_ok-of_rows.ensures.told each by_rows);
+        counted = c.in_ok-rows.ensures.heard each by_rows (c.in_ok-of_rows.ensures.by_record each by_rows);
         served = c.in_ok-rows.ensures.servers in_order;
       });
       addresses = addresses;
       are_addresses = are Addresses _ addresses (record {
         are = c.in_ok-addresses.ensures.records ∙ filtered Addresses;
-        counted = c.in_ok-addresses.ensures.heard each by_addresses (c.in_ok-of_addresses.ensures.told each by_addresses);
+        counted = c.in_ok-addresses.ensures.heard each by_addresses (c.in_ok-of_addresses.ensures.by_record each by_addresses);
         served = c.in_ok-addresses.ensures.servers in_order;
       });
       others = others;
       are_others = are Names _ others (record {
         are = c.in_ok-others.ensures.records ∙ filtered Names;
-        counted = c.in_ok-others.ensures.heard each by_others (c.in_ok-of_others.ensures.told each by_others);
+        counted = c.in_ok-others.ensures.heard each by_others (c.in_ok-of_others.ensures.by_record each by_others);
         served = c.in_ok-others.ensures.servers in_order;
       });
       written = c.in_ok-push_page.ensures ∙ ap (λ (text : List ℕ). text ++ page isolated shown) c.new-text.ensures.bytes

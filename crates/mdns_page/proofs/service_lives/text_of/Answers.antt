@@ -5,7 +5,7 @@ use Rattle.mdns_cache.specs.{Live.{key_of_last}, LentRecords.{last_lent}}
 use Rattle.mdns_join.specs.declared.latest.Latest.{Latest}
 use Rattle.mdns_lives.specs.{LentLives.{row_lent}, declared.life.Life.{Life}}
 use Rattle.mdns_browse.specs.{LifeText.{nanos_if_some}, ServiceLifeText.{service_life_lent, service_lives_text}, declared.about.Subject.{Subject}}
-use Rattle.mdns_page.specs.{KeptRecords.{is_kept, kept_of, looked_up}, ServiceLives.{service_lives}}
+use Rattle.mdns_page.specs.{TimelineRecords.{is_kept, kept_of, looked_up}, ServiceLives.{service_lives}}
 use Rattle.mdns_page.proofs.KeptLemmas.{looked_up-sorted, some-sorted}
 use Rattle.mdns_page.proofs.service_lives.text_of.Goals as goal
 

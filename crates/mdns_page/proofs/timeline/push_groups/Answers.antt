@@ -1,7 +1,7 @@
 use Rattle.std.proofs.{Common.{◌+◌, map, refl}, lemmas.List.{take_rest}}
 use Rattle.std.specs.String.{string_bytes}
 use Rattle.mdns_page.specs.{Html.{isolated}, Timeline.{counted_lent, group_text, owner_of}}
-use Rattle.mdns_page.specs.declared.kept_records.TimelinePart.TheVariants.{Instances}
+use Rattle.mdns_page.specs.declared.timeline_records.TimelinePart.TheVariants.{Instances}
 use Rattle.mdns_page.proofs.GroupLemmas.{count-first, groups-more, groups-none}
 use Rattle.mdns_page.proofs.timeline.push_groups.Goals as goal
 

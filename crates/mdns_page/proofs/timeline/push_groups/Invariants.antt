@@ -1,7 +1,7 @@
 use Rattle.std.proofs.Common.{◌≡◌, ◌++◌, length, map}
 use Rattle.std.specs.{List.{flat_map}, String.{string_bytes}}
 use Rattle.mdns_page.specs.{Group.{grouped}, Html.{isolated}, Timeline.{counted_lent, group_text, owner_of}}
-use Rattle.mdns_page.specs.declared.kept_records.TimelinePart.TheVariants.{Instances}
+use Rattle.mdns_page.specs.declared.timeline_records.TimelinePart.TheVariants.{Instances}
 use Rattle.mdns_page.proofs.timeline.push_groups.Given as goal
 
 -- what was written, with the groups that are left, is all

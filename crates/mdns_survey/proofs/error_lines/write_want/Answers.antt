@@ -6,11 +6,11 @@ use Rattle.mdns_survey.proofs.error_lines.write_want.Goals as goal
 
 pub returns-in-Ok-clause-prefix : goal.returns-in-Ok-clause-prefix
 returns-in-Ok-clause-prefix g c =
-    on_err_weaker c.write_whole-in-Ok.result
+    on_err_weaker c.write_all-in-Ok.result
     (λ prefix. prefix-after _ _ _ c.args.program.now (codes ": out of memory")
-    (subst (Appends (g.E.Sink.written c.args.err.now) (g.E.Sink.written c.write_whole.new.out)) c.as_bytes.ensures.value
+    (subst (Appends (g.E.Sink.written c.args.err.now) (g.E.Sink.written c.write_all.new.out)) c.as_bytes.ensures.value
     c.in-Ok.ensures.whole) prefix)
-    c.write_whole-in-Ok.ensures.prefix
+    c.write_all-in-Ok.ensures.prefix
 
 pub returns-in-Err-clause-prefix : goal.returns-in-Err-clause-prefix
 returns-in-Err-clause-prefix g c =

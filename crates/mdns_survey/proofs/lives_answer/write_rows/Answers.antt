@@ -47,12 +47,12 @@ pub returns-clause-stops : goal.returns-clause-stops
 returns-clause-stops g c =
     let head = string_bytes c.args.head in
     let lines = lives_text c.args.lines.form c.args.lines.width c.args.lines.end_of_captures.nanos in
-    subst (λ (t : List ℕ). AppendsPrefix (g.W.Sink.written c.args.out.now) (g.W.Sink.written c.write_whole.new.out) (head ++ t))
+    subst (λ (t : List ℕ). AppendsPrefix (g.W.Sink.written c.args.out.now) (g.W.Sink.written c.write_all.new.out) (head ++ t))
     (kept-texts c.args.lines.about.now lines c.args.rows)
     (rows-cut head (kept_text c.args.lines.about.now lines) c.args.rows c.loop-row.walk _ _ _ (string_bytes c.loop-row.text)
     c.loop-row.invariant.far
-    (subst (AppendsPrefix (g.W.Sink.written c.loop-row.out) (g.W.Sink.written c.write_whole.new.out)) c.as_bytes.ensures.value
-    c.in-Err-write_whole.ensures.prefix))
+    (subst (AppendsPrefix (g.W.Sink.written c.loop-row.out) (g.W.Sink.written c.write_all.new.out)) c.as_bytes.ensures.value
+    c.in-Err-write_all.ensures.prefix))
 
 pub returns-in-Err-clause-stops : goal.returns-in-Err-clause-stops
 returns-in-Err-clause-stops g c =
@@ -64,14 +64,14 @@ returns-in-Err-push_row-clause-stops g c =
     kept-stop c.args.lines.about.now (lives_text c.args.lines.form c.args.lines.width c.args.lines.end_of_captures.nanos) (string_bytes c.args.head) c.args.rows
     c.loop-row.walk _ _ (string_bytes c.loop-row.text) c.loop-row.invariant.far
 
-pub returns-in-Ok-write_whole-clause-written : goal.returns-in-Ok-write_whole-clause-written
-returns-in-Ok-write_whole-clause-written g c =
+pub returns-in-Ok-write_all-clause-written : goal.returns-in-Ok-write_all-clause-written
+returns-in-Ok-write_all-clause-written g c =
     let head = string_bytes c.args.head in
     let lines = lives_text c.args.lines.form c.args.lines.width c.args.lines.end_of_captures.nanos in
     let none : c.loop-row.walk ≡ [] = search rules in
-    subst (λ (t : List ℕ). Appends (g.W.Sink.written c.args.out.now) (g.W.Sink.written c.write_whole.new.out) (head ++ t))
+    subst (λ (t : List ℕ). Appends (g.W.Sink.written c.args.out.now) (g.W.Sink.written c.write_all.new.out) (head ++ t))
     (kept-texts c.args.lines.about.now lines c.args.rows)
     (rows-all head (kept_text c.args.lines.about.now lines) c.args.rows c.loop-row.walk _ _ _ (string_bytes c.loop-row.text)
     c.loop-row.invariant.far none
-    (subst (Appends (g.W.Sink.written c.loop-row.out) (g.W.Sink.written c.write_whole.new.out)) c.as_bytes.ensures.value
-    c.in-Ok-write_whole.ensures.whole))
+    (subst (Appends (g.W.Sink.written c.loop-row.out) (g.W.Sink.written c.write_all.new.out)) c.as_bytes.ensures.value
+    c.in-Ok-write_all.ensures.whole))

@@ -5,11 +5,11 @@ pub returns-in-Err-write_traces-clause-refused : goal.returns-in-Err-write_trace
 returns-in-Err-write_traces-clause-refused g c = λ is. record {
   fault = c.survey_fault.result;
   stops = inr (
-    c.write_whole.new.out,
+    c.write_all.new.out,
     (
       search rules,
       (c.in-Err-write_traces.fault, (c.survey_fault.ensures, c.in-Err-write_traces.ensures.stops)),
     ),
   );
-  says = c.refuse-in-Err-write_traces.ensures.says;
+  says = c.say_fault-in-Err-write_traces.ensures.says;
 }

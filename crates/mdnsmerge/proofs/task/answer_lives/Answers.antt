@@ -4,4 +4,4 @@ use Rattle.mdnsmerge.proofs.task.answer_lives.Goals as goal
 
 -- without memory for the groups nothing was read or written
 pub returns-in-Err-clause-refused : goal.returns-in-Err-clause-refused
-returns-in-Err-clause-refused g c = λ refused. memory-refused g.R.Source _ _ _ _ refl refl c.refuse.ensures.says _
+returns-in-Err-clause-refused g c = λ refused. memory-refused g.R.Source _ _ _ _ refl refl c.say_fault.ensures.says _

@@ -13,5 +13,5 @@ returns-clause-ok g c =
     let joined = c.join_own-joined in
     rw (← c.self.view_is)
     (joined_at_place g.met.K.Ord.total g.met.K.Copied.exact g.met.V.Semilattice.laws es c.args.place e joined.new.held
-    (g.O.JoinOwn.own c.args.other.now) (g.O.JoinInto.value c.args.other.now) l is c.self.invariant joined.ensures.valid
+    (g.O.JoinOwn.own c.args.other.now) (g.O.ToValue.value c.args.other.now) l is c.self.invariant joined.ensures.valid
     joined.result (fits-at g.O.JoinOwn.Fits es c.args.place e l is fits) joined.ensures.own joined.ensures.ok)

@@ -1,6 +1,6 @@
 use Rattle.std.proofs.{Common.{◌≡◌, ◌<◌, ◌∙◌, List, [], ◌∷◌, ◌++◌, ap, arith, get_or, length, rules, subst, sym}, lemmas.List.{length_push}}
 use Rattle.mdns_cache.proofs.BetweenLemmas.{on_err_any}
-use Rattle.mdns_listeners.specs.{declared.kept_message.Noted.{Noted}, HeardMessage.{message_bytes}}
+use Rattle.mdns_listeners.specs.{declared.kept_message.MessageTime.{MessageTime}, HeardMessage.{message_bytes}}
 use Rattle.mdns_listeners.specs.{KeptMessage.{AreKept, HeardSoFar, KeptMessage, kept_messages, next_kept, told_by}, SenderNames.{AddsNames, told_in}}
 use Rattle.mdns_listeners.proofs.HeldNameLemmas.{HoldsNames-more, adds-suffice}
 use Rattle.mdns_listeners.proofs.KeptLemmas.{kept_more, kept-names, kept-noted, message-push, told-noted, told-push}
@@ -17,7 +17,7 @@ invariant_of-self-in_err-keep c =
 
 pub invariant_of-self-in_err-push : goal.invariant_of-self-in_err-push
 invariant_of-self-in_err-push c =
-    subst (λ (ts : List Noted). AreKept c.keep.new.kept.items ts c.hear_all.new.self) (sym c.in_err-push.ensures.items)
+    subst (λ (ts : List MessageTime). AreKept c.keep.new.kept.items ts c.hear_all.new.self) (sym c.in_err-push.ensures.items)
     (kept_more c.self.inside.kept.items c.keep.new.kept.items c.self.inside.times.items c.self.inside.names c.hear_all.new.self
     c.args.payload.now _ _ c.args.at.moment c.args.read.now _ c.self.invariant c.hear_all.ensures.keeps
     (adds-suffice c.self.inside.names c.hear_all.new.self (told_in c.args.read.now) c.in_ok-hear_all.ensures.ok)
@@ -38,11 +38,11 @@ pub invariant_of-self-2 : goal.invariant_of-self-2
 invariant_of-self-2 c =
     let kept = c.self.inside.kept.items in
     let new = c.keep.new.kept.items in
-    let noted : Noted = record { place = c.len-place.result; at = c.args.at } in
+    let noted : MessageTime = record { place = c.len-place.result; at = c.args.at } in
     let place : c.len-place.result ≡ length kept = search rules in
     let within : c.len-place.result < length new =
     grind (arith, length_push) in
-    subst (λ (ts : List Noted). AreKept new ts c.hear_all.new.self) (sym c.in_ok-push.ensures.items)
+    subst (λ (ts : List MessageTime). AreKept new ts c.hear_all.new.self) (sym c.in_ok-push.ensures.items)
     (kept-noted new c.self.inside.times.items c.hear_all.new.self noted
     (kept_more kept new c.self.inside.times.items c.self.inside.names c.hear_all.new.self
     c.args.payload.now _ _ c.args.at.moment c.args.read.now _ c.self.invariant c.hear_all.ensures.keeps
@@ -55,7 +55,7 @@ returns-clause-ok c =
     let kept = c.self.inside.kept.items in
     let new = c.keep.new.kept.items in
     let times = c.self.inside.times.items in
-    let noted : Noted = record { place = c.len-place.result; at = c.args.at } in
+    let noted : MessageTime = record { place = c.len-place.result; at = c.args.at } in
     let one = next_kept kept c.as_slice-message.result.now c.len.result in
     let place : c.len-place.result ≡ length kept = search rules in
     let own : get_or (kept_messages new) c.len-place.result [] ≡ message_bytes c.args.source.now c.args.payload.now =

@@ -3,8 +3,8 @@ use Rattle.std.specs.Prelude.{Contains, ◌≤◌}
 use Rattle.mdns_message.specs.declared.hearing.Hearing.{Hearing}
 use Rattle.mdns_lives.specs.Chronicle.{Accounts, Chronicles}
 use Rattle.mdns_browse.specs.declared.about.Subject.{Subject}
-use Rattle.mdns_survey.specs.{Filter.{counted, filter_of}, Missed.{Misses}}
-use Rattle.mdns_survey.proofs.{ListenedLemmas.{have-spans}, LivesLemmas.{early-ended}, SurveyLemmas.{misses-heard}}
+use Rattle.mdns_survey.specs.{Filter.{counted, filter_of}, Unmatched.{LeavesUnmatched}}
+use Rattle.mdns_survey.proofs.{ListenedLemmas.{have-spans}, LivesLemmas.{early-ended}, SurveyLemmas.{leaves-heard}}
 use Rattle.mdns_page.specs.{ByListener.{all_of}, Collected.{rows_lent}}
 use Rattle.mdns_page.proofs.{ByListenerLemmas.{counted-in}, SurveyLemmas.{surveys-page}}
 use Rattle.mdns_page.proofs.page.PageRequestTextAnswer.text.Goals as goal
@@ -28,11 +28,11 @@ returns-in-Ok-page_of-clause-right c = λ lefts hears.
     → hearing.moment.nanos ≤ c.axis_of-axis.result.now.nanos) c.all.ensures c.in_default.ensures.none)
     c.in-Ok-page_of.ensures
 
-pub returns-in-Ok-page_of-clause-misses : goal.returns-in-Ok-page_of-clause-misses
-returns-in-Ok-page_of-clause-misses c = λ lefts hears.
+pub returns-in-Ok-page_of-clause-leaves : goal.returns-in-Ok-page_of-clause-leaves
+returns-in-Ok-page_of-clause-leaves c = λ lefts hears.
     let heard = counted (filter_of c.args.self.as_of) hears.outcomes in
-    let missed = option_map string_bytes c.in-Ok-missed_in_lives.missed in
+    let unmatched = option_map string_bytes c.in-Ok-unmatched_in_lives.unmatched in
     let all = subst (Chronicles (all_of c.args.collector.lives)) (sym (counted-in (filter_of c.args.self.as_of) hears.outcomes)) hears.heard.0.all in
-    misses-heard lefts c.args.readings.now hears c.args.self.about c.args.self.as_of missed
-    (subst (λ (about : List Subject). Misses about heard missed) c.as_slice.ensures
-    (c.in-Ok-missed_in_lives.ensures heard (subst (λ (accounts : Accounts). Chronicles accounts heard) (sym c.all-2.ensures) all)))
+    leaves-heard lefts c.args.readings.now hears c.args.self.about c.args.self.as_of unmatched
+    (subst (λ (about : List Subject). LeavesUnmatched about heard unmatched) c.as_slice.ensures
+    (c.in-Ok-unmatched_in_lives.ensures heard (subst (λ (accounts : Accounts). Chronicles accounts heard) (sym c.all-2.ensures) all)))

@@ -1,8 +1,8 @@
 use Rattle.std.proofs.Common.{option_map, string_bytes, subst}
 use Rattle.mdns_browse.specs.{LifeText.{nanos_if_some}, declared.about.Subject.{Subject}}
 use Rattle.std.specs.Prelude.{List}
-use Rattle.mdns_survey.specs.{Filter.{counted, filter_of}, Missed.{Misses}}
-use Rattle.mdns_survey.proofs.{ListenedLemmas.{have-spans}, LivesLemmas.{early-ended}, SurveyLemmas.{misses-heard}}
+use Rattle.mdns_survey.specs.{Filter.{counted, filter_of}, Unmatched.{LeavesUnmatched}}
+use Rattle.mdns_survey.proofs.{ListenedLemmas.{have-spans}, LivesLemmas.{early-ended}, SurveyLemmas.{leaves-heard}}
 use Rattle.mdns_page.proofs.ServiceLifeLemmas.{surveys-services}
 use Rattle.mdns_page.proofs.service_lives.ServiceLivesRequestTextAnswer.text.Goals as goal
 
@@ -26,11 +26,11 @@ returns-in-Ok-headed-clause-right c = λ lefts hears.
     c.in-Ok-headed.ensures.2 (c.captures_begin-begin.ensures hears.packets spans) (c.captures_end-end_of_captures.ensures hears.packets spans)
     (c.in_default.ensures.none heard held) (c.in-Ok-text_of.ensures heard held)
 
-pub returns-in-Ok-headed-clause-misses : goal.returns-in-Ok-headed-clause-misses
-returns-in-Ok-headed-clause-misses c = λ lefts hears.
+pub returns-in-Ok-headed-clause-leaves : goal.returns-in-Ok-headed-clause-leaves
+returns-in-Ok-headed-clause-leaves c = λ lefts hears.
     let request = c.args.self in
     let heard = counted (filter_of request.as_of) hears.outcomes in
-    let missed = option_map string_bytes c.in-Ok-missed_in_lives.missed in
-    misses-heard lefts c.args.readings.now hears request.about request.as_of missed
-    (subst (λ (about : List Subject). Misses about heard missed) c.as_slice.ensures
-    (c.in-Ok-missed_in_lives.ensures heard (c.in-Ok.ensures heard hears.heard)))
+    let unmatched = option_map string_bytes c.in-Ok-unmatched_in_lives.unmatched in
+    leaves-heard lefts c.args.readings.now hears request.about request.as_of unmatched
+    (subst (λ (about : List Subject). LeavesUnmatched about heard unmatched) c.as_slice.ensures
+    (c.in-Ok-unmatched_in_lives.ensures heard (c.in-Ok.ensures heard hears.heard)))

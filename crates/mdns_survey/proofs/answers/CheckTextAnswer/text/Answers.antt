@@ -1,6 +1,6 @@
 use Rattle.std.proofs.Common.{[], None, inl, refl}
 use Rattle.mdns_survey.specs.declared.request.AsOf.TheVariants.{Newest}
-use Rattle.mdns_survey.proofs.SurveyLemmas.{misses-heard, read-heard}
+use Rattle.mdns_survey.proofs.SurveyLemmas.{leaves-heard, read-heard}
 use Rattle.mdns_survey.proofs.answers.CheckTextAnswer.text.Goals as goal
 
 pub returns-in-Ok-clause-right : goal.returns-in-Ok-clause-right
@@ -11,5 +11,5 @@ returns-in-Ok-clause-right c = λ lefts hears captures known. record {
   lines = c.in-Ok.ensures;
 }
 
-pub returns-in-Ok-clause-misses : goal.returns-in-Ok-clause-misses
-returns-in-Ok-clause-misses c = λ lefts hears. misses-heard lefts c.args.readings.now hears [] Newest None (inl refl)
+pub returns-in-Ok-clause-leaves : goal.returns-in-Ok-clause-leaves
+returns-in-Ok-clause-leaves c = λ lefts hears. leaves-heard lefts c.args.readings.now hears [] Newest None (inl refl)

@@ -3,8 +3,10 @@ use Rattle.std.specs.{Io.KnownBytes.{Appends}, List.{flat_map}}
 use Rattle.mdns_capture.specs.Output.{writing}
 use Rattle.mdns_lives.specs.Chronicle.{rows_of}
 use Rattle.mdns_browse.specs.{LifeText.{lives_text, nanos_if_some}, declared.about.Subject.{Subject}}
-use Rattle.mdns_survey.specs.{Chronicling.{FitsForm, StopsRows}, LivesAnswer.{kept_rows}, Filter.{counted, filter_of}, Missed.{Misses}}
-use Rattle.mdns_survey.proofs.{SurveyLemmas.{misses-heard}, KeptLemmas.{Row}, ListenedLemmas.{have-spans}, LivesLemmas.{early-ended, stops-lives, writes-lives}}
+use Rattle.mdns_survey.specs.{Chronicling.{FitsForm, StopsRows}, LivesAnswer.{kept_rows}, Filter.{counted, filter_of}}
+use Rattle.mdns_survey.specs.Unmatched.{LeavesUnmatched}
+use Rattle.mdns_survey.proofs.{SurveyLemmas.{leaves-heard}, KeptLemmas.{Row}, ListenedLemmas.{have-spans}}
+use Rattle.mdns_survey.proofs.LivesLemmas.{early-ended, stops-lives, writes-lives}
 use Rattle.mdns_survey.proofs.lives_answer.LivesRequestAnswer.write.Goals as goal
 
 pub returns-in-Some-clause-refused : goal.returns-in-Some-clause-refused
@@ -41,14 +43,14 @@ returns-in-Ok-write_rows-clause-written g c =
     (string_bytes before ++ flat_map (lives_text request.form layout.width end.nanos) (kept_rows about rows)))
     c.as_slice-about.ensures c.in-Ok-write_rows.ensures.written)
 
-pub returns-in-Ok-write_rows-clause-misses : goal.returns-in-Ok-write_rows-clause-misses
-returns-in-Ok-write_rows-clause-misses g c = λ lefts hears.
+pub returns-in-Ok-write_rows-clause-leaves : goal.returns-in-Ok-write_rows-clause-leaves
+returns-in-Ok-write_rows-clause-leaves g c = λ lefts hears.
     let request = c.args.self in
     let heard = counted (filter_of request.as_of) hears.outcomes in
-    let missed = option_map string_bytes c.in-Ok-missed_in_lives.missed in
-    misses-heard lefts c.args.readings.now hears request.about request.as_of missed
-    (subst (λ (about : List Subject). Misses about heard missed) c.as_slice-about.ensures
-    (c.in-Ok-missed_in_lives.ensures heard (c.in-Ok.ensures heard hears.heard)))
+    let unmatched = option_map string_bytes c.in-Ok-unmatched_in_lives.unmatched in
+    leaves-heard lefts c.args.readings.now hears request.about request.as_of unmatched
+    (subst (λ (about : List Subject). LeavesUnmatched about heard unmatched) c.as_slice-about.ensures
+    (c.in-Ok-unmatched_in_lives.ensures heard (c.in-Ok.ensures heard hears.heard)))
 
 pub returns-clause-refused : goal.returns-clause-refused
 returns-clause-refused g c =

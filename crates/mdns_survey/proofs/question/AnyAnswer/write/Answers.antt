@@ -7,13 +7,13 @@ pub returns-in-Err-Early-clause-refused : goal.returns-in-Err-Early-clause-refus
 returns-in-Err-Early-clause-refused g c = λ lefts hears.
     let early = rw c.in-Err-Early.field-0-is at c.in-Err-Early.ensures.early in early lefts hears
 
-pub returns-in-Err-write_whole-clause-refused : goal.returns-in-Err-write_whole-clause-refused
-returns-in-Err-write_whole-clause-refused g c = λ lefts hears captures known. (
+pub returns-in-Err-write_all-clause-refused : goal.returns-in-Err-write_all-clause-refused
+returns-in-Err-write_all-clause-refused g c = λ lefts hears captures known. (
   summaries_of c.args.readings.now,
   (
     string_bytes c.in-Ok-prefaced.text,
     (string_bytes c.in-Ok.answer.text, c.in-Ok-prefaced.ensures, c.in-Ok.ensures.right lefts hears captures known),
-    subst (AppendsPrefix (g.W.Sink.written c.args.out.now) (g.W.Sink.written c.write_whole.new.out)) c.as_bytes.ensures.value
-        c.in-Err-write_whole.ensures.prefix,
+    subst (AppendsPrefix (g.W.Sink.written c.args.out.now) (g.W.Sink.written c.write_all.new.out)) c.as_bytes.ensures.value
+        c.in-Err-write_all.ensures.prefix,
   ),
 )

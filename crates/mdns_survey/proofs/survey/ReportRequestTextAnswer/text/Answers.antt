@@ -1,8 +1,8 @@
 use Rattle.std.proofs.Common.{List, Option, IsSomeAnd, ◌<◌, option_map, string_bytes, subst}
 use Rattle.mdns_capture.specs.declared.moment.Moment.{Moment}
 use Rattle.mdns_browse.specs.{Report.{IsReportIn}, declared.about.Subject.{Subject}}
-use Rattle.mdns_survey.specs.{Filter.{counted, filter_of}, Missed.{Misses}}
-use Rattle.mdns_survey.proofs.SurveyLemmas.{answers-request, early-asked, early-weaker, is-newest, misses-heard, none-later, on-time}
+use Rattle.mdns_survey.specs.{Filter.{counted, filter_of}, Unmatched.{LeavesUnmatched}}
+use Rattle.mdns_survey.proofs.SurveyLemmas.{answers-request, early-asked, early-weaker, is-newest, leaves-heard, none-later, on-time}
 use Rattle.mdns_survey.proofs.SurveyLemmas.{reports-as-of, too-early}
 use Rattle.mdns_survey.proofs.survey.ReportRequestTextAnswer.text.Goals as goal
 
@@ -32,11 +32,11 @@ returns-in-Err-report_in-clause-early c =
     (is-newest _ _ c.newest_or_epoch.ensures.newest early.0 heard (c.in-Ok.ensures heard hears.heard)))
     c.in-Err-report_in.ensures.early
 
-pub returns-in-Ok-headed-clause-misses : goal.returns-in-Ok-headed-clause-misses
-returns-in-Ok-headed-clause-misses c = λ lefts hears.
+pub returns-in-Ok-headed-clause-leaves : goal.returns-in-Ok-headed-clause-leaves
+returns-in-Ok-headed-clause-leaves c = λ lefts hears.
     let request = c.args.self in
     let heard = counted (filter_of request.as_of) hears.outcomes in
-    let missed = option_map string_bytes c.in-Ok-missed_in_cache.missed in
-    misses-heard lefts c.args.readings.now hears request.about request.as_of missed
-    (subst (λ (about : List Subject). Misses about heard missed) c.as_slice-about.ensures
-    (c.in-Ok-missed_in_cache.ensures heard (c.in-Ok.ensures heard hears.heard)))
+    let unmatched = option_map string_bytes c.in-Ok-unmatched_in_cache.unmatched in
+    leaves-heard lefts c.args.readings.now hears request.about request.as_of unmatched
+    (subst (λ (about : List Subject). LeavesUnmatched about heard unmatched) c.as_slice-about.ensures
+    (c.in-Ok-unmatched_in_cache.ensures heard (c.in-Ok.ensures heard hears.heard)))

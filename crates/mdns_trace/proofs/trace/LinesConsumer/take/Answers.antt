@@ -1,7 +1,7 @@
 use Rattle.std.proofs.{Common.{◌∙◌, ℕ, Option, subst, string_bytes}, lemmas.Bool.{false≢true}}
 use Rattle.mdns_capture.specs.{Capture.{packet_lent}, Stream.{OneMoreFailed}}
 use Rattle.mdns_survey.specs.Listen.{outcome_of}
-use Rattle.mdns_trace.specs.{declared.inquiry.Wanted.{Wanted}, Trace.{AddsLines, AreWanted}}
+use Rattle.mdns_trace.specs.{declared.inquiry.TraceScope.{TraceScope}, Trace.{AddsLines, AreWanted}}
 use Rattle.mdns_trace.proofs.TraceLemmas.{part-more, part-on}
 use Rattle.mdns_trace.proofs.trace.LinesConsumer.take.Goals as goal
 
@@ -10,7 +10,7 @@ returns-in-Ok-push_packet-clause-took g c = λ begun packets outcomes taken.
     let packet = packet_lent c.args.packet.now in
     let outcome = outcome_of c.args.found.now in
     let written = c.in-Ok.ensures in
-    let adds = subst (λ (wanted : Wanted). AddsLines (AreWanted wanted packet outcome) (string_bytes c.write_piece.new.text)
+    let adds = subst (λ (wanted : TraceScope). AddsLines (AreWanted wanted packet outcome) (string_bytes c.write_piece.new.text)
     (string_bytes c.push_packet.new.text)) taken.wanted c.in-Ok-push_packet.ensures in
     record {
       wanted = taken.wanted;
